@@ -1,0 +1,2 @@
+pub mod NamedTexts
+pub mod Writes
