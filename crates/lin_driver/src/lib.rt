@@ -1,0 +1,6 @@
+//! From the bytes of a specification to the bytes of its linear process.
+#![tactic(auto)]
+
+mod linearising;
+
+pub use linearising::{PlainFault, plain};
