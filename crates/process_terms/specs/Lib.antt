@@ -1,0 +1,5 @@
+pub mod Systems
+pub mod Numbering
+pub mod Fresh
+pub mod LinearProcess
+pub mod Printed
