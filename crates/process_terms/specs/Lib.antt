@@ -3,3 +3,6 @@ pub mod Numbering
 pub mod Fresh
 pub mod LinearProcess
 pub mod Printed
+pub mod SystemSteps
+pub mod LinearSteps
+pub mod Links
