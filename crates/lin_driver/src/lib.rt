@@ -2,5 +2,6 @@
 #![tactic(auto)]
 
 mod linearising;
+mod name_set;
 
 pub use linearising::{PlainFault, plain};
