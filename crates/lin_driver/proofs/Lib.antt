@@ -1,1 +1,4 @@
+pub mod Lists
 pub mod Mapped
+pub mod OnlyItems
+pub mod OnlySystems

@@ -1,1 +1,4 @@
 pub mod FirstForm
+pub mod Linearised
+pub mod PlainSystems
+pub mod Spans

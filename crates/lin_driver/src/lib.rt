@@ -3,5 +3,7 @@
 
 mod linearising;
 mod name_set;
+mod reading;
+mod system;
 
 pub use linearising::{PlainFault, plain};

@@ -1,8 +1,10 @@
 //! The linear process of a text, as a text.
 ghost use Rattle.std.specs.Prelude.{◌≡◌, IfOk, IsErrOf};
-ghost use Rattle.lin_driver.specs.FirstForm.{HasFirstForm, IsLinearisedTo};
+ghost use Rattle.lin_driver.specs.FirstForm.{HasFirstForm};
+ghost use Rattle.lin_driver.specs.Linearised.{IsLinearisedTo};
+ghost use Rattle.lin_driver.specs.declared.linearising.PlainFault.TheVariants.{NoMemory};
 
-use std::alloc::Global;
+use std::alloc::{AllocError, AllocFailed, Global};
 
 /// Why there is no linear process for a text.
 #[derive(Clone, Copy, Debug, PartialEq, Eq)]
@@ -11,6 +13,22 @@ pub enum PlainFault {
     NotBuilt,
     /// No memory was left.
     NoMemory,
+}
+
+impl From<AllocError> for PlainFault {
+    ghost from_gives = { λ _ fault. fault ≡ NoMemory };
+
+    fn from(_: AllocError) -> Self {
+        PlainFault::NoMemory
+    }
+}
+
+impl<T: Drop> From<AllocFailed<T>> for PlainFault {
+    ghost from_gives = { λ _ fault. fault ≡ NoMemory };
+
+    fn from(_: AllocFailed<T>) -> Self {
+        PlainFault::NoMemory
+    }
 }
 
 /// The linear process of a text of the first form, printed.
