@@ -1,0 +1,12 @@
+//! Texts as tokens.
+//!
+//! [`lex`] cuts a text into its tokens, each the longest one at its place, or says at which place the text has none or one
+//! that isn't accepted. The words and signs are those of the mCRL2 language reference.
+#![tactic(auto)]
+
+mod kind;
+mod token;
+mod words;
+
+pub use kind::Kind;
+pub use token::{LexFault, Token, Tokens};
