@@ -1,2 +1,4 @@
 pub mod Lists
 pub mod Numbered
+pub mod Longest
+pub mod Cutting
