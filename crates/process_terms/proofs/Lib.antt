@@ -2,3 +2,5 @@ pub mod Lists
 pub mod Numbered
 pub mod Longest
 pub mod Cutting
+pub mod Numerals
+pub mod Pieces

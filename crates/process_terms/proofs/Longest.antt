@@ -153,3 +153,8 @@ pair_longest b c d rest h g e zero other le t = omega arith
 pair_longest b c d rest h g e (suc zero) other le t = omega arith
 pair_longest b c d rest h g e (suc (suc zero)) other le t = omega arith
 pair_longest b c d rest h g e (suc (suc (suc m))) other le t = absurd (no_third b c (d ∷ rest) m other h g e le t)
+
+-- a sign that begins no sign of two bytes
+pub lone_longest : (b : ℕ) (rest : List ℕ) → is_letter b ≡ false → is_digit b ≡ false → eqb b 124 ≡ false → ((c : ℕ) → sign_of_two (b ∷ c ∷ []) ≡ None) → IsLongest (b ∷ []) rest
+lone_longest b [] h d e n m other le t = omega arith
+lone_longest b (c ∷ rest) h d e n m other le t = sign_longest b c rest h d e (n c) m other le t
