@@ -4,3 +4,4 @@ pub mod Longest
 pub mod Cutting
 pub mod Numerals
 pub mod Pieces
+pub mod Printable
