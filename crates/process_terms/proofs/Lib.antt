@@ -5,3 +5,4 @@ pub mod Cutting
 pub mod Numerals
 pub mod Pieces
 pub mod Printable
+pub mod Freshness

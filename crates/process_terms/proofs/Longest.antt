@@ -28,7 +28,7 @@ no_sign_of_three : (b : ℕ) (bs : List ℕ) → is_name_byte b ≡ true → sig
 no_sign_of_three b bs n =
     passed _ _ _ _ (differs b bs 124 (124 ∷ 95 ∷ []) n refl) refl
 
-chosen : {A : Type 0} (t : Bool) (x y z : A) → x ≡ z → y ≡ z → cond t x y ≡ z
+pub chosen : {A : Type 0} (t : Bool) (x y z : A) → x ≡ z → y ≡ z → cond t x y ≡ z
 chosen true x y z e f = e
 chosen false x y z e f = f
 
@@ -38,7 +38,7 @@ no_sign b bs n = chosen _ _ _ _ (no_sign_of_one b bs n) (chosen _ _ _ _ (no_sign
 letter_name : (b : ℕ) → is_letter b ≡ true → is_name_byte b ≡ true
 letter_name b h = grind (arith, nat_tests)
 
-digit_name : (b : ℕ) → is_digit b ≡ true → is_name_byte b ≡ true
+pub digit_name : (b : ℕ) → is_digit b ≡ true → is_name_byte b ≡ true
 digit_name b h = grind (arith, nat_tests)
 
 digit_letter : (b : ℕ) → is_digit b ≡ true → is_letter b ≡ true → ⊥

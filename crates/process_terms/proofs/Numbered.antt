@@ -49,7 +49,7 @@ numbered x (there {y = y} {xs = xs} i) =
     ]
 
 -- a name at a place
-data At : List Name → ℕ → Name → Type 0 where
+pub data At : List Name → ℕ → Name → Type 0 where
   first : {x : Name} {xs : List Name} → At (x ∷ xs) 0 x
   later : {x y : Name} {xs : List Name} {k : ℕ} → At xs k x → At (y ∷ xs) (suc k) x
 
@@ -57,7 +57,7 @@ at_in : {xs : List Name} {k : ℕ} {x : Name} → At xs k x → In x xs
 at_in first = here
 at_in (later a) = there (at_in a)
 
-number_at : (order : List Name) (x : Name) (i : ℕ) → number_of order x ≡ Some i → (k : ℕ) × (i ≡ k + 1) × At order k x
+pub number_at : (order : List Name) (x : Name) (i : ℕ) → number_of order x ≡ Some i → (k : ℕ) × (i ≡ k + 1) × At order k x
 number_at [] x i e = absurd cc
 number_at (y ∷ order) x i e = elim (bytes_tell y x) [
   | inl t ↦ let g : Some 1 ≡ Some i = sym (ap (λ b. cond b (Some 1) (option_map (λ (n : ℕ). n + 1) (number_of order x))) t.0) ∙ e in
@@ -120,15 +120,15 @@ in_linear system order _ n _ m x s (later {y = y} {xs = xs} {k = k} a) e i =
     in_back (map (linear_summand order n) (summands_of system y)) (in_linear system order xs (n + 1) k m x s a (omega arith) i)
 
 -- where a summand of a linear process comes from
-record From (system : System) (order names : List Name) (n : ℕ) (r : LinearSummand) : Type 0 where
-  place : ℕ
-  name : Name
-  summand : Summand
-  at : At names place name
-  among : In summand (summands_of system name)
-  is : r ≡ linear_summand order (n + place) summand
+pub record From (system : System) (order names : List Name) (n : ℕ) (r : LinearSummand) : Type 0 where
+  pub place : ℕ
+  pub name : Name
+  pub summand : Summand
+  pub at : At names place name
+  pub among : In summand (summands_of system name)
+  pub is : r ≡ linear_summand order (n + place) summand
 
-linear_from : (system : System) (order names : List Name) (n : ℕ) (r : LinearSummand) → In r (linear_summands system order n names) → From system order names n r
+pub linear_from : (system : System) (order names : List Name) (n : ℕ) (r : LinearSummand) → In r (linear_summands system order n names) → From system order names n r
 linear_from system order [] n r i = elim i [ ]
 linear_from system order (x ∷ names) n r i =
     elim (in_append (map (linear_summand order n) (summands_of system x)) (linear_summands system order (n + 1) names) i) [
@@ -164,11 +164,11 @@ next_none : (order : List Name) (o : Option Name) → ((y : Name) → o ≡ Some
 next_none order None f e = refl
 next_none order (Some y) f e = let r = numbered y (f y refl) in let g : Some r.0 ≡ None = sym r.1 ∙ e in absurd cc
 
-next_some : (order : List Name) (o : Option Name) (j : ℕ) → option_and_then (number_of order) o ≡ Some j → (y : Name) × (o ≡ Some y) × (number_of order y ≡ Some j)
+pub next_some : (order : List Name) (o : Option Name) (j : ℕ) → option_and_then (number_of order) o ≡ Some j → (y : Name) × (o ≡ Some y) × (number_of order y ≡ Some j)
 next_some order None j e = absurd cc
 next_some order (Some y) j e = (y, refl, e)
 
-has_summand : (system : System) (x : Name) (s : Summand) → In s (summands_of system x) → HasSummand system x s
+pub has_summand : (system : System) (x : Name) (s : Summand) → In s (summands_of system x) → HasSummand system x s
 has_summand system x s i = found (equation_of system x) refl i
   where
     found : (o : Option Equation) → equation_of system x ≡ o → In s (summands_in o) → HasSummand system x s

@@ -7,3 +7,4 @@ pub mod SystemSteps
 pub mod LinearSteps
 pub mod Links
 pub mod LinearText
+pub mod Headline
