@@ -56,5 +56,8 @@ process_identifier taken x f = subst (λ (y : Name). IsToken y Identifier) (sym 
 pub control_identifier : (taken : List Name) (x : Name) → IsFresh taken (codes "s") x → IsToken x Identifier
 control_identifier taken x f = subst (λ (y : Name). IsToken y Identifier) (sym f.named) (control_candidate f.number)
 
+pub in_taken : (acts : List Name) (x : Name) → In x acts → In x (taken_at_start acts)
+in_taken acts x i = in_back (reserved_words ++ built_in_names) i
+
 pub not_declared : (acts : List Name) (base x : Name) → IsFresh (taken_at_start acts) base x → In x acts → ⊥
-not_declared acts base x f i = f.free (contains_in (in_back (reserved_words ++ built_in_names) i))
+not_declared acts base x f i = f.free (contains_in (in_taken acts x i))

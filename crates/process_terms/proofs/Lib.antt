@@ -6,3 +6,4 @@ pub mod Numerals
 pub mod Pieces
 pub mod Printable
 pub mod Freshness
+pub mod Standing

@@ -1,6 +1,7 @@
 -- Elements of lists of names.
-use Rattle.std.proofs.Common.{◌≡◌, ◌≢◌, ℕ, zero, suc, ◌⊎◌, inl, inr, Bool, true, false, cond, List, [], ◌∷◌, ◌++◌, map, filter, flat_map, filter_map, Option, Some, None, Contains, AllPairs, bytes_eq, refl, sym, ◌∙◌, subst, arith}
+use Rattle.std.proofs.Common.{get_or, length, ◌≡◌, ◌≢◌, ℕ, zero, suc, ◌⊎◌, inl, inr, Bool, true, false, cond, List, [], ◌∷◌, ◌++◌, map, filter, flat_map, filter_map, Option, Some, None, Contains, AllPairs, bytes_eq, refl, sym, ◌∙◌, subst, arith, All, ◌<◌}
 use Rattle.std.specs.List.{cons_option}
+use Rattle.std.proofs.lemmas.List.Elements.{All-nil, All-cons, All-contains}
 use Rattle.std.proofs.lemmas.Slice.Eq.{bytes_eq-Decides}
 
 -- x is an element, by a place
@@ -96,3 +97,30 @@ in_filter_map f x y e (there {y = z} {xs = xs} i) = in_optional (f z) (in_filter
     in_optional : {B : Type 0} {y : B} {ys : List B} (o : Option B) → In y ys → In y (cons_option o ys)
     in_optional None i = i
     in_optional (Some z) i = there i
+
+pub all_in : {A : Type 0} (P : A → Type 0) {x : A} (xs : List A) → All P xs → In x xs → P x
+all_in P {x} xs h i = All-contains P xs x h (contains_in i)
+
+pub all_from_in : {A : Type 0} (P : A → Type 0) (xs : List A) → ((x : A) → In x xs → P x) → All P xs
+all_from_in P [] h = All-nil P
+all_from_in P (x ∷ xs) h = All-cons P x xs (h x here) (all_from_in P xs (λ y i. h y (there i)))
+
+pub pairs_apart : {xs : List (List ℕ)} → Apart xs → AllPairs (λ (x y : List ℕ). x ≢ y) xs
+pairs_apart no_name i j d lt within = absurd (omega arith)
+pairs_apart (one_more {x = x} {xs = xs} new a) zero (suc j) d lt within = λ e. new (in_contains xs x (j, omega arith, same_at xs j d x (omega arith) (sym e)))
+  where
+    same_at : (xs : List (List ℕ)) (j : ℕ) (d x : List ℕ) → j < length xs → get_or xs j d ≡ x → get_or xs j x ≡ x
+    same_at [] j d x lt e = absurd (omega arith)
+    same_at (y ∷ ys) zero d x lt e = e
+    same_at (y ∷ ys) (suc j) d x lt e = same_at ys j d x (omega arith) e
+pairs_apart (one_more new a) (suc i) (suc j) d lt within = pairs_apart a i j d (omega arith) (omega arith)
+pairs_apart (one_more new a) i zero d lt within = absurd (omega arith)
+
+pub apart_front : (xs ys : List (List ℕ)) → Apart (xs ++ ys) → Apart xs
+apart_front [] ys a = no_name
+apart_front (x ∷ xs) ys (one_more new a) = one_more (λ i. new (in_front ys i)) (apart_front xs ys a)
+
+pub apart_append : {ys : List (List ℕ)} (xs : List (List ℕ)) → Apart xs → Apart ys → ((z : List ℕ) → In z xs → In z ys → ⊥) → Apart (xs ++ ys)
+apart_append [] a b no_both = b
+apart_append {ys = ys} (x ∷ xs) (one_more new a) b no_both =
+    one_more (λ i. elim (in_append xs ys i) [ inl j ↦ new j | inr j ↦ no_both x here j ]) (apart_append xs a b (λ z i j. no_both z (there i) j))

@@ -45,10 +45,10 @@ pub record IsPrintable (process : LinearProcess) : Type 0 where
   pub start : FitsStart process.parameter process.init
 
 -- bytes in front of others, with the words that they are and what these spell
-record Piece (bytes : List ℕ) (Spells : List Word → Type 0) : Type 0 where
-  words : List Word
-  cut : Cut bytes words
-  spells : Spells words
+pub record Piece (bytes : List ℕ) (Spells : List Word → Type 0) : Type 0 where
+  pub words : List Word
+  pub cut : Cut bytes words
+  pub spells : Spells words
 
 same_piece : {xs ys : List ℕ} {S : List Word → Type 0} → xs ≡ ys → Piece xs S → Piece ys S
 same_piece {S = S} e p = subst (λ (zs : List ℕ). Piece zs S) e p
@@ -182,7 +182,7 @@ acts_piece (x ∷ xs) {rest = rest} {words = words} some all e cut =
     same_piece {S = λ us. SpellsNames us (x ∷ xs) words} (sym (append_assoc x (more_names xs) rest))
     (names_piece x xs (All-head IsIdentifier x xs all) (All-tail IsIdentifier x xs all) e cut)
 
-process_piece : (l : LinearProcess) → IsPrintable l → Piece (process_text l) (λ us. SpellsProcess us l)
+pub process_piece : (l : LinearProcess) → IsPrintable l → Piece (process_text l) (λ us. SpellsProcess us l)
 process_piece l ok =
     let at_end = start_piece l.parameter l.init ok.start in
     let body = body_piece l.name l.parameter l.summands ok.name ok.parameter ok.summands
