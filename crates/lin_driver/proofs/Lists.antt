@@ -89,7 +89,6 @@ module _ {Item : Type 0} (spells : Item → List Token → List Token → Type 0
       → (items : List Item) (after : List Token) → SpellsList spells separator end items tokens after → ⊥
   no_sign tokens rest next front item left one none = no_list tokens rest front left (λ other sign after read follows. none sign after (one.only other sign after read follows).1 follows)
 
-
 -- The same from one turn of a loop to the next: the item was read from the rest, `behind` is what stands behind it, and
 -- `longer` is the list with the item pushed.
 module _ {Item : Type 0} (spells : Item → List Token → List Token → Type 0) (separator end : Kind) (differ : separator ≢ end)
@@ -199,6 +198,7 @@ no_more text tokens rest front here left one equations after spelled = none_behi
       where
         begins : {tokens after : List Token} {other : Equation} → [] ≡ tokens → SpellsEquation text other tokens after → ⊥
         begins e (equation (identifier kind) equals summands) = cc
+
     none_behind : {tokens after : List Token} {equations : List Equation} → IsOnlyEquation text tokens here [] → SpellsEquations text equations tokens after → ⊥
     none_behind one (last_equation read is) = let same = (one.only _ _ read).1 in cc
     none_behind one (more_equations read spelled) = nothing (one.only _ _ read).1 spelled

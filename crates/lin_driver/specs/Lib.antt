@@ -2,3 +2,4 @@ pub mod FirstForm
 pub mod Linearised
 pub mod PlainSystems
 pub mod Spans
+pub mod Naming

@@ -3,6 +3,7 @@
 
 mod linearising;
 mod name_set;
+mod naming;
 mod reading;
 mod system;
 

@@ -1,5 +1,5 @@
 //! Names, each once, in the order in which they came.
-ghost use Rattle.std.specs.Prelude.{◌≡◌, ◌<◌, ◌∷◌, ◌++◌, [], List, ℕ, map, not, length, position, bytes_eq, if◌then◌else◌, IfOk, OnErr, MatchOption, slice_index_or};
+ghost use Rattle.std.specs.Prelude.{◌≡◌, ◌<◌, ◌∷◌, ◌++◌, [], List, ℕ, map, not, length, position, bytes_eq, if◌then◌else◌, IfOk, IsTrue, ◌↔◌, Contains, slice_index_or};
 ghost use Rattle.std.specs.List.{list_any};
 
 use indexmap::IndexSet;
@@ -50,6 +50,13 @@ impl<'a> NameSet<'a> {
         ensures { result ≡ position (bytes_eq name.now) self.now }
     {
         self.names.get_index_of(&name)
+    }
+
+    /// Whether the name is there.
+    pub(crate) fn contains(&self, name: &'a [u8]) -> bool
+        ensures { IsTrue result ↔ Contains self.now name.now }
+    {
+        self.names.contains(&name)
     }
 
     /// Puts a name last where it isn't there, and says whether it did.

@@ -6,3 +6,5 @@ pub mod Printed
 pub mod SystemSteps
 pub mod LinearSteps
 pub mod Links
+pub mod LinearText
+pub mod Headline

@@ -25,7 +25,10 @@ returns-in-Init-clause-only c = equations_end_only c.args.text.now c.args.tokens
     (map-push plain_equation c.equations.equations.items c.push.new.self.items c.in_ok-equation.equation c.in_ok-push.ensures.items) c.in-Init.is
 
 pub equations-preserved : goal.equations-preserved
-equations-preserved c = (equations_go_on c.args.text.now c.args.tokens.now c.equations.rest.now c.in_ok-equation.after.now c.in_ok-sign.after.now
-    (map plain_equation c.equations.equations.items) (map plain_equation c.push.new.self.items) (plain_equation c.in_ok-equation.equation) c.in_ok-sign.sign c.equations.invariant.0
-    (record { reads = c.in_ok-equation.ensures.found; only = c.in_ok-equation.ensures.only }) c.in_ok-sign.ensures.first
-    (map-push plain_equation c.equations.equations.items c.push.new.self.items c.in_ok-equation.equation c.in_ok-push.ensures.items) c.in_default.not-Init, search rules)
+equations-preserved c = (
+  equations_go_on c.args.text.now c.args.tokens.now c.equations.rest.now c.in_ok-equation.after.now c.in_ok-sign.after.now
+      (map plain_equation c.equations.equations.items) (map plain_equation c.push.new.self.items) (plain_equation c.in_ok-equation.equation) c.in_ok-sign.sign c.equations.invariant.0
+      (record { reads = c.in_ok-equation.ensures.found; only = c.in_ok-equation.ensures.only }) c.in_ok-sign.ensures.first
+      (map-push plain_equation c.equations.equations.items c.push.new.self.items c.in_ok-equation.equation c.in_ok-push.ensures.items) c.in_default.not-Init,
+  search rules,
+)

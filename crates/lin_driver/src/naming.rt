@@ -1,0 +1,119 @@
+//! Whether the names of a system are declared once each, and used as they are declared.
+ghost use Rattle.std.specs.Prelude.{◌≡◌, ◌≢◌, ◌↔◌, List, ℕ, map, All, AllPairs, Contains, IfOk, IfSome, IsErrOf, IsTrue};
+ghost use Rattle.process_terms.specs.Systems.{Name, IsWellNamed, equation_names};
+ghost use Rattle.process_terms.specs.Systems as plain;
+ghost use Rattle.lin_driver.specs.Naming.{AreDistinct, UsesNames};
+ghost use Rattle.lin_driver.specs.PlainSystems.{plain_summand, plain_equation, plain_system};
+
+use crate::linearising::PlainFault;
+use crate::name_set::NameSet;
+use crate::system::{Equation, Summand, System};
+use std::alloc::{AllocError, Global};
+
+/// The declared names of a system.
+#[derive(Drop)]
+pub(crate) struct Declared<'a> {
+    /// The actions.
+    pub(crate) acts: NameSet<'a>,
+    /// The names of the equations, each at the place of its equation.
+    pub(crate) equations: NameSet<'a>,
+}
+
+/// The declared names of a system.
+///
+/// # Errors
+///
+/// `NotBuilt` exactly where a name is declared twice, or used as what it isn't declared as.
+pub(crate) fn declared<'a>(alloc: Global, system: &System<'a>) -> Result<Declared<'a>, PlainFault>
+    ensures acts { IfOk result (λ declared. declared.acts ≡ (plain_system system.now).acts) }
+    ensures equations { IfOk result (λ declared. declared.equations ≡ equation_names (plain_system system.now)) }
+    ensures well_named { IfOk result (λ _. IsWellNamed (plain_system system.now)) }
+    ensures ill_named { IsErrOf result PlainFault.NotBuilt → ¬ (IsWellNamed (plain_system system.now)) }
+{
+    let names = names_of(alloc, &system.equations)?;
+    let declared = Declared {
+        acts: distinct(alloc, &system.acts)?,
+        equations: distinct(alloc, &names)?,
+    };
+    let is_apart = are_apart(&declared.acts, &names);
+    if is_apart
+        && declared.equations.contains(system.init)
+        && all_use(&declared, &system.equations)
+    {
+        Ok(declared)
+    } else {
+        Err(PlainFault::NotBuilt)
+    }
+}
+
+/// The names of equations, in their order.
+fn names_of<'a>(alloc: Global, equations: &[Equation<'a>]) -> Result<Vec<&'a [u8]>, AllocError>
+    ensures { IfOk result (λ names. map (λ name. name.now) names.items ≡ map (λ equation. equation.name.now) equations.now) }
+{
+    equations
+        .iter()
+        .map(|equation| equation.name)
+        .collect(alloc)
+}
+
+/// The names, where no two are equal.
+fn distinct<'a>(alloc: Global, names: &[&'a [u8]]) -> Result<NameSet<'a>, PlainFault>
+    ensures names { IfOk result (λ set. set ≡ map (λ name. name.now) names.now) }
+    ensures distinct { IfOk result (λ set. AreDistinct set) }
+    ensures repeated { IsErrOf result PlainFault.NotBuilt → ¬ (AreDistinct (map (λ name. name.now) names.now)) }
+{
+    let mut set = NameSet::new(alloc);
+    for name in names {
+        if !set.insert(name)? {
+            return Err(PlainFault::NotBuilt);
+        }
+    }
+    Ok(set)
+}
+
+/// Whether none of the names is an action.
+fn are_apart<'a>(acts: &NameSet<'a>, names: &[&'a [u8]]) -> bool
+    ensures { IsTrue result ↔ All (λ name. ¬ (Contains acts.now name)) (map (λ name. name.now) names.now) }
+{
+    for name in names {
+        if acts.contains(name) {
+            return false;
+        }
+    }
+    true
+}
+
+/// Whether the action of a summand is an action, and the name behind it that of an equation.
+fn uses<'a>(declared: &Declared<'a>, summand: &Summand<'a>) -> bool
+    ensures { IsTrue result ↔ UsesNames declared.now.acts declared.now.equations (plain_summand summand.now) }
+{
+    declared.acts.contains(summand.action)
+        && match summand.next {
+            Some(called) => declared.equations.contains(called),
+            None => true,
+        }
+}
+
+/// Whether all summands of an equation use names as they are declared.
+fn equation_uses<'a>(declared: &Declared<'a>, equation: &Equation<'a>) -> bool
+    ensures { IsTrue result ↔ All (UsesNames declared.now.acts declared.now.equations) (plain_equation equation.now).summands }
+{
+    for summand in &equation.summands {
+        if !uses(declared, summand) {
+            return false;
+        }
+    }
+    true
+}
+
+/// Whether all equations use names as they are declared.
+fn all_use<'a>(declared: &Declared<'a>, equations: &[Equation<'a>]) -> bool
+    ensures { IsTrue result ↔ All (λ equation. All (UsesNames declared.now.acts declared.now.equations) (plain_equation equation).summands) equations.now }
+{
+    for equation in equations {
+        if !equation_uses(declared, equation) {
+            return false;
+        }
+    }
+    true
+}
