@@ -2,3 +2,4 @@ pub mod Lists
 pub mod Mapped
 pub mod OnlyItems
 pub mod OnlySystems
+pub mod WellNamed

@@ -1,6 +1,6 @@
 //! Names, each once, in the order in which they came.
-ghost use Rattle.std.specs.Prelude.{◌≡◌, ◌<◌, ◌∷◌, ◌++◌, [], List, ℕ, map, not, length, position, bytes_eq, if◌then◌else◌, IfOk, IsTrue, ◌↔◌, Contains, slice_index_or};
-ghost use Rattle.std.specs.List.{list_any};
+ghost use Rattle.std.specs.Prelude.{◌≡◌, ◌<◌, ◌∷◌, ◌++◌, [], List, ℕ, map, not, length, position, bytes_eq, if◌then◌else◌, IfOk, slice_index_or};
+ghost use Rattle.lin_driver.specs.Naming.{is_among};
 
 use indexmap::IndexSet;
 use std::alloc::{AllocFailed, Global};
@@ -54,14 +54,14 @@ impl<'a> NameSet<'a> {
 
     /// Whether the name is there.
     pub(crate) fn contains(&self, name: &'a [u8]) -> bool
-        ensures { IsTrue result ↔ Contains self.now name.now }
+        ensures { result ≡ is_among self.now name.now }
     {
         self.names.contains(&name)
     }
 
     /// Puts a name last where it isn't there, and says whether it did.
     pub(crate) fn insert(&mut self, name: &'a [u8]) -> Result<bool, AllocFailed<&'a [u8]>>
-        ensures added { IfOk result (λ added. added ≡ not (list_any (bytes_eq name.now) self.old)) }
+        ensures added { IfOk result (λ added. added ≡ not (is_among self.old name.now)) }
         ensures names { IfOk result (λ added. self.new ≡ if added then self.old ++ name.now ∷ [] else self.old) }
     {
         self.names.insert(name)
