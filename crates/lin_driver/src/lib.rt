@@ -4,6 +4,7 @@
 mod linearising;
 mod name_set;
 mod naming;
+mod numbering;
 mod reading;
 mod system;
 
