@@ -1,0 +1,5 @@
+pub mod Comments
+pub mod Decimals
+pub mod Fronts
+pub mod Runs
+pub mod Signs

@@ -6,7 +6,7 @@ use Rattle.mcrl2_lexer.specs.declared.token.Token.{Token}
 use Rattle.mcrl2_lexer.specs.declared.token.LexFault.{LexFault}
 use Rattle.mcrl2_lexer.specs.declared.token.LexFault.TheVariants.{BadByte, NumeralTooLarge, OutOfProfile, NoMemory}
 use Rattle.mcrl2_lexer.specs.Words.{is_space, is_left_out, decimal}
-use Rattle.mcrl2_lexer.specs.Tokens.{IsToken, TokenAt, CommentAt, IsAccepted}
+use Rattle.mcrl2_lexer.specs.Tokens.{BeginsNoToken, TokenAt, CommentAt, IsAccepted}
 
 -- From one place to another the text has these tokens, with white space and comments between them.
 pub data Lexes (text : List ℕ) : ℕ → List Token → ℕ → Type 0 where
@@ -37,7 +37,7 @@ pub record IsBadByte (text : List ℕ) (at : ℕ) : Type 0 where
   pub within : at < length text
   pub no_space : is_space (slice_index text at) ≡ false
   pub no_comment : slice_index text at ≢ 37
-  pub no_token : (n : ℕ) (kind : Kind) → IsToken (take n (drop at text)) kind → ⊥
+  pub no_token : BeginsNoToken (drop at text)
 
 -- the token at that place is a numeral above 2^128 - 1
 pub record IsLargeNumeral (text : List ℕ) (at : ℕ) : Type 0 where

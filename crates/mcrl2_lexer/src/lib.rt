@@ -5,8 +5,11 @@
 #![tactic(auto)]
 
 mod kind;
+mod numerals;
+mod scanning;
 mod token;
 mod words;
 
 pub use kind::Kind;
+pub use numerals::numeral_value;
 pub use token::{LexFault, Token, Tokens};
