@@ -52,6 +52,20 @@ pub record IsLeftOutToken (text : List ℕ) (at : ℕ) : Type 0 where
   pub token : TokenAt (drop at text) size kind
   pub left_out : is_left_out kind ≡ true
 
+-- the fault is that of the token at that place, or that none begins there
+abbrev pub IsFaultAt : List ℕ → ℕ → LexFault → Type 0
+IsFaultAt text at (BadByte place) = (place ≡ at) × BeginsNoToken (drop at text)
+IsFaultAt text at (NumeralTooLarge place) = (place ≡ at) × IsLargeNumeral text at
+IsFaultAt text at (OutOfProfile place) = (place ≡ at) × IsLeftOutToken text at
+IsFaultAt text at NoMemory = ⊥
+
+-- the token begins at that place, is the longest one there, and is accepted
+pub record IsNextToken (text : List ℕ) (at : ℕ) (token : Token) : Type 0 where
+  pub start : token.start ≡ at
+  pub some : at < token.end
+  pub longest : TokenAt (drop at text) (token.end - at) token.kind
+  pub accepted : IsAccepted text token
+
 -- The text has the fault: tokens that are accepted up to a place, and there what the fault says. Want of memory is no
 -- fault of the text.
 abbrev pub HasFault : List ℕ → LexFault → Type 0
