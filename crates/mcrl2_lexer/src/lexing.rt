@@ -47,9 +47,11 @@ fn next_token(text: &[u8], at: usize) -> Result<Token, LexFault>
     })
 }
 
-/// Cuts a text into its tokens, of which each is the longest one at its place, with white space and comments between
-/// them. The rules are those of the mCRL2 language reference: white space is space, tab, carriage return and line feed,
-/// and a comment runs from `%` to the next line feed and may hold any bytes.
+/// Cuts a text into its tokens, of which each is the longest one at its place, by the rules of the mCRL2 language
+/// reference.
+///
+/// Spaces, tabs, line feeds and carriage returns part tokens and belong to none. So does a comment: a `%` and all bytes
+/// behind it, whatever they are, up to a line feed or the end of the text.
 ///
 /// # Errors
 ///
