@@ -1,0 +1,40 @@
+-- Two small systems and their steps.
+use Rattle.std.specs.Prelude.{◌≡◌, ℕ, List, [], ◌∷◌, Option, Some, None, codes}
+use Rattle.process_terms.specs.Systems.{Name, Summand, Equation, System}
+use Rattle.process_terms.specs.LinearProcess.{LinearSummand, LinearProcess, linear_of}
+use Rattle.process_terms.specs.SystemSteps.{After, ended, goes_to, SystemStep}
+use Rattle.process_terms.specs.LinearSteps.{LinearStep}
+use Rattle.process_terms.specs.Links.{Link, IsGood}
+
+-- `act a; proc X = a . X; init X;`
+abbrev pub repeating : System
+repeating = record {
+  acts = codes "a" ∷ [];
+  equations = record { name = codes "X"; summands = record { action = codes "a"; next = Some (codes "X") } ∷ [] } ∷ [];
+  init = codes "X";
+}
+
+-- `act a, b; proc X = a . Y; Y = b . X; init X;`
+abbrev pub alternating : System
+alternating = record {
+  acts = codes "a" ∷ codes "b" ∷ [];
+  equations = record { name = codes "X"; summands = record { action = codes "a"; next = Some (codes "Y") } ∷ [] }
+      ∷ record { name = codes "Y"; summands = record { action = codes "b"; next = Some (codes "X") } ∷ [] } ∷ [];
+  init = codes "X";
+}
+
+-- its linear process
+abbrev pub alternating_process : LinearProcess
+alternating_process = linear_of alternating (codes "X" ∷ codes "Y" ∷ []) (codes "P") (codes "s")
+
+-- the steps that a name has
+abbrev pub alternating_step : Name → Name → After Name → Type 0
+alternating_step = SystemStep alternating
+
+-- the steps that a number has
+abbrev pub alternating_linear_step : ℕ → Name → After ℕ → Type 0
+alternating_linear_step = LinearStep alternating_process
+
+-- the text of that linear process, with `P` and `s` as its names
+abbrev pub alternating_text : List ℕ
+alternating_text = codes "act a, b;\nproc P(s: Pos) = (s == 1) -> a . P(s = 2)\n  + (s == 2) -> b . P(s = 1);\ninit P(1);\n"

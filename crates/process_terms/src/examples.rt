@@ -1,0 +1,31 @@
+//! Small systems. The functions do nothing: each contract is a fact about the definitions.
+
+ghost use Rattle.std.specs.Prelude.{◌≡◌, ◌↔◌, ◌∷◌, [], List, ℕ, codes};
+ghost use Rattle.process_terms.specs.Systems.{Name};
+ghost use Rattle.process_terms.specs.LinearProcess.{LinearProcess};
+ghost use Rattle.process_terms.specs.Printed.{printed};
+ghost use Rattle.process_terms.specs.SystemSteps.{After, goes_to};
+ghost use Rattle.process_terms.specs.Links.{Link, IsGood};
+ghost use Rattle.process_terms.specs.Examples.{repeating, alternating, alternating_text, alternating_step, alternating_linear_step};
+
+/// The steps of `proc X = a . Y; Y = b . X;` at `X` and at `Y`.
+pub fn alternating_steps()
+    ensures at_x { (action : Name) (after : After Name) → alternating_step (codes "X") action after ↔ ((action ≡ codes "a") × (after ≡ goes_to (codes "Y"))) }
+    ensures at_y { (action : Name) (after : After Name) → alternating_step (codes "Y") action after ↔ ((action ≡ codes "b") × (after ≡ goes_to (codes "X"))) }
+{}
+
+/// The steps of its linear process at 1 and at 2.
+pub fn alternating_linear_steps()
+    ensures at_one { (action : Name) (after : After ℕ) → alternating_linear_step 1 action after ↔ ((action ≡ codes "a") × (after ≡ goes_to 2)) }
+    ensures at_two { (action : Name) (after : After ℕ) → alternating_linear_step 2 action after ↔ ((action ≡ codes "b") × (after ≡ goes_to 1)) }
+{}
+
+/// What is printed for it.
+pub fn alternating_printed()
+    ensures { printed alternating (codes "X" ∷ codes "Y" ∷ []) (codes "P") (codes "s") ≡ alternating_text }
+{}
+
+/// A process without summands has no good link with `proc X = a . X;`.
+pub fn repeating_is_no_delta()
+    ensures { (link : Link) (process : LinearProcess) → process.summands ≡ [] → IsGood link repeating process → ⊥ }
+{}
