@@ -7,3 +7,4 @@ pub mod Pieces
 pub mod Printable
 pub mod Freshness
 pub mod Standing
+pub mod SmallSystems

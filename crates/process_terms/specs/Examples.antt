@@ -1,10 +1,9 @@
 -- Two small systems and their steps.
-use Rattle.std.specs.Prelude.{◌≡◌, ℕ, List, [], ◌∷◌, Option, Some, None, codes}
-use Rattle.process_terms.specs.Systems.{Name, Summand, Equation, System}
-use Rattle.process_terms.specs.LinearProcess.{LinearSummand, LinearProcess, linear_of}
-use Rattle.process_terms.specs.SystemSteps.{After, ended, goes_to, SystemStep}
+use Rattle.std.specs.Prelude.{ℕ, List, [], ◌∷◌, Some, codes}
+use Rattle.process_terms.specs.Systems.{Name, System}
+use Rattle.process_terms.specs.LinearProcess.{LinearProcess, linear_of}
+use Rattle.process_terms.specs.SystemSteps.{After, SystemStep}
 use Rattle.process_terms.specs.LinearSteps.{LinearStep}
-use Rattle.process_terms.specs.Links.{Link, IsGood}
 
 -- `act a; proc X = a . X; init X;`
 abbrev pub repeating : System
