@@ -5,8 +5,13 @@
 #![tactic(auto)]
 
 mod kind;
+mod lexing;
+mod numerals;
+mod scanning;
 mod token;
 mod words;
 
 pub use kind::Kind;
+pub use lexing::lex;
+pub use numerals::numeral_value;
 pub use token::{LexFault, Token, Tokens};
