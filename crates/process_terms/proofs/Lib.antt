@@ -8,3 +8,4 @@ pub mod Printable
 pub mod Freshness
 pub mod Standing
 pub mod SmallSystems
+pub mod Readings
