@@ -9,3 +9,4 @@ pub mod Freshness
 pub mod Standing
 pub mod SmallSystems
 pub mod Readings
+pub mod Alternating

@@ -1,10 +1,12 @@
 -- Words spell one linear process.
-use Rattle.std.proofs.Common.{◌≡◌, ℕ, List, ◌∷◌, Option, refl, sym, subst}
+use Rattle.std.proofs.Common.{◌≡◌, ℕ, List, ◌∷◌, Option, refl, sym, subst, ap}
 use Rattle.mcrl2_lexer.specs.declared.kind.Kind.{Kind}
 use Rattle.mcrl2_lexer.specs.declared.kind.Kind.TheVariants.{Semicolon, Plus, Equals, Delta, Init, Dot}
+use Rattle.mcrl2_lexer.specs.declared.token.Token.{Token}
+use Rattle.mcrl2_lexer.proofs.Single.{tokens_once}
 use Rattle.process_terms.specs.Systems.{Name}
 use Rattle.process_terms.specs.LinearProcess.{LinearSummand, LinearProcess}
-use Rattle.process_terms.specs.LinearText.{Word, name, fixed, SpellsNames, last_name, one_name, SpellsParameter, no_parameter, parameter, SpellsCondition, no_condition, condition, SpellsNext, no_call, bare_call, call, SpellsSummand, summand, SpellsChoice, last_summand, one_summand, SpellsBody, no_summand, choice, SpellsStart, bare_start, start, SpellsProcess, process}
+use Rattle.process_terms.specs.LinearText.{Word, name, fixed, SpellsNames, last_name, one_name, SpellsParameter, no_parameter, parameter, SpellsCondition, no_condition, condition, SpellsNext, no_call, bare_call, call, SpellsSummand, summand, SpellsChoice, last_summand, one_summand, SpellsBody, no_summand, choice, SpellsStart, bare_start, start, SpellsProcess, process, words_of, LinearText}
 
 names_once : {ws vs : List Word} {xs ys : List Name} {r s : List Word} → SpellsNames ws xs (fixed Semicolon ∷ r) → SpellsNames vs ys (fixed Semicolon ∷ s) → ws ≡ vs → (xs ≡ ys) × (r ≡ s)
 names_once last_name last_name e = (cc, cc)
@@ -91,3 +93,7 @@ process_once (process {acts = as1} {x = x} {p = p} {summands = ys} {i = m} {name
     let acts_same : as1 ≡ as2 = acts.0 in
     let body_same : ys ≡ zs = body.0 in
     cc
+
+-- bytes are the text of one process
+pub text_once : (text : List ℕ) (l k : LinearProcess) → LinearText text l → LinearText text k → l ≡ k
+text_once text l k a b = process_once a.spelled b.spelled (ap (λ (tokens : List Token). words_of text tokens) (tokens_once text a.tokens b.tokens a.cut.lexes b.cut.lexes))

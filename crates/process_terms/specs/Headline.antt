@@ -28,6 +28,10 @@ pub record AreFresh (system : System) (order : List Name) (process control : Nam
   pub for_process : IsFresh (taken_at_start system.acts) (codes "P") process
   pub for_control : 1 < length order → IsFresh (process ∷ taken_at_start system.acts) (codes "s") control
 
+-- bytes spell one linear process at most
+abbrev pub TextsAreSingle : Type 0
+TextsAreSingle = (text : List ℕ) (process other : LinearProcess) → LinearText text process → LinearText text other → process ≡ other
+
 -- the numbering of a well-named system ties it to its linear process
 abbrev pub NumberingIsGood : Type 0
 NumberingIsGood = (system : System) (order : List Name) (process control : Name) → IsWellNamed system → IsNumbering system order → IsGood (Numbering order) system (linear_of system order process control)

@@ -6,6 +6,7 @@ ghost use Rattle.process_terms.specs.LinearProcess.{LinearProcess};
 ghost use Rattle.process_terms.specs.Printed.{printed};
 ghost use Rattle.process_terms.specs.SystemSteps.{After, goes_to};
 ghost use Rattle.process_terms.specs.Links.{Link, IsGood};
+ghost use Rattle.process_terms.specs.Headline.{StandsFor};
 ghost use Rattle.process_terms.specs.Examples.{repeating, alternating, alternating_text, alternating_step, alternating_linear_step};
 
 /// The steps of `proc X = a . Y; Y = b . X;` at `X` and at `Y`.
@@ -23,6 +24,11 @@ pub fn alternating_linear_steps()
 /// What is printed for it.
 pub fn alternating_printed()
     ensures { printed alternating (codes "X" ∷ codes "Y" ∷ []) (codes "P") (codes "s") ≡ alternating_text }
+{}
+
+/// What is printed for it stands for it.
+pub fn alternating_stands()
+    ensures { StandsFor alternating alternating_text }
 {}
 
 /// A process without summands has no good link with `proc X = a . X;`.

@@ -1,6 +1,11 @@
 //! What is proved of systems, linear processes and links. The functions do nothing: each contract is a law.
 
-ghost use Rattle.process_terms.specs.Headline.{NumberingIsGood, PrintedSpells, Headline};
+ghost use Rattle.process_terms.specs.Headline.{TextsAreSingle, NumberingIsGood, PrintedSpells, Headline};
+
+/// Bytes spell one linear process at most.
+pub fn texts_are_single()
+    ensures { TextsAreSingle }
+{}
 
 /// The numbering of a well-named system is a good link between it and its linear process.
 pub fn numbering_is_good()
