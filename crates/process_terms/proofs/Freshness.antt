@@ -1,5 +1,5 @@
 -- Fresh names are identifiers, and aren't taken.
-use Rattle.std.proofs.Common.{◌≡◌, ℕ, zero, suc, ◌/◌, ◌%◌, ◌<◌, Bool, true, false, cond, List, [], ◌∷◌, ◌++◌, length, eqb, codes, decimal, refl, sym, subst, arith}
+use Rattle.std.proofs.Common.{ap, ◌∙◌, Contains, ◌≡◌, ℕ, zero, suc, ◌/◌, ◌%◌, ◌<◌, Bool, true, false, cond, List, [], ◌∷◌, ◌++◌, length, eqb, codes, decimal, refl, sym, subst, arith}
 use Rattle.std.specs.Fmt.{digits, digits_onto, digit_glyph}
 use Rattle.std.proofs.lemmas.Bool.Decides.{nat_tests}
 use Rattle.std.proofs.lemmas.List.Elements.{All-cons, All-nil}
@@ -61,3 +61,13 @@ in_taken acts x i = in_back (reserved_words ++ built_in_names) i
 
 pub not_declared : (acts : List Name) (base x : Name) → IsFresh (taken_at_start acts) base x → In x acts → ⊥
 not_declared acts base x f i = f.free (contains_in (in_taken acts x i))
+
+no_later : (taken : List Name) (base x y : Name) (f : IsFresh taken base x) (g : IsFresh taken base y) → f.number < g.number → ⊥
+no_later taken base x y f g lt = f.free (subst (λ (z : Name). Contains taken z) (sym f.named) (g.first f.number lt))
+
+pub fresh_once : (taken : List Name) (base x y : Name) → IsFresh taken base x → IsFresh taken base y → x ≡ y
+fresh_once taken base x y f g =
+    let below = no_later taken base x y f g in
+    let above = no_later taken base y x g f in
+    let same : f.number ≡ g.number = omega (arith, below, above) in
+    f.named ∙ ap (candidate base) same ∙ sym g.named

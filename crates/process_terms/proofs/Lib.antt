@@ -10,3 +10,4 @@ pub mod Standing
 pub mod SmallSystems
 pub mod Readings
 pub mod Alternating
+pub mod Orders

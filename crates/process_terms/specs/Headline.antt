@@ -28,6 +28,14 @@ pub record AreFresh (system : System) (order : List Name) (process control : Nam
   pub for_process : IsFresh (taken_at_start system.acts) (codes "P") process
   pub for_control : 1 < length order → IsFresh (process ∷ taken_at_start system.acts) (codes "s") control
 
+-- a system has one numbering at most
+abbrev pub NumberingsAreSingle : Type 0
+NumberingsAreSingle = (system : System) (order other : List Name) → IsNumbering system order → IsNumbering system other → order ≡ other
+
+-- a base has one fresh name at most
+abbrev pub FreshNamesAreSingle : Type 0
+FreshNamesAreSingle = (taken : List Name) (base name other : Name) → IsFresh taken base name → IsFresh taken base other → name ≡ other
+
 -- bytes spell one linear process at most
 abbrev pub TextsAreSingle : Type 0
 TextsAreSingle = (text : List ℕ) (process other : LinearProcess) → LinearText text process → LinearText text other → process ≡ other

@@ -1,6 +1,16 @@
 //! What is proved of systems, linear processes and links. The functions do nothing: each contract is a law.
 
-ghost use Rattle.process_terms.specs.Headline.{TextsAreSingle, NumberingIsGood, PrintedSpells, Headline};
+ghost use Rattle.process_terms.specs.Headline.{NumberingsAreSingle, FreshNamesAreSingle, TextsAreSingle, NumberingIsGood, PrintedSpells, Headline};
+
+/// A system has one numbering at most.
+pub fn numberings_are_single()
+    ensures { NumberingsAreSingle }
+{}
+
+/// A base has one fresh name at most.
+pub fn fresh_names_are_single()
+    ensures { FreshNamesAreSingle }
+{}
 
 /// Bytes spell one linear process at most.
 pub fn texts_are_single()
