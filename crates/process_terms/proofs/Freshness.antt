@@ -9,7 +9,6 @@ use Rattle.mcrl2_lexer.specs.Words.{word_kind, is_name_byte}
 use Rattle.mcrl2_lexer.specs.Tokens.{AreNameBytes, IsToken, name_or_word}
 use Rattle.process_terms.specs.Systems.{Name}
 use Rattle.process_terms.specs.Fresh.{reserved_words, built_in_names, taken_at_start, candidate, IsFresh}
-use Rattle.process_terms.proofs.Longest.{chosen}
 use Rattle.process_terms.proofs.Lists.{In, in_back, contains_in}
 
 glyph_name : (d : ℕ) → d < 10 → is_name_byte (digit_glyph false d) ≡ true
@@ -31,6 +30,10 @@ decimal_names n = digits_names 64 n [] (All-nil (λ b. is_name_byte b ≡ true))
 
 tail_names : (n : ℕ) → AreNameBytes (95 ∷ decimal n)
 tail_names n = All-cons (λ b. is_name_byte b ≡ true) 95 (decimal n) refl (decimal_names n)
+
+chosen : {A : Type 0} (t : Bool) (x y z : A) → x ≡ z → y ≡ z → cond t x y ≡ z
+chosen true x y z e f = e
+chosen false x y z e f = f
 
 process_word : (ds : List ℕ) → word_kind (80 ∷ 95 ∷ ds) ≡ Identifier
 process_word ds =

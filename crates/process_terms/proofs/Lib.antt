@@ -1,6 +1,6 @@
 pub mod Lists
 pub mod Numbered
-pub mod Longest
+pub mod Identifiers
 pub mod Cutting
 pub mod Numerals
 pub mod Pieces
