@@ -30,7 +30,7 @@ unfound {x = x} (there {y = y} {xs = xs} i) e = unfound i (or_parts (bytes_eq x 
 unlisted : (xs : List Name) (x : Name) → list_any (bytes_eq x) xs ≡ false → Contains xs x → ⊥
 unlisted xs x e c = unfound (in_contains xs x c) e
 
-one_new : {x : Name} {xs : List Name} → list_any (bytes_eq x) xs ≡ false → Apart xs → Apart (x ∷ xs)
+pub one_new : {x : Name} {xs : List Name} → list_any (bytes_eq x) xs ≡ false → Apart xs → Apart (x ∷ xs)
 one_new e a = one_more (λ i. unfound i e) a
 
 actions : All (λ (q : Equation). All (λ (z : Summand). Contains alternating.acts z.action) q.summands) alternating.equations

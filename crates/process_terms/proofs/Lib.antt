@@ -11,3 +11,4 @@ pub mod SmallSystems
 pub mod Readings
 pub mod Alternating
 pub mod Orders
+pub mod DeltaText

@@ -37,3 +37,7 @@ alternating_linear_step = LinearStep alternating_process
 -- the text of that linear process, with `P` and `s` as its names
 abbrev pub alternating_text : List ℕ
 alternating_text = codes "act a, b;\nproc P(s: Pos) = (s == 1) -> a . P(s = 2)\n  + (s == 2) -> b . P(s = 1);\ninit P(1);\n"
+
+-- a text that spells a process without summands
+abbrev pub delta_text : List ℕ
+delta_text = codes "act a;\nproc P = delta;\ninit P;\n"

@@ -6,8 +6,9 @@ ghost use Rattle.process_terms.specs.LinearProcess.{LinearProcess};
 ghost use Rattle.process_terms.specs.Printed.{printed};
 ghost use Rattle.process_terms.specs.SystemSteps.{After, goes_to};
 ghost use Rattle.process_terms.specs.Links.{Link, IsGood};
+ghost use Rattle.process_terms.specs.LinearText.{LinearText};
 ghost use Rattle.process_terms.specs.Headline.{StandsFor};
-ghost use Rattle.process_terms.specs.Examples.{repeating, alternating, alternating_text, alternating_step, alternating_linear_step};
+ghost use Rattle.process_terms.specs.Examples.{repeating, delta_text, alternating, alternating_text, alternating_step, alternating_linear_step};
 
 /// The steps of `proc X = a . Y; Y = b . X;` at `X` and at `Y`.
 pub fn alternating_steps()
@@ -34,4 +35,10 @@ pub fn alternating_stands()
 /// A process without summands has no good link with `proc X = a . X;`.
 pub fn repeating_is_no_delta()
     ensures { (link : Link) (process : LinearProcess) → process.summands ≡ [] → IsGood link repeating process → ⊥ }
+{}
+
+/// A text that prints `delta` spells a process, and doesn't stand for `proc X = a . X;`.
+pub fn delta_text_stands_for_no_repeating()
+    ensures spelled { (process : LinearProcess) × LinearText delta_text process × (process.summands ≡ []) }
+    ensures stands_not { StandsFor repeating delta_text → ⊥ }
 {}
