@@ -27,7 +27,7 @@ unfound : {x : Name} {xs : List Name} → In x xs → list_any (bytes_eq x) xs �
 unfound {x = x} (here {xs = xs}) e = both_ways (bytes_eq x x) (or_parts (bytes_eq x x) (list_any (bytes_eq x) xs) e).0 (same_bytes x)
 unfound {x = x} (there {y = y} {xs = xs} i) e = unfound i (or_parts (bytes_eq x y) (list_any (bytes_eq x) xs) e).1
 
-unlisted : (xs : List Name) (x : Name) → list_any (bytes_eq x) xs ≡ false → Contains xs x → ⊥
+pub unlisted : (xs : List Name) (x : Name) → list_any (bytes_eq x) xs ≡ false → Contains xs x → ⊥
 unlisted xs x e c = unfound (in_contains xs x c) e
 
 pub one_new : {x : Name} {xs : List Name} → list_any (bytes_eq x) xs ≡ false → Apart xs → Apart (x ∷ xs)

@@ -12,3 +12,4 @@ pub mod Readings
 pub mod Alternating
 pub mod Orders
 pub mod DeltaText
+pub mod Taking

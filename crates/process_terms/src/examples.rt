@@ -7,8 +7,8 @@ ghost use Rattle.process_terms.specs.Printed.{printed};
 ghost use Rattle.process_terms.specs.SystemSteps.{After, goes_to};
 ghost use Rattle.process_terms.specs.Links.{Link, IsGood};
 ghost use Rattle.process_terms.specs.LinearText.{LinearText};
-ghost use Rattle.process_terms.specs.Headline.{StandsFor};
-ghost use Rattle.process_terms.specs.Examples.{repeating, delta_text, alternating, alternating_text, alternating_step, alternating_linear_step};
+ghost use Rattle.process_terms.specs.Headline.{StandsFor, AreFresh};
+ghost use Rattle.process_terms.specs.Examples.{repeating, delta_text, stopping, stopping_text, taking, taking_text, alternating, alternating_text, alternating_step, alternating_linear_step};
 
 /// The steps of `proc X = a . Y; Y = b . X;` at `X` and at `Y`.
 pub fn alternating_steps()
@@ -41,4 +41,15 @@ pub fn repeating_is_no_delta()
 pub fn delta_text_stands_for_no_repeating()
     ensures spelled { (process : LinearProcess) × LinearText delta_text process × (process.summands ≡ []) }
     ensures stands_not { StandsFor repeating delta_text → ⊥ }
+{}
+
+/// What is printed for `proc X = a . X + b;`, which has no parameter.
+pub fn stopping_printed()
+    ensures { (control : Name) → printed stopping (codes "X" ∷ []) (codes "P") control ≡ stopping_text }
+{}
+
+/// Where `P` and `s` are actions, the process and its parameter get the next names.
+pub fn taking_printed()
+    ensures fresh { AreFresh taking (codes "X" ∷ codes "Y" ∷ []) (codes "P_1") (codes "s_1") }
+    ensures printed { printed taking (codes "X" ∷ codes "Y" ∷ []) (codes "P_1") (codes "s_1") ≡ taking_text }
 {}
