@@ -3,7 +3,7 @@ use Rattle.std.proofs.Common.{ℕ, zero, suc, ◌≤◌, List, [], ◌∷◌, ar
 use Rattle.std.specs.Prelude.{All}
 use Rattle.mcrl2_lexer.specs.declared.token.Token.{Token}
 use Rattle.mcrl2_lexer.specs.Tokens.{IsToken, slice_of}
-use Rattle.mcrl2_lexer.specs.Lexing.{Lexes, nothing, after_space, after_comment, after_token, SpansRise}
+use Rattle.mcrl2_lexer.specs.Lexing.{Lexes, nothing, after_space, after_comment, after_token, SpansRise, IsInside}
 
 spans_from_before : (before from end : ℕ) (tokens : List Token) → before ≤ from → SpansRise from tokens end → SpansRise before tokens end
 spans_from_before before from end [] earlier spans = omega (arith, spans)
@@ -26,3 +26,13 @@ token_slices (after_space inside space rest) = token_slices rest
 token_slices (after_comment some comment rest) = token_slices rest
 token_slices {text = text} (after_token {first = first} {others = others} start some longest rest) =
     slices_before text first others (rw start longest.token) (token_slices rest)
+
+span_within : (from end : ℕ) (tokens : List Token) → SpansRise from tokens end → from ≤ end
+span_within from end [] spans = spans
+span_within from end (first ∷ others) spans =
+    let behind : first.end ≤ end = span_within first.end end others spans.2 in omega (arith, spans.0, spans.1, behind)
+
+pub tokens_inside : (from end : ℕ) (tokens : List Token) → SpansRise from tokens end → All (λ token. IsInside token end) tokens
+tokens_inside from end [] spans i d inside = absurd (omega (arith, inside))
+tokens_inside from end (first ∷ others) spans zero d inside = record { some = spans.1; within = span_within first.end end others spans.2 }
+tokens_inside from end (first ∷ others) spans (suc i) d inside = tokens_inside first.end end others spans.2 i d (omega arith)

@@ -26,6 +26,11 @@ abbrev pub SpansRise : ℕ → List Token → ℕ → Type 0
 SpansRise from [] end = from ≤ end
 SpansRise from (token ∷ tokens) end = (from ≤ token.start) × (token.start < token.end) × SpansRise token.end tokens end
 
+-- the token has a byte at least, and ends within that many bytes
+pub record IsInside (token : Token) (end : ℕ) : Type 0 where
+  pub some : token.start < token.end
+  pub within : token.end ≤ end
+
 -- up to that place the text has tokens that are accepted
 pub record AcceptedUpTo (text : List ℕ) (at : ℕ) : Type 0 where
   pub tokens : List Token

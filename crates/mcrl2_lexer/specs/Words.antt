@@ -25,6 +25,7 @@ is_name (first ∷ others) = is_letter first && list_all is_name_byte others
 abbrev pub is_space : ℕ → Bool
 is_space b = nat_eq b 32 || nat_eq b 10 || nat_eq b 9 || nat_eq b 13
 
+-- The words of each length. Other bytes are an identifier.
 abbrev pub word_of_two : List ℕ → Kind
 word_of_two w = if bytes_eq w (codes "in") then In else Identifier
 
@@ -87,6 +88,7 @@ word_kind w = if nat_eq (length w) 2 then word_of_two w
     else if nat_eq (length w) 6 then word_of_six w
     else Identifier
 
+-- The signs of each length.
 abbrev pub sign_of_one : List ℕ → Option Kind
 sign_of_one s = if bytes_eq s (codes "(") then Some LeftParen
     else if bytes_eq s (codes ")") then Some RightParen

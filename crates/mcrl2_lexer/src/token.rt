@@ -1,7 +1,7 @@
 //! Tokens, and texts that are cut into them.
-ghost use Rattle.std.specs.Prelude.{◌≡◌};
+ghost use Rattle.std.specs.Prelude.{◌≡◌, All, length};
 ghost use Rattle.mcrl2_lexer.specs.Lexed.{Lexed};
-ghost use Rattle.mcrl2_lexer.specs.Lexing.{HasTokens};
+ghost use Rattle.mcrl2_lexer.specs.Lexing.{HasTokens, IsInside};
 
 use crate::kind::Kind;
 use std::alloc::{AllocError, AllocFailed};
@@ -54,6 +54,7 @@ impl Tokens {
     pub fn list(&self) -> &[Token]
         ensures list { result.now ≡ self.now.list }
         ensures of_text { HasTokens self.now.text self.now.list }
+        ensures inside { All (λ token. IsInside token (length self.now.text)) self.now.list }
     {
         &self.list
     }
