@@ -1,4 +1,6 @@
+pub mod FirstForms
 pub mod Found
+pub mod Linearises
 pub mod Lists
 pub mod Mapped
 pub mod MetOrder

@@ -121,6 +121,7 @@ in_met_name met name z i = cases (is_among met name) i
     last : {z name : Name} → In z (name ∷ []) → z ≡ name
     last here = refl
     last (there i) = elim i [ ]
+
     cases : (b : Bool) → In z (cond b met (met ++ name ∷ [])) → In z met ⊎ (z ≡ name)
     cases true i = inl i
     cases false i = elim (in_append met (name ∷ []) i) [ inl j ↦ inl j | inr j ↦ inr (last j) ]
@@ -132,9 +133,11 @@ apart_push (x ∷ met) name (one_more new a) absent = one_more fresh (apart_push
     or_false : (a b : Bool) → (a || b) ≡ false → (a ≡ false) × (b ≡ false)
     or_false true b e = absurd cc
     or_false false b e = (refl, e)
+
     last : {z name : Name} → In z (name ∷ []) → z ≡ name
     last here = refl
     last (there i) = elim i [ ]
+
     fresh : In x (met ++ name ∷ []) → ⊥
     fresh i = elim (in_append met (name ∷ []) i) [
       | inl j ↦ new j

@@ -115,16 +115,22 @@ met_more system order more read named so_far lower is =
           ∙ sym (flat_map-append (calls_of system) (take read order) (here ∷ [])) ∙ ap (flat_map (calls_of system)) (sym front)));
       called = λ k some within. elim (cases_lt k (length order)) [
         | inl low ↦
-            let old = so_far.called k some low in
-            (old.0, old.1, subst (λ (names : List Name). Contains (calls_of system (slice_index_or names old.0 [])) (slice_index_or names k [])) (sym joined)
-            (rw (get_or_append_left order behind.0 [] old.0 (omega (arith, old.1)), get_or_append_left order behind.0 [] k low) old.2))
+            let old = so_far.called k some low in (
+              old.0,
+              old.1,
+              subst (λ (names : List Name). Contains (calls_of system (slice_index_or names old.0 [])) (slice_index_or names k [])) (sym joined)
+                  (rw (get_or_append_left order behind.0 [] old.0 (omega (arith, old.1)), get_or_append_left order behind.0 [] k low) old.2),
+            )
         | inr high ↦
             let size : length more ≡ length order + length behind.0 = ap length joined ∙ length-append order behind.0 in
             let there_it_is : slice_index_or more k [] ≡ slice_index_or behind.0 (k - length order) [] = ap (λ (names : List Name). get_or names k []) joined ∙ get_or-behind order behind.0 k [] high in
             let new : In (slice_index_or behind.0 (k - length order) []) (calls_of system here) =
-            behind.2 (slice_index_or behind.0 (k - length order) []) (in_get behind.0 (k - length order) [] (omega arith)) in
-            (read, omega arith, subst (λ (x : Name). Contains (calls_of system x) (slice_index_or more k [])) (sym read_here)
-            (subst (λ (x : Name). Contains (calls_of system here) x) (sym there_it_is) (contains_in new)))
+            behind.2 (slice_index_or behind.0 (k - length order) []) (in_get behind.0 (k - length order) [] (omega arith)) in (
+              read,
+              omega arith,
+              subst (λ (x : Name). Contains (calls_of system x) (slice_index_or more k [])) (sym read_here)
+                  (subst (λ (x : Name). Contains (calls_of system here) x) (sym there_it_is) (contains_in new)),
+            )
       ];
       within = let total : length more ≡ length order + length behind.0 = ap length joined ∙ length-append order behind.0 in omega arith;
       among = λ z i. elim (in_met (calls_of system here) order z (subst (λ (names : List Name). In z names) is i)) [ inl j ↦ so_far.among z j | inr j ↦ called_names system named here z j ];

@@ -71,16 +71,16 @@ used acts equations summand action next =
 pub well_named : (system : System) → AreDistinct system.acts → AreDistinct (equation_names system) → are_used system ≡ true → IsWellNamed system
 well_named system acts equations tested =
     let first = and_true (list_all (λ (name : Name). not (is_among system.acts name)) (equation_names system) && is_among (equation_names system) system.init)
-        (list_all (λ (equation : Equation). list_all (uses_names system.acts (equation_names system)) equation.summands) system.equations) tested in
+    (list_all (λ (equation : Equation). list_all (uses_names system.acts (equation_names system)) equation.summands) system.equations) tested in
     let second = and_true (list_all (λ (name : Name). not (is_among system.acts name)) (equation_names system)) (is_among (equation_names system) system.init) first.0 in
     let apart_names : (name : Name) → In name system.acts → In name (equation_names system) → ⊥ = λ name act among.
-        let at = contains_in among in
-        let free : not (is_among system.acts (get_or (equation_names system) at.0 name)) ≡ true = AllPass-from_list_all (λ (n : Name). not (is_among system.acts n)) (equation_names system) second.0 at.0 name at.1 in
-        let there : is_among system.acts name ≡ true = (is_among-Contains system.acts name).1 (contains_in act) in
-        let clash : not (is_among system.acts name) ≡ true = sym (ap (λ (n : Name). not (is_among system.acts n)) at.2) ∙ free in
-        let wrong : false ≡ true = sym (ap not there) ∙ clash in cc in
+    let at = contains_in among in
+    let free : not (is_among system.acts (get_or (equation_names system) at.0 name)) ≡ true = AllPass-from_list_all (λ (n : Name). not (is_among system.acts n)) (equation_names system) second.0 at.0 name at.1 in
+    let there : is_among system.acts name ≡ true = (is_among-Contains system.acts name).1 (contains_in act) in
+    let clash : not (is_among system.acts name) ≡ true = sym (ap (λ (n : Name). not (is_among system.acts n)) at.2) ∙ free in
+    let wrong : false ≡ true = sym (ap not there) ∙ clash in cc in
     let every : (k : ℕ) (d : Equation) → k < length system.equations → list_all (uses_names system.acts (equation_names system)) (get_or system.equations k d).summands ≡ true =
-        AllPass-from_list_all (λ (equation : Equation). list_all (uses_names system.acts (equation_names system)) equation.summands) system.equations first.1 in
+    AllPass-from_list_all (λ (equation : Equation). list_all (uses_names system.acts (equation_names system)) equation.summands) system.equations first.1 in
     record {
       distinct = pairs_apart (apart_append system.acts (apart system.acts acts) (apart (equation_names system) equations) apart_names);
       actions = λ k d within j e inside. (uses system.acts (equation_names system) _ (AllPass-from_list_all (uses_names system.acts (equation_names system)) (get_or system.equations k d).summands (every k d within) j e inside)).0;
@@ -98,11 +98,11 @@ pub tests_hold : (system : System) → IsWellNamed system → are_used system �
 tests_hold system named =
     let Used : Equation → Bool = λ equation. list_all (uses_names system.acts (equation_names system)) equation.summands in
     let all : list_all Used system.equations ≡ true = list_all-from_AllPass Used system.equations
-        (λ k d within. list_all-from_AllPass (uses_names system.acts (equation_names system)) (get_or system.equations k d).summands
-        (λ j e inside. used system.acts (equation_names system) (get_or (get_or system.equations k d).summands j e) (named.actions k d within j e inside) (named.calls k d within j e inside))) in
+    (λ k d within. list_all-from_AllPass (uses_names system.acts (equation_names system)) (get_or system.equations k d).summands
+    (λ j e inside. used system.acts (equation_names system) (get_or (get_or system.equations k d).summands j e) (named.actions k d within j e inside) (named.calls k d within j e inside))) in
     let start : is_among (equation_names system) system.init ≡ true = (is_among-Contains (equation_names system) system.init).1 named.init in
     let free : list_all (λ (name : Name). not (is_among system.acts name)) (equation_names system) ≡ true =
-        list_all-from_AllPass (λ (name : Name). not (is_among system.acts name)) (equation_names system) (λ k d within. free_at k d within) in
+    list_all-from_AllPass (λ (name : Name). not (is_among system.acts name)) (equation_names system) (λ k d within. free_at k d within) in
     λ i. (free i && start i) && all i
   where
     free_at : (k : ℕ) (d : Name) → k < length (equation_names system) → not (is_among system.acts (get_or (equation_names system) k d)) ≡ true
@@ -135,9 +135,10 @@ module _ (names : List (Bor (List ℕ))) (i : ℕ) (d : Bor (List ℕ)) (within 
       let pushed : longer ≡ set ++ (get_or names i d).now ∷ [] = is ∙ ap (λ (b : Bool). cond b (set ++ (get_or names i d).now ∷ []) set) new in
       let absent : is_among set (get_or names i d).now ≡ false = not-true (is_among set (get_or names i d).now) (sym tested ∙ new) in
       let more : map (λ (name : Bor (List ℕ)). name.now) (take (i + 1) names) ≡ map (λ (name : Bor (List ℕ)). name.now) (take i names) ++ (get_or names i d).now ∷ [] =
-      rw (add-one, take-suc names i d within) (map-append (λ (name : Bor (List ℕ)). name.now) (take i names) (get_or names i d ∷ [])) in
-      (pushed ∙ ap (λ (x : List Name). x ++ (get_or names i d).now ∷ []) taken ∙ sym more,
-      subst AreDistinct (sym pushed) (distinct_push set (get_or names i d).now distinct absent))
+      rw (add-one, take-suc names i d within) (map-append (λ (name : Bor (List ℕ)). name.now) (take i names) (get_or names i d ∷ [])) in (
+        pushed ∙ ap (λ (x : List Name). x ++ (get_or names i d).now ∷ []) taken ∙ sym more,
+        subst AreDistinct (sym pushed) (distinct_push set (get_or names i d).now distinct absent),
+      )
 
 -- the tests of the code are those of the system
 pub tests_of_code : (system : code_system.System) (acts equations : List Name) (names : List (Bor (List ℕ))) → acts ≡ (plain.plain_system system).acts → equations ≡ equation_names (plain.plain_system system)

@@ -4,3 +4,4 @@ pub mod PlainSystems
 pub mod Spans
 pub mod Naming
 pub mod Meeting
+pub mod PlainFaults

@@ -25,7 +25,10 @@ pub(crate) struct DeclaredNames<'a> {
 /// # Errors
 ///
 /// `NotBuilt` exactly where a name is declared twice, or used as what it isn't declared as.
-pub(crate) fn declared_names<'a>(alloc: Global, system: &System<'a>) -> Result<DeclaredNames<'a>, PlainFault>
+pub(crate) fn declared_names<'a>(
+    alloc: Global,
+    system: &System<'a>,
+) -> Result<DeclaredNames<'a>, PlainFault>
     ensures acts { IfOk result (λ declared. declared.acts ≡ (plain_system system.now).acts) }
     ensures equations { IfOk result (λ declared. declared.equations ≡ equation_names (plain_system system.now)) }
     ensures well_named { IfOk result (λ _. IsWellNamed (plain_system system.now)) }
@@ -101,12 +104,17 @@ fn uses<'a>(declared: &DeclaredNames<'a>, summand: &Summand<'a>) -> bool
 fn equation_uses<'a>(declared: &DeclaredNames<'a>, equation: &Equation<'a>) -> bool
     ensures { result ≡ list_all (λ summand. uses_names declared.now.acts declared.now.equations (plain_summand summand)) equation.now.summands.items }
 {
-    equation.summands.iter().all(|summand| uses(declared, summand))
+    equation
+        .summands
+        .iter()
+        .all(|summand| uses(declared, summand))
 }
 
 /// Whether all equations use names as they are declared.
 fn all_use<'a>(declared: &DeclaredNames<'a>, equations: &[Equation<'a>]) -> bool
     ensures { result ≡ list_all (λ equation. list_all (λ summand. uses_names declared.now.acts declared.now.equations (plain_summand summand)) equation.summands.items) equations.now }
 {
-    equations.iter().all(|equation| equation_uses(declared, equation))
+    equations
+        .iter()
+        .all(|equation| equation_uses(declared, equation))
 }
