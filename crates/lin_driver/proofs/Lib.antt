@@ -3,3 +3,6 @@ pub mod Mapped
 pub mod OnlyItems
 pub mod OnlySystems
 pub mod WellNamed
+pub mod Numbers
+pub mod PrintedTexts
+pub mod FreeNames

@@ -3,3 +3,4 @@ pub mod Linearised
 pub mod PlainSystems
 pub mod Spans
 pub mod Naming
+pub mod LinearSummands

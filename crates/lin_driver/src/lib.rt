@@ -1,9 +1,11 @@
 //! From the bytes of a specification to the bytes of its linear process.
 #![tactic(auto)]
 
+mod fresh;
 mod linearising;
 mod name_set;
 mod naming;
+mod printing;
 mod reading;
 mod system;
 
