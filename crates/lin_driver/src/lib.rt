@@ -5,6 +5,7 @@ mod fresh;
 mod linearising;
 mod name_set;
 mod naming;
+mod numbering;
 mod printing;
 mod reading;
 mod system;

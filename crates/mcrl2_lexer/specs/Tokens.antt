@@ -25,6 +25,10 @@ pub record TokenAt (text : List ℕ) (n : ℕ) (kind : Kind) : Type 0 where
   pub token : IsToken (take n text) kind
   pub longest : (m : ℕ) (other : Kind) → m ≤ length text → IsToken (take m text) other → m ≤ n
 
+-- no front of the text is a token
+abbrev pub BeginsNoToken : List ℕ → Type 0
+BeginsNoToken text = (n : ℕ) (kind : Kind) → IsToken (take n text) kind → ⊥
+
 -- a comment begins with % and has no line feed
 pub data IsComment : List ℕ → Type 0 where
   percent : {others : List ℕ} → All (λ b. b ≢ 10) others → IsComment (37 ∷ others)

@@ -1,5 +1,6 @@
 -- Bytes, words and signs.
 use Rattle.std.specs.Prelude.{ℕ, Bool, true, false, List, [], ◌∷◌, Option, Some, None, length, nat_eq, nat_lt, ◌||◌, ◌&&◌, ◌+◌, ◌-◌, ◌*◌, if◌then◌else◌, codes, bytes_eq}
+use Rattle.std.specs.List.{list_all}
 use Rattle.mcrl2_lexer.specs.declared.kind.Kind.{Kind}
 use Rattle.mcrl2_lexer.specs.declared.kind.Kind.TheVariants.{Identifier, Sort, Cons, Map, Var, Eqn, Act, Proc, Init, Struct, BoolWord, PosWord, NatWord, IntWord, ListWord, TrueWord, FalseWord, Div, Mod, In, Delta, Tau, Sum, Allow, Block, Hide, Rename, Comm, LeftParen, RightParen, LeftBracket, RightBracket, LeftBrace, RightBrace, Comma, Semicolon, Colon, Equals, Question, Hash, Exclamation, Dot, Plus, Minus, Star, Bar, BarBar, AndAnd, Implies, EqualsEquals, NotEquals, Less, LessEquals, Greater, GreaterEquals, Prepend, Append, Concat, Arrow, Else, Dist, Glob, RealWord, SetWord, BagWord, FSetWord, FBagWord, Lambda, Forall, Exists, Whr, End, At, Before, Slash, LeftMerge}
 
@@ -15,10 +16,16 @@ is_digit b = nat_lt 47 b && nat_lt b 58
 abbrev pub is_name_byte : ℕ → Bool
 is_name_byte b = is_letter b || is_digit b || nat_eq b 39
 
+-- a letter with name bytes behind it
+abbrev pub is_name : List ℕ → Bool
+is_name [] = false
+is_name (first ∷ others) = is_letter first && list_all is_name_byte others
+
 -- tab, line feed, carriage return and space
 abbrev pub is_space : ℕ → Bool
 is_space b = nat_eq b 32 || nat_eq b 10 || nat_eq b 9 || nat_eq b 13
 
+-- The words of each length. Other bytes are an identifier.
 abbrev pub word_of_two : List ℕ → Kind
 word_of_two w = if bytes_eq w (codes "in") then In else Identifier
 
@@ -81,6 +88,7 @@ word_kind w = if nat_eq (length w) 2 then word_of_two w
     else if nat_eq (length w) 6 then word_of_six w
     else Identifier
 
+-- The signs of each length.
 abbrev pub sign_of_one : List ℕ → Option Kind
 sign_of_one s = if bytes_eq s (codes "(") then Some LeftParen
     else if bytes_eq s (codes ")") then Some RightParen

@@ -3,9 +3,9 @@
 /// What a token is: an identifier, a numeral, or one of the words and signs of the mCRL2 language reference.
 #[derive(Clone, Copy, Debug, PartialEq, Eq)]
 pub enum Kind {
-    /// A letter or `_`, then letters, digits, `_` and `'`, that are no word below.
+    /// A name that is none of the words below. It begins with a letter or `_`, and may go on with digits and `'` too.
     Identifier,
-    /// `0`, or a digit from 1 to 9 and digits behind it.
+    /// `0` alone, or digits of which the first is not `0`.
     Numeral,
 
     // The words that begin a section.

@@ -5,8 +5,18 @@
 #![tactic(auto)]
 
 mod kind;
+mod laws;
+mod lexing;
+mod numerals;
+mod scanning;
 mod token;
 mod words;
 
 pub use kind::Kind;
+pub use laws::{faults_are_single, faulty_texts_have_no_tokens, tokens_are_single};
+pub use lexing::lex;
+pub use numerals::numeral_value;
 pub use token::{LexFault, Token, Tokens};
+
+#[cfg(test)]
+mod tests;

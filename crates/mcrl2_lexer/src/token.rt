@@ -1,8 +1,10 @@
 //! Tokens, and texts that are cut into them.
-ghost use Rattle.std.specs.Prelude.{◌≡◌};
+ghost use Rattle.std.specs.Prelude.{◌≡◌, All, length};
 ghost use Rattle.mcrl2_lexer.specs.Lexed.{Lexed};
+ghost use Rattle.mcrl2_lexer.specs.Lexing.{HasTokens, IsInside};
 
 use crate::kind::Kind;
+use std::alloc::{AllocError, AllocFailed};
 use std::marker::Model;
 
 /// A token of a text: its kind, and the bytes that it spans.
@@ -27,9 +29,20 @@ impl Model for Tokens {
     ghost Value = { Lexed };
 
     ghost view = { λ tokens. record { text = tokens.text.items; list = tokens.list.items } };
+
+    ghost invariant = { λ tokens. HasTokens tokens.text.items tokens.list.items };
 }
 
 impl Tokens {
+    /// A text and the tokens that it has.
+    pub(crate) fn new(text: Vec<u8>, list: Vec<Token>) -> Tokens
+        requires { HasTokens text.items list.items }
+        ensures text { result.text ≡ text.items }
+        ensures list { result.list ≡ list.items }
+    {
+        Tokens { text, list }
+    }
+
     /// The text. It takes no memory.
     pub fn text(&self) -> &[u8]
         ensures { result.now ≡ self.now.text }
@@ -39,7 +52,9 @@ impl Tokens {
 
     /// The tokens of the text, in its order. It takes no memory.
     pub fn list(&self) -> &[Token]
-        ensures { result.now ≡ self.now.list }
+        ensures list { result.now ≡ self.now.list }
+        ensures of_text { HasTokens self.now.text self.now.list }
+        ensures inside { All (λ token. IsInside token (length self.now.text)) self.now.list }
     {
         &self.list
     }
@@ -56,4 +71,24 @@ pub enum LexFault {
     OutOfProfile(usize),
     /// No memory was left.
     NoMemory,
+}
+
+impl From<AllocError> for LexFault {
+    ghost use Rattle.mcrl2_lexer.specs.declared.token.LexFault.TheVariants.{NoMemory};
+
+    ghost from_gives = { λ _ fault. fault ≡ NoMemory };
+
+    fn from(_: AllocError) -> Self {
+        LexFault::NoMemory
+    }
+}
+
+impl<T: Drop> From<AllocFailed<T>> for LexFault {
+    ghost use Rattle.mcrl2_lexer.specs.declared.token.LexFault.TheVariants.{NoMemory};
+
+    ghost from_gives = { λ _ fault. fault ≡ NoMemory };
+
+    fn from(_: AllocFailed<T>) -> Self {
+        LexFault::NoMemory
+    }
 }

@@ -157,6 +157,16 @@ pub(crate) fn sign_of_two(first: u8, second: u8) -> Option<Kind>
     Some(kind)
 }
 
+/// The sign of those three bytes.
+pub(crate) fn sign_of_three(first: u8, second: u8, third: u8) -> Option<Kind>
+    ensures { result ≡ sign_kind (first ∷ second ∷ third ∷ []) }
+{
+    match (first, second, third) {
+        (b'|', b'|', b'_') => Some(Kind::LeftMerge),
+        _ => None,
+    }
+}
+
 /// Whether a byte is a letter or `_`.
 pub(crate) fn is_letter(byte: u8) -> bool
     ensures { result ≡ is_letter byte }

@@ -1,15 +1,15 @@
 -- Bytes as words, from the end on: what stands in front of the bytes doesn't matter.
-use Rattle.std.proofs.Common.{◌≡◌, ℕ, ◌+◌, ◌-◌, ◌<◌, ◌^◌, true, false, List, [], ◌∷◌, ◌++◌, length, take, drop, get_or, All, refl, sym, ap, ◌∙◌, subst, subst₂, arith, append_assoc, append-nil, length-append}
-use Rattle.std.proofs.Math.Seq.{drop-append_seam, take-append_seam, get_or-append_seam}
+use Rattle.std.proofs.Common.{◌≡◌, ℕ, ◌+◌, ◌-◌, ◌<◌, ◌^◌, true, false, List, [], ◌∷◌, ◌++◌, length, take, drop, All, refl, sym, ap, ◌∙◌, subst, subst₂, arith, append_assoc, append-nil, length-append}
+use Rattle.std.proofs.Math.Seq.{drop-append_seam, take-append_seam}
 use Rattle.std.proofs.lemmas.List.Elements.{All-cons, All-nil}
 use Rattle.mcrl2_lexer.specs.declared.kind.Kind.{Kind}
 use Rattle.mcrl2_lexer.specs.declared.kind.Kind.TheVariants.{Numeral}
 use Rattle.mcrl2_lexer.specs.declared.token.Token.{Token}
 use Rattle.mcrl2_lexer.specs.Words.{is_space, is_left_out, decimal}
-use Rattle.mcrl2_lexer.specs.Tokens.{IsToken, TokenAt, IsAccepted, slice_of}
-use Rattle.mcrl2_lexer.specs.Lexing.{Lexes, nothing, after_space, after_token, HasTokens}
+use Rattle.mcrl2_lexer.specs.Tokens.{TokenAt, IsAccepted, slice_of}
+use Rattle.mcrl2_lexer.specs.Lexing.{Lexes, nothing, HasTokens}
+use Rattle.mcrl2_lexer.proofs.Spelled.{Lexes-token, Lexes-space}
 use Rattle.process_terms.specs.LinearText.{Word, word_of, words_of}
-use Rattle.process_terms.proofs.Longest.{IsLongest}
 
 -- from a place on the text says these words
 pub record CutAt (text : List ℕ) (at : ℕ) (words : List Word) : Type 0 where
@@ -38,37 +38,24 @@ behind front bytes rest words c =
 pub cut_space : (b : ℕ) {rest : List ℕ} {words : List Word} → is_space b ≡ true → Cut rest words → Cut (b ∷ rest) words
 cut_space b {rest = rest} {words = words} e c front =
     let r = behind front (b ∷ []) rest words c in
-    let inside : length front < length (front ++ b ∷ rest) = omega (arith, length-append front (b ∷ rest)) in
-    let here : is_space (get_or (front ++ b ∷ rest) (length front) 0) ≡ true = rw get_or-append_seam e in
     record {
       tokens = r.tokens;
-      lexes = after_space inside here (subst (λ (at : ℕ). Lexes (front ++ b ∷ rest) at r.tokens (length (front ++ b ∷ rest))) (omega arith) r.lexes);
+      lexes = Lexes-space (front ++ b ∷ rest) (length front) (length (front ++ b ∷ rest)) b rest r.tokens (drop-append_seam front (b ∷ rest)) e r.lexes;
       accepted = r.accepted;
       says = r.says;
     }
 
-token_at : (bytes rest : List ℕ) (k : Kind) → 0 < length bytes → IsToken bytes k → IsLongest bytes rest → TokenAt (bytes ++ rest) (length bytes) k
-token_at bytes rest k some t longest = record {
-  some = some;
-  within = omega (arith, length-append bytes rest);
-  token = subst (λ (bs : List ℕ). IsToken bs k) (sym (take-append_seam bytes rest)) t;
-  longest = longest;
-}
-
-pub cut_token : (bytes : List ℕ) (k : Kind) {rest : List ℕ} {words : List Word} → 0 < length bytes → IsToken bytes k → IsLongest bytes rest → is_left_out k ≡ false → (k ≡ Numeral → decimal bytes < 2 ^ 128)
+pub cut_token : (bytes : List ℕ) (k : Kind) {rest : List ℕ} {words : List Word} → TokenAt (bytes ++ rest) (length bytes) k → is_left_out k ≡ false → (k ≡ Numeral → decimal bytes < 2 ^ 128)
     → Cut rest words → Cut (bytes ++ rest) (word_of k bytes ∷ words)
-cut_token bytes k {rest = rest} {words = words} some t longest kept fits c front =
+cut_token bytes k {rest = rest} {words = words} token kept fits c front =
     let r = behind front bytes rest words c in
-    let text : List ℕ = front ++ (bytes ++ rest) in
-    let token : Token = record { kind = k; start = length front; end = length front + length bytes } in
     let size : length front + length bytes - length front ≡ length bytes = omega arith in
     let tail : drop (length front) (front ++ (bytes ++ rest)) ≡ bytes ++ rest = drop-append_seam front (bytes ++ rest) in
     let slice : slice_of (front ++ (bytes ++ rest)) (record { kind = k; start = length front; end = length front + length bytes }) ≡ bytes
     = ap (λ (n : ℕ). take n (drop (length front) (front ++ (bytes ++ rest)))) size ∙ ap (take (length bytes)) tail ∙ take-append_seam bytes rest in
     record {
       tokens = record { kind = k; start = length front; end = length front + length bytes } ∷ r.tokens;
-      lexes = after_token refl (omega arith)
-          (subst₂ (λ (n : ℕ) (bs : List ℕ). TokenAt bs n k) (sym size) (sym tail) (token_at bytes rest k some t longest)) r.lexes;
+      lexes = Lexes-token (front ++ (bytes ++ rest)) (length front) (length (front ++ (bytes ++ rest))) bytes rest k r.tokens tail token r.lexes;
       accepted = All-cons (IsAccepted (front ++ (bytes ++ rest))) (record { kind = k; start = length front; end = length front + length bytes }) r.tokens
           (record { kept = kept; fits = λ e. subst (λ (bs : List ℕ). decimal bs < 2 ^ 128) (sym slice) (fits e) }) r.accepted;
       says = ap (λ (bs : List ℕ). word_of k bs ∷ words_of (front ++ (bytes ++ rest)) r.tokens) slice ∙ ap (λ (ws : List Word). word_of k bytes ∷ ws) r.says;

@@ -1,5 +1,5 @@
 -- Fresh names are identifiers, and aren't taken.
-use Rattle.std.proofs.Common.{◌≡◌, ℕ, zero, suc, ◌/◌, ◌%◌, ◌<◌, Bool, true, false, cond, List, [], ◌∷◌, ◌++◌, length, eqb, codes, decimal, refl, sym, subst, arith}
+use Rattle.std.proofs.Common.{ap, ◌∙◌, Contains, ◌≡◌, ℕ, zero, suc, ◌/◌, ◌%◌, ◌<◌, Bool, true, false, cond, List, [], ◌∷◌, ◌++◌, length, eqb, codes, decimal, refl, sym, subst, arith}
 use Rattle.std.specs.Fmt.{digits, digits_onto, digit_glyph}
 use Rattle.std.proofs.lemmas.Bool.Decides.{nat_tests}
 use Rattle.std.proofs.lemmas.List.Elements.{All-cons, All-nil}
@@ -9,7 +9,6 @@ use Rattle.mcrl2_lexer.specs.Words.{word_kind, is_name_byte}
 use Rattle.mcrl2_lexer.specs.Tokens.{AreNameBytes, IsToken, name_or_word}
 use Rattle.process_terms.specs.Systems.{Name}
 use Rattle.process_terms.specs.Fresh.{reserved_words, built_in_names, taken_at_start, candidate, IsFresh}
-use Rattle.process_terms.proofs.Longest.{chosen}
 use Rattle.process_terms.proofs.Lists.{In, in_back, contains_in}
 
 glyph_name : (d : ℕ) → d < 10 → is_name_byte (digit_glyph false d) ≡ true
@@ -31,6 +30,10 @@ decimal_names n = digits_names 64 n [] (All-nil (λ b. is_name_byte b ≡ true))
 
 tail_names : (n : ℕ) → AreNameBytes (95 ∷ decimal n)
 tail_names n = All-cons (λ b. is_name_byte b ≡ true) 95 (decimal n) refl (decimal_names n)
+
+chosen : {A : Type 0} (t : Bool) (x y z : A) → x ≡ z → y ≡ z → cond t x y ≡ z
+chosen true x y z e f = e
+chosen false x y z e f = f
 
 process_word : (ds : List ℕ) → word_kind (80 ∷ 95 ∷ ds) ≡ Identifier
 process_word ds =
@@ -61,3 +64,13 @@ in_taken acts x i = in_back (reserved_words ++ built_in_names) i
 
 pub not_declared : (acts : List Name) (base x : Name) → IsFresh (taken_at_start acts) base x → In x acts → ⊥
 not_declared acts base x f i = f.free (contains_in (in_taken acts x i))
+
+no_later : (taken : List Name) (base x y : Name) (f : IsFresh taken base x) (g : IsFresh taken base y) → f.number < g.number → ⊥
+no_later taken base x y f g lt = f.free (subst (λ (z : Name). Contains taken z) (sym f.named) (g.first f.number lt))
+
+pub fresh_once : (taken : List Name) (base x y : Name) → IsFresh taken base x → IsFresh taken base y → x ≡ y
+fresh_once taken base x y f g =
+    let below = no_later taken base x y f g in
+    let above = no_later taken base y x g f in
+    let same : f.number ≡ g.number = omega (arith, below, above) in
+    f.named ∙ ap (candidate base) same ∙ sym g.named

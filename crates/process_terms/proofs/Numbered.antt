@@ -89,7 +89,7 @@ number_once order x y i e f =
 
 -- first occurrences
 
-occurs : {x : Name} {xs : List Name} → In x xs → In x (first_occurrences xs)
+pub occurs : {x : Name} {xs : List Name} → In x xs → In x (first_occurrences xs)
 occurs here = here
 occurs {x} (there {y = y} {xs = xs} i) = elim (bytes_tell y x) [
   | inl t ↦ subst (λ (z : Name). In z (first_occurrences (y ∷ xs))) t.1 here
@@ -104,7 +104,7 @@ apart_filter : (p : Name → Bool) {xs : List Name} → Apart xs → Apart (filt
 apart_filter p no_name = no_name
 apart_filter p (one_more {x = x} {xs = xs} new a) = apart_kept x (filter p xs) (p x) (λ i. new (in_filter p xs i).0) (apart_filter p a)
 
-apart_firsts : (xs : List Name) → Apart (first_occurrences xs)
+pub apart_firsts : (xs : List Name) → Apart (first_occurrences xs)
 apart_firsts [] = no_name
 apart_firsts (x ∷ xs) =
     one_more

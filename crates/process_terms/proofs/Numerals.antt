@@ -1,11 +1,10 @@
 -- The digits of a number are a numeral that says the number.
-use Rattle.std.proofs.Common.{◌≡◌, ◌≢◌, ℕ, zero, suc, ◌+◌, ◌-◌, ◌*◌, ◌/◌, ◌%◌, ◌^◌, ◌<◌, ◌≤◌, true, List, [], ◌∷◌, ◌++◌, decimal, refl, sym, ap, ◌∙◌, subst, arith}
+use Rattle.std.proofs.Common.{◌≡◌, ◌≢◌, ℕ, ◌+◌, ◌-◌, ◌*◌, ◌/◌, ◌%◌, ◌^◌, ◌<◌, ◌≤◌, true, List, [], ◌∷◌, ◌++◌, decimal, refl, ap, ◌∙◌, arith}
 use Rattle.std.proofs.lemmas.Bool.Decides.{nat_tests}
 use Rattle.std.proofs.lemmas.List.Elements.{All-nil, All-push}
-use Rattle.std.proofs.lemmas.Fmt.{decimal_by_steps, decimal_digit}
-use Rattle.mcrl2_lexer.specs.declared.kind.Kind.TheVariants.{Numeral}
+use Rattle.std.proofs.lemmas.Fmt.{decimal_by_steps}
 use Rattle.mcrl2_lexer.specs.Words.{is_digit, decimal_after, decimal as value_of}
-use Rattle.mcrl2_lexer.specs.Tokens.{AreDigits, IsToken, zero_numeral, numeral}
+use Rattle.mcrl2_lexer.specs.Tokens.{AreDigits}
 
 -- digits that say the number, the first one no 0 where the number is positive
 pub record SaysNumber (n : ℕ) (ds : List ℕ) : Type 0 where
@@ -48,7 +47,3 @@ one_more n ds le s = record {
 
 pub says_number : (n : ℕ) → n < 2 ^ 64 → SaysNumber n (decimal n)
 says_number n lt = decimal_by_steps SaysNumber one_digit one_more n lt
-
-pub decimal_token : (n : ℕ) → n < 2 ^ 64 → IsToken (decimal n) Numeral
-decimal_token zero lt = subst (λ (ds : List ℕ). IsToken ds Numeral) (sym (decimal_digit 0 (omega arith))) zero_numeral
-decimal_token (suc n) lt = let s = says_number (suc n) lt in subst (λ (ds : List ℕ). IsToken ds Numeral) (sym s.is) (numeral (s.positive (omega arith)) s.digit s.digits)

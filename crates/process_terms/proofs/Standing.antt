@@ -8,7 +8,7 @@ use Rattle.process_terms.specs.LinearProcess.{LinearSummand, LinearProcess, with
 use Rattle.process_terms.specs.Printed.{process_text, printed}
 use Rattle.process_terms.specs.LinearText.{Word, SpellsProcess, HasOwnNames, LinearText}
 use Rattle.process_terms.specs.Links.{Numbering}
-use Rattle.process_terms.specs.Headline.{StandsFor, AreIdentifiers, AreFresh, Headline}
+use Rattle.process_terms.specs.Headline.{StandsFor, AreIdentifiers, AreFresh, PrintedSpells, Headline}
 use Rattle.process_terms.proofs.Lists.{In, here, there, contains_in, in_contains, map_in, Apart, no_name, one_more, apart, apart_front, apart_append, pairs_apart, all_in, all_from_in}
 use Rattle.process_terms.proofs.Numbered.{At, first, later, number_at, linear_from, has_summand, next_some, numbering_good}
 use Rattle.process_terms.proofs.Cutting.{whole}
@@ -123,10 +123,13 @@ module _ (system : System) (order : List Name) (process control : Name) (well : 
         no_both);
   }
 
+  pub spells : LinearText (printed system order process control) (linear_of system order process control)
+  spells = text_spelled (linear_of system order process control) printable named
+
   pub stands_for : StandsFor system (printed system order process control)
   stands_for = record {
     process = linear_of system order process control;
-    spelled = text_spelled (linear_of system order process control) printable named;
+    spelled = spells;
     acts = refl;
     link = Numbering order;
     good = numbering_good system order process control well numbering;
@@ -134,3 +137,6 @@ module _ (system : System) (order : List Name) (process control : Name) (well : 
 
 pub headline : Headline
 headline = stands_for
+
+pub printed_spells : PrintedSpells
+printed_spells = spells

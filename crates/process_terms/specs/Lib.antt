@@ -8,3 +8,4 @@ pub mod LinearSteps
 pub mod Links
 pub mod LinearText
 pub mod Headline
+pub mod Examples

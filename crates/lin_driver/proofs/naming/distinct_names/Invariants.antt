@@ -1,4 +1,4 @@
-use Rattle.std.proofs.Common.{◌≡◌, List, map, take}
+use Rattle.std.proofs.Common.{◌≡◌, map, take}
 use Rattle.lin_driver.specs.Naming.{AreDistinct}
 use Rattle.lin_driver.proofs.naming.distinct_names.Given as goal
 

@@ -1,4 +1,4 @@
-use Rattle.std.proofs.Common.{rules, arith, ◌≡◌, List, [], map, subst, refl}
+use Rattle.std.proofs.Common.{rules, ◌≡◌, List, [], map, subst, refl}
 use Rattle.mcrl2_lexer.specs.declared.token.Token.{Token}
 use Rattle.lin_driver.specs.PlainSystems.{plain_equation}
 use Rattle.lin_driver.proofs.Lists.{IsOnlyEquation, equations_go_on, equations_end, equations_end_only, no_more}

@@ -1,9 +1,7 @@
-use Rattle.std.proofs.Common.{rules, arith, ◌≡◌, ◌≢◌, ◌⊎◌, ⊎_elim, ℕ, List, [], ◌∷◌, map, Bor, length, refl, sym, ◌∙◌}
+use Rattle.std.proofs.Common.{rules, ◌≡◌, ⊎_elim, ℕ, List, [], ◌∷◌, map, Bor, refl, sym, ◌∙◌}
 use Rattle.mcrl2_lexer.specs.declared.kind.Kind.TheVariants.{Comma, Semicolon}
-use Rattle.mcrl2_lexer.specs.declared.token.Token.{Token}
 use Rattle.lin_driver.specs.FirstForm.{SpellsName}
-use Rattle.lin_driver.specs.PlainSystems.{plain_summand}
-use Rattle.lin_driver.proofs.Lists.{list_begins, goes_on, ends, ends_only, no_sign}
+use Rattle.lin_driver.proofs.Lists.{goes_on, ends, ends_only, no_sign}
 use Rattle.lin_driver.proofs.OnlyItems.{map-push, only_name}
 use Rattle.lin_driver.proofs.reading.names.Goals as goal
 

@@ -1,8 +1,5 @@
-use Rattle.std.proofs.Common.{rules, arith, ◌≡◌, ◌≢◌, List, [], ◌∷◌, length, refl, sym, ◌∙◌, ap, subst, false, true, ◌==◌}
+use Rattle.std.proofs.Common.{arith, ◌≡◌, [], ◌∷◌, length, refl, sym, ◌∙◌, ap}
 use Rattle.std.proofs.lemmas.Grind.{common_steps}
-use Rattle.mcrl2_lexer.specs.declared.token.Token.{Token}
-use Rattle.mcrl2_lexer.specs.declared.kind.Kind.TheVariants.{Comma, Semicolon}
-use Rattle.lin_driver.specs.FirstForm.{SpellsList, SpellsName, SpellsSystem}
 use Rattle.lin_driver.specs.FirstForm.SpellsSystem.{system}
 use Rattle.lin_driver.proofs.OnlySystems.{after_acts, no_proc, after_equations, no_start, after_init}
 use Rattle.lin_driver.proofs.reading.read_system.Goals as goal
