@@ -1,24 +1,16 @@
 -- Places of names, and the equations that stand there.
-use Rattle.std.proofs.Common.{Bor, get_or, ◌≡◌, ℕ, zero, suc, ◌+◌, ◌<◌, Bool, true, false, cond, List, [], ◌∷◌, map, length, Option, Some, None, option_map, position, bytes_eq, refl, sym, ap, ◌∙◌, subst, arith, ⊎_elim}
-use Rattle.std.specs.Prelude.{find, slice_get}
-use Rattle.std.specs.List.{position_from}
+use Rattle.std.proofs.Common.{Bor, get_or, ◌≡◌, ℕ, ◌+◌, ◌<◌, Bool, true, false, cond, List, [], ◌∷◌, map, length, Option, Some, None, option_map, position, bytes_eq, refl, sym, ap, ◌∙◌, arith}
+use Rattle.std.specs.Prelude.{find, option_and_then}
+use Rattle.std.specs.List.{position_from, position_or_len}
 use Rattle.std.proofs.lemmas.Iterator.Adapters.{position_from-zero}
 use Rattle.process_terms.specs.Systems.{Name, Equation, System, equation_names}
 use Rattle.process_terms.specs.Numbering.{number_of, equation_of, summands_in, summands_of}
-use Rattle.std.specs.Prelude.{option_and_then}
 use Rattle.std.proofs.lemmas.List.{length-map}
-use Rattle.std.proofs.lemmas.Option.{slice_get_read, slice_get-map}
-use Rattle.process_terms.proofs.Lists.{bytes_tell, same_bytes}
+use Rattle.lin_driver.proofs.Found.{place_is, find-position}
+use Rattle.lin_driver.proofs.Meets.{bytes_eq-sym}
 use Rattle.lin_driver.specs.PlainSystems.{plain_summand, plain_equation, plain_system}
 use Rattle.lin_driver.specs.declared.system.System as code
 use Rattle.lin_driver.specs.declared.system.Equation as code_equation
-
--- the order of two texts that are compared doesn't matter
-bytes_eq-swap : (x y : Name) → bytes_eq x y ≡ bytes_eq y x
-bytes_eq-swap x y = ⊎_elim
-    (λ same. same.0 ∙ sym (subst (λ (z : Name). bytes_eq z x ≡ true) same.1 (same_bytes x)))
-    (λ differ. ⊎_elim (λ same. absurd (differ.1 (sym same.1))) (λ other. differ.0 ∙ sym other.0) (bytes_tell y x))
-    (bytes_tell x y)
 
 -- the number and the place of a name in a list, from those in its rest
 one_further : (b : Bool) (i : ℕ) (number place : Option ℕ) → option_map (λ (n : ℕ). n + (i + 1)) number ≡ option_map (λ (n : ℕ). n + 1) place
@@ -31,7 +23,7 @@ one_further false i (Some n) place same = let sums : n + 1 + i ≡ n + (i + 1) =
 number_from : (names : List Name) (name : Name) (i : ℕ) → option_map (λ (n : ℕ). n + i) (number_of names name) ≡ option_map (λ (n : ℕ). n + 1) (position_from (bytes_eq name) i names)
 number_from [] name i = refl
 number_from (first ∷ others) name i =
-    rw (bytes_eq-swap name first) (one_further (bytes_eq first name) i (number_of others name) (position_from (bytes_eq name) (i + 1) others) (number_from others name (i + 1)))
+    rw (bytes_eq-sym name first) (one_further (bytes_eq first name) i (number_of others name) (position_from (bytes_eq name) (i + 1) others) (number_from others name (i + 1)))
 
 -- counted from 0 a number is itself
 no_more : (o : Option ℕ) → o ≡ option_map (λ (n : ℕ). n + 0) o
@@ -43,48 +35,6 @@ pub number_of-position : (names : List Name) (name : Name) → number_of names n
 number_of-position names name =
     no_more (number_of names name) ∙ number_from names name 0 ∙ ap (option_map (λ (n : ℕ). n + 1)) (sym (position_from-zero (bytes_eq name) names))
 
--- the bound of a place in a list, from that in its rest
-within_step : (b : Bool) (i k n : ℕ) (place : Option ℕ) → (place ≡ Some k → k < i + 1 + n) → cond b (Some i) place ≡ Some k → k < i + (n + 1)
-within_step true i k n place behind is = let same : i ≡ k = cc in omega arith
-within_step false i k n place behind is = let below = behind is in omega arith
-
--- a name's place is within the names, counted from anywhere
-within_from : (names : List Name) (name : Name) (i k : ℕ) → position_from (bytes_eq name) i names ≡ Some k → k < i + length names
-within_from [] name i k is = let never : None ≡ Some k = is in absurd cc
-within_from (first ∷ others) name i k is =
-    let below = within_step (bytes_eq name first) i k (length others) (position_from (bytes_eq name) (i + 1) others) (within_from others name (i + 1) k) is in
-    omega arith
-
--- a name's place is within the names
-pub position-within : (names : List Name) (name : Name) (k : ℕ) → position (bytes_eq name) names ≡ Some k → k < length names
-position-within names name k is = let below = within_from names name 0 k (sym (position_from-zero (bytes_eq name) names) ∙ is) in omega arith
-
--- the equation at a place of a list, from that in its rest
-equation_step : (b : Bool) (i k : ℕ) (place : Option ℕ) (first : Equation) (others : List Equation) (found : Option Equation)
-    → (place ≡ Some k → (j : ℕ) × (k ≡ i + 1 + j) × (found ≡ slice_get others j)) → cond b (Some i) place ≡ Some k
-    → (j : ℕ) × (k ≡ i + j) × (cond b (Some first) found ≡ slice_get (first ∷ others) j)
-equation_step true i k place first others found behind is = let same : i ≡ k = cc in (zero, omega arith, refl)
-equation_step false i k place first others found behind is =
-    let there = behind is in
-    let same = there.1 in
-    (suc there.0, omega arith, there.2)
-
--- the first equation of a name stands at the place of the name, counted from anywhere
-equation_from : (equations : List Equation) (name : Name) (i k : ℕ) → position_from (bytes_eq name) i (map (λ (equation : Equation). equation.name) equations) ≡ Some k
-    → (j : ℕ) × (k ≡ i + j) × (find (λ (equation : Equation). bytes_eq equation.name name) equations ≡ slice_get equations j)
-equation_from [] name i k is = let never : None ≡ Some k = is in absurd cc
-equation_from (first ∷ others) name i k is =
-    rw (bytes_eq-swap first.name name)
-    (equation_step (bytes_eq name first.name) i k (position_from (bytes_eq name) (i + 1) (map (λ (equation : Equation). equation.name) others)) first others
-    (find (λ (equation : Equation). bytes_eq equation.name name) others) (equation_from others name (i + 1) k) is)
-
--- the equation of a name stands at the place of the name
-pub equation_of-at : (system : System) (name : Name) (k : ℕ) → position (bytes_eq name) (equation_names system) ≡ Some k → equation_of system name ≡ slice_get system.equations k
-equation_of-at system name k is =
-    let at = equation_from system.equations name 0 k (sym (position_from-zero (bytes_eq name) (equation_names system)) ∙ is) in
-    let same : at.0 ≡ k = let e = at.1 in omega arith in
-    at.2 ∙ ap (slice_get system.equations) same
-
 -- no equation in a list, from none in its rest
 none_step : (b : Bool) (i : ℕ) (place : Option ℕ) (first : Equation) (found : Option Equation) → (place ≡ None → found ≡ None) → cond b (Some i) place ≡ None → cond b (Some first) found ≡ None
 none_step true i place first found behind is = absurd cc
@@ -95,12 +45,12 @@ none_from : (equations : List Equation) (name : Name) (i : ℕ) → position_fro
     → find (λ (equation : Equation). bytes_eq equation.name name) equations ≡ None
 none_from [] name i is = refl
 none_from (first ∷ others) name i is =
-    rw (bytes_eq-swap first.name name)
+    rw (bytes_eq-sym first.name name)
     (none_step (bytes_eq name first.name) i (position_from (bytes_eq name) (i + 1) (map (λ (equation : Equation). equation.name) others)) first
     (find (λ (equation : Equation). bytes_eq equation.name name) others) (none_from others name (i + 1)) is)
 
 -- a name that isn't among those of the equations has no equation
-pub equation_of-none : (system : System) (name : Name) → position (bytes_eq name) (equation_names system) ≡ None → equation_of system name ≡ None
+equation_of-none : (system : System) (name : Name) → position (bytes_eq name) (equation_names system) ≡ None → equation_of system name ≡ None
 equation_of-none system name is = none_from system.equations name 0 (sym (position_from-zero (bytes_eq name) (equation_names system)) ∙ is)
 
 -- a name that isn't in the order has no number
@@ -117,12 +67,12 @@ number_behind_some order next called place k is at some = rw is (ap (option_map 
 pub summands_of-at : (system : code.System) (name : Name) (k : ℕ) (equation : code_equation.Equation) → position (bytes_eq name) (equation_names (plain_system system)) ≡ Some k
     → equation ≡ get_or system.equations.items k equation → map plain_summand equation.summands.items ≡ summands_of (plain_system system) name
 summands_of-at system name k equation is read =
-    let below = position-within (equation_names (plain_system system)) name k is in
+    let place = place_is name (equation_names (plain_system system)) k is in
     let names = length-map (map plain_equation system.equations.items) (λ (e : Equation). e.name) in
     let equations = length-map system.equations.items plain_equation in
-    let within : k < length system.equations.items = omega arith in
-    let found = slice_get_read system.equations.items (length system.equations.items) k equation refl within read in
-    sym (ap summands_in (equation_of-at (plain_system system) name k is ∙ slice_get-map plain_equation system.equations.items k ∙ ap (option_map plain_equation) found))
+    let below : position_or_len (bytes_eq name) (equation_names (plain_system system)) < length system.equations.items = let at = place.0 in let within = place.1 in omega arith in
+    let here : get_or system.equations.items (position_or_len (bytes_eq name) (equation_names (plain_system system))) equation ≡ equation = ap (λ (i : ℕ). get_or system.equations.items i equation) place.0 ∙ sym read in
+    sym (ap summands_in (find-position name system.equations.items equation below ∙ ap (λ (e : code_equation.Equation). Some (plain_equation e)) here))
 
 -- a name that isn't among those of the equations has no summands
 pub summands_of-none : (system : System) (name : Name) → position (bytes_eq name) (equation_names system) ≡ None → [] ≡ summands_of system name
