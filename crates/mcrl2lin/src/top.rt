@@ -119,3 +119,6 @@ fn status_of(stop: Stop) -> Status
         Stop::NoMemory => Status::NoMemory,
     }
 }
+
+#[cfg(test)]
+mod tests;
