@@ -1,0 +1,7 @@
+//! The theory of data.
+//!
+//! What the terms of a text are and when two closed terms are provably equal stands in `specs/`. The functions of [`laws`]
+//! have empty bodies: the contract of each is a law of that theory, so that the crates above can cite it.
+#![tactic(auto)]
+
+pub mod laws;
