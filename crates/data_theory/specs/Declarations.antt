@@ -1,6 +1,6 @@
 -- The sorts and functions of a text, and which terms are well sorted over them.
 use Rattle.std.specs.Prelude.{◌≡◌, ℕ, zero, suc, ◌<◌, List, [], ◌∷◌, length, get_or, ℤ, pos, ◌≤ℤ◌}
-use Rattle.data_theory.specs.Terms.{Sort, boolean, positive, natural, integer, list, named, Comparison, Operation, add, subtract, multiply, divide, modulo, power, minimum, maximum, absolute, successor, predecessor, to_positive, to_natural, Symbol, truth, falsity, negation, conjunction, disjunction, implication, equality, inequality, conditional, comparison, arithmetic, minus, upcast, empty, cons, snoc, concatenation, size, element_at, head, rhead, tail, rtail, membership, function, Term, Terms, variable, numeral, unknown, application, none, more, apply}
+use Rattle.data_theory.specs.Terms.{Sort, boolean, positive, natural, integer, list, named, Operation, add, subtract, multiply, divide, modulo, power, minimum, maximum, absolute, successor, predecessor, to_positive, to_natural, Symbol, truth, falsity, negation, conjunction, disjunction, implication, equality, inequality, conditional, comparison, arithmetic, minus, upcast, empty, cons, snoc, concatenation, size, element_at, head, rhead, tail, rtail, membership, function, Term, Terms, variable, numeral, unknown, application, none, more, apply}
 
 -- what a declared function is: a constructor, the projection of a constructor's place, the recogniser of a constructor, or
 -- a mapping; constructors go by their numbers as functions, and places count from 0

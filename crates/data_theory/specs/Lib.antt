@@ -1,2 +1,6 @@
 pub mod Terms
 pub mod Declarations
+pub mod Arithmetic
+pub mod Equations
+pub mod Provable
+pub mod Values
