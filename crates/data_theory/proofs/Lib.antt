@@ -1,0 +1,4 @@
+pub mod SameValues
+pub mod Numbers
+pub mod SortedValues
+pub mod ConstructedTerms
