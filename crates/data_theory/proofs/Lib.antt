@@ -4,3 +4,6 @@ pub mod SortedValues
 pub mod ConstructedTerms
 pub mod TruthValues
 pub mod Soundness
+pub mod WellSorted
+pub mod EqualityLemmas
+pub mod BooleanLemmas

@@ -4,3 +4,6 @@ pub mod Arithmetic
 pub mod Equations
 pub mod Provable
 pub mod Values
+pub mod EqualityLaws
+pub mod BooleanLaws
+pub mod ConsistencyLaws

@@ -1,7 +1,9 @@
 //! The theory of data.
 //!
-//! What the terms of a text are and when two closed terms are provably equal stands in `specs/`. The functions of [`laws`]
-//! have empty bodies: the contract of each is a law of that theory, so that the crates above can cite it.
+//! What the terms of a text are and when two closed terms are provably equal stands in `specs/`, and in plain words in
+//! `docs/definitions/data.md`. The functions of this crate have empty bodies: the contract of each is a law of that theory,
+//! so that the crates above can cite it.
 #![tactic(auto)]
 
-pub mod laws;
+pub mod booleans;
+pub mod equality;
