@@ -7,3 +7,5 @@ pub mod Soundness
 pub mod WellSorted
 pub mod EqualityLemmas
 pub mod BooleanLemmas
+pub mod GrowthLemmas
+pub mod ConsistencyLemmas

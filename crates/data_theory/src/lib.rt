@@ -6,4 +6,7 @@
 #![tactic(auto)]
 
 pub mod booleans;
+pub mod constructors;
 pub mod equality;
+pub mod growth;
+pub mod values;
