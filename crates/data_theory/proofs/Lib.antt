@@ -9,3 +9,4 @@ pub mod EqualityLemmas
 pub mod BooleanLemmas
 pub mod GrowthLemmas
 pub mod ConsistencyLemmas
+pub mod EnvironmentLemmas

@@ -7,3 +7,5 @@ pub mod Values
 pub mod EqualityLaws
 pub mod BooleanLaws
 pub mod ConsistencyLaws
+pub mod Environments
+pub mod EnvironmentLaws

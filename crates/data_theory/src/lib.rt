@@ -7,6 +7,7 @@
 
 pub mod booleans;
 pub mod constructors;
+pub mod environments;
 pub mod equality;
 pub mod growth;
 pub mod values;
