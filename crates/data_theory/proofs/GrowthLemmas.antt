@@ -163,7 +163,7 @@ module _ (g h : Data) (grows : Grows g h) where
       equal_kept (transitive e f) = transitive (equal_kept e) (equal_kept f)
       equal_kept (congruent f es) = congruent f (places_kept es)
       equal_kept (built_in {l = l} s a i c) = built_in s (line_kept a) (has_sort_kept [] l s i) (equal_kept c)
-      equal_kept (written q e a f c) = written q e (among q a) (λ v s d. has_sort_kept [] (e v) s (f v s d)) (equal_kept c)
+      equal_kept (written q e a f c) = written q e (among q a) (λ v s o d. has_sort_kept [] (e v) s (f v s o d)) (equal_kept c)
       equal_kept (reflected e) = reflected (equal_kept e)
 
       places_kept : {ts us : Terms} → PlacesEqual g own ts us → PlacesEqual h more' ts us

@@ -1,7 +1,7 @@
 -- Provable equality of closed terms, and consistent data.
-use Rattle.std.specs.Prelude.{◌≡◌, ℕ, List, []}
+use Rattle.std.specs.Prelude.{◌≡◌, ℕ, List, [], ◌++◌}
 use Rattle.std.specs.List.{Contains}
-use Rattle.data_theory.specs.Terms.{Sort, list, Symbol, function, Term, Terms, application, none, more, apply, put}
+use Rattle.data_theory.specs.Terms.{Sort, list, Symbol, function, Term, Terms, application, none, more, apply, put, variables_of}
 use Rattle.data_theory.specs.Declarations.{Data, function_at, mapping, Declares, HasSort}
 use Rattle.data_theory.specs.Equations.{BuiltIn, trueᵗ, falseᵗ, equals, emptyᵗ}
 
@@ -13,9 +13,12 @@ pub record Equation : Type 0 where
   pub left : Term
   pub right : Term
 
--- each variable has a closed term of its sort
-abbrev pub AreClosedTerms : Data → List Sort → (ℕ → Term) → Type 0
-AreClosedTerms g vs e = (v : ℕ) (s : Sort) → Declares vs v s → HasSort g [] (e v) s
+abbrev pub variables_of_equation : Equation → List ℕ
+variables_of_equation q = variables_of q.condition ++ (variables_of q.left ++ variables_of q.right)
+
+-- each variable of the equation has a closed term of its sort
+abbrev pub IsClosedInstance : Data → Equation → (ℕ → Term) → Type 0
+IsClosedInstance g q e = (v : ℕ) (s : Sort) → Contains (variables_of_equation q) v → Declares q.sorts v s → HasSort g [] (e v) s
 
 -- Two closed terms are provably equal over the data and the written equations: a constructor for each rule.
 mutual
@@ -25,7 +28,7 @@ mutual
     transitive : {t u v : Term} → ProvablyEqual g own t u → ProvablyEqual g own u v → ProvablyEqual g own t v
     congruent : (f : Symbol) {ts us : Terms} → PlacesEqual g own ts us → ProvablyEqual g own (apply f ts) (apply f us)
     built_in : {c l r : Term} (s : Sort) → BuiltIn g c l r → HasSort g [] l s → ProvablyEqual g own c trueᵗ → ProvablyEqual g own l r
-    written : (q : Equation) (e : ℕ → Term) → Contains own q → AreClosedTerms g q.sorts e → ProvablyEqual g own (put e q.condition) trueᵗ → ProvablyEqual g own (put e q.left) (put e q.right)
+    written : (q : Equation) (e : ℕ → Term) → Contains own q → IsClosedInstance g q e → ProvablyEqual g own (put e q.condition) trueᵗ → ProvablyEqual g own (put e q.left) (put e q.right)
     reflected : {s : Sort} {t u : Term} → ProvablyEqual g own (equals s t u) trueᵗ → ProvablyEqual g own t u
 
   -- two lists of closed terms, provably equal place by place

@@ -1,5 +1,5 @@
 -- Sorts, function symbols and terms.
-use Rattle.std.specs.Prelude.{ℕ, List, cond, ℤ, pos}
+use Rattle.std.specs.Prelude.{ℕ, List, [], ◌∷◌, ◌++◌, cond, ℤ, pos}
 use lib.Signed.{lt_z}
 use lib.IntN.{neg_ℤ}
 
@@ -94,6 +94,18 @@ abbrev mutual
   pub put_all : (ℕ → Term) → Terms → Terms
   put_all e none = none
   put_all e (more t ts) = more (put e t) (put_all e ts)
+
+-- the variables of a term, in the order in which they stand, each as often as it stands
+abbrev mutual
+  pub variables_of : Term → List ℕ
+  variables_of (variable v) = v ∷ []
+  variables_of (numeral a z) = []
+  variables_of (unknown d k) = []
+  variables_of (application f ts) = variables_of_all ts
+
+  pub variables_of_all : Terms → List ℕ
+  variables_of_all none = []
+  variables_of_all (more t ts) = variables_of t ++ variables_of_all ts
 
 -- a term without variables
 abbrev mutual

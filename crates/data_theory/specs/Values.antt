@@ -5,7 +5,7 @@ use Rattle.std.specs.List.{Contains}
 use Rattle.data_theory.specs.Terms.{Sort, boolean, positive, natural, integer, list, named, Symbol, truth, falsity, negation, conjunction, disjunction, implication, equality, inequality, conditional, comparison, arithmetic, minus, upcast, empty, cons, snoc, concatenation, size, element_at, head, rhead, tail, rtail, membership, function, Term, Terms, variable, numeral, unknown, application, none, more, put}
 use Rattle.data_theory.specs.Declarations.{Data, Role, constructor, projection, recogniser, mapping, without_constructors, function_at, sort_at}
 use Rattle.data_theory.specs.Arithmetic.{value_of, compares, equal_numbers}
-use Rattle.data_theory.specs.Provable.{Equation, AreClosedTerms}
+use Rattle.data_theory.specs.Provable.{Equation, IsClosedInstance}
 
 mutual
   pub data Value : Type 0 where
@@ -196,5 +196,5 @@ AreFirstValues g first = (d : ℕ) → d < length g.sorts → IsValue g (named d
 -- the written equations hold of the values
 abbrev pub HoldOfValues : Data → (ℕ → Value) → List Equation → Type 0
 HoldOfValues g first own =
-    (q : Equation) (e : ℕ → Term) → Contains own q → AreClosedTerms g q.sorts e
+    (q : Equation) (e : ℕ → Term) → Contains own q → IsClosedInstance g q e
     → value g first (put e q.condition) ≡ a_truth true → value g first (put e q.left) ≡ value g first (put e q.right)
