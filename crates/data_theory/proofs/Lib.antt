@@ -10,3 +10,4 @@ pub mod BooleanLemmas
 pub mod GrowthLemmas
 pub mod ConsistencyLemmas
 pub mod EnvironmentLemmas
+pub mod ExampleLemmas

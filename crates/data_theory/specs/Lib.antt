@@ -9,3 +9,4 @@ pub mod BooleanLaws
 pub mod ConsistencyLaws
 pub mod Environments
 pub mod EnvironmentLaws
+pub mod Examples

@@ -9,5 +9,6 @@ pub mod booleans;
 pub mod constructors;
 pub mod environments;
 pub mod equality;
+pub mod examples;
 pub mod growth;
 pub mod values;
