@@ -11,3 +11,4 @@ pub mod GrowthLemmas
 pub mod ConsistencyLemmas
 pub mod EnvironmentLemmas
 pub mod ExampleLemmas
+pub mod OrderOfLines

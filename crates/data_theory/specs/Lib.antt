@@ -10,3 +10,4 @@ pub mod ConsistencyLaws
 pub mod Environments
 pub mod EnvironmentLaws
 pub mod Examples
+pub mod Rewriting
