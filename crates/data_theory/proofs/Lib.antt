@@ -12,3 +12,4 @@ pub mod ConsistencyLemmas
 pub mod EnvironmentLemmas
 pub mod ExampleLemmas
 pub mod OrderOfLines
+pub mod GoesToOne
