@@ -13,3 +13,4 @@ pub mod EnvironmentLemmas
 pub mod ExampleLemmas
 pub mod OrderOfLines
 pub mod GoesToOne
+pub mod LinesOnTerms

@@ -140,7 +140,7 @@ module _ (g : Data) (vs : Values) where
   nat_second s h = number_not_negative g _ (value_at_is g (s ∷ natural ∷ []) vs 1 h (omega arith))
 
   -- the result of an operation is a number of its sort
-  operation_is : (first : ℕ → Value) (op : Operation) (ss : List Sort) (to : Sort) → IsOperation op ss to → AreValues g ss vs → IsValue g to (number_or (default_value first to) (value_of op (number_in (value_at vs 0)) (number_in (value_at vs 1))))
+  pub operation_is : (first : ℕ → Value) (op : Operation) (ss : List Sort) (to : Sort) → IsOperation op ss to → AreValues g ss vs → IsValue g to (number_or (default_value first to) (value_of op (number_in (value_at vs 0)) (number_in (value_at vs 1))))
   operation_is first op ss to add_pos_pos h = let a = pos_first _ h in let b = pos_second _ h in omega (arith, ints, a, b)
   operation_is first op ss to add_pos_nat h = let a = pos_first _ h in let b = nat_second _ h in omega (arith, ints, a, b)
   operation_is first op ss to add_nat_pos h = let a = nat_first _ h in let b = pos_second _ h in omega (arith, ints, a, b)

@@ -62,7 +62,7 @@ upcast_sort g s to pos2nat = tt
 upcast_sort g s to nat2int = tt
 upcast_sort g s to pos2int = tt
 
-numeral_sort : (g : Data) (s : Sort) (z : ℤ) → HasNumeral s z → IsSort g s
+pub numeral_sort : (g : Data) (s : Sort) (z : ℤ) → HasNumeral s z → IsSort g s
 numeral_sort g positive z h = tt
 numeral_sort g natural z h = tt
 numeral_sort g integer z h = tt
@@ -71,7 +71,7 @@ numeral_sort g (list s) z h = absurd h
 numeral_sort g (named d) z h = absurd h
 
 module _ (g : Data) (ok : IsData g) where
-  symbol_sort : (f : Symbol) → IsSymbol g f → IsSort g (result_sort g f)
+  pub symbol_sort : (f : Symbol) → IsSymbol g f → IsSort g (result_sort g f)
   symbol_sort truth k = tt
   symbol_sort falsity k = tt
   symbol_sort negation k = tt
