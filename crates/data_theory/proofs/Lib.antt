@@ -14,3 +14,4 @@ pub mod ExampleLemmas
 pub mod OrderOfLines
 pub mod GoesToOne
 pub mod LinesOnTerms
+pub mod GoesToIsEqual

@@ -1,9 +1,9 @@
 -- The equations in the order in which rewriting tries them, and what a term goes to.
-use Rattle.std.specs.Prelude.{◌≡◌, ◌≢◌, ℕ, suc, ◌+◌, ◌<◌, ◌⊎◌, List, length, Option, Some, None, slice_get, Contains, ℤ}
+use Rattle.std.specs.Prelude.{◌≡◌, ◌≢◌, ℕ, suc, ◌+◌, ◌<◌, ◌⊎◌, List, [], length, Option, Some, None, slice_get, Contains, ℤ}
 use Rattle.data_theory.specs.Terms.{Sort, boolean, Symbol, truth, conjunction, disjunction, implication, conditional, Term, Terms, variable, numeral, unknown, application, none, more, apply, put, variables_of}
-use Rattle.data_theory.specs.Declarations.{Data, IsSort, Declares, HasSort}
+use Rattle.data_theory.specs.Declarations.{Data, IsSort, Declares, HasSort, IsData}
 use Rattle.data_theory.specs.Equations.{BuiltIn, trueᵗ, falseᵗ, not_true, not_false, not_not, true_and, and_true, false_and, and_false, and_same, true_or, or_true, false_or, or_false, or_same, true_implies, false_implies, implies, equal_itself, not_equal, if_true, if_false, if_same, equal_true, true_equal, equal_false, false_equal, operation_of_one, operation_of_two, minus_of, compared, equal_numerals, empty_equal_cons, cons_equal_empty, cons_equal_cons, empty_concat, concat_empty, cons_concat, empty_snoc, cons_snoc, size_empty, size_cons, head_cons, tail_cons, rhead_one, rhead_more, rtail_one, rtail_more, at_zero, at_later, in_empty, in_cons, different_constructors, same_constructor, projected, recognised, not_recognised}
-use Rattle.data_theory.specs.Provable.{Equation}
+use Rattle.data_theory.specs.Provable.{Equation, ProvablyEqual}
 use Rattle.data_theory.specs.Environments.{IsOver}
 
 -- the number of lines that rewriting uses; the written equations come behind them
@@ -183,13 +183,19 @@ IsDecided g own fuel t stuck = (u : Term) × (n : ℕ) × GoesTo g own t u n × 
 IsDecided g own fuel t spent = ChainOfMoreThan g own fuel t
 
 -- ---- what the laws say
+abbrev pub IsNoVariable : Term → Type 0
+IsNoVariable (variable v) = ⊥
+IsNoVariable _ = Unit {0}
+
 -- a written equation whose condition and right side have no variable that its left side hasn't
 pub record IsCovered (q : Equation) : Type 0 where
   pub condition : IsOver (variables_of q.left) q.condition
   pub right : IsOver (variables_of q.left) q.right
 
--- and whose sides have one sort, over its variables' sorts
-pub record IsWellSorted (g : Data) (q : Equation) : Type 0 where
+-- such an equation whose left side isn't a variable, and whose sides have one sort over its variables' sorts
+pub record IsWellFormed (g : Data) (q : Equation) : Type 0 where
+  pub covered : IsCovered q
+  pub no_variable : IsNoVariable q.left
   pub sort : Sort
   pub condition : HasSort g q.sorts q.condition boolean
   pub left : HasSort g q.sorts q.left sort
@@ -199,7 +205,22 @@ pub record IsWellSorted (g : Data) (q : Equation) : Type 0 where
 abbrev pub AreSorts : Data → List Sort → Type 0
 AreSorts g vs = (v : ℕ) (s : Sort) → Declares vs v s → IsSort g s
 
+-- closed terms of their sorts for all of these variables
+abbrev pub Closes : Data → List Sort → (ℕ → Term) → Type 0
+Closes g vs e = (v : ℕ) (s : Sort) → Declares vs v s → HasSort g [] (e v) s
+
 abbrev pub GoesToOneTerm : Type 0
 GoesToOneTerm =
     (g : Data) (own : List Equation) → ((q : Equation) → Contains own q → IsCovered q)
     → (t u v : Term) (n m : ℕ) → GoesTo g own t u n → GoesTo g own t v m → (u ≡ v) × (n ≡ m)
+
+abbrev pub GoesToKeepsTheSort : Type 0
+GoesToKeepsTheSort =
+    (g : Data) (own : List Equation) → IsData g → ((q : Equation) → Contains own q → IsWellFormed g q)
+    → (vs : List Sort) → AreSorts g vs → (t u : Term) (n : ℕ) (s : Sort) → HasSort g vs t s → GoesTo g own t u n → HasSort g vs u s
+
+abbrev pub GoesToIsProvablyEqual : Type 0
+GoesToIsProvablyEqual =
+    (g : Data) (own : List Equation) → IsData g → ((q : Equation) → Contains own q → IsWellFormed g q)
+    → (vs : List Sort) → AreSorts g vs → (t u : Term) (n : ℕ) (s : Sort) → HasSort g vs t s → GoesTo g own t u n
+    → (e : ℕ → Term) → Closes g vs e → ProvablyEqual g own (put e t) (put e u)

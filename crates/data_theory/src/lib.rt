@@ -11,4 +11,5 @@ pub mod environments;
 pub mod equality;
 pub mod examples;
 pub mod growth;
+pub mod rewriting;
 pub mod values;
