@@ -1,11 +1,10 @@
 -- What is provable of `!`, `&&`, `||`, `=>` and `if`.
 use Rattle.std.proofs.Common.{List, [], refl}
-use Rattle.data_theory.specs.Terms.{Sort, boolean, Symbol, negation, conjunction, disjunction, implication, conditional, Term}
+use Rattle.data_theory.specs.Terms.{Sort, boolean, negation, conjunction, disjunction, implication, conditional, Term}
 use Rattle.data_theory.specs.Declarations.{Data, IsSort, HasSort}
-use Rattle.data_theory.specs.Equations.{trueᵗ, falseᵗ, !ᵗ◌, ◌∧ᵗ◌, ◌∨ᵗ◌, ◌⇒ᵗ◌, chooses, not_true, not_false, not_not, true_and, and_true, false_and, and_false, and_commutes, true_or, or_true, false_or, or_false, or_absorbs, or_commutes, and_absorbs, true_implies, false_implies, if_true, if_false}
+use Rattle.data_theory.specs.Equations.{trueᵗ, falseᵗ, !ᵗ◌, ◌∧ᵗ◌, ◌∨ᵗ◌, ◌⇒ᵗ◌, chooses, not_true, not_false, not_not, and_true, false_and, and_false, and_commutes, true_or, or_true, false_or, or_false, or_absorbs, or_commutes, and_absorbs, true_implies, false_implies, if_true, if_false}
 use Rattle.data_theory.specs.Provable.{Equation, ProvablyEqual, reflexive, symmetric, transitive, congruent, built_in, no_places, place, ProvablyTrue, ProvablyFalse}
 use Rattle.data_theory.specs.BooleanLaws.{NegationIsTrue, NegationIsFalse, ConjunctionIsTrue, ConjunctionWithFalse, ConjunctionBeforeFalse, DisjunctionIsFalse, DisjunctionWithTrue, DisjunctionBeforeTrue, DisjunctionWithFalse, DisjunctionBeforeFalse, ImplicationFromTrue, ImplicationFromFalse, IfTrue, IfFalse}
-use Rattle.data_theory.proofs.WellSorted.{sort_of_term}
 
 -- ---- sorts
 abbrev pub true_has_sort : (g : Data) → HasSort g [] trueᵗ boolean

@@ -1,12 +1,12 @@
 -- Consistency by values, and what consistent data tell apart.
-use Rattle.std.proofs.Common.{◌≡◌, ◌≢◌, ℕ, zero, suc, ◌<◌, List, [], ◌∷◌, length, Bool, true, false, ◌==◌, refl, sym, ap, ◌∙◌, subst}
+use Rattle.std.proofs.Common.{◌≡◌, ◌≢◌, ℕ, ◌<◌, List, [], ◌∷◌, length, Bool, true, false, ◌==◌, refl, sym, ap, ◌∙◌, subst}
 use Rattle.std.specs.Prelude.{ℤ}
 use Rattle.std.proofs.lemmas.Bool.Decides.{Decides-eqb}
-use Rattle.data_theory.specs.Terms.{Sort, boolean, positive, natural, integer, list, named, Symbol, equality, function, Term, Terms, numeral, application, none, more}
-use Rattle.data_theory.specs.Declarations.{Data, function_at, sort_at, structured, constructor, projection, recogniser, IsSort, HasNumeral, HasSort, HaveSorts, FitsRole, IsData}
+use Rattle.data_theory.specs.Terms.{Sort, boolean, positive, natural, integer, list, named, function, Term, Terms, numeral, application, none, more}
+use Rattle.data_theory.specs.Declarations.{Data, function_at, projection, recogniser, IsSort, HasNumeral, HasSort, HaveSorts, FitsRole, IsData}
 use Rattle.data_theory.specs.Arithmetic.{equal_numbers}
-use Rattle.data_theory.specs.Equations.{trueᵗ, falseᵗ, truth_of, one, equals, all_equal, ◌∧ᵗ◌, equal_numerals, different_constructors, same_constructor, projected, recognised, not_recognised}
-use Rattle.data_theory.specs.Provable.{Equation, ProvablyEqual, PlacesEqual, ProvablyTrue, Consistent, reflexive, symmetric, transitive, congruent, built_in, reflected, no_places, place}
+use Rattle.data_theory.specs.Equations.{trueᵗ, truth_of, one, equals, all_equal, equal_numerals, different_constructors, same_constructor, projected, recognised, not_recognised}
+use Rattle.data_theory.specs.Provable.{Equation, ProvablyEqual, PlacesEqual, ProvablyTrue, reflexive, symmetric, transitive, congruent, built_in, reflected, no_places, place}
 use Rattle.data_theory.specs.Values.{truth_in}
 use Rattle.data_theory.specs.ConsistencyLaws.{QuotientAndRemainder, SymbolsKeepSorts, TermsHaveValues, BuiltInEquationsHold, ProvablyEqualTermsHaveOneValue, ThereAreFirstValues, EquationsOfValuesAreConsistent, BuiltInEquationsAreConsistent, EqualNumeralsAreTheSame, EqualConstructorsAreTheSame, ConstructorsAreInjective, ProjectionsCompute, RecognisersAccept, RecognisersReject}
 use Rattle.data_theory.proofs.Numbers.{quotient_remainder, remainder_below}
@@ -61,8 +61,10 @@ equal_numerals_are_the_same g own ok s x y h k e = by_test (equal_numbers x y) r
   where
     sort_is : IsSort g s
     sort_is = numeral_sort_is g s x h.1
+
     compares_so : ProvablyEqual g own trueᵗ (truth_of (equal_numbers x y))
     compares_so = transitive (symmetric (equals_of_equal g own s (numeral s x) (numeral s y) sort_is h e)) (built_in boolean equal_numerals (equals_has_sort g s (numeral s x) (numeral s y) sort_is h k) reflexive)
+
     by_test : (b : Bool) → equal_numbers x y ≡ b → x ≡ y
     by_test true q = equal_numbers_tells x y q
     by_test false q = absurd (ok (subst (λ b. ProvablyEqual g own trueᵗ (truth_of b)) q compares_so))
@@ -73,6 +75,7 @@ equal_constructors_are_the_same g own ok d b c xs ys sort p q h k e = by_test (b
   where
     sort_is : IsSort g (named d)
     sort_is = sort_within g d sort
+
     by_test : (t : Bool) → (b == c) ≡ t → b ≡ c
     by_test true r = (Decides-eqb b c).0 r
     by_test false r =

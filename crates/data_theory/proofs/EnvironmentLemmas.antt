@@ -1,17 +1,16 @@
 -- Environments, and putting in.
-use Rattle.std.proofs.Common.{◌≡◌, ◌≢◌, ℕ, zero, suc, ◌<◌, ◌⊎◌, inl, inr, ⊎_elim, List, [], ◌∷◌, ◌++◌, map, length, Bool, true, false, cond, eqb, ◌==◌, refl, sym, ap, ap₂, ◌∙◌, subst, append_assoc, arith, append-nil}
-use Rattle.std.specs.Prelude.{Contains, slice_index_or, ℤ, pos, ◌≤ℤ◌}
+use Rattle.std.proofs.Common.{◌≡◌, ℕ, zero, suc, ◌<◌, ◌⊎◌, inl, inr, ⊎_elim, List, [], ◌∷◌, ◌++◌, map, length, Bool, true, false, cond, ◌==◌, refl, sym, ap, ap₂, ◌∙◌, subst, append_assoc, arith, append-nil}
+use Rattle.std.specs.Prelude.{Contains, slice_index_or, ℤ, pos}
 use Rattle.std.proofs.lemmas.Bool.Decides.{eqb_tells}
 use Rattle.std.proofs.lemmas.List.{map-append}
-use Rattle.std.proofs.lemmas.List.Elements.{Contains-append_left, Contains-append_right, Contains-append_cases}
+use Rattle.std.proofs.lemmas.List.Elements.{Contains-append_cases}
 use Rattle.std.proofs.lemmas.Int.{ints}
 use lib.Signed.{lt_z}
 use lib.IntN.{neg_ℤ}
-use Rattle.data_theory.specs.Terms.{Sort, integer, Symbol, minus, upcast, Term, Terms, variable, numeral, unknown, application, none, more, apply, put, put_all, IsClosed, AreClosed}
-use Rattle.data_theory.specs.Declarations.{Data, Declares, IsSymbol, IsUpcast, pos2nat, nat2int, pos2int, HasNumeral, argument_sorts, result_sort, StandsUnmerged, HasSort, HaveSorts}
-use Rattle.data_theory.specs.Provable.{Equation, ProvablyEqual, PlacesEqual, reflexive, no_places, place}
-use Rattle.data_theory.specs.EqualityLaws.{EnvironmentsEqual}
-use Rattle.data_theory.specs.Environments.{Binding, Environment, term_in, bound, bound_variables, terms_of, list_of, IsOver, AreOver, Agree, Apart, AreDistinct}
+use Rattle.data_theory.specs.Terms.{Sort, integer, Symbol, minus, upcast, Term, Terms, variable, numeral, unknown, application, none, more, apply, put, put_all, AreClosed}
+use Rattle.data_theory.specs.Declarations.{Data, Declares, IsSymbol, IsUpcast, pos2nat, nat2int, pos2int, HasNumeral, argument_sorts, HasSort, HaveSorts}
+use Rattle.data_theory.specs.Provable.{Equation, ProvablyEqual, PlacesEqual, no_places, place}
+use Rattle.data_theory.specs.Environments.{Environment, term_in, bound, bound_variables, terms_of, IsOver, AreOver, Agree, Apart}
 use Rattle.data_theory.specs.EnvironmentLaws.{TheFrontIsRead, TheFrontIsSkipped, TheMiddleIsSkipped, TheUnboundStay, BoundTogether, BoundAreTheParameters, ParametersReadBack, AgreeingGiveTheSameTerm, AgreeingGiveTheSameTerms, PuttingInTwice, ArgumentsPutInFirst, ArgumentsPutInBehindSums, EqualArgumentsGiveEqualEnvironments, EqualEnvironmentsGiveEqualLists, ListsOfTerms, TermsOfLists, PuttingInGoesThroughLists, ApplicationsHaveSorts, PuttingInKeepsSorts, WellSortedOverNothingIsClosed, ClosedTermsStay, ClosedTermsFitAnywhere}
 use Rattle.data_theory.proofs.EqualityLemmas.{put_equal}
 

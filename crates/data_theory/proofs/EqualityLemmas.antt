@@ -1,6 +1,6 @@
 -- Provable equality: an equivalence, a congruence, putting in, and `==`.
-use Rattle.std.proofs.Common.{◌≡◌, ℕ, List, [], refl}
-use Rattle.data_theory.specs.Terms.{Sort, boolean, positive, natural, integer, list, named, Symbol, equality, Term, Terms, variable, numeral, unknown, application, none, more}
+use Rattle.std.proofs.Common.{List, [], refl}
+use Rattle.data_theory.specs.Terms.{Sort, boolean, equality, Term, Terms, variable, numeral, unknown, application, none, more}
 use Rattle.data_theory.specs.Declarations.{Data, IsSort, HasSort}
 use Rattle.data_theory.specs.Equations.{equals, equal_itself}
 use Rattle.data_theory.specs.Provable.{Equation, ProvablyEqual, PlacesEqual, reflexive, symmetric, transitive, congruent, built_in, reflected, no_places, place, ProvablyTrue}

@@ -1,15 +1,15 @@
 -- The worked derivations.
-use Rattle.std.proofs.Common.{◌≡◌, ℕ, zero, suc, ◌<◌, List, [], ◌∷◌, length, refl, subst, arith}
+use Rattle.std.proofs.Common.{ℕ, zero, suc, ◌<◌, List, [], ◌∷◌, length, refl, subst, arith}
 use Rattle.std.specs.Prelude.{pos}
 use Rattle.std.proofs.lemmas.Int.{ints}
 use Rattle.std.proofs.lemmas.List.Elements.{All-cons, All-nil}
-use Rattle.data_theory.specs.Terms.{boolean, positive, natural, list, named, head, membership, disjunction, equality, function, Term, Terms, variable, numeral, unknown, application, none, more}
-use Rattle.data_theory.specs.Declarations.{Data, FitsRole, IsData, IsSort, HasSort, NoSortIsEmpty, function_at}
-use Rattle.data_theory.specs.Equations.{trueᵗ, falseᵗ, one, two, equals, emptyᵗ, consᵗ, in_cons, equal_numerals, equal_itself, true_or, head_cons, ◌∨ᵗ◌}
-use Rattle.data_theory.specs.Provable.{Equation, ProvablyEqual, PlacesEqual, reflexive, symmetric, transitive, congruent, built_in, written, reflected, no_places, place, ProvablyTrue, IsClosedInstance, IsEmptyList}
-use Rattle.data_theory.specs.Examples.{one_pos, two_pos, three_pos, TwoIsInOneTwo, HeadOfThree, OneIsNotTwo, wrapped_numbers, WrappedNumbersTell, two_mappings, first_is_second, MappingsAreEqual, true_is_false, TrueIsFalseIsInconsistent, small_data, small_equations, MeetThePremises, SmallDataMeetThePremises, SmallDataAreConsistent}
+use Rattle.data_theory.specs.Terms.{boolean, positive, natural, list, named, head, membership, function, Term, Terms, variable, numeral, unknown, application, none, more}
+use Rattle.data_theory.specs.Declarations.{Data, FitsRole, IsSort, HasSort, NoSortIsEmpty, function_at}
+use Rattle.data_theory.specs.Equations.{trueᵗ, falseᵗ, one, two, equals, emptyᵗ, consᵗ, in_cons, equal_numerals, equal_itself, head_cons, ◌∨ᵗ◌}
+use Rattle.data_theory.specs.Provable.{Equation, ProvablyEqual, PlacesEqual, reflexive, transitive, built_in, written, reflected, place, ProvablyTrue, IsClosedInstance, IsEmptyList}
+use Rattle.data_theory.specs.Examples.{one_pos, two_pos, three_pos, TwoIsInOneTwo, HeadOfThree, OneIsNotTwo, wrapped_numbers, WrappedNumbersTell, two_mappings, first_is_second, MappingsAreEqual, true_is_false, TrueIsFalseIsInconsistent, small_data, small_equations, SmallDataMeetThePremises, SmallDataAreConsistent}
 use Rattle.data_theory.proofs.EqualityLemmas.{equals_has_sort, equals_of_equal}
-use Rattle.data_theory.proofs.BooleanLemmas.{false_has_sort, disjunction_with_false, disjunction_with_true}
+use Rattle.data_theory.proofs.BooleanLemmas.{disjunction_with_false, disjunction_with_true}
 use Rattle.data_theory.proofs.ConsistencyLemmas.{constructors_are_injective, built_in_equations_are_consistent}
 
 -- ---- sorts of what stands in the derivations
@@ -34,7 +34,7 @@ two_is_in_one_two g own =
     let rest = two (membership positive) two_pos (emptyᵗ positive) in
     let later = two (membership positive) two_pos two_list in
     let unfolded : ProvablyEqual g own (two (membership positive) two_pos (consᵗ positive one_pos two_list)) (equals positive two_pos one_pos ∨ᵗ later) =
-        built_in boolean in_cons (in_has_sort g two_pos (consᵗ positive one_pos two_list) (numeral_is g 1) (list_has_sort g one_pos two_list (numeral_is g 0) two_list_is)) reflexive in
+    built_in boolean in_cons (in_has_sort g two_pos (consᵗ positive one_pos two_list) (numeral_is g 1) (list_has_sort g one_pos two_list (numeral_is g 0) two_list_is)) reflexive in
     let differs : ProvablyEqual g own (equals positive two_pos one_pos) falseᵗ = built_in boolean equal_numerals (equals_has_sort g positive two_pos one_pos tt (numeral_is g 1) (numeral_is g 0)) reflexive in
     let later_unfolded : ProvablyEqual g own later (equals positive two_pos two_pos ∨ᵗ rest) = built_in boolean in_cons (in_has_sort g two_pos two_list (numeral_is g 1) two_list_is) reflexive in
     let itself : ProvablyTrue g own (equals positive two_pos two_pos) = built_in boolean equal_itself (equals_has_sort g positive two_pos two_pos tt (numeral_is g 1) (numeral_is g 1)) reflexive in

@@ -1,16 +1,16 @@
 -- What a term goes to has its sort, and is provably equal to it in every closed instance.
-use Rattle.std.proofs.Common.{◌≡◌, ◌≢◌, ℕ, zero, suc, ◌+◌, ◌<◌, ◌⊎◌, List, [], ◌∷◌, ◌++◌, refl, sym, ap, ap₂, ◌∙◌, subst, ⊎_elim}
-use Rattle.std.specs.Prelude.{Some, slice_get, Contains}
+use Rattle.std.proofs.Common.{◌≡◌, ℕ, zero, suc, List, [], ◌∷◌, ◌++◌, refl, sym, ap, ap₂, ◌∙◌, subst, ⊎_elim}
+use Rattle.std.specs.Prelude.{Contains}
 use Rattle.std.proofs.lemmas.Option.{slice_get_within, get_or_from_slice_get}
-use Rattle.std.proofs.lemmas.List.Elements.{Contains-append_left, Contains-append_right, Contains-append_cases}
+use Rattle.std.proofs.lemmas.List.Elements.{Contains-append_cases}
 use Rattle.data_theory.specs.Terms.{Sort, boolean, Symbol, Term, Terms, variable, numeral, unknown, application, none, more, apply, put, put_all, variables_of, variables_of_all}
-use Rattle.data_theory.specs.Declarations.{Data, IsData, Declares, argument_sorts, result_sort, StandsUnmerged, HasSort, HaveSorts}
+use Rattle.data_theory.specs.Declarations.{Data, IsData, Declares, argument_sorts, StandsUnmerged, HasSort, HaveSorts}
 use Rattle.data_theory.specs.Equations.{trueᵗ}
-use Rattle.data_theory.specs.Provable.{Equation, variables_of_equation, IsClosedInstance, ProvablyEqual, PlacesEqual, reflexive, symmetric, transitive, congruent, built_in, written, no_places, place}
+use Rattle.data_theory.specs.Provable.{Equation, IsClosedInstance, ProvablyEqual, PlacesEqual, reflexive, transitive, congruent, built_in, written, no_places, place}
 use Rattle.data_theory.specs.Environments.{IsOver, AreOver}
 use Rattle.data_theory.specs.Rewriting.{laid, laid_all, Applies, a_line, an_equation, LooksFirst, if_looks, and_looks, or_looks, implies_looks, GoesTo, a_variable, a_numeral, an_unknown, by_the_first, by_all, ArgumentsGoTo, no_arguments, an_argument, RootGoesTo, merged, tries, FromEquation, stays, passed, refused, used, ConditionGoesTo, without_condition, with_condition, IsNoVariable, IsWellFormed, AreSorts, Closes, GoesToKeepsTheSort, GoesToIsProvablyEqual}
 use Rattle.data_theory.proofs.EqualityLemmas.{places_reflexive}
-use Rattle.data_theory.proofs.EnvironmentLemmas.{contains_first, contains_nothing, contains_cases, put-apply, putting_in_twice, putting_in_keeps_sorts, applications_have_sorts}
+use Rattle.data_theory.proofs.EnvironmentLemmas.{contains_nothing, contains_cases, put-apply, putting_in_twice, putting_in_keeps_sorts, applications_have_sorts}
 use Rattle.data_theory.proofs.LinesOnTerms.{condition_sort, right_sort, line_put}
 
 -- ---- variables
@@ -116,15 +116,15 @@ module _ (g : Data) (own : List Equation) (ok : IsData g) (all : (q : Equation) 
         condition = put_sort g xs q.sorts vs d fits q.condition boolean w.covered.condition w.condition;
         sort = put_sort g xs q.sorts vs d fits q.right s w.covered.right (subst (HasSort g q.sorts q.right) same w.right);
         equal = λ e closes c.
-          let f : ℕ → Term = λ v. put e (d v) in
-          let closed : IsClosedInstance g q f = λ v a j k.
-                  let within : Contains xs v = ⊎_elim
-              (λ m. over_contains xs q.condition v w.covered.condition m)
-              (λ m. ⊎_elim (λ o. o) (λ o. over_contains xs q.right v w.covered.right o) (Contains-append_cases (variables_of q.left) (variables_of q.right) v m))
-              (Contains-append_cases (variables_of q.condition) (variables_of q.left ++ variables_of q.right) v j) in
-          putting_in_keeps_sorts g vs [] e closes (d v) a (fits v a within k) in
-          let left_is : put f q.left ≡ put e (laid d q.left) = sym (putting_in_twice d e q.left) ∙ ap (put e) (put_laid g q.sorts vs d q.left s h) in
-          subst (λ x. ProvablyEqual g own x (put e (put d q.right))) left_is (subst (ProvablyEqual g own (put f q.left)) (sym (putting_in_twice d e q.right)) (written q f i closed (subst (λ x. ProvablyEqual g own x trueᵗ) (putting_in_twice d e q.condition) c)));
+            let f : ℕ → Term = λ v. put e (d v) in
+            let closed : IsClosedInstance g q f = λ v a j k.
+            let within : Contains xs v = ⊎_elim
+            (λ m. over_contains xs q.condition v w.covered.condition m)
+            (λ m. ⊎_elim (λ o. o) (λ o. over_contains xs q.right v w.covered.right o) (Contains-append_cases (variables_of q.left) (variables_of q.right) v m))
+            (Contains-append_cases (variables_of q.condition) (variables_of q.left ++ variables_of q.right) v j) in
+            putting_in_keeps_sorts g vs [] e closes (d v) a (fits v a within k) in
+            let left_is : put f q.left ≡ put e (laid d q.left) = sym (putting_in_twice d e q.left) ∙ ap (put e) (put_laid g q.sorts vs d q.left s h) in
+            subst (λ x. ProvablyEqual g own x (put e (put d q.right))) left_is (subst (ProvablyEqual g own (put f q.left)) (sym (putting_in_twice d e q.right)) (written q f i closed (subst (λ x. ProvablyEqual g own x trueᵗ) (putting_in_twice d e q.condition) c)));
       }
 
   applied : {k : ℕ} {t c r : Term} {x : ℕ} (s : Sort) → HasSort g vs t s → Applies g own k t c r x → Applied t c r s

@@ -1,14 +1,13 @@
 -- A term goes to at most one term, in at most one number of uses.
-use Rattle.std.proofs.Common.{◌≡◌, ◌≢◌, ℕ, suc, ◌+◌, ◌<◌, ◌⊎◌, List, [], ◌∷◌, ◌++◌, length, refl, sym, ap, ap₂, ◌∙◌, subst, arith, ⊎_elim}
+use Rattle.std.proofs.Common.{◌≡◌, ℕ, suc, ◌+◌, List, [], ◌∷◌, refl, sym, ap, ◌∙◌, subst, arith, ⊎_elim}
 use Rattle.std.specs.Prelude.{Option, Some, None, slice_get, Contains}
 use Rattle.std.proofs.lemmas.Option.{slice_get_within, get_or_from_slice_get}
 use Rattle.std.proofs.lemmas.List.Elements.{Contains-append_cases}
 use Rattle.data_theory.specs.Terms.{Symbol, Term, Terms, variable, numeral, unknown, application, none, more, apply, put, variables_of, variables_of_all}
 use Rattle.data_theory.specs.Declarations.{Data}
-use Rattle.data_theory.specs.Equations.{BuiltIn, trueᵗ, falseᵗ}
 use Rattle.data_theory.specs.Provable.{Equation}
-use Rattle.data_theory.specs.Environments.{Agree, IsOver}
-use Rattle.data_theory.specs.Rewriting.{lines, place_of, laid, laid_all, charge_of, Applies, a_line, an_equation, LooksFirst, IsTruthValue, FirstDecides, GoesTo, a_variable, a_numeral, an_unknown, by_the_first, by_all, ArgumentsGoTo, no_arguments, an_argument, RootGoesTo, merged, tries, FromEquation, stays, passed, refused, used, ConditionGoesTo, without_condition, with_condition, IsCovered, GoesToOneTerm}
+use Rattle.data_theory.specs.Environments.{Agree}
+use Rattle.data_theory.specs.Rewriting.{laid, laid_all, charge_of, Applies, a_line, an_equation, LooksFirst, IsTruthValue, FirstDecides, GoesTo, a_variable, a_numeral, an_unknown, by_the_first, by_all, ArgumentsGoTo, no_arguments, an_argument, RootGoesTo, merged, tries, FromEquation, stays, passed, refused, used, ConditionGoesTo, without_condition, with_condition, IsCovered, GoesToOneTerm}
 use Rattle.data_theory.proofs.OrderOfLines.{place_below, condition_at, right_at}
 use Rattle.data_theory.proofs.EnvironmentLemmas.{agreeing_give_the_same_term, contains_nothing, contains_cases}
 

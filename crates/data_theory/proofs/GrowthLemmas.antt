@@ -1,8 +1,8 @@
 -- Derivations stay where the data grow.
-use Rattle.std.proofs.Common.{◌≡◌, ◌≢◌, ℕ, zero, suc, ◌<◌, ◌≤◌, List, [], ◌∷◌, ◌++◌, length, get_or, refl, sym, ap, ◌∙◌, subst, arith, length-append}
+use Rattle.std.proofs.Common.{◌≡◌, ◌≢◌, ℕ, ◌<◌, ◌≤◌, List, [], ◌∷◌, length, get_or, refl, sym, ap, ◌∙◌, subst, arith, length-append}
 use Rattle.std.proofs.lemmas.List.{get_or_append_left}
 use Rattle.data_theory.specs.Terms.{Sort, boolean, positive, natural, integer, list, named, Symbol, truth, falsity, negation, conjunction, disjunction, implication, equality, inequality, conditional, comparison, arithmetic, minus, upcast, empty, cons, snoc, concatenation, size, element_at, head, rhead, tail, rtail, membership, function, Term, Terms, variable, numeral, unknown, application, none, more}
-use Rattle.data_theory.specs.Declarations.{Data, Function, Construction, Role, by_declarations, structured, constructor, projection, recogniser, mapping, function_at, sort_at, IsSort, IsSymbol, argument_sorts, result_sort, HasSort, HaveSorts}
+use Rattle.data_theory.specs.Declarations.{Data, Function, Role, by_declarations, structured, constructor, projection, recogniser, mapping, function_at, sort_at, IsSort, IsSymbol, argument_sorts, result_sort, HasSort, HaveSorts}
 use Rattle.data_theory.specs.Equations.{BuiltIn, trueᵗ, equals, all_equal, not_true, not_false, not_not, true_and, and_true, false_and, and_false, and_same, true_or, or_true, false_or, or_false, or_same, true_implies, false_implies, implies, and_commutes, or_commutes, and_associates, or_associates, and_distributes, or_distributes, and_absorbs, or_absorbs, not_and, not_or, and_not, or_not, equal_itself, not_equal, if_true, if_false, if_same, equal_commutes, equal_true, true_equal, equal_false, false_equal, operation_of_one, operation_of_two, minus_of, compared, equal_numerals, empty_equal_cons, cons_equal_empty, cons_equal_cons, empty_concat, concat_empty, cons_concat, empty_snoc, cons_snoc, size_empty, size_cons, head_cons, tail_cons, rhead_one, rhead_more, rtail_one, rtail_more, at_zero, at_later, in_empty, in_cons, different_constructors, same_constructor, projected, recognised, not_recognised}
 use Rattle.data_theory.specs.Provable.{ProvablyEqual, PlacesEqual, Equation, reflexive, symmetric, transitive, congruent, built_in, written, reflected, no_places, place}
 use Rattle.data_theory.specs.EqualityLaws.{Grows, AreAmong, GrowthKeepsDerivations, GrowthKeepsSorts}

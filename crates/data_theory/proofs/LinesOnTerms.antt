@@ -1,10 +1,10 @@
 -- The lines of the table keep sorts, and hold of what is put into them.
-use Rattle.std.proofs.Common.{◌≡◌, ℕ, zero, suc, ◌<◌, List, [], ◌∷◌, length, get_or, Bool, true, false, refl, sym, ap, ap₂, ◌∙◌, subst, arith}
-use Rattle.std.specs.Prelude.{Option, Some, ℤ, pos}
+use Rattle.std.proofs.Common.{◌≡◌, ℕ, zero, suc, ◌<◌, List, [], ◌∷◌, length, get_or, Bool, true, false, refl, sym, ap, ◌∙◌, subst, arith}
+use Rattle.std.specs.Prelude.{Some, ℤ}
 use lib.Signed.{le_z_yes}
 use lib.IntN.{neg_ℤ}
-use Rattle.data_theory.specs.Terms.{Sort, boolean, positive, natural, integer, list, named, less, Operation, subtract, successor, to_natural, Symbol, conjunction, equality, comparison, arithmetic, minus, upcast, concatenation, snoc, size, element_at, rhead, rtail, membership, function, Term, Terms, variable, numeral, unknown, application, none, more, apply, put, put_all}
-use Rattle.data_theory.specs.Declarations.{Data, function_at, FitsRole, IsData, IsSort, HasNumeral, IsOperation, naturals, pos2nat, succ_nat, subtract_nat, int2nat, HasSort, HaveSorts, result_sort, constructor, projection, recogniser}
+use Rattle.data_theory.specs.Terms.{Sort, boolean, positive, natural, integer, list, named, Operation, subtract, successor, to_natural, comparison, arithmetic, upcast, concatenation, snoc, size, element_at, rhead, rtail, membership, function, Term, Terms, variable, numeral, unknown, application, none, more, put, put_all}
+use Rattle.data_theory.specs.Declarations.{Data, function_at, FitsRole, IsData, IsSort, HasNumeral, IsOperation, naturals, pos2nat, succ_nat, subtract_nat, int2nat, HasSort, HaveSorts}
 use Rattle.data_theory.specs.Arithmetic.{value_of, compares, equal_numbers}
 use Rattle.data_theory.specs.Equations.{BuiltIn, one, two, trueᵗ, falseᵗ, !ᵗ◌, ◌∧ᵗ◌, ◌∨ᵗ◌, equals, emptyᵗ, consᵗ, number, truth_of, all_equal, term_at, not_true, not_false, not_not, true_and, and_true, false_and, and_false, and_same, true_or, or_true, false_or, or_false, or_same, true_implies, false_implies, implies, equal_itself, not_equal, if_true, if_false, if_same, equal_true, true_equal, equal_false, false_equal, operation_of_one, operation_of_two, minus_of, compared, equal_numerals, empty_equal_cons, cons_equal_empty, cons_equal_cons, empty_concat, concat_empty, cons_concat, empty_snoc, cons_snoc, size_empty, size_cons, head_cons, tail_cons, rhead_one, rhead_more, rtail_one, rtail_more, at_zero, at_later, in_empty, in_cons, different_constructors, same_constructor, projected, recognised, not_recognised, and_commutes, or_commutes, and_associates, or_associates, and_distributes, or_distributes, and_absorbs, or_absorbs, not_and, not_or, and_not, or_not, equal_commutes}
 use Rattle.data_theory.specs.Values.{Value, Values, a_truth, a_number, no_value, value_then, value_at, number_in, number_or, default_value, IsValue, AreValues}

@@ -1,13 +1,13 @@
 -- A closed term of a sort has a value of that sort.
 use Rattle.std.proofs.Common.{◌≡◌, ℕ, zero, suc, ◌<◌, List, [], ◌∷◌, length, get_or, Bool, true, false, cond, ◌==◌, refl, subst, arith}
-use Rattle.std.specs.Prelude.{Some, None, ℤ, pos, negsuc, ◌≤ℤ◌, ◌+ℤ◌, ◌-ℤ◌}
+use Rattle.std.specs.Prelude.{Some, None, ℤ, pos, negsuc, ◌≤ℤ◌}
 use Rattle.std.proofs.lemmas.Int.{ints}
 use Rattle.std.proofs.lemmas.Bool.Decides.{Decides-eqb}
 use lib.Signed.{lt_z, le_z_yes}
 use lib.IntN.{neg_ℤ}
 use Rattle.data_theory.specs.Terms.{Sort, boolean, positive, natural, integer, list, named, Operation, Symbol, truth, falsity, negation, conjunction, disjunction, implication, equality, inequality, conditional, comparison, arithmetic, minus, upcast, empty, cons, snoc, concatenation, size, element_at, head, rhead, tail, rtail, membership, function, Term, Terms, variable, numeral, unknown, application, none, more}
-use Rattle.data_theory.specs.Declarations.{Data, function_at, sort_at, Role, constructor, projection, recogniser, mapping, IsSort, IsUpcast, pos2nat, nat2int, pos2int, IsOperation, add_pos_pos, add_pos_nat, add_nat_pos, add_nat_nat, add_int_int, subtract_pos, subtract_nat, subtract_int, multiply_pos, multiply_nat, multiply_int, div_nat, div_int, mod_nat, mod_int, exp_pos, exp_nat, exp_int, min_pos, min_nat, min_int, max_pos, max_nat, max_int, abs_int, succ_pos, succ_nat, succ_int, pred_pos, pred_nat, pred_int, nat2pos, int2nat, int2pos, argument_sorts, result_sort, IsSymbol, HasNumeral, HasSort, HaveSorts, FitsRole, IsData}
-use Rattle.data_theory.specs.Arithmetic.{value_of, quotient_if, remainder_if, raised_if, raised}
+use Rattle.data_theory.specs.Declarations.{Data, function_at, Role, constructor, projection, recogniser, mapping, IsSort, IsUpcast, pos2nat, nat2int, pos2int, IsOperation, add_pos_pos, add_pos_nat, add_nat_pos, add_nat_nat, add_int_int, subtract_pos, subtract_nat, subtract_int, multiply_pos, multiply_nat, multiply_int, div_nat, div_int, mod_nat, mod_int, exp_pos, exp_nat, exp_int, min_pos, min_nat, min_int, max_pos, max_nat, max_int, abs_int, succ_pos, succ_nat, succ_int, pred_pos, pred_nat, pred_int, nat2pos, int2nat, int2pos, argument_sorts, result_sort, IsSymbol, HasNumeral, HasSort, HaveSorts, FitsRole, IsData}
+use Rattle.data_theory.specs.Arithmetic.{value_of, quotient_if, remainder_if, raised_if}
 use Rattle.data_theory.specs.Values.{Value, Values, a_truth, a_number, a_list, constructed, an_unknown, no_value, value_then, value_at, truth_in, number_in, list_in, place_in, joined, item_at, first_item, after_first_item, last_item, before_last_item, before_last_from, number_or, part_of, default_value, function_value, symbol_value, value, values, IsValue, AllAreValues, AreValues, AreFirstValues}
 use Rattle.data_theory.proofs.Numbers.{product_at_least_one, product_not_negative, raised_at_least_one, raised_not_negative}
 

@@ -2,7 +2,7 @@
 use Rattle.std.specs.Prelude.{◌↔◌, List, []}
 use Rattle.data_theory.specs.Terms.{Sort, boolean, Term}
 use Rattle.data_theory.specs.Declarations.{Data, IsSort, HasSort}
-use Rattle.data_theory.specs.Equations.{!ᵗ◌, ◌∧ᵗ◌, ◌∨ᵗ◌, ◌⇒ᵗ◌, chooses}
+use Rattle.data_theory.specs.Equations.{ !ᵗ◌, ◌∧ᵗ◌, ◌∨ᵗ◌, ◌⇒ᵗ◌, chooses}
 use Rattle.data_theory.specs.Provable.{Equation, ProvablyEqual, ProvablyTrue, ProvablyFalse}
 
 -- ---- negation

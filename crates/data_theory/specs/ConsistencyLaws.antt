@@ -1,7 +1,7 @@
 -- What the laws on values and on consistent data say.
-use Rattle.std.specs.Prelude.{◌≡◌, ◌≢◌, ℕ, ◌<◌, ◌+◌, List, [], ◌∷◌, length, true, ℤ, pos, ◌+ℤ◌, ◌*ℤ◌}
+use Rattle.std.specs.Prelude.{◌≡◌, ◌≢◌, ℕ, ◌<◌, List, [], true, ℤ, pos, ◌+ℤ◌, ◌*ℤ◌}
 use Rattle.std.specs.List.{All}
-use Rattle.data_theory.specs.Terms.{Sort, named, Symbol, function, Term, Terms, numeral, application, more, none}
+use Rattle.data_theory.specs.Terms.{Sort, named, Symbol, function, Term, Terms, numeral, application}
 use Rattle.data_theory.specs.Declarations.{Data, function_at, sort_at, structured, constructor, projection, recogniser, argument_sorts, result_sort, IsSymbol, HasSort, IsData, NoSortIsEmpty}
 use Rattle.data_theory.specs.Arithmetic.{quotient, remainder}
 use Rattle.data_theory.specs.Equations.{BuiltIn, one, term_at}

@@ -3,7 +3,7 @@ use Rattle.std.specs.Prelude.{◌≡◌, ◌↔◌, ℕ, ◌++◌, List, []}
 use Rattle.std.specs.List.{Contains}
 use Rattle.data_theory.specs.Terms.{Sort, Symbol, Term, Terms, apply, put, put_all}
 use Rattle.data_theory.specs.Declarations.{Data, Construction, Function, HasSort, IsData}
-use Rattle.data_theory.specs.Equations.{trueᵗ, equals}
+use Rattle.data_theory.specs.Equations.{equals}
 use Rattle.data_theory.specs.Provable.{Equation, ProvablyEqual, PlacesEqual, ProvablyTrue}
 
 -- ---- an equivalence, on terms and on lists of terms
