@@ -7,7 +7,7 @@ use Rattle.std.proofs.lemmas.List.Elements.{Contains-append_cases}
 use Rattle.std.proofs.lemmas.Int.{ints}
 use lib.Signed.{lt_z}
 use lib.IntN.{neg_ℤ}
-use Rattle.data_theory.specs.Terms.{Sort, integer, Symbol, minus, upcast, Term, Terms, variable, numeral, unknown, application, none, more, apply, put, put_all, AreClosed}
+use Rattle.data_theory.specs.Terms.{Sort, positive, natural, integer, negated, Symbol, minus, upcast, Term, Terms, variable, numeral, unknown, application, none, more, apply, put, put_all, AreClosed}
 use Rattle.data_theory.specs.Declarations.{Data, Declares, IsSymbol, IsUpcast, pos2nat, nat2int, pos2int, HasNumeral, argument_sorts, HasSort, HaveSorts}
 use Rattle.data_theory.specs.Provable.{Equation, ProvablyEqual, PlacesEqual, no_places, place}
 use Rattle.data_theory.specs.Environments.{Environment, term_in, bound, bound_variables, terms_of, IsOver, AreOver, Agree, Apart}
@@ -103,14 +103,19 @@ agreeing_give_the_same_terms xs d e h [] o = refl
 agreeing_give_the_same_terms xs d e h (t ∷ ts) o = ap₂ (λ u us. u ∷ us) (agreeing_give_the_same_term xs d e h t o.0) (agreeing_give_the_same_terms xs d e h ts o.1)
 
 -- ---- putting in twice
-put_minus : (e : ℕ → Term) (s a : Sort) (z : ℤ) (b : Bool) → lt_z (pos 0) z ≡ b → put e (cond b (numeral integer (neg_ℤ z)) (application (minus s) (more (numeral a z) none))) ≡ cond b (numeral integer (neg_ℤ z)) (application (minus s) (more (numeral a z) none))
-put_minus e s a z true q = refl
-put_minus e s a z false q = ap (λ b. cond b (numeral integer (neg_ℤ z)) (application (minus s) (more (numeral a z) none))) q
+-- a minus sign that doesn't merge with a numeral before it is put in doesn't merge afterwards
+put_minus : (e : ℕ → Term) (s : Sort) (z : ℤ) (b : Bool) → lt_z (pos 0) z ≡ b → apply (minus s) (more (numeral s z) none) ≡ negated s z → put e (cond b (numeral integer (neg_ℤ z)) (application (minus s) (more (numeral s z) none))) ≡ cond b (numeral integer (neg_ℤ z)) (application (minus s) (more (numeral s z) none))
+put_minus e s z true q is = refl
+put_minus e s z false q is = is ∙ ap (λ b. cond b (numeral integer (neg_ℤ z)) (application (minus s) (more (numeral s z) none))) q
 
 -- putting in goes through the merging application
 pub put-apply : (e : ℕ → Term) (f : Symbol) (ts : Terms) → put e (apply f ts) ≡ apply f (put_all e ts)
-put-apply e (upcast s to) (more (numeral a z) none) = refl
-put-apply e (minus s) (more (numeral a z) none) = put_minus e s a z (lt_z (pos 0) z) refl
+put-apply e (upcast positive natural) (more (numeral positive z) none) = refl
+put-apply e (upcast natural integer) (more (numeral natural z) none) = refl
+put-apply e (upcast positive integer) (more (numeral positive z) none) = refl
+put-apply e (minus positive) (more (numeral positive z) none) = put_minus e positive z (lt_z (pos 0) z) refl refl
+put-apply e (minus natural) (more (numeral natural z) none) = put_minus e natural z (lt_z (pos 0) z) refl refl
+put-apply e (minus integer) (more (numeral integer z) none) = put_minus e integer z (lt_z (pos 0) z) refl refl
 put-apply e f ts = refl
 
 mutual
@@ -218,13 +223,17 @@ wider_numeral s to z pos2nat h = omega (arith, ints)
 wider_numeral s to z nat2int h = tt
 wider_numeral s to z pos2int h = tt
 
-minus_has_sort : (g : Data) (vs : List Sort) (s a : Sort) (z : ℤ) (b : Bool) → lt_z (pos 0) z ≡ b → IsSymbol g (minus s) → HaveSorts g vs (more (numeral a z) none) (argument_sorts g (minus s)) → HasSort g vs (cond b (numeral integer (neg_ℤ z)) (application (minus s) (more (numeral a z) none))) integer
-minus_has_sort g vs s a z true q k h = (refl, tt)
-minus_has_sort g vs s a z false q k h = (k, h, refl, ap (λ b. cond b (numeral integer (neg_ℤ z)) (application (minus s) (more (numeral a z) none))) q)
+minus_has_sort : (g : Data) (vs : List Sort) (s : Sort) (z : ℤ) (b : Bool) → lt_z (pos 0) z ≡ b → apply (minus s) (more (numeral s z) none) ≡ negated s z → IsSymbol g (minus s) → HaveSorts g vs (more (numeral s z) none) (argument_sorts g (minus s)) → HasSort g vs (cond b (numeral integer (neg_ℤ z)) (application (minus s) (more (numeral s z) none))) integer
+minus_has_sort g vs s z true q is k h = (refl, tt)
+minus_has_sort g vs s z false q is k h = (k, h, refl, is ∙ ap (λ b. cond b (numeral integer (neg_ℤ z)) (application (minus s) (more (numeral s z) none))) q)
 
 pub applications_have_sorts : ApplicationsHaveSorts
-applications_have_sorts g vs (upcast s to) (more (numeral a z) none) k h = (refl, wider_numeral s to z k h.0.1)
-applications_have_sorts g vs (minus s) (more (numeral a z) none) k h = minus_has_sort g vs s a z (lt_z (pos 0) z) refl k h
+applications_have_sorts g vs (upcast positive natural) (more (numeral positive z) none) k h = (refl, wider_numeral positive natural z k h.0.1)
+applications_have_sorts g vs (upcast natural integer) (more (numeral natural z) none) k h = (refl, tt)
+applications_have_sorts g vs (upcast positive integer) (more (numeral positive z) none) k h = (refl, tt)
+applications_have_sorts g vs (minus positive) (more (numeral positive z) none) k h = minus_has_sort g vs positive z (lt_z (pos 0) z) refl refl k h
+applications_have_sorts g vs (minus natural) (more (numeral natural z) none) k h = minus_has_sort g vs natural z (lt_z (pos 0) z) refl refl k h
+applications_have_sorts g vs (minus integer) (more (numeral integer z) none) k h = minus_has_sort g vs integer z (lt_z (pos 0) z) refl refl k h
 applications_have_sorts g vs f ts k h = (k, h, refl, refl)
 
 mutual

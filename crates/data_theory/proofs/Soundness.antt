@@ -7,7 +7,7 @@ use lib.Signed.{lt_z}
 use lib.IntN.{neg_ℤ}
 use Rattle.std.specs.List.{All}
 use Rattle.std.proofs.lemmas.List.Elements.{All-contains}
-use Rattle.data_theory.specs.Terms.{Sort, boolean, natural, integer, list, subtract, to_natural, Symbol, minus, upcast, function, Term, Terms, numeral, application, none, more, apply, put}
+use Rattle.data_theory.specs.Terms.{Sort, boolean, positive, natural, integer, list, subtract, to_natural, Symbol, minus, upcast, function, Term, Terms, numeral, application, none, more, apply, put}
 use Rattle.data_theory.specs.Declarations.{Data, function_at, constructor, HasSort, HaveSorts, FitsRole, IsData}
 use Rattle.data_theory.specs.Arithmetic.{value_of, compares, equal_numbers}
 use Rattle.data_theory.specs.Equations.{BuiltIn, truth_of, all_equal, term_at, not_true, not_false, not_not, true_and, and_true, false_and, and_false, and_same, true_or, or_true, false_or, or_false, or_same, true_implies, false_implies, implies, and_commutes, or_commutes, and_associates, or_associates, and_distributes, or_distributes, and_absorbs, or_absorbs, not_and, not_or, and_not, or_not, equal_itself, not_equal, if_true, if_false, if_same, equal_commutes, equal_true, true_equal, equal_false, false_equal, operation_of_one, operation_of_two, minus_of, compared, equal_numerals, empty_equal_cons, cons_equal_empty, cons_equal_cons, empty_concat, concat_empty, cons_concat, empty_snoc, cons_snoc, size_empty, size_cons, head_cons, tail_cons, rhead_one, rhead_more, rtail_one, rtail_more, at_zero, at_later, in_empty, in_cons, different_constructors, same_constructor, projected, recognised, not_recognised}
@@ -18,13 +18,17 @@ use Rattle.data_theory.proofs.SortedValues.{truth_in_is, list_in_is, value_is}
 use Rattle.data_theory.proofs.TruthValues.{not_not_is, and_true_is, and_false_is, and_same_is, or_true_is, or_false_is, or_same_is, and_commutes_is, or_commutes_is, and_associates_is, or_associates_is, and_distributes_is, or_distributes_is, and_absorbs_is, or_absorbs_is, not_and_is, not_or_is, and_not_is, or_not_is}
 
 -- ---- merging keeps the value
-minus_merged : (g : Data) (first : ℕ → Value) (s a : Sort) (z : ℤ) (b : Bool) → value g first (cond b (numeral integer (neg_ℤ z)) (application (minus s) (more (numeral a z) none))) ≡ a_number (neg_ℤ z)
-minus_merged g first s a z true = refl
-minus_merged g first s a z false = refl
+minus_merged : (g : Data) (first : ℕ → Value) (s : Sort) (z : ℤ) (b : Bool) → value g first (cond b (numeral integer (neg_ℤ z)) (application (minus s) (more (numeral s z) none))) ≡ a_number (neg_ℤ z)
+minus_merged g first s z true = refl
+minus_merged g first s z false = refl
 
 pub value-apply : (g : Data) (first : ℕ → Value) (f : Symbol) (ts : Terms) → value g first (apply f ts) ≡ symbol_value g first f (values g first ts)
-value-apply g first (upcast s to) (more (numeral a z) none) = refl
-value-apply g first (minus s) (more (numeral a z) none) = minus_merged g first s a z (lt_z (pos 0) z)
+value-apply g first (upcast positive natural) (more (numeral positive z) none) = refl
+value-apply g first (upcast natural integer) (more (numeral natural z) none) = refl
+value-apply g first (upcast positive integer) (more (numeral positive z) none) = refl
+value-apply g first (minus positive) (more (numeral positive z) none) = minus_merged g first positive z (lt_z (pos 0) z)
+value-apply g first (minus natural) (more (numeral natural z) none) = minus_merged g first natural z (lt_z (pos 0) z)
+value-apply g first (minus integer) (more (numeral integer z) none) = minus_merged g first integer z (lt_z (pos 0) z)
 value-apply g first f ts = refl
 
 -- ---- what single lines come down to

@@ -76,11 +76,19 @@ mutual
     none : Terms
     more : Term → Terms → Terms
 
--- The application that merges: an upcast of a numeral is the numeral of the wider sort, and a minus sign before a numeral
--- above zero is the negative numeral.
+-- a minus sign before the numeral of a sort: above zero it is the negative numeral
+abbrev pub negated : Sort → ℤ → Term
+negated s z = cond (lt_z (pos 0) z) (numeral integer (neg_ℤ z)) (application (minus s) (more (numeral s z) none))
+
+-- The application that merges: an upcast of a numeral of its sort is the numeral of the wider sort, and a minus sign merges
+-- with a numeral above zero.
 abbrev pub apply : Symbol → Terms → Term
-apply (upcast s to) (more (numeral a z) none) = numeral to z
-apply (minus s) (more (numeral a z) none) = cond (lt_z (pos 0) z) (numeral integer (neg_ℤ z)) (application (minus s) (more (numeral a z) none))
+apply (upcast positive natural) (more (numeral positive z) none) = numeral natural z
+apply (upcast natural integer) (more (numeral natural z) none) = numeral integer z
+apply (upcast positive integer) (more (numeral positive z) none) = numeral integer z
+apply (minus positive) (more (numeral positive z) none) = negated positive z
+apply (minus natural) (more (numeral natural z) none) = negated natural z
+apply (minus integer) (more (numeral integer z) none) = negated integer z
 apply f ts = application f ts
 
 -- terms put in for all variables at once, and what can merge then merges
