@@ -3,11 +3,13 @@ use Rattle.std.proofs.Common.{ℕ, zero, suc, ◌<◌, List, [], ◌∷◌, leng
 use Rattle.std.specs.Prelude.{pos}
 use Rattle.std.proofs.lemmas.Int.{ints}
 use Rattle.std.proofs.lemmas.List.Elements.{All-cons, All-nil}
-use Rattle.data_theory.specs.Terms.{boolean, positive, natural, list, named, head, membership, function, Term, Terms, variable, numeral, unknown, application, none, more}
+use Rattle.data_theory.specs.Terms.{Symbol, truth, falsity, negation, boolean, positive, natural, list, named, head, membership, function, Term, Terms, variable, numeral, unknown, application, none, more}
 use Rattle.data_theory.specs.Declarations.{Data, FitsRole, IsSort, HasSort, NoSortIsEmpty, function_at}
-use Rattle.data_theory.specs.Equations.{trueᵗ, falseᵗ, one, two, equals, emptyᵗ, consᵗ, in_cons, equal_numerals, equal_itself, head_cons, ◌∨ᵗ◌}
+use Rattle.data_theory.specs.Equations.{not_true, trueᵗ, falseᵗ, one, two, equals, emptyᵗ, consᵗ, in_cons, equal_numerals, equal_itself, head_cons, ◌∨ᵗ◌}
 use Rattle.data_theory.specs.Provable.{Equation, ProvablyEqual, PlacesEqual, reflexive, transitive, built_in, written, reflected, place, ProvablyTrue, IsClosedInstance, IsEmptyList}
-use Rattle.data_theory.specs.Examples.{one_pos, two_pos, three_pos, TwoIsInOneTwo, HeadOfThree, OneIsNotTwo, wrapped_numbers, WrappedNumbersTell, two_mappings, first_is_second, MappingsAreEqual, true_is_false, TrueIsFalseIsInconsistent, small_data, small_equations, SmallDataMeetThePremises, SmallDataAreConsistent}
+use Rattle.data_theory.specs.Rewriting.{Applies, a_line, an_equation, LooksFirst, FirstDecides, GoesTo, by_all, no_arguments, an_argument, tries, used, without_condition}
+use Rattle.data_theory.proofs.GoesToIsEqual.{unmatched_roots_stay}
+use Rattle.data_theory.specs.Examples.{NotTrueGoesToFalse, FalseIsNormal, one_pos, two_pos, three_pos, TwoIsInOneTwo, HeadOfThree, OneIsNotTwo, wrapped_numbers, WrappedNumbersTell, two_mappings, first_is_second, MappingsAreEqual, true_is_false, TrueIsFalseIsInconsistent, small_data, small_equations, SmallDataMeetThePremises, SmallDataAreConsistent}
 use Rattle.data_theory.proofs.EqualityLemmas.{equals_has_sort, equals_of_equal}
 use Rattle.data_theory.proofs.BooleanLemmas.{disjunction_with_false, disjunction_with_true}
 use Rattle.data_theory.proofs.ConsistencyLemmas.{constructors_are_injective, built_in_equations_are_consistent}
@@ -113,3 +115,30 @@ small_data_meet_the_premises = record {
 
 pub small_data_are_consistent : SmallDataAreConsistent
 small_data_are_consistent = let p = small_data_meet_the_premises in built_in_equations_are_consistent small_data p.data_are p.no_sort_is_empty small_equations p.empty_lists
+
+-- no equation of the table has `true` or `false` alone on its left
+nothing_at_true : (g : Data) (k : ℕ) (c r : Term) (x : ℕ) → Applies g [] k trueᵗ c r x → ⊥
+nothing_at_true g k c r x (a_line b p) = elim b [ ]
+nothing_at_true g k c r x (an_equation i e p q h) = cc
+
+nothing_at_false : (g : Data) (k : ℕ) (c r : Term) (x : ℕ) → Applies g [] k falseᵗ c r x → ⊥
+nothing_at_false g k c r x (a_line b p) = elim b [ ]
+nothing_at_false g k c r x (an_equation i e p q h) = cc
+
+decides_nothing : (f : Symbol) → FirstDecides f none → ⊥
+decides_nothing f h = h
+
+true_stays : (g : Data) → GoesTo g [] trueᵗ trueᵗ 0
+true_stays g = by_all no_arguments (decides_nothing truth) (tries (unmatched_roots_stay g [] trueᵗ (nothing_at_true g)))
+
+false_stays : (g : Data) → GoesTo g [] falseᵗ falseᵗ 0
+false_stays g = by_all no_arguments (decides_nothing falsity) (tries (unmatched_roots_stay g [] falseᵗ (nothing_at_false g)))
+
+not_looks_nowhere : LooksFirst negation → ⊥
+not_looks_nowhere h = elim h [ ]
+
+pub not_true_goes_to_false : NotTrueGoesToFalse
+not_true_goes_to_false g = by_all (an_argument (true_stays g) no_arguments) (λ h. not_looks_nowhere h.0) (tries (used (omega arith) (a_line not_true refl) (without_condition refl) refl (false_stays g)))
+
+pub false_is_normal : FalseIsNormal
+false_is_normal g = (0, false_stays g)

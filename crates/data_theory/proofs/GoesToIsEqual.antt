@@ -1,14 +1,14 @@
 -- What a term goes to has its sort, and is provably equal to it in every closed instance.
-use Rattle.std.proofs.Common.{◌≡◌, ℕ, zero, suc, List, [], ◌∷◌, ◌++◌, refl, sym, ap, ap₂, ◌∙◌, subst, ⊎_elim}
+use Rattle.std.proofs.Common.{arith, length, ◌+◌, ◌≡◌, ℕ, zero, suc, List, [], ◌∷◌, ◌++◌, refl, sym, ap, ap₂, ◌∙◌, subst, ⊎_elim}
 use Rattle.std.specs.Prelude.{Contains}
 use Rattle.std.proofs.lemmas.Option.{slice_get_within, get_or_from_slice_get}
 use Rattle.std.proofs.lemmas.List.Elements.{Contains-append_cases}
 use Rattle.data_theory.specs.Terms.{Sort, boolean, Symbol, Term, Terms, variable, numeral, unknown, application, none, more, apply, put, put_all, variables_of, variables_of_all}
 use Rattle.data_theory.specs.Declarations.{Data, IsData, Declares, argument_sorts, StandsUnmerged, HasSort, HaveSorts}
-use Rattle.data_theory.specs.Equations.{trueᵗ}
+use Rattle.data_theory.specs.Equations.{trueᵗ, falseᵗ}
 use Rattle.data_theory.specs.Provable.{Equation, IsClosedInstance, ProvablyEqual, PlacesEqual, reflexive, transitive, congruent, built_in, written, no_places, place}
 use Rattle.data_theory.specs.Environments.{IsOver, AreOver}
-use Rattle.data_theory.specs.Rewriting.{laid, laid_all, Applies, a_line, an_equation, LooksFirst, if_looks, and_looks, or_looks, implies_looks, GoesTo, a_variable, a_numeral, an_unknown, by_the_first, by_all, ArgumentsGoTo, no_arguments, an_argument, RootGoesTo, merged, tries, FromEquation, stays, passed, refused, used, ConditionGoesTo, without_condition, with_condition, IsNoVariable, IsWellFormed, AreSorts, Closes, GoesToKeepsTheSort, GoesToIsProvablyEqual}
+use Rattle.data_theory.specs.Rewriting.{lines, DecidedYesIsTrue, DecidedNoIsFalse, UnmatchedRootsStay, laid, laid_all, Applies, a_line, an_equation, LooksFirst, if_looks, and_looks, or_looks, implies_looks, GoesTo, a_variable, a_numeral, an_unknown, by_the_first, by_all, ArgumentsGoTo, no_arguments, an_argument, RootGoesTo, merged, tries, FromEquation, stays, passed, refused, used, ConditionGoesTo, without_condition, with_condition, IsNoVariable, IsWellFormed, AreSorts, Closes, GoesToKeepsTheSort, GoesToIsProvablyEqual}
 use Rattle.data_theory.proofs.EqualityLemmas.{places_reflexive}
 use Rattle.data_theory.proofs.EnvironmentLemmas.{contains_nothing, contains_cases, put-apply, putting_in_twice, putting_in_keeps_sorts, applications_have_sorts}
 use Rattle.data_theory.proofs.LinesOnTerms.{condition_sort, right_sort, line_put}
@@ -186,3 +186,18 @@ goes_to_is_provably_equal g own ok all vs sorts t u n s h r e closes = (follows 
 
 pub goes_to_keeps_the_sort : GoesToKeepsTheSort
 goes_to_keeps_the_sort g own ok all vs sorts t u n s h r = (follows g own ok all vs sorts r s h).sort
+
+pub decided_yes_is_true : DecidedYesIsTrue
+decided_yes_is_true g own ok all vs sorts fuel t h d e closes = goes_to_is_provably_equal g own ok all vs sorts t trueᵗ d.0 boolean h d.1 e closes
+
+pub decided_no_is_false : DecidedNoIsFalse
+decided_no_is_false g own ok all vs sorts fuel t h d e closes = goes_to_is_provably_equal g own ok all vs sorts t falseᵗ d.0 boolean h d.1 e closes
+
+-- ---- a root at which nothing matches
+module _ (g : Data) (own : List Equation) (t : Term) (none_applies : (k : ℕ) (c r : Term) (x : ℕ) → Applies g own k t c r x → ⊥) where
+  stays_from : (left k : ℕ) → left + k ≡ lines + length own → FromEquation g own k t t 0
+  stays_from zero k e = stays (omega (arith, e))
+  stays_from (suc left) k e = passed (omega (arith, e)) (none_applies k) (stays_from left (suc k) (omega (arith, e)))
+
+pub unmatched_roots_stay : UnmatchedRootsStay
+unmatched_roots_stay g own t n = stays_from g own t n (lines + length own) 0 (omega arith)

@@ -3,7 +3,8 @@ use Rattle.std.specs.Prelude.{List, [], ◌∷◌, pos}
 use Rattle.std.specs.List.{All}
 use Rattle.data_theory.specs.Terms.{boolean, positive, natural, list, named, head, membership, function, Term, variable, numeral, application, none}
 use Rattle.data_theory.specs.Declarations.{Data, constructor, projection, recogniser, mapping, without_constructors, structured, HasSort, IsData, NoSortIsEmpty}
-use Rattle.data_theory.specs.Equations.{trueᵗ, falseᵗ, one, two, equals, emptyᵗ, consᵗ}
+use Rattle.data_theory.specs.Equations.{ !ᵗ◌, trueᵗ, falseᵗ, one, two, equals, emptyᵗ, consᵗ}
+use Rattle.data_theory.specs.Rewriting.{GoesTo, IsNormal}
 use Rattle.data_theory.specs.Provable.{Equation, ProvablyEqual, ProvablyTrue, ProvablyFalse, Consistent, IsEmptyList}
 
 -- the numerals 1, 2 and 3 of sort Pos
@@ -92,3 +93,10 @@ SmallDataMeetThePremises = MeetThePremises small_data small_equations
 
 abbrev pub SmallDataAreConsistent : Type 0
 SmallDataAreConsistent = Consistent small_data small_equations
+
+-- without written equations `!true` goes to `false` by one use, and `false` is normal
+abbrev pub NotTrueGoesToFalse : Type 0
+NotTrueGoesToFalse = (g : Data) → GoesTo g [] (!ᵗ trueᵗ) falseᵗ 1
+
+abbrev pub FalseIsNormal : Type 0
+FalseIsNormal = (g : Data) → IsNormal g [] falseᵗ

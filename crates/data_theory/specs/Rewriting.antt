@@ -3,7 +3,7 @@ use Rattle.std.specs.Prelude.{◌≡◌, ◌≢◌, ℕ, suc, ◌+◌, ◌<◌, 
 use Rattle.data_theory.specs.Terms.{Sort, boolean, Symbol, truth, conjunction, disjunction, implication, conditional, Term, Terms, variable, numeral, unknown, application, none, more, apply, put, variables_of}
 use Rattle.data_theory.specs.Declarations.{Data, IsSort, Declares, HasSort, IsData}
 use Rattle.data_theory.specs.Equations.{BuiltIn, trueᵗ, falseᵗ, not_true, not_false, not_not, true_and, and_true, false_and, and_false, and_same, true_or, or_true, false_or, or_false, or_same, true_implies, false_implies, implies, equal_itself, not_equal, if_true, if_false, if_same, equal_true, true_equal, equal_false, false_equal, operation_of_one, operation_of_two, minus_of, compared, equal_numerals, empty_equal_cons, cons_equal_empty, cons_equal_cons, empty_concat, concat_empty, cons_concat, empty_snoc, cons_snoc, size_empty, size_cons, head_cons, tail_cons, rhead_one, rhead_more, rtail_one, rtail_more, at_zero, at_later, in_empty, in_cons, different_constructors, same_constructor, projected, recognised, not_recognised}
-use Rattle.data_theory.specs.Provable.{Equation, ProvablyEqual}
+use Rattle.data_theory.specs.Provable.{Equation, ProvablyEqual, ProvablyTrue, ProvablyFalse}
 use Rattle.data_theory.specs.Environments.{IsOver}
 
 -- the number of lines that rewriting uses; the written equations come behind them
@@ -224,3 +224,20 @@ GoesToIsProvablyEqual =
     (g : Data) (own : List Equation) → IsData g → ((q : Equation) → Contains own q → IsWellFormed g q)
     → (vs : List Sort) → AreSorts g vs → (t u : Term) (n : ℕ) (s : Sort) → HasSort g vs t s → GoesTo g own t u n
     → (e : ℕ → Term) → Closes g vs e → ProvablyEqual g own (put e t) (put e u)
+
+abbrev pub DecidedYesIsTrue : Type 0
+DecidedYesIsTrue =
+    (g : Data) (own : List Equation) → IsData g → ((q : Equation) → Contains own q → IsWellFormed g q)
+    → (vs : List Sort) → AreSorts g vs → (fuel : ℕ) (t : Term) → HasSort g vs t boolean → IsDecided g own fuel t yes_decided
+    → (e : ℕ → Term) → Closes g vs e → ProvablyTrue g own (put e t)
+
+abbrev pub DecidedNoIsFalse : Type 0
+DecidedNoIsFalse =
+    (g : Data) (own : List Equation) → IsData g → ((q : Equation) → Contains own q → IsWellFormed g q)
+    → (vs : List Sort) → AreSorts g vs → (fuel : ℕ) (t : Term) → HasSort g vs t boolean → IsDecided g own fuel t no_decided
+    → (e : ℕ → Term) → Closes g vs e → ProvablyFalse g own (put e t)
+
+abbrev pub UnmatchedRootsStay : Type 0
+UnmatchedRootsStay =
+    (g : Data) (own : List Equation) (t : Term) → ((k : ℕ) (c r : Term) (x : ℕ) → Applies g own k t c r x → ⊥)
+    → FromEquation g own 0 t t 0

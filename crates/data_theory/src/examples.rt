@@ -1,6 +1,6 @@
 //! Worked derivations, as checks of the definitions.
 
-ghost use Rattle.data_theory.specs.Examples.{HeadOfThree, MappingsAreEqual, OneIsNotTwo, SmallDataAreConsistent, SmallDataMeetThePremises, TrueIsFalseIsInconsistent, TwoIsInOneTwo, WrappedNumbersTell};
+ghost use Rattle.data_theory.specs.Examples.{FalseIsNormal, HeadOfThree, MappingsAreEqual, NotTrueGoesToFalse, OneIsNotTwo, SmallDataAreConsistent, SmallDataMeetThePremises, TrueIsFalseIsInconsistent, TwoIsInOneTwo, WrappedNumbersTell};
 
 /// `2 in [1, 2]` is provably true.
 pub fn membership_computes()
@@ -30,6 +30,12 @@ pub fn an_equation_is_used()
 /// The equation `true = false` makes any data inconsistent.
 pub fn true_is_false_is_inconsistent()
     ensures { TrueIsFalseIsInconsistent }
+{}
+
+/// Without written equations `!true` goes to `false` by one use, and `false` is normal.
+pub fn not_computes()
+    ensures goes { NotTrueGoesToFalse }
+    ensures normal { FalseIsNormal }
 {}
 
 /// A struct with a projection and a recogniser, a sort without constructors and an equation `m = []` meet every premise of
