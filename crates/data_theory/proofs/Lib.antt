@@ -15,3 +15,4 @@ pub mod OrderOfLines
 pub mod GoesToOne
 pub mod LinesOnTerms
 pub mod GoesToIsEqual
+pub mod TextLemmas

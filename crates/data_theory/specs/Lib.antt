@@ -11,3 +11,4 @@ pub mod Environments
 pub mod EnvironmentLaws
 pub mod Examples
 pub mod Rewriting
+pub mod Names
