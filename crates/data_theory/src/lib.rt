@@ -18,3 +18,6 @@ pub mod values;
 
 pub use names::{NameId, Names};
 pub use no_memory::NoMemory;
+
+#[cfg(test)]
+mod tests;
