@@ -28,7 +28,7 @@ mutual
 
 -- terms put in for the variables that occur are enough
 mutual
-  put_sort : (g : Data) (xs : List ℕ) (vs us : List Sort) (e : ℕ → Term) → ((v : ℕ) (s : Sort) → Contains xs v → Declares vs v s → HasSort g us (e v) s) → (t : Term) (s : Sort) → IsOver xs t → HasSort g vs t s → HasSort g us (put e t) s
+  pub put_sort : (g : Data) (xs : List ℕ) (vs us : List Sort) (e : ℕ → Term) → ((v : ℕ) (s : Sort) → Contains xs v → Declares vs v s → HasSort g us (e v) s) → (t : Term) (s : Sort) → IsOver xs t → HasSort g vs t s → HasSort g us (put e t) s
   put_sort g xs vs us e h (variable v) s o i = h v s o i
   put_sort g xs vs us e h (numeral a z) s o i = i
   put_sort g xs vs us e h (unknown d k) s o i = i

@@ -16,3 +16,4 @@ pub mod GoesToOne
 pub mod LinesOnTerms
 pub mod GoesToIsEqual
 pub mod TextLemmas
+pub mod SameSorts

@@ -12,3 +12,4 @@ pub mod EnvironmentLaws
 pub mod Examples
 pub mod Rewriting
 pub mod Names
+pub mod SortLaws

@@ -14,6 +14,7 @@ pub mod growth;
 mod names;
 mod no_memory;
 pub mod rewriting;
+pub mod sorts;
 pub mod values;
 
 pub use names::{NameId, Names};
