@@ -17,3 +17,4 @@ pub mod LinesOnTerms
 pub mod GoesToIsEqual
 pub mod TextLemmas
 pub mod SameSorts
+pub mod NoNewVariable

@@ -214,6 +214,11 @@ GoesToOneTerm =
     (g : Data) (own : List Equation) → ((q : Equation) → Contains own q → IsCovered q)
     → (t u v : Term) (n m : ℕ) → GoesTo g own t u n → GoesTo g own t v m → (u ≡ v) × (n ≡ m)
 
+abbrev pub GoesToAddsNoVariable : Type 0
+GoesToAddsNoVariable =
+    (g : Data) (own : List Equation) → ((q : Equation) → Contains own q → IsCovered q)
+    → (xs : List ℕ) (t u : Term) (n : ℕ) → IsOver xs t → GoesTo g own t u n → IsOver xs u
+
 abbrev pub GoesToKeepsTheSort : Type 0
 GoesToKeepsTheSort =
     (g : Data) (own : List Equation) → IsData g → ((q : Equation) → Contains own q → IsWellFormed g q)

@@ -1,15 +1,16 @@
 //! What a term goes to by rewriting.
 
-ghost use Rattle.data_theory.specs.Rewriting.{DecidedNoIsFalse, DecidedYesIsTrue, GoesToIsProvablyEqual, GoesToKeepsTheSort, GoesToOneTerm, UnmatchedRootsStay};
+ghost use Rattle.data_theory.specs.Rewriting.{DecidedNoIsFalse, DecidedYesIsTrue, GoesToAddsNoVariable, GoesToIsProvablyEqual, GoesToKeepsTheSort, GoesToOneTerm, UnmatchedRootsStay};
 
 /// A term goes to at most one term, in at most one number of uses.
 pub fn goes_to_one_term()
     ensures { GoesToOneTerm }
 {}
 
-/// What a term goes to has its sort, and is provably equal to it in every closed instance; so what is
-/// decided yes is provably true then, and what is decided no is provably false.
+/// What a term goes to has its sort and no variable that the term hasn't, and is provably equal to it in every closed
+/// instance; so what is decided yes is provably true then, and what is decided no is provably false.
 pub fn goes_to_is_sound()
+    ensures variables { GoesToAddsNoVariable }
     ensures sort { GoesToKeepsTheSort }
     ensures equal { GoesToIsProvablyEqual }
     ensures yes { DecidedYesIsTrue }
