@@ -84,7 +84,7 @@ module _ (g : Data) (ws vs : List Sort) (d : ℕ → Term) where
   laid_sort (unknown b z) a s n h k = h.0 ∙ sym k.0
   laid_sort (application f ts) a s n h k = sym h.2 ∙ k.2
 
-looks_first_unmerged : (f : Symbol) (ts : Terms) → LooksFirst f → StandsUnmerged f ts
+pub looks_first_unmerged : (f : Symbol) (ts : Terms) → LooksFirst f → StandsUnmerged f ts
 looks_first_unmerged f ts if_looks = refl
 looks_first_unmerged f ts and_looks = refl
 looks_first_unmerged f ts or_looks = refl

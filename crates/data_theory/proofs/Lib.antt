@@ -18,3 +18,4 @@ pub mod GoesToIsEqual
 pub mod TextLemmas
 pub mod SameSorts
 pub mod NoNewVariable
+pub mod NormalForms

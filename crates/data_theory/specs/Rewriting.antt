@@ -214,6 +214,12 @@ GoesToOneTerm =
     (g : Data) (own : List Equation) → ((q : Equation) → Contains own q → IsCovered q)
     → (t u v : Term) (n m : ℕ) → GoesTo g own t u n → GoesTo g own t v m → (u ≡ v) × (n ≡ m)
 
+abbrev pub WhatItGoesToIsNormal : Type 0
+WhatItGoesToIsNormal = (g : Data) (own : List Equation) (t u : Term) (n : ℕ) → GoesTo g own t u n → IsNormal g own u
+
+abbrev pub FinishedRewritingsAreChains : Type 0
+FinishedRewritingsAreChains = (g : Data) (own : List Equation) (t u : Term) (n : ℕ) → GoesTo g own t u n → Chain g own t n
+
 abbrev pub GoesToAddsNoVariable : Type 0
 GoesToAddsNoVariable =
     (g : Data) (own : List Equation) → ((q : Equation) → Contains own q → IsCovered q)

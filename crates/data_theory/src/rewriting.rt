@@ -1,6 +1,6 @@
 //! What a term goes to by rewriting.
 
-ghost use Rattle.data_theory.specs.Rewriting.{DecidedNoIsFalse, DecidedYesIsTrue, GoesToAddsNoVariable, GoesToIsProvablyEqual, GoesToKeepsTheSort, GoesToOneTerm, UnmatchedRootsStay};
+ghost use Rattle.data_theory.specs.Rewriting.{DecidedNoIsFalse, DecidedYesIsTrue, FinishedRewritingsAreChains, GoesToAddsNoVariable, GoesToIsProvablyEqual, GoesToKeepsTheSort, GoesToOneTerm, UnmatchedRootsStay, WhatItGoesToIsNormal};
 
 /// A term goes to at most one term, in at most one number of uses.
 pub fn goes_to_one_term()
@@ -15,6 +15,16 @@ pub fn goes_to_is_sound()
     ensures equal { GoesToIsProvablyEqual }
     ensures yes { DecidedYesIsTrue }
     ensures no { DecidedNoIsFalse }
+{}
+
+/// What a term goes to is normal.
+pub fn what_it_goes_to_is_normal()
+    ensures { WhatItGoesToIsNormal }
+{}
+
+/// A finished rewriting is a chain of as many uses.
+pub fn finished_rewritings_are_chains()
+    ensures { FinishedRewritingsAreChains }
 {}
 
 /// A root at which no equation matches stays.
