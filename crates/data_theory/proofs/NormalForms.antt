@@ -1,9 +1,9 @@
 -- What a term goes to is normal, and a finished rewriting is a chain.
-use Rattle.std.proofs.Common.{◌≡◌, ℕ, zero, suc, ◌+◌, ◌⊎◌, inl, inr, Bool, true, false, cond, refl, sym, ap, ◌∙◌, subst, ⊎_elim, arith}
+use Rattle.std.proofs.Common.{◌≡◌, ℕ, ◌+◌, ◌⊎◌, inl, inr, Bool, true, false, cond, refl, sym, ◌∙◌, subst, ⊎_elim, arith}
 use Rattle.std.specs.Prelude.{ℤ, pos, List}
 use lib.Signed.{lt_z}
 use lib.IntN.{neg_ℤ}
-use Rattle.data_theory.specs.Terms.{Sort, positive, natural, integer, Symbol, conjunction, disjunction, implication, conditional, minus, upcast, Term, Terms, variable, numeral, unknown, application, none, more, apply}
+use Rattle.data_theory.specs.Terms.{Sort, positive, natural, integer, Symbol, conjunction, disjunction, implication, conditional, minus, upcast, Term, Terms, numeral, application, none, more, apply}
 use Rattle.data_theory.specs.Declarations.{Data}
 use Rattle.data_theory.specs.Provable.{Equation}
 use Rattle.data_theory.specs.Rewriting.{LooksFirst, if_looks, and_looks, or_looks, implies_looks, GoesTo, a_variable, a_numeral, an_unknown, by_the_first, by_all, ArgumentsGoTo, no_arguments, an_argument, RootGoesTo, merged, tries, FromEquation, stays, passed, refused, used, Chain, not_begun, in_arguments, at_the_root_by_the_first, at_the_root_by_all, ArgumentsChain, no_arguments_left, in_an_argument, EquationChain, not_tried, is_passed, is_refused, is_used, IsNormal, WhatItGoesToIsNormal, FinishedRewritingsAreChains}

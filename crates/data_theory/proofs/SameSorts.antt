@@ -1,13 +1,12 @@
 -- Provably equal terms have the same sorts.
-use Rattle.std.proofs.Common.{◌≡◌, ℕ, zero, suc, ◌⊎◌, inl, inr, List, [], ◌∷◌, ◌++◌, Bool, true, false, cond, refl, sym, ap, ap₂, ◌∙◌, subst, arith}
+use Rattle.std.proofs.Common.{◌≡◌, ℕ, zero, suc, ◌⊎◌, inl, inr, List, [], ◌∷◌, ◌++◌, Bool, true, false, cond, refl, sym, ap, ◌∙◌, subst, arith}
 use Rattle.std.specs.Prelude.{ℤ, pos, negsuc, ◌≤ℤ◌, Contains}
 use Rattle.std.proofs.lemmas.Int.{ints}
 use Rattle.std.proofs.lemmas.List.Elements.{Contains-append_left, Contains-append_right}
 use lib.Signed.{lt_z, le_z_yes}
 use lib.IntN.{neg_ℤ}
-use Rattle.data_theory.specs.Terms.{Sort, boolean, positive, natural, integer, Symbol, minus, upcast, Term, Terms, variable, numeral, unknown, application, none, more, apply, negated, put, variables_of, variables_of_all}
+use Rattle.data_theory.specs.Terms.{Sort, boolean, positive, natural, integer, Symbol, minus, upcast, Term, Terms, variable, numeral, unknown, application, none, more, apply, put, variables_of, variables_of_all}
 use Rattle.data_theory.specs.Declarations.{Data, IsData, IsSymbol, positives, naturals, integers, pos2nat, nat2int, pos2int, HasNumeral, argument_sorts, result_sort, HasSort, HaveSorts}
-use Rattle.data_theory.specs.Equations.{trueᵗ, equals}
 use Rattle.data_theory.specs.Provable.{Equation, variables_of_equation, ProvablyEqual, PlacesEqual, reflexive, symmetric, transitive, congruent, built_in, written, reflected, no_places, place}
 use Rattle.data_theory.specs.Environments.{IsOver, AreOver}
 use Rattle.data_theory.specs.Rewriting.{IsWellFormed, AreSorts}
