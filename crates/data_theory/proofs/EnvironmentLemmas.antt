@@ -9,9 +9,9 @@ use lib.Signed.{lt_z}
 use lib.IntN.{neg_ℤ}
 use Rattle.data_theory.specs.Terms.{Sort, positive, natural, integer, negated, Symbol, minus, upcast, Term, Terms, variable, numeral, unknown, application, none, more, apply, put, put_all, AreClosed}
 use Rattle.data_theory.specs.Declarations.{Data, Declares, IsSymbol, IsUpcast, pos2nat, nat2int, pos2int, HasNumeral, argument_sorts, HasSort, HaveSorts}
-use Rattle.data_theory.specs.Provable.{Equation, ProvablyEqual, PlacesEqual, no_places, place}
+use Rattle.data_theory.specs.Provable.{Equation, ProvablyEqual, PlacesEqual, reflexive, congruent, no_places, place}
 use Rattle.data_theory.specs.Environments.{Environment, term_in, bound, bound_variables, terms_of, IsOver, AreOver, Agree, Apart}
-use Rattle.data_theory.specs.EnvironmentLaws.{TheFrontIsRead, TheFrontIsSkipped, TheMiddleIsSkipped, TheUnboundStay, BoundTogether, BoundAreTheParameters, ParametersReadBack, AgreeingGiveTheSameTerm, AgreeingGiveTheSameTerms, PuttingInTwice, ArgumentsPutInFirst, ArgumentsPutInBehindSums, EqualArgumentsGiveEqualEnvironments, EqualEnvironmentsGiveEqualLists, ListsOfTerms, TermsOfLists, PuttingInGoesThroughLists, ApplicationsHaveSorts, PuttingInKeepsSorts, WellSortedOverNothingIsClosed, ClosedTermsStay, ClosedTermsFitAnywhere}
+use Rattle.data_theory.specs.EnvironmentLaws.{EqualOnTheVariablesGiveEqualTerms, EqualOnTheVariablesGiveEqualLists, TheFrontIsRead, TheFrontIsSkipped, TheMiddleIsSkipped, TheUnboundStay, BoundTogether, BoundAreTheParameters, ParametersReadBack, AgreeingGiveTheSameTerm, AgreeingGiveTheSameTerms, PuttingInTwice, ArgumentsPutInFirst, ArgumentsPutInBehindSums, EqualArgumentsGiveEqualEnvironments, EqualEnvironmentsGiveEqualLists, ListsOfTerms, TermsOfLists, PuttingInGoesThroughLists, ApplicationsHaveSorts, PuttingInKeepsSorts, WellSortedOverNothingIsClosed, ClosedTermsStay, ClosedTermsFitAnywhere}
 use Rattle.data_theory.proofs.EqualityLemmas.{put_equal}
 
 -- ---- elements of lists
@@ -203,6 +203,21 @@ equal_arguments g own (x ∷ xs) (t ∷ ts) (u ∷ us) d e h k v =
 pub equal_lists : EqualEnvironmentsGiveEqualLists
 equal_lists g own d e h [] = no_places
 equal_lists g own d e h (t ∷ ts) = place (put_equal g own d e h t) (equal_lists g own d e h ts)
+
+mutual
+  pub equal_on_the_variables : EqualOnTheVariablesGiveEqualTerms
+  equal_on_the_variables g own xs d e h (variable v) o = h v o
+  equal_on_the_variables g own xs d e h (numeral a z) o = reflexive
+  equal_on_the_variables g own xs d e h (unknown a k) o = reflexive
+  equal_on_the_variables g own xs d e h (application f ts) o = congruent f (all_equal_on g own xs d e h ts o)
+
+  all_equal_on : (g : Data) (own : List Equation) (xs : List ℕ) (d e : ℕ → Term) → ((v : ℕ) → Contains xs v → ProvablyEqual g own (d v) (e v)) → (ts : Terms) → AreOver xs ts → PlacesEqual g own (put_all d ts) (put_all e ts)
+  all_equal_on g own xs d e h none o = no_places
+  all_equal_on g own xs d e h (more t ts) o = place (equal_on_the_variables g own xs d e h t o.0) (all_equal_on g own xs d e h ts o.1)
+
+pub lists_equal_on_the_variables : EqualOnTheVariablesGiveEqualLists
+lists_equal_on_the_variables g own xs d e h [] o = no_places
+lists_equal_on_the_variables g own xs d e h (t ∷ ts) o = place (equal_on_the_variables g own xs d e h t o.0) (lists_equal_on_the_variables g own xs d e h ts o.1)
 
 -- ---- lists of terms
 pub lists_of_terms : ListsOfTerms

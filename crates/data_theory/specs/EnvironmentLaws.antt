@@ -2,7 +2,7 @@
 use Rattle.std.specs.Prelude.{◌≡◌, ℕ, List, [], ◌++◌, map, length, Contains}
 use Rattle.data_theory.specs.Terms.{Sort, Symbol, Term, Terms, variable, apply, put, put_all, IsClosed}
 use Rattle.data_theory.specs.Declarations.{Data, Declares, IsSymbol, argument_sorts, result_sort, HasSort, HaveSorts}
-use Rattle.data_theory.specs.Provable.{Equation, PlacesEqual}
+use Rattle.data_theory.specs.Provable.{Equation, ProvablyEqual, PlacesEqual}
 use Rattle.data_theory.specs.EqualityLaws.{EnvironmentsEqual}
 use Rattle.data_theory.specs.Environments.{Environment, term_in, bound, bound_variables, terms_of, list_of, IsOver, AreOver, Agree, Apart, AreDistinct}
 
@@ -65,6 +65,17 @@ abbrev pub EqualEnvironmentsGiveEqualLists : Type 0
 EqualEnvironmentsGiveEqualLists =
     (g : Data) (own : List Equation) (d e : ℕ → Term) → EnvironmentsEqual g own d e → (ts : List Term)
     → PlacesEqual g own (terms_of (map (put d) ts)) (terms_of (map (put e) ts))
+
+-- it is enough that they agree so on the variables of what they are put into
+abbrev pub EqualOnTheVariablesGiveEqualTerms : Type 0
+EqualOnTheVariablesGiveEqualTerms =
+    (g : Data) (own : List Equation) (xs : List ℕ) (d e : ℕ → Term) → ((v : ℕ) → Contains xs v → ProvablyEqual g own (d v) (e v))
+    → (t : Term) → IsOver xs t → ProvablyEqual g own (put d t) (put e t)
+
+abbrev pub EqualOnTheVariablesGiveEqualLists : Type 0
+EqualOnTheVariablesGiveEqualLists =
+    (g : Data) (own : List Equation) (xs : List ℕ) (d e : ℕ → Term) → ((v : ℕ) → Contains xs v → ProvablyEqual g own (d v) (e v))
+    → (ts : List Term) → AreOver xs (terms_of ts) → PlacesEqual g own (terms_of (map (put d) ts)) (terms_of (map (put e) ts))
 
 -- ---- lists of terms
 abbrev pub ListsOfTerms : Type 0

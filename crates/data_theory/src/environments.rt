@@ -1,6 +1,6 @@
 //! Environments: what stands for the variables of a term.
 
-ghost use Rattle.data_theory.specs.EnvironmentLaws.{AgreeingGiveTheSameTerm, AgreeingGiveTheSameTerms, ApplicationsHaveSorts, ArgumentsPutInBehindSums, ArgumentsPutInFirst, BoundAreTheParameters, BoundTogether, ClosedTermsFitAnywhere, ClosedTermsStay, EqualArgumentsGiveEqualEnvironments, EqualEnvironmentsGiveEqualLists, ListsOfTerms, ParametersReadBack, PuttingInGoesThroughLists, PuttingInKeepsSorts, PuttingInTwice, TermsOfLists, TheFrontIsRead, TheFrontIsSkipped, TheMiddleIsSkipped, TheUnboundStay, WellSortedOverNothingIsClosed};
+ghost use Rattle.data_theory.specs.EnvironmentLaws.{AgreeingGiveTheSameTerm, AgreeingGiveTheSameTerms, ApplicationsHaveSorts, ArgumentsPutInBehindSums, ArgumentsPutInFirst, BoundAreTheParameters, BoundTogether, ClosedTermsFitAnywhere, ClosedTermsStay, EqualArgumentsGiveEqualEnvironments, EqualEnvironmentsGiveEqualLists, EqualOnTheVariablesGiveEqualLists, EqualOnTheVariablesGiveEqualTerms, ListsOfTerms, ParametersReadBack, PuttingInGoesThroughLists, PuttingInKeepsSorts, PuttingInTwice, TermsOfLists, TheFrontIsRead, TheFrontIsSkipped, TheMiddleIsSkipped, TheUnboundStay, WellSortedOverNothingIsClosed};
 
 /// A joined environment gives what its first part that binds the variable gives; an unbound variable stands for itself.
 pub fn joined_environments()
@@ -31,10 +31,12 @@ pub fn putting_in_twice()
 {}
 
 /// Provably equal arguments give provably equal environments, and these give provably equal lists, as the arguments of an
-/// action are.
+/// action are. It is enough that they agree so on the variables that occur.
 pub fn equal_environments()
     ensures arguments { EqualArgumentsGiveEqualEnvironments }
     ensures lists { EqualEnvironmentsGiveEqualLists }
+    ensures term_over { EqualOnTheVariablesGiveEqualTerms }
+    ensures list_over { EqualOnTheVariablesGiveEqualLists }
 {}
 
 /// The terms behind a symbol and lists of terms say the same.
