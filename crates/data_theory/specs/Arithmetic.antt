@@ -4,7 +4,7 @@ use lib.Signed.{lt_z, le_z}
 use lib.IntN.{neg_ℤ}
 use Rattle.data_theory.specs.Terms.{Comparison, less, at_most, greater, at_least, Operation, add, subtract, multiply, divide, modulo, power, minimum, maximum, absolute, successor, predecessor, to_positive, to_natural}
 
--- the greatest whole number whose product with y is at most x, for y of at least 1; `negsuc a` is the number -(a + 1)
+-- x divided by y and rounded down, for y of at least 1; `negsuc a` is the number -(a + 1)
 abbrev pub quotient : ℤ → ℕ → ℤ
 quotient (pos a) y = pos (a / y)
 quotient (negsuc a) y = negsuc (a / y)

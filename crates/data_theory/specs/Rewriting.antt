@@ -92,7 +92,7 @@ pub data Applies (g : Data) (own : List Equation) : ℕ → Term → Term → Te
   a_line : {k : ℕ} {t c r : Term} (b : BuiltIn g c t r) → place_of b ≡ Some k → Applies g own k t c r 0
   an_equation : {k : ℕ} {t : Term} {q : Equation} (i : ℕ) (e : ℕ → Term) → slice_get own i ≡ Some q → k ≡ lines + i → laid e q.left ≡ t → Applies g own k t (put e q.condition) (put e q.right) (charge_of (put e q.condition))
 
--- `if`, `&&`, `||` and `=>` look at their first argument first
+-- the functions whose first argument may decide before the others are looked at
 pub data LooksFirst : Symbol → Type 0 where
   if_looks : {s : Sort} → LooksFirst (conditional s)
   and_looks : LooksFirst conjunction

@@ -2,13 +2,13 @@
 
 ghost use Rattle.data_theory.specs.BooleanLaws.{ConjunctionBeforeFalse, ConjunctionIsTrue, ConjunctionWithFalse, DisjunctionBeforeFalse, DisjunctionBeforeTrue, DisjunctionIsFalse, DisjunctionWithFalse, DisjunctionWithTrue, IfFalse, IfTrue, ImplicationFromFalse, ImplicationFromTrue, NegationIsFalse, NegationIsTrue};
 
-/// `!x` is provably true exactly where x is provably false, and the other way round.
+/// A negation is provably true if and only if its part is provably false, and the other way round.
 pub fn negation_is_exact()
     ensures true_of { NegationIsTrue }
     ensures false_of { NegationIsFalse }
 {}
 
-/// `x && y` is provably true exactly where x and y are, and provably false where one of them is.
+/// A conjunction is provably true if and only if both parts are, and provably false where one of them is.
 pub fn conjunction_is_exact()
     ensures both { ConjunctionIsTrue }
     ensures first_is_false { ConjunctionWithFalse }

@@ -17,7 +17,7 @@ pub fn equality_is_a_congruence()
     ensures { EqualityIsACongruence }
 {}
 
-/// Provably equal terms put in give provably equal terms, in a term and in a list of terms.
+/// Environments that are provably equal, variable by variable, make provably equal terms, and lists of them.
 pub fn putting_in_respects_equality()
     ensures in_a_term { PuttingInRespectsEquality }
     ensures in_a_list { PuttingAllInRespectsEquality }
