@@ -1,0 +1,13 @@
+pub mod FirstForms
+pub mod Found
+pub mod FreeNames
+pub mod Linearises
+pub mod Lists
+pub mod Mapped
+pub mod Meets
+pub mod MetOrder
+pub mod Numbers
+pub mod OnlyItems
+pub mod OnlySystems
+pub mod PrintedTexts
+pub mod WellNamed

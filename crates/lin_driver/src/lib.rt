@@ -1,0 +1,13 @@
+//! From the bytes of a specification to the bytes of its linear process.
+#![tactic(auto)]
+
+mod fresh;
+mod linearising;
+mod name_set;
+mod naming;
+mod numbering;
+mod printing;
+mod reading;
+mod system;
+
+pub use linearising::{PlainFault, plain};

@@ -1,0 +1,12 @@
+pub mod Comments
+pub mod Decimals
+pub mod Faulty
+pub mod Fronts
+pub mod Lexed
+pub mod NumeralTokens
+pub mod Once
+pub mod Runs
+pub mod Signs
+pub mod Single
+pub mod Spans
+pub mod Spelled

@@ -1,0 +1,7 @@
+use Rattle.std.proofs.Common.{arith, rules, ◌≡◌, true}
+use Rattle.mcrl2_lexer.specs.Words.{is_digit}
+use Rattle.mcrl2_lexer.proofs.Runs.{All-more}
+use Rattle.mcrl2_lexer.proofs.scanning.digit_len.Goals as goal
+
+pub loop-n-preserved : goal.loop-n-preserved
+loop-n-preserved c = (omega arith, All-more (λ b. is_digit b ≡ true) _ _ (omega arith) (search rules) c.loop-n.invariant.1)

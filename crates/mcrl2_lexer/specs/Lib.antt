@@ -1,0 +1,4 @@
+pub mod Words
+pub mod Lexed
+pub mod Tokens
+pub mod Lexing

@@ -1,0 +1,30 @@
+-- How a run ends, and the line that says so.
+use Rattle.std.specs.Prelude.{ℕ, List, Option, Some, ◌++◌, [], ◌≡◌, ◌≤◌, ◌<◌, ◌⊎◌, length, IfSome}
+use Rattle.mcrl2_text.specs.Bytes.{TakesPrefix}
+use Rattle.mcrl2_text.specs.declared.loading.TheConstants.{MAX_TEXT_LEN}
+use Rattle.mcrl2_text.specs.Faults.{Rose}
+use Rattle.lin_driver.specs.FirstForm.{HasFirstForm}
+use Rattle.mcrl2lin.specs.Lines.{line_of, write_fault_line}
+use Rattle.mcrl2lin.specs.declared.stop.Stop.TheVariants as stop
+use Rattle.mcrl2lin.specs.declared.top.Status.{Status}
+use Rattle.mcrl2lin.specs.declared.top.Status.TheVariants.{Done, Refused, Words, ReadFault, WriteFault, NoMemory, Undecided, No}
+
+-- the line of a status, with its cause in the text where that is told
+abbrev pub IsLineOf : Status → Option (List ℕ) → List ℕ → Type 0
+IsLineOf Done text line = line ≡ []
+IsLineOf Refused text line =
+    ((line ≡ line_of stop.TooLong) × IfSome text (λ bytes. MAX_TEXT_LEN < length bytes))
+    ⊎ ((line ≡ line_of stop.NotBuilt) × IfSome text (λ bytes. (length bytes ≤ MAX_TEXT_LEN) × (¬ (HasFirstForm bytes))))
+IsLineOf Words text line = line ≡ line_of stop.Words
+IsLineOf ReadFault text line = line ≡ line_of stop.ReadFault
+IsLineOf WriteFault text line = line ≡ write_fault_line
+IsLineOf NoMemory text line = line ≡ line_of stop.NoMemory
+IsLineOf Undecided text line = line ≡ []
+IsLineOf No text line = line ≡ []
+
+-- the error output took the line of the status, whole or, where its own count rose, a prefix of it
+pub record EndsWithLine (status : Status) (text : Option (List ℕ)) (before after : Option (List ℕ)) (faults_before faults_after : ℕ) : Type 0 where
+  pub line : List ℕ
+  pub says : IsLineOf status text line
+  pub prefix : IfSome before (λ bytes. TakesPrefix bytes after line)
+  pub whole : Rose faults_before faults_after ⊎ IfSome before (λ bytes. after ≡ Some (bytes ++ line))

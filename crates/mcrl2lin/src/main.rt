@@ -1,0 +1,35 @@
+//! The program `mcrl2lin`: linearises an mCRL2 specification.
+#![tactic(auto)]
+
+mod command;
+mod real;
+mod stop;
+mod top;
+
+use mcrl2_text::write_all;
+use real::{FileShelf, Stream};
+use std::env;
+use std::io::{self, ErrorKind};
+use std::process::ExitCode;
+use top::{Status, run};
+
+fn main(rt: HostRuntime) -> ExitCode {
+    let alloc = rt.alloc();
+    let mut shelf = FileShelf::new(&rt);
+    let mut out = Stream::new(rt.stdout());
+    let mut err = Stream::new(rt.stderr());
+    let status = match words(&rt) {
+        Ok(words) => run(alloc, &words, &mut shelf, &mut out, &mut err),
+        Err(error) if error.kind() == ErrorKind::OutOfMemory => {
+            let _ = write_all(&mut err, b"no memory\n");
+            Status::NoMemory
+        }
+        // A word that is no text: then the words give no command, which `run` says.
+        Err(_) => run(alloc, &Vec::new(alloc), &mut shelf, &mut out, &mut err),
+    };
+    ExitCode::from(status as u8)
+}
+
+fn words(rt: &HostRuntime) -> io::Result<Vec<String>> {
+    Ok(env::args(rt)?.collect(rt.alloc())?)
+}

@@ -1,0 +1,15 @@
+pub mod Lists
+pub mod Numbered
+pub mod Identifiers
+pub mod Cutting
+pub mod Numerals
+pub mod Pieces
+pub mod Printable
+pub mod Freshness
+pub mod Standing
+pub mod SmallSystems
+pub mod Readings
+pub mod Alternating
+pub mod Orders
+pub mod DeltaText
+pub mod Taking

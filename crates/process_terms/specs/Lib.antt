@@ -1,0 +1,11 @@
+pub mod Systems
+pub mod Numbering
+pub mod Fresh
+pub mod LinearProcess
+pub mod Printed
+pub mod SystemSteps
+pub mod LinearSteps
+pub mod Links
+pub mod LinearText
+pub mod Headline
+pub mod Examples
