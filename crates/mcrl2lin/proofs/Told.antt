@@ -1,5 +1,5 @@
 -- Texts and bytes that are told.
-use Rattle.std.proofs.Common.{◌≡◌, ℕ, List, Option, None, Some, IfSome, option_and_then, refl, sym, subst}
+use Rattle.std.proofs.Common.{◌≡◌, ℕ, List, Option, None, Some, IfSome, option_and_then, sym, subst}
 use Rattle.mcrl2lin.specs.Commands.{file_asked, text_asked}
 
 -- what holds where a value is told follows from another fact of it

@@ -1,4 +1,4 @@
-use Rattle.std.proofs.Common.{rules, ◌≡◌, List, Some, map, string_bytes, subst}
+use Rattle.std.proofs.Common.{rules, ◌≡◌, Some, map, string_bytes}
 use Rattle.process_terms.specs.Headline.{StandsFor}
 use Rattle.process_terms.specs.Systems.{System}
 use Rattle.lin_driver.specs.FirstForm.{IsFirstForm}
