@@ -1,0 +1,2 @@
+pub mod CutSoFar
+pub mod Refused

@@ -1,0 +1,19 @@
+//! Tokens as declarations.
+//!
+//! [`declarations`] cuts a list of tokens into its declarations, and [`level`] says how deep the tokens of one nest. [`cut`]
+//! gives the declarations of a text, or says which of them is refused, or that the text hasn't exactly one that starts it.
+//! Sections and declarations are those of the mCRL2 language reference; the levels and their bound are this program's own.
+#![tactic(auto)]
+
+mod cutting;
+mod declaring;
+mod faults;
+mod levels;
+mod sections;
+
+pub use cutting::cut;
+pub use declaring::{Declaration, declarations};
+pub use faults::ParseFault;
+pub use levels::{MAX_LEVEL, level};
+pub use sections::Section;
+
