@@ -1,5 +1,5 @@
 -- The declarations of the tokens up to a place.
-use Rattle.std.proofs.Common.{◌≡◌, ℕ, zero, suc, ◌+◌, ◌<◌, ◌≤◌, Bool, true, false, Option, Some, None, is_some, List, [], ◌∷◌, ◌++◌, All, if◌then◌else◌, nat_lt, length, drop, get_or, refl, ap, sym, ◌∙◌, subst, append_assoc, add-one, zero-add, arith, length-append}
+use Rattle.std.proofs.Common.{◌≡◌, ℕ, ◌+◌, ◌<◌, ◌≤◌, Bool, true, false, Option, Some, None, is_some, List, [], ◌∷◌, ◌++◌, All, if◌then◌else◌, nat_lt, length, drop, get_or, refl, ap, sym, ◌∙◌, subst, append_assoc, add-one, zero-add, arith}
 use Rattle.std.proofs.Math.Seq.{drop-cons, drop-length}
 use Rattle.std.proofs.lemmas.List.Elements.{All-nil, All-push, All-append}
 use Rattle.std.proofs.lemmas.Grind.{common_steps}
@@ -8,7 +8,7 @@ use Rattle.mcrl2_lexer.specs.declared.token.Token.{Token}
 use Rattle.mcrl2_parser.specs.declared.sections.Section.{Section}
 use Rattle.mcrl2_parser.specs.declared.declaring.Declaration.{Declaration}
 use Rattle.mcrl2_parser.specs.Sections.{section_of, is_semicolon}
-use Rattle.mcrl2_parser.specs.Declarations.{SectionTokens, Parts, with_token, parts_of, Pieces, with_piece_token, pieces_of, left_over, of_pieces, of_part, of_sections, declarations_of, IsWithin}
+use Rattle.mcrl2_parser.specs.Declarations.{Parts, with_token, parts_of, Pieces, with_piece_token, pieces_of, left_over, of_pieces, of_part, of_sections, declarations_of, IsWithin}
 
 -- no token is a `;`
 abbrev pub HasNoEnd : List Token → Type 0
@@ -69,7 +69,7 @@ part_left (Some s) start piece h = ap (λ (p : Pieces). of_pieces s start p.ende
 
 part_end : (s : Section) (start : ℕ) (piece : List Token) (token : Token) (tokens : List Token) → IsPiece (Some s) piece → is_semicolon token.kind ≡ true
     → of_part (Some s) start (piece ++ token ∷ tokens)
-        ≡ record { section = Some s; start = start; end = start + length piece; is_ended = true } ∷ of_part (Some s) (start + length piece + 1) tokens
+    ≡ record { section = Some s; start = start; end = start + length piece; is_ended = true } ∷ of_part (Some s) (start + length piece + 1) tokens
 part_end s start piece token tokens h e = ap (λ (p : Pieces). of_pieces s start p.ended p.left) (pieces_end piece token tokens h e)
 
 no_end_push : (piece : List Token) (token : Token) → HasNoEnd piece → is_semicolon token.kind ≡ false → HasNoEnd (piece ++ token ∷ [])
@@ -97,14 +97,18 @@ one_within n declaration h = All-push (IsWithin n) [] declaration (no_declaratio
 left_over_within : (section : Option Section) (start end n : ℕ) → end ≤ n → All (IsWithin n) (left_over section start end)
 left_over_within section start end n h =
     (elim (nat_lt start end) as (λ b. nat_lt start end ≡ b → All (IsWithin n) (if b then record { section = section; start = start; end = end; is_ended = false } ∷ [] else [])) [
-        true ↦ λ e. one_within n (record { section = section; start = start; end = end; is_ended = false }) (record { ordered = omega (arith, ltb-true start end e); within = h })
-      | false ↦ λ e. no_declarations n ]) refl
+      | true ↦ λ e. one_within n (record { section = section; start = start; end = end; is_ended = false }) (record { ordered = omega (arith, ltb-true start end e); within = h })
+      | false ↦ λ e. no_declarations n
+    ]) refl
 
 pub begin : (tokens : List Token) → CutSoFar tokens [] None 0 0
 begin tokens = record {
-    piece = []; free = tt; place = refl;
-    whole = ap (λ (n : ℕ). of_part None 0 (parts_of tokens).front ++ of_sections n (parts_of tokens).sections) (zero-add (length (parts_of tokens).front));
-    within = no_declarations (length tokens) }
+  piece = [];
+  free = tt;
+  place = refl;
+  whole = ap (λ (n : ℕ). of_part None 0 (parts_of tokens).front ++ of_sections n (parts_of tokens).sections) (zero-add (length (parts_of tokens).front));
+  within = no_declarations (length tokens);
+}
 
 past_plain : (tokens : List Token) (list : List Declaration) (section : Option Section) (start at : ℕ) (token : Token)
     → CutSoFar tokens list section start at → drop at tokens ≡ token ∷ drop (at + 1) tokens
@@ -113,14 +117,15 @@ past_plain tokens list section start at token so_far here plain free =
     let rest : List Token = drop (at + 1) tokens in
     let parts : parts_of (drop at tokens) ≡ record { front = token ∷ (parts_of rest).front; sections = (parts_of rest).sections } = ap parts_of here ∙ parts_plain token rest plain in
     let same : rest_of section start so_far.piece (parts_of (drop at tokens)) ≡ rest_of section start (so_far.piece ++ token ∷ []) (parts_of rest) =
-        ap (rest_of section start so_far.piece) parts
-        ∙ ap (λ (x : List Token). of_part section start x ++ of_sections (start + length x) (parts_of rest).sections) (sym (append_assoc so_far.piece (token ∷ []) (parts_of rest).front)) in
+    ap (rest_of section start so_far.piece) parts
+    ∙ ap (λ (x : List Token). of_part section start x ++ of_sections (start + length x) (parts_of rest).sections) (sym (append_assoc so_far.piece (token ∷ []) (parts_of rest).front)) in
     record {
-        piece = so_far.piece ++ token ∷ [];
-        free = piece_push section so_far.piece token so_far.free free;
-        place = grind (arith, common_steps, so_far.place);
-        whole = ap (λ (x : List Declaration). list ++ x) (sym same) ∙ so_far.whole;
-        within = so_far.within }
+      piece = so_far.piece ++ token ∷ [];
+      free = piece_push section so_far.piece token so_far.free free;
+      place = grind (arith, common_steps, so_far.place);
+      whole = ap (λ (x : List Declaration). list ++ x) (sym same) ∙ so_far.whole;
+      within = so_far.within;
+    }
 
 past_word : (tokens : List Token) (list : List Declaration) (section : Option Section) (start at : ℕ) (token : Token) (s : Section)
     → CutSoFar tokens list section start at → drop at tokens ≡ token ∷ drop (at + 1) tokens → at ≤ length tokens
@@ -129,15 +134,17 @@ past_word tokens list section start at token s so_far here inside word =
     let rest : List Token = drop (at + 1) tokens in
     let parts : parts_of (drop at tokens) ≡ record { front = []; sections = record { section = s; tokens = (parts_of rest).front } ∷ (parts_of rest).sections } = ap parts_of here ∙ parts_word token rest s word in
     let same : rest_of section start so_far.piece (parts_of (drop at tokens)) ≡ left_over section start at ++ rest_of (Some s) (at + 1) [] (parts_of rest) =
-        ap (rest_of section start so_far.piece) parts
-        ∙ ap (λ (x : List Token). of_part section start x ++ of_sections (start + length x) (record { section = s; tokens = (parts_of rest).front } ∷ (parts_of rest).sections)) (append_nil so_far.piece)
-        ∙ ap (λ (x : List Declaration). x ++ of_sections (start + length so_far.piece) (record { section = s; tokens = (parts_of rest).front } ∷ (parts_of rest).sections)) (part_left section start so_far.piece so_far.free)
-        ∙ ap (λ (n : ℕ). left_over section start n ++ of_sections n (record { section = s; tokens = (parts_of rest).front } ∷ (parts_of rest).sections)) so_far.place in
+    ap (rest_of section start so_far.piece) parts
+    ∙ ap (λ (x : List Token). of_part section start x ++ of_sections (start + length x) (record { section = s; tokens = (parts_of rest).front } ∷ (parts_of rest).sections)) (append_nil so_far.piece)
+    ∙ ap (λ (x : List Declaration). x ++ of_sections (start + length so_far.piece) (record { section = s; tokens = (parts_of rest).front } ∷ (parts_of rest).sections)) (part_left section start so_far.piece so_far.free)
+    ∙ ap (λ (n : ℕ). left_over section start n ++ of_sections n (record { section = s; tokens = (parts_of rest).front } ∷ (parts_of rest).sections)) so_far.place in
     record {
-        piece = []; free = tt;
-        place = omega arith;
-        whole = append_assoc list (left_over section start at) (rest_of (Some s) (at + 1) [] (parts_of rest)) ∙ ap (λ (x : List Declaration). list ++ x) (sym same) ∙ so_far.whole;
-        within = All-append (IsWithin (length tokens)) list (left_over section start at) so_far.within (left_over_within section start at (length tokens) inside) }
+      piece = [];
+      free = tt;
+      place = omega arith;
+      whole = append_assoc list (left_over section start at) (rest_of (Some s) (at + 1) [] (parts_of rest)) ∙ ap (λ (x : List Declaration). list ++ x) (sym same) ∙ so_far.whole;
+      within = All-append (IsWithin (length tokens)) list (left_over section start at) so_far.within (left_over_within section start at (length tokens) inside);
+    }
 
 past_end_of : (tokens : List Token) (list : List Declaration) (s : Section) (start at : ℕ) (token : Token)
     → CutSoFar tokens list (Some s) start at → drop at tokens ≡ token ∷ drop (at + 1) tokens → at ≤ length tokens
@@ -149,15 +156,17 @@ past_end_of tokens list s start at token so_far here inside plain ends =
     let parts : parts_of (drop at tokens) ≡ record { front = token ∷ (parts_of rest).front; sections = (parts_of rest).sections } = ap parts_of here ∙ parts_plain token rest plain in
     let behind : start + length (so_far.piece ++ token ∷ (parts_of rest).front) ≡ at + 1 + length (parts_of rest).front = grind (arith, common_steps, so_far.place) in
     let same : rest_of (Some s) start so_far.piece (parts_of (drop at tokens)) ≡ (ended ∷ []) ++ rest_of (Some s) (at + 1) [] (parts_of rest) =
-        ap (rest_of (Some s) start so_far.piece) parts
-        ∙ ap (λ (x : List Declaration). x ++ of_sections (start + length (so_far.piece ++ token ∷ (parts_of rest).front)) (parts_of rest).sections) (part_end s start so_far.piece token (parts_of rest).front so_far.free ends)
-        ∙ ap (λ (n : ℕ). (record { section = Some s; start = start; end = n; is_ended = true } ∷ of_part (Some s) (n + 1) (parts_of rest).front) ++ of_sections (start + length (so_far.piece ++ token ∷ (parts_of rest).front)) (parts_of rest).sections) so_far.place
-        ∙ ap (λ (n : ℕ). (ended ∷ of_part (Some s) (at + 1) (parts_of rest).front) ++ of_sections n (parts_of rest).sections) behind in
+    ap (rest_of (Some s) start so_far.piece) parts
+    ∙ ap (λ (x : List Declaration). x ++ of_sections (start + length (so_far.piece ++ token ∷ (parts_of rest).front)) (parts_of rest).sections) (part_end s start so_far.piece token (parts_of rest).front so_far.free ends)
+    ∙ ap (λ (n : ℕ). (record { section = Some s; start = start; end = n; is_ended = true } ∷ of_part (Some s) (n + 1) (parts_of rest).front) ++ of_sections (start + length (so_far.piece ++ token ∷ (parts_of rest).front)) (parts_of rest).sections) so_far.place
+    ∙ ap (λ (n : ℕ). (ended ∷ of_part (Some s) (at + 1) (parts_of rest).front) ++ of_sections n (parts_of rest).sections) behind in
     record {
-        piece = []; free = tt;
-        place = omega arith;
-        whole = append_assoc list (ended ∷ []) (rest_of (Some s) (at + 1) [] (parts_of rest)) ∙ ap (λ (x : List Declaration). list ++ x) (sym same) ∙ so_far.whole;
-        within = All-append (IsWithin (length tokens)) list (ended ∷ []) so_far.within (one_within (length tokens) ended (record { ordered = omega (arith, so_far.place); within = inside })) }
+      piece = [];
+      free = tt;
+      place = omega arith;
+      whole = append_assoc list (ended ∷ []) (rest_of (Some s) (at + 1) [] (parts_of rest)) ∙ ap (λ (x : List Declaration). list ++ x) (sym same) ∙ so_far.whole;
+      within = All-append (IsWithin (length tokens)) list (ended ∷ []) so_far.within (one_within (length tokens) ended (record { ordered = omega (arith, so_far.place); within = inside }));
+    }
 
 past_end : (tokens : List Token) (list : List Declaration) (section : Option Section) (start at : ℕ) (token : Token)
     → CutSoFar tokens list section start at → drop at tokens ≡ token ∷ drop (at + 1) tokens → at ≤ length tokens
@@ -170,11 +179,11 @@ all_cut : (tokens : List Token) (list : List Declaration) (section : Option Sect
     → CutSoFar tokens list section start at → drop at tokens ≡ [] → list ++ left_over section start at ≡ declarations_of tokens
 all_cut tokens list section start at so_far none =
     let same : rest_of section start so_far.piece (parts_of (drop at tokens)) ≡ left_over section start at =
-        ap (λ (x : List Token). rest_of section start so_far.piece (parts_of x)) none
-        ∙ append_nil (of_part section start (so_far.piece ++ []))
-        ∙ ap (of_part section start) (append_nil so_far.piece)
-        ∙ part_left section start so_far.piece so_far.free
-        ∙ ap (left_over section start) so_far.place in
+    ap (λ (x : List Token). rest_of section start so_far.piece (parts_of x)) none
+    ∙ append_nil (of_part section start (so_far.piece ++ []))
+    ∙ ap (of_part section start) (append_nil so_far.piece)
+    ∙ part_left section start so_far.piece so_far.free
+    ∙ ap (left_over section start) so_far.place in
     ap (λ (x : List Declaration). list ++ x) (sym same) ∙ so_far.whole
 
 all_within : (tokens : List Token) (list : List Declaration) (section : Option Section) (start at : ℕ)
@@ -224,4 +233,4 @@ cut_within {tokens} {ds} {es} {section} {start} {at} so_far over under e =
     let last : at ≡ length tokens = omega arith in
     let inside : length tokens ≤ length tokens = omega arith in
     subst (λ (xs : List Declaration). All (IsWithin (length tokens)) xs) (sym e)
-        (all_within tokens ds section start (length tokens) (subst (λ (n : ℕ). CutSoFar tokens ds section start n) last so_far) inside)
+    (all_within tokens ds section start (length tokens) (subst (λ (n : ℕ). CutSoFar tokens ds section start n) last so_far) inside)

@@ -1,5 +1,5 @@
 -- The first declaration that is refused, and the second one in an init section.
-use Rattle.std.proofs.Common.{◌≡◌, ℕ, suc, ◌+◌, ◌<◌, ◌≤◌, true, false, List, [], ◌∷◌, ◌++◌, All, count_by, length, take, drop, get_or, refl, ap, sym, ◌∙◌, subst, add-one, arith, min}
+use Rattle.std.proofs.Common.{◌≡◌, ℕ, suc, ◌+◌, ◌<◌, ◌≤◌, true, List, [], ◌∷◌, ◌++◌, All, count_by, length, take, drop, get_or, ap, sym, ◌∙◌, subst, add-one, arith}
 use Rattle.std.proofs.Math.Seq.{drop-cons, take-suc, take-length}
 use Rattle.std.proofs.lemmas.List.{length-take, take-append-drop}
 use Rattle.std.proofs.lemmas.List.Elements.{All-nil, All-push}
@@ -20,19 +20,25 @@ front_length list i h = omega (arith, length-take i list)
 pub second_init : (list : List Declaration) (i : ℕ) (d : Declaration) → i < length list → count_by is_init (take i list) ≡ 1 → true ≡ is_init (get_or list i d)
     → IsSecondInit list (i + 1)
 second_init list i d inside one here = record {
-    front = take i list; second = get_or list i d; behind = drop (suc i) list;
-    stands = parted list i d inside;
-    number_is = omega (arith, length-take i list);
-    one_before = one;
-    init = sym here }
+  front = take i list;
+  second = get_or list i d;
+  behind = drop (suc i) list;
+  stands = parted list i d inside;
+  number_is = omega (arith, length-take i list);
+  one_before = one;
+  init = sym here;
+}
 
 first_refused : (tokens : List Token) (list : List Declaration) (i : ℕ) (d : Declaration) (fault : ParseFault) → list ≡ declarations_of tokens → i < length list
     → All (IsSound tokens) (take i list) → IsRefused tokens (i + 1) (get_or list i d) fault → IsFirstRefused tokens fault
 first_refused tokens list i d fault e inside sound cause = record {
-    front = take i list; refused = get_or list i d; behind = drop (suc i) list;
-    stands = sym e ∙ parted list i d inside;
-    sound = sound;
-    cause = subst (λ (n : ℕ). IsRefused tokens (n + 1) (get_or list i d) fault) (sym (front_length list i inside)) cause }
+  front = take i list;
+  refused = get_or list i d;
+  behind = drop (suc i) list;
+  stands = sym e ∙ parted list i d inside;
+  sound = sound;
+  cause = subst (λ (n : ℕ). IsRefused tokens (n + 1) (get_or list i d) fault) (sym (front_length list i inside)) cause;
+}
 
 pub has_fault : (tokens : List Token) (list : List Declaration) (i : ℕ) (d : Declaration) (fault : ParseFault) → list ≡ declarations_of tokens → i < length list
     → All (IsSound tokens) (take i list) → IsRefused tokens (i + 1) (get_or list i d) fault → HasFault tokens fault

@@ -1,5 +1,5 @@
 -- What is accepted of a list of declarations, and why a list of tokens is refused.
-use Rattle.std.specs.Prelude.{◌≡◌, ◌≢◌, ◌≤◌, ◌<◌, ℕ, ◌+◌, Bool, true, false, Option, Some, None, is_some, List, [], ◌∷◌, ◌++◌, length, slice_range, All, count_by}
+use Rattle.std.specs.Prelude.{◌≡◌, ◌≤◌, ◌<◌, ℕ, ◌+◌, Bool, true, false, Option, Some, is_some, List, ◌∷◌, ◌++◌, length, slice_range, All, count_by}
 use Rattle.mcrl2_lexer.specs.declared.token.Token.{Token}
 use Rattle.mcrl2_parser.specs.declared.sections.Section.{Section}
 use Rattle.mcrl2_parser.specs.declared.sections.Section.TheVariants.{Init}

@@ -62,7 +62,11 @@ fn check_inits(list: &[Declaration]) -> Result<(), ParseFault>
             found = true;
         }
     }
-    if found { Ok(()) } else { Err(ParseFault::NoInit) }
+    if found {
+        Ok(())
+    } else {
+        Err(ParseFault::NoInit)
+    }
 }
 
 /// The declarations of a text, in its order, of which each one may be read by itself.

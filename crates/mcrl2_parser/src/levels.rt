@@ -59,13 +59,7 @@ fn step(outer: &mut Vec<usize>, inner: usize, effect: Effect) -> Result<usize, A
             None => Ok(inner),
         },
         Effect::Counts => Ok(inner + 1),
-        Effect::Stops => {
-            if outer.is_empty() {
-                Ok(0)
-            } else {
-                Ok(1)
-            }
-        }
+        Effect::Stops => { if outer.is_empty() { Ok(0) } else { Ok(1) } }
         Effect::Stays => Ok(inner),
     }
 }
@@ -94,13 +88,7 @@ pub fn level(alloc: Global, tokens: &[Token]) -> Result<usize, AllocError>
         inner = step(&mut outer, inner, effect)?;
         total = match effect {
             Effect::Opens => total + 1,
-            Effect::Closes => {
-                if closes {
-                    total - before
-                } else {
-                    total
-                }
-            }
+            Effect::Closes => { if closes { total - before } else { total } }
             _ => total - before + inner,
         };
         if total > MAX_LEVEL {

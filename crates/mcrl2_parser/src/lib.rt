@@ -8,12 +8,16 @@
 mod cutting;
 mod declaring;
 mod faults;
+mod laws;
 mod levels;
 mod sections;
 
 pub use cutting::cut;
 pub use declaring::{Declaration, declarations};
 pub use faults::ParseFault;
+pub use laws::{parse_faults_are_single, sound_tokens_have_no_fault};
 pub use levels::{MAX_LEVEL, level};
 pub use sections::Section;
 
+#[cfg(test)]
+mod tests;

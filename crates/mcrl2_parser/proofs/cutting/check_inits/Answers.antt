@@ -1,4 +1,4 @@
-use Rattle.std.proofs.Common.{◌≡◌, ℕ, ◌∙◌, ap, if◌then◌else◌}
+use Rattle.std.proofs.Common.{◌∙◌, ap, if◌then◌else◌}
 use Rattle.mcrl2_parser.proofs.Refused.{second_init}
 use Rattle.mcrl2_parser.proofs.cutting.check_inits.Goals as goal
 

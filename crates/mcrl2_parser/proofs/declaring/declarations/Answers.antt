@@ -6,15 +6,17 @@ use Rattle.mcrl2_parser.proofs.declaring.declarations.Goals.{in-Some+in_ok-push_
 pub loop-at-preserved : goal.loop-at-preserved
 loop-at-preserved c =
     elim c.match-section_of.branch [
-        in-Some+in_ok-push_left_over w ↦ at_word w.in-Some.next _ c.loop-at.invariant c.loop-at-test.true w.in-Some.ensures (rw w.list-is w.in_ok-push_left_over.ensures) w.section-is w.start-is
+      | in-Some+in_ok-push_left_over w ↦ at_word w.in-Some.next _ c.loop-at.invariant c.loop-at-test.true w.in-Some.ensures (rw w.list-is w.in_ok-push_left_over.ensures) w.section-is w.start-is
       | in_default+then-is_some+then-is_semicolon+in_ok-push w ↦
-            at_end _ c.loop-at.invariant c.loop-at-test.true w.in_default.ensures (sym w.is_some.ensures ∙ w.if-is_some.true) w.if-is_semicolon.ensures (rw w.list-is w.in_ok-push.ensures.items) w.section-is w.start-is
+          at_end _ c.loop-at.invariant c.loop-at-test.true w.in_default.ensures (sym w.is_some.ensures ∙ w.if-is_some.true) w.if-is_semicolon.ensures (rw w.list-is w.in_ok-push.ensures.items) w.section-is w.start-is
       | in_default+else-is_some w ↦
-            elim w.else-is_some.branch [
-                else-is_some-via-then-is_some+else-is_semicolon w' ↦
-                    at_other _ c.loop-at.invariant c.loop-at-test.true w.in_default.ensures (piece_inside _ _ (sym w'.if-is_semicolon.ensures)) (rw w.list-is refl) w.section-is w.start-is
-              | else-is_some-via-else-is_some w' ↦
-                    at_other _ c.loop-at.invariant c.loop-at-test.true w.in_default.ensures (piece_outside _ _ (sym w.is_some.ensures ∙ w'.if-is_some.false)) (rw w.list-is refl) w.section-is w.start-is ] ]
+          elim w.else-is_some.branch [
+            | else-is_some-via-then-is_some+else-is_semicolon w' ↦
+                at_other _ c.loop-at.invariant c.loop-at-test.true w.in_default.ensures (piece_inside _ _ (sym w'.if-is_semicolon.ensures)) (rw w.list-is refl) w.section-is w.start-is
+            | else-is_some-via-else-is_some w' ↦
+                at_other _ c.loop-at.invariant c.loop-at-test.true w.in_default.ensures (piece_outside _ _ (sym w.is_some.ensures ∙ w'.if-is_some.false)) (rw w.list-is refl) w.section-is w.start-is
+          ]
+    ]
 
 pub returns-clause-declarations : goal.returns-clause-declarations
 returns-clause-declarations c = cut_whole c.loop-at.invariant c.loop-at-test.false c.loop-at.auto.at-end c.in_ok-push_left_over-2.ensures
