@@ -11,12 +11,12 @@ use std::alloc::{AllocError, Global};
 /// Declarations are numbered from 1 by their order in the list of all declarations of the text, whatever section they are in.
 #[derive(Clone, Copy, Debug, PartialEq, Eq)]
 pub struct Declaration {
-    /// The section that it is in. There is none for tokens in front of the first word of a section.
-    pub section: Option<Section>,
     /// The place of its first token in the list, counted from 0. The section's word is none of its tokens.
     pub start: usize,
     /// The place behind its last token. Its `;` is none of its tokens.
     pub end: usize,
+    /// The section that it is in. There is none for tokens in front of the first word of a section.
+    pub section: Option<Section>,
     /// Whether a `;` ends it. Where none does, the tokens spell no declaration.
     pub is_ended: bool,
 }
