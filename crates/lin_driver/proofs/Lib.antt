@@ -10,4 +10,5 @@ pub mod Numbers
 pub mod OnlyItems
 pub mod OnlySystems
 pub mod PrintedTexts
+pub mod Refused
 pub mod WellNamed

@@ -1,11 +1,9 @@
 -- What is made of a text of the first form.
-use Rattle.std.proofs.Common.{◌≡◌, ◌<◌, ◌^◌, ℕ, List, ◌∷◌, length, sym, subst, ap, ◌∙◌, Result, Ok, Err}
-use Rattle.std.specs.Prelude.{codes, IfOk, IsErrAnd, IsErrOf}
+use Rattle.std.proofs.Common.{◌≡◌, ◌<◌, ◌^◌, ℕ, List, ◌∷◌, length, sym, subst, Result, Ok, Err}
+use Rattle.std.specs.Prelude.{codes, IfOk}
 use Rattle.mcrl2_lexer.specs.declared.token.Token.{Token}
 use Rattle.mcrl2_lexer.specs.Lexing.{HasTokens}
 use Rattle.mcrl2_lexer.proofs.Single.{tokens_once}
-use Rattle.mcrl2_lexer.specs.declared.token.LexFault.{LexFault}
-use Rattle.mcrl2_lexer.specs.declared.token.LexFault.TheVariants.{NoMemory}
 use Rattle.process_terms.proofs.Standing.{headline}
 use Rattle.process_terms.specs.Fresh.{IsFresh, taken_at_start}
 use Rattle.process_terms.specs.Headline.{StandsFor}
@@ -14,10 +12,6 @@ use Rattle.process_terms.specs.Printed.{printed}
 use Rattle.process_terms.specs.Systems.{Name, System, IsWellNamed}
 use Rattle.lin_driver.specs.FirstForm.{HasFirstForm, IsFirstForm, SpellsSystem}
 use Rattle.lin_driver.specs.Linearised.{IsLinearisedTo}
-use Rattle.lin_driver.specs.PlainFaults.{plain_of_lex}
-use Rattle.lin_driver.specs.declared.linearising.PlainFault.{PlainFault}
-use Rattle.lin_driver.specs.declared.linearising.PlainFault.TheVariants as plain
-use Rattle.lin_driver.specs.declared.linearising.PlainFault.TheVariants.{NotBuilt}
 use Rattle.lin_driver.proofs.FirstForms.{AreTokens, acts_identifiers, each_has_summand}
 
 -- A text with its tokens, of which at most one system is read.
@@ -54,15 +48,6 @@ module _ (text : List ℕ) (tokens : List Token) (has_tokens : HasTokens text to
           subst (λ (x : System). StandsFor x bytes) (only system (spelled_here system form))
           (subst (λ (x : List ℕ). StandsFor read x) (sym prints)
           (headline read order process control named (each_has_summand spells) (acts_identifiers spells all) numbering small (record { for_process = process_fresh; for_control = λ more. control_fresh })))
-
--- a fault of the text is passed on as one, and want of memory as want of memory
-pub is_fault : {T : Type 0} (result : Result T PlainFault) (fault : LexFault) → IsErrAnd result (λ plain. plain ≡ plain_of_lex fault) → IsErrOf result NotBuilt → fault ≡ NoMemory → ⊥
-is_fault (Ok x) fault given is none = absurd cc
-is_fault (Err e) fault given is none =
-    let built : e ≡ NotBuilt = cc in
-    let kept : plain_of_lex fault ≡ plain.NoMemory = ap plain_of_lex none in
-    let clash : NotBuilt ≡ plain.NoMemory = sym built ∙ given ∙ kept in
-    cc
 
 -- what holds of an answer follows from another fact of it
 pub on_ok : {T E : Type 0} (result : Result T E) (P Q : T → Type 0) → ((x : T) → P x → Q x) → IfOk result P → IfOk result Q

@@ -5,7 +5,7 @@ ghost use Rattle.std.specs.String.{string_bytes};
 ghost use Rattle.process_terms.specs.Fresh.{IsFresh, candidate, reserved_words, built_in_names, taken_at_start};
 ghost use Rattle.lin_driver.specs.Naming.{is_among};
 
-use crate::linearising::PlainFault;
+use crate::fault::PlainFault;
 use crate::name_set::NameSet;
 use std::alloc::{AllocError, Global};
 

@@ -1,6 +1,7 @@
 //! From the bytes of a specification to the bytes of its linear process.
 #![tactic(auto)]
 
+mod fault;
 mod fresh;
 mod linearising;
 mod name_set;
@@ -10,7 +11,8 @@ mod printing;
 mod reading;
 mod system;
 
-pub use linearising::{PlainFault, plain};
+pub use fault::LinFault;
+pub use linearising::plain;
 
 #[cfg(test)]
 mod tests;

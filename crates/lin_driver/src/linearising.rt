@@ -1,55 +1,26 @@
 //! The linear process of a text, as a text.
-ghost use Rattle.std.specs.Prelude.{◌≡◌, IfOk, IsErrOf};
+ghost use Rattle.std.specs.Prelude.{◌≡◌, ◌≢◌, IfErr, IfOk, IsErrOf, All, count_by, length};
+ghost use Rattle.mcrl2_lexer.specs.Lexing.{HasTokens, SpansRise};
+ghost use Rattle.mcrl2_lexer.specs.Tokens.{IsToken, slice_of};
+ghost use Rattle.mcrl2_lexer.specs.declared.token.LexFault.{LexFault};
+ghost use Rattle.mcrl2_parser.specs.Declarations.{declarations_of};
+ghost use Rattle.mcrl2_parser.specs.Faults.{HasFault, IsSound, is_init};
+ghost use Rattle.mcrl2_parser.specs.declared.faults.ParseFault.{ParseFault};
 ghost use Rattle.process_terms.specs.Headline.{StandsFor};
 ghost use Rattle.process_terms.specs.Systems.{System};
 ghost use Rattle.lin_driver.specs.FirstForm.{HasFirstForm, IsFirstForm};
 ghost use Rattle.lin_driver.specs.Linearised.{IsLinearisedTo};
-ghost use Rattle.lin_driver.specs.PlainFaults.{plain_of_lex};
-ghost use Rattle.lin_driver.specs.declared.linearising.PlainFault.TheVariants.{NoMemory};
+ghost use Rattle.lin_driver.specs.Refusals.{IsRefusedWith};
 
+use crate::fault::{LinFault, PlainFault};
 use crate::fresh::fresh_names;
 use crate::naming::declared_names;
 use crate::numbering::numbering;
 use crate::printing::print;
 use crate::reading::read_system;
-use mcrl2_lexer::{LexFault, lex};
-use std::alloc::{AllocError, AllocFailed, Global};
-
-/// Why there is no linear process for a text.
-#[derive(Clone, Copy, Debug, PartialEq, Eq)]
-pub enum PlainFault {
-    /// The text hasn't the first form.
-    NotBuilt,
-    /// No memory was left.
-    NoMemory,
-}
-
-impl From<AllocError> for PlainFault {
-    ghost from_gives = { λ _ fault. fault ≡ NoMemory };
-
-    fn from(_: AllocError) -> Self {
-        PlainFault::NoMemory
-    }
-}
-
-impl<T: Drop> From<AllocFailed<T>> for PlainFault {
-    ghost from_gives = { λ _ fault. fault ≡ NoMemory };
-
-    fn from(_: AllocFailed<T>) -> Self {
-        PlainFault::NoMemory
-    }
-}
-
-impl From<LexFault> for PlainFault {
-    ghost from_gives = { λ fault plain. plain ≡ plain_of_lex fault };
-
-    fn from(fault: LexFault) -> Self {
-        match fault {
-            LexFault::NoMemory => PlainFault::NoMemory,
-            _ => PlainFault::NotBuilt,
-        }
-    }
-}
+use mcrl2_lexer::{Token, Tokens, lex};
+use mcrl2_parser::cut;
+use std::alloc::Global;
 
 /// The linear process of a text of the first form, printed.
 ///
@@ -59,14 +30,50 @@ impl From<LexFault> for PlainFault {
 ///
 /// # Errors
 ///
+/// `Lex` where the text has no tokens that are accepted, `Parse` where its declarations nest too deeply, aren't whole, or have
+/// no single `init`, and `NotBuilt` for every other text that hasn't the first form. So a text is refused exactly where it
+/// hasn't the first form.
+pub fn plain(alloc: Global, text: &[u8]) -> Result<Vec<u8>, LinFault>
+    ensures linearised { IfOk result (λ printed. IsLinearisedTo text.now printed.items) }
+    ensures headline { IfOk result (λ printed. (system : System) → IsFirstForm text.now system → StandsFor system printed.items) }
+    ensures refused { IfErr result (λ fault. fault ≢ LinFault.NoMemory → IsRefusedWith text.now fault) }
+    ensures no_first_form { IfErr result (λ fault. fault ≢ LinFault.NoMemory → ¬ (HasFirstForm text.now)) }
+{
+    let tokens = lex(alloc, text)?;
+    match linearise(alloc, text, tokens.list()) {
+        Ok(printed) => Ok(printed),
+        Err(PlainFault::NoMemory) => Err(LinFault::NoMemory),
+        Err(PlainFault::NotBuilt) => Err(why_not_built(alloc, &tokens)),
+    }
+}
+
+/// Why tokens that haven't the first form are refused: their declarations' fault, where they have one.
+fn why_not_built(alloc: Global, tokens: &Tokens) -> LinFault
+    ensures parse { (fault : ParseFault) → result ≡ LinFault.Parse fault → HasFault tokens.now.list fault }
+    ensures sound { result ≡ LinFault.NotBuilt → All (IsSound tokens.now.list) (declarations_of tokens.now.list) }
+    ensures one_init { result ≡ LinFault.NotBuilt → count_by is_init (declarations_of tokens.now.list) ≡ 1 }
+    ensures no_lex { (fault : LexFault) → result ≢ LinFault.Lex fault }
+{
+    match cut(alloc, tokens) {
+        Ok(_) => LinFault::NotBuilt,
+        Err(fault) => fault.into(),
+    }
+}
+
+/// The linear process of a text with these tokens, printed.
+///
+/// # Errors
+///
 /// `NotBuilt` exactly where the text hasn't the first form.
-pub fn plain(alloc: Global, text: &[u8]) -> Result<Vec<u8>, PlainFault>
+fn linearise(alloc: Global, text: &[u8], tokens: &[Token]) -> Result<Vec<u8>, PlainFault>
+    requires tokens { HasTokens text.now tokens.now }
+    requires spans { SpansRise 0 tokens.now (length text.now) }
+    requires slices { All (λ token. IsToken (slice_of text.now token) token.kind) tokens.now }
     ensures linearised { IfOk result (λ printed. IsLinearisedTo text.now printed.items) }
     ensures headline { IfOk result (λ printed. (system : System) → IsFirstForm text.now system → StandsFor system printed.items) }
     ensures not_built { IsErrOf result PlainFault.NotBuilt → ¬ (HasFirstForm text.now) }
 {
-    let tokens = lex(alloc, text)?;
-    let system = read_system(alloc, text, tokens.list())?;
+    let system = read_system(alloc, text, tokens)?;
     let declared = declared_names(alloc, &system)?;
     let order = numbering(alloc, &system, &declared)?;
     let names = fresh_names(alloc, &declared.acts)?;

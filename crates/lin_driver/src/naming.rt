@@ -6,7 +6,7 @@ ghost use Rattle.process_terms.specs.Systems as plain;
 ghost use Rattle.lin_driver.specs.Naming.{AreDistinct, is_among, uses_names};
 ghost use Rattle.lin_driver.specs.PlainSystems.{plain_summand, plain_equation, plain_system};
 
-use crate::linearising::PlainFault;
+use crate::fault::PlainFault;
 use crate::name_set::NameSet;
 use crate::system::{Equation, Summand, System};
 use std::alloc::{AllocError, Global};

@@ -5,7 +5,7 @@ ghost use Rattle.process_terms.specs.Systems.{IsWellNamed, equation_names};
 ghost use Rattle.lin_driver.specs.Meeting.{calls_in, met_with};
 ghost use Rattle.lin_driver.specs.PlainSystems.{plain_equation, plain_system};
 
-use crate::linearising::PlainFault;
+use crate::fault::PlainFault;
 use crate::name_set::NameSet;
 use crate::naming::DeclaredNames;
 use crate::system::{Equation, System};

@@ -10,7 +10,7 @@ ghost use Rattle.process_terms.specs.Printed.{listed, parameter_text, condition_
 ghost use Rattle.lin_driver.specs.PlainSystems.{plain_system, plain_summand};
 ghost use Rattle.lin_driver.specs.LinearSummands.{summand_by_order, conditional_summand};
 
-use crate::linearising::PlainFault;
+use crate::fault::PlainFault;
 use crate::name_set::NameSet;
 use crate::naming::DeclaredNames;
 use crate::system::{Summand, System};

@@ -7,7 +7,7 @@ ghost use Rattle.lin_driver.specs.FirstForm.{SpellsName, SpellsList, SpellsSumma
 ghost use Rattle.lin_driver.specs.PlainSystems.{plain_summand, plain_equation, plain_system};
 ghost use Rattle.lin_driver.specs.Spans.{AreWithin};
 
-use crate::linearising::PlainFault;
+use crate::fault::PlainFault;
 use crate::system::{Equation, Summand, System};
 use mcrl2_lexer::{Kind, Token};
 use std::alloc::Global;

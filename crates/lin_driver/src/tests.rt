@@ -1,4 +1,6 @@
 use super::*;
+use mcrl2_lexer::LexFault;
+use mcrl2_parser::ParseFault;
 use std::test::Fail;
 
 /// Texts of the first form, with what is printed for them.
@@ -53,22 +55,63 @@ const LINEARISED: [(&[u8], &[u8]); 11] = [
     ),
 ];
 
-/// Texts that haven't the first form, each for one cause.
-const NOT_BUILT: [&[u8]; 50] = [
-    b"",
-    b"%",
-    b"0",
-    b"act",
-    b"act a",
-    b"act a;",
-    b"act a; proc",
-    b"act a; proc X = a;",
-    b"act a; proc X = a; init",
-    b"act a; proc X = a; init X",
+/// Texts with a fault of their tokens or of their declarations.
+const REFUSED: [(&[u8], LinFault); 20] = [
+    (b"", LinFault::Parse(ParseFault::NoInit)),
+    (b"%", LinFault::Parse(ParseFault::NoInit)),
+    (b"0", LinFault::Parse(ParseFault::Syntax(1))),
+    (b"act", LinFault::Parse(ParseFault::NoInit)),
+    (b"act a", LinFault::Parse(ParseFault::Syntax(1))),
+    (b"act a;", LinFault::Parse(ParseFault::NoInit)),
+    (b"act a; proc", LinFault::Parse(ParseFault::NoInit)),
+    (b"act a; proc X = a;", LinFault::Parse(ParseFault::NoInit)),
+    (
+        b"act a; proc X = a; init",
+        LinFault::Parse(ParseFault::NoInit),
+    ),
+    (
+        b"act a; proc X = a; init X",
+        LinFault::Parse(ParseFault::Syntax(3)),
+    ),
+    (
+        b"act a; proc X = a; init X;;",
+        LinFault::Parse(ParseFault::TwoInits(4)),
+    ),
+    (
+        b"act a; proc X = a; init X; X",
+        LinFault::Parse(ParseFault::Syntax(4)),
+    ),
+    (
+        b"act a; proc X = a; init X; init X;",
+        LinFault::Parse(ParseFault::TwoInits(4)),
+    ),
+    (
+        b"act a; proc X = a init X;",
+        LinFault::Parse(ParseFault::Syntax(2)),
+    ),
+    (
+        b"act dist; proc X = dist; init X;",
+        LinFault::Lex(LexFault::OutOfProfile(4)),
+    ),
+    (b"init \xc3\xa9;", LinFault::Lex(LexFault::BadByte(5))),
+    (b"init forall;", LinFault::Lex(LexFault::OutOfProfile(5))),
+    (
+        b"init a(340282366920938463463374607431768211456);",
+        LinFault::Lex(LexFault::NumeralTooLarge(7)),
+    ),
+    (
+        b"init delta; init delta;",
+        LinFault::Parse(ParseFault::TwoInits(2)),
+    ),
+    (
+        b"init forall delta",
+        LinFault::Lex(LexFault::OutOfProfile(5)),
+    ),
+];
+
+/// Texts of whole declarations that haven't the first form.
+const NOT_BUILT: [&[u8]; 35] = [
     b"act a; proc X = a; init ;",
-    b"act a; proc X = a; init X;;",
-    b"act a; proc X = a; init X; X",
-    b"act a; proc X = a; init X; init X;",
     b"act a; proc X = a; init X, X;",
     b"proc X = a; init X;",
     b"act a; init a;",
@@ -83,7 +126,6 @@ const NOT_BUILT: [&[u8]; 50] = [
     b"act a: Nat; proc X = a; init X;",
     b"act a; proc X; init X;",
     b"act a; proc X = ; init X;",
-    b"act a; proc X = a init X;",
     b"act a; proc X == a; init X;",
     b"act a; proc X = a + ; init X;",
     b"act a; proc X = + a; init X;",
@@ -104,7 +146,6 @@ const NOT_BUILT: [&[u8]; 50] = [
     b"act a; proc X = a . Y; init X;",
     b"act a; proc X = a; init a;",
     b"act a; proc X = a; Y = b; init X;",
-    b"act dist; proc X = dist; init X;",
 ];
 
 #[test]
@@ -119,8 +160,31 @@ fn texts_of_the_first_form_are_linearised(rt: HostRuntime) -> Result<(), Fail> {
 #[test]
 fn other_texts_are_not_built(rt: HostRuntime) {
     for text in NOT_BUILT {
-        assert_eq!(rt; plain(rt.alloc(), text).err(), Some(PlainFault::NotBuilt));
+        assert_eq!(rt; plain(rt.alloc(), text).err(), Some(LinFault::NotBuilt));
     }
+}
+
+#[test]
+fn a_fault_of_tokens_or_declarations_is_told(rt: HostRuntime) {
+    for (text, fault) in REFUSED {
+        assert_eq!(rt; plain(rt.alloc(), text).err(), Some(fault));
+    }
+}
+
+#[test]
+fn a_declaration_nests_a_thousand_levels_deep(rt: HostRuntime) -> Result<(), Fail> {
+    for (depth, fault) in [
+        (1_000, LinFault::NotBuilt),
+        (1_001, LinFault::Parse(ParseFault::TooDeep(1))),
+    ] {
+        let mut text = b"init ".to_vec(rt.alloc())?;
+        text.resize(5 + depth, b'(')?;
+        text.extend_from_slice(b"delta")?;
+        text.resize(10 + 2 * depth, b')')?;
+        text.push(b';')?;
+        assert_eq!(rt; plain(rt.alloc(), &text).err(), Some(fault));
+    }
+    Ok(())
 }
 
 /// Of all bytes white space alone may stand before the first word.

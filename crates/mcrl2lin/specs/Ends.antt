@@ -1,12 +1,12 @@
 -- How a run ends, and the line that says so.
-use Rattle.std.specs.Prelude.{⊤, ℕ, List, Option, Some, ◌++◌, [], ◌≡◌, ◌≤◌, ◌<◌, ◌⊎◌, length, IfSome}
+use Rattle.std.specs.Prelude.{⊤, ℕ, List, Option, Some, ◌++◌, [], ◌≡◌, ◌<◌, ◌⊎◌, length, IfSome}
 use Rattle.mcrl2_text.specs.Bytes.{TakesPrefix}
 use Rattle.mcrl2_text.specs.declared.loading.TheConstants.{MAX_TEXT_LEN}
 use Rattle.mcrl2_text.specs.Faults.{Rose}
 use Rattle.process_terms.specs.Headline.{StandsFor}
 use Rattle.process_terms.specs.Systems.{System}
-use Rattle.lin_driver.specs.FirstForm.{HasFirstForm}
 use Rattle.mcrl2lin.specs.Lines.{line_of, write_fault_line}
+use Rattle.mcrl2lin.specs.Stops.{IsRefusal}
 use Rattle.mcrl2lin.specs.declared.stop.Stop.TheVariants as stop
 use Rattle.mcrl2lin.specs.declared.top.Status.{Status}
 use Rattle.mcrl2lin.specs.declared.top.Status.TheVariants.{Done, Refused, Words, ReadFault, WriteFault, NoMemory, Undecided, No}
@@ -14,9 +14,7 @@ use Rattle.mcrl2lin.specs.declared.top.Status.TheVariants.{Done, Refused, Words,
 -- the line of a status, with its cause in the text where that is told
 abbrev pub IsLineOf : Status → Option (List ℕ) → List ℕ → Type 0
 IsLineOf Done text line = line ≡ []
-IsLineOf Refused text line =
-    ((line ≡ line_of stop.TooLong) × IfSome text (λ bytes. MAX_TEXT_LEN < length bytes))
-    ⊎ ((line ≡ line_of stop.NotBuilt) × IfSome text (λ bytes. (length bytes ≤ MAX_TEXT_LEN) × (¬ (HasFirstForm bytes))))
+IsLineOf Refused text line = ((line ≡ line_of stop.TooLong) × IfSome text (λ bytes. MAX_TEXT_LEN < length bytes)) ⊎ IsRefusal text line
 IsLineOf Words text line = line ≡ line_of stop.Words
 IsLineOf ReadFault text line = line ≡ line_of stop.ReadFault
 IsLineOf WriteFault text line = line ≡ write_fault_line

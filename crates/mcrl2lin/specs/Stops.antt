@@ -1,10 +1,15 @@
 -- What stops the program, and the status that it ends with.
+use Rattle.std.specs.Prelude.{⊤, ◌≡◌, ◌≢◌, ◌≤◌, ◌<◌, ℕ, List, Option, IfSome, length}
 use Rattle.mcrl2_text.specs.declared.loading.LoadFault.{LoadFault}
 use Rattle.mcrl2_text.specs.declared.loading.LoadFault.TheVariants as load
-use Rattle.lin_driver.specs.declared.linearising.PlainFault.{PlainFault}
-use Rattle.lin_driver.specs.declared.linearising.PlainFault.TheVariants as plain
+use Rattle.mcrl2_text.specs.declared.loading.TheConstants.{MAX_TEXT_LEN}
+use Rattle.lin_driver.specs.FirstForm.{HasFirstForm}
+use Rattle.lin_driver.specs.Refusals.{IsRefusedWith}
+use Rattle.lin_driver.specs.declared.fault.LinFault.{LinFault}
+use Rattle.lin_driver.specs.declared.fault.LinFault.TheVariants as lin
+use Rattle.mcrl2lin.specs.Lines.{refusal_line}
 use Rattle.mcrl2lin.specs.declared.stop.Stop.{Stop}
-use Rattle.mcrl2lin.specs.declared.stop.Stop.TheVariants.{Words, ReadFault, TooLong, NotBuilt, NoMemory}
+use Rattle.mcrl2lin.specs.declared.stop.Stop.TheVariants.{Words, ReadFault, TooLong, Refused, NoMemory}
 use Rattle.mcrl2lin.specs.declared.top.Status.{Status}
 use Rattle.mcrl2lin.specs.declared.top.Status.TheVariants as status
 
@@ -13,13 +18,31 @@ stop_of_load load.ReadFault = ReadFault
 stop_of_load load.TooLong = TooLong
 stop_of_load load.NoMemory = NoMemory
 
-abbrev pub stop_of_plain : PlainFault → Stop
-stop_of_plain plain.NotBuilt = NotBuilt
-stop_of_plain plain.NoMemory = NoMemory
+-- the stop is a refusal for that fault, or want of memory
+abbrev pub IsStopFor : LinFault → Stop → Type 0
+IsStopFor fault Words = ⊥
+IsStopFor fault ReadFault = ⊥
+IsStopFor fault TooLong = ⊥
+IsStopFor fault (Refused line) = (fault ≢ lin.NoMemory) × (line.items ≡ refusal_line fault)
+IsStopFor fault NoMemory = ⊤
+
+-- the line refuses the text, where that is told, for the fault that it has
+pub record IsRefusal (text : Option (List ℕ)) (line : List ℕ) : Type 0 where
+  pub fault : LinFault
+  pub says : line ≡ refusal_line fault
+  pub due : IfSome text (λ bytes. (length bytes ≤ MAX_TEXT_LEN) × IsRefusedWith bytes fault × (¬ (HasFirstForm bytes)))
+
+-- a stop that refuses has its cause in the text, where that is told
+abbrev pub HasCause : Stop → Option (List ℕ) → Type 0
+HasCause Words text = ⊤
+HasCause ReadFault text = ⊤
+HasCause TooLong text = IfSome text (λ bytes. MAX_TEXT_LEN < length bytes)
+HasCause (Refused line) text = IsRefusal text line.items
+HasCause NoMemory text = ⊤
 
 abbrev pub status_of_stop : Stop → Status
 status_of_stop Words = status.Words
 status_of_stop ReadFault = status.ReadFault
 status_of_stop TooLong = status.Refused
-status_of_stop NotBuilt = status.Refused
+status_of_stop (Refused line) = status.Refused
 status_of_stop NoMemory = status.NoMemory

@@ -3,6 +3,7 @@
 
 mod command;
 mod real;
+mod refusal;
 mod stop;
 mod top;
 

@@ -1,13 +1,15 @@
 //! Why the program writes no linear process, and how it says so.
 ghost use Rattle.std.specs.Prelude.{◌≡◌};
 ghost use Rattle.mcrl2lin.specs.Lines.{line_of};
-ghost use Rattle.mcrl2lin.specs.Stops.{stop_of_load, stop_of_plain};
+ghost use Rattle.mcrl2lin.specs.Stops.{IsStopFor, stop_of_load};
 
-use lin_driver::PlainFault;
+use crate::refusal::refusal;
+use lin_driver::LinFault;
 use mcrl2_text::LoadFault;
+use std::alloc::Global;
 
 /// Why there is nothing to write.
-#[derive(Clone, Copy, Debug, PartialEq, Eq)]
+#[derive(Drop)]
 pub enum Stop {
     /// The words give no command.
     Words,
@@ -15,8 +17,8 @@ pub enum Stop {
     ReadFault,
     /// The text is too long.
     TooLong,
-    /// The text has a form that isn't built.
-    NotBuilt,
+    /// The text is refused, with this line.
+    Refused(Vec<u8>),
     /// No memory was left.
     NoMemory,
 }
@@ -33,28 +35,30 @@ impl From<LoadFault> for Stop {
     }
 }
 
-impl From<PlainFault> for Stop {
-    ghost from_gives = { λ fault stop. stop ≡ stop_of_plain fault };
-
-    fn from(fault: PlainFault) -> Self {
-        match fault {
-            PlainFault::NotBuilt => Stop::NotBuilt,
-            PlainFault::NoMemory => Stop::NoMemory,
+impl Stop {
+    /// The stop for a text with that fault.
+    pub fn for_fault(alloc: Global, fault: LinFault) -> Stop
+        ensures { IsStopFor fault result }
+    {
+        if fault == LinFault::NoMemory {
+            return Stop::NoMemory;
+        }
+        match refusal(alloc, fault) {
+            Ok(line) => Stop::Refused(line),
+            Err(_) => Stop::NoMemory,
         }
     }
-}
 
-impl Stop {
     /// The line that says it.
-    pub fn line(self) -> &'static [u8]
-        ensures { result.now ≡ line_of self }
+    pub fn line(&self) -> &[u8]
+        ensures { result.now ≡ line_of self.now }
     {
         match self {
             Stop::Words =>
                 b"usage: mcrl2lin TASK FILE [--trace FILE] [--method M] [--fuel N] [--bound N] [--seed N] [--depth N]\n",
             Stop::ReadFault => b"read fault\n",
             Stop::TooLong => b"refused 0 TooLong\n",
-            Stop::NotBuilt => b"refused 90 NotBuilt\n",
+            Stop::Refused(line) => line,
             Stop::NoMemory => b"no memory\n",
         }
     }

@@ -1,5 +1,5 @@
 //! The program over any shelf and sinks.
-ghost use Rattle.std.specs.Prelude.{◌≡◌, ◌≢◌, ◌≤◌, ◌<◌, ◌⊎◌, ◌↔◌, ◌++◌, List, ℕ, Some, None, IfOk, IfSome, IsErrOf, length, map, string_bytes};
+ghost use Rattle.std.specs.Prelude.{◌≡◌, ◌≢◌, ◌≤◌, ◌<◌, ◌⊎◌, ◌↔◌, ◌++◌, List, ℕ, Some, None, IfErr, IfOk, IfSome, IsErrOf, length, map, string_bytes};
 ghost use Rattle.mcrl2_text.specs.Bytes.{TakesPrefix};
 ghost use Rattle.mcrl2_text.specs.Faults.{Rose};
 ghost use Rattle.process_terms.specs.Headline.{StandsFor};
@@ -8,7 +8,7 @@ ghost use Rattle.lin_driver.specs.FirstForm.{HasFirstForm, IsFirstForm};
 ghost use Rattle.lin_driver.specs.Linearised.{IsLinearisedTo};
 ghost use Rattle.mcrl2lin.specs.Commands.{file_asked, text_asked};
 ghost use Rattle.mcrl2lin.specs.Ends.{EndsWell, EndsWithLine};
-ghost use Rattle.mcrl2lin.specs.Stops.{status_of_stop};
+ghost use Rattle.mcrl2lin.specs.Stops.{HasCause, status_of_stop};
 
 use crate::command::file_of;
 use crate::stop::Stop;
@@ -85,7 +85,7 @@ pub fn run<H: Shelf, O: Sink, E: Sink>(
         }
         Err(stop) => {
             let _ = write_all(err, stop.line());
-            status_of(stop)
+            status_of(&stop)
         }
     }
 }
@@ -94,10 +94,7 @@ pub fn run<H: Shelf, O: Sink, E: Sink>(
 fn linearised<H: Shelf>(alloc: Global, words: &[String], shelf: &mut H) -> Result<Vec<u8>, Stop>
     ensures words { IsErrOf result Stop.Words ↔ (file_asked (map string_bytes words.now) ≡ None) }
     ensures read_fault { IsErrOf result Stop.ReadFault → Rose (H.faults shelf.old) (H.faults shelf.new) }
-    ensures too_long { IsErrOf result Stop.TooLong → IfSome (text_asked (H.text_of shelf.old) (map string_bytes words.now))
-        (λ text. MAX_TEXT_LEN < length text) }
-    ensures not_built { IsErrOf result Stop.NotBuilt → IfSome (text_asked (H.text_of shelf.old) (map string_bytes words.now))
-        (λ text. (length text ≤ MAX_TEXT_LEN) × (¬ (HasFirstForm text))) }
+    ensures refused { IfErr result (λ stop. HasCause stop (text_asked (H.text_of shelf.old) (map string_bytes words.now))) }
     ensures linearised { IfOk result (λ printed. IfSome (text_asked (H.text_of shelf.old) (map string_bytes words.now))
         (λ text. (length text ≤ MAX_TEXT_LEN) × IsLinearisedTo text printed.items)) }
     ensures headline { IfOk result (λ printed. IfSome (text_asked (H.text_of shelf.old) (map string_bytes words.now))
@@ -106,16 +103,19 @@ fn linearised<H: Shelf>(alloc: Global, words: &[String], shelf: &mut H) -> Resul
 {
     let file = file_of(words).ok_or(Stop::Words)?;
     let text = load(alloc, shelf, file)?;
-    Ok(plain(alloc, &text)?)
+    match plain(alloc, &text) {
+        Ok(printed) => Ok(printed),
+        Err(fault) => Err(Stop::for_fault(alloc, fault)),
+    }
 }
 
-fn status_of(stop: Stop) -> Status
-    ensures { result ≡ status_of_stop stop }
+fn status_of(stop: &Stop) -> Status
+    ensures { result ≡ status_of_stop stop.now }
 {
     match stop {
         Stop::Words => Status::Words,
         Stop::ReadFault => Status::ReadFault,
-        Stop::TooLong | Stop::NotBuilt => Status::Refused,
+        Stop::TooLong | Stop::Refused(_) => Status::Refused,
         Stop::NoMemory => Status::NoMemory,
     }
 }

@@ -40,11 +40,59 @@ const TWO: Row = Row {
     err: b"",
 };
 
-const ROWS: [Row; 8] = [
+const ROWS: [Row; 14] = [
     TWO,
     Row {
         name: "the empty text",
         text: b"",
+        status: Status::Refused,
+        out: b"",
+        err: b"refused 6 NoInit\n",
+        ..TWO
+    },
+    Row {
+        name: "a text with a letter that is none",
+        text: b"init \xc3\xa9;",
+        status: Status::Refused,
+        out: b"",
+        err: b"refused 1 BadByte 5\n",
+        ..TWO
+    },
+    Row {
+        name: "a text with a numeral past the limit",
+        text: b"act a: Nat; init a(340282366920938463463374607431768211456);",
+        status: Status::Refused,
+        out: b"",
+        err: b"refused 2 NumeralTooLarge 19\n",
+        ..TWO
+    },
+    Row {
+        name: "a text with a word that is left out",
+        text: b"init forall;",
+        status: Status::Refused,
+        out: b"",
+        err: b"refused 3 OutOfProfile 5\n",
+        ..TWO
+    },
+    Row {
+        name: "a text whose second declaration isn't ended",
+        text: b"act a; proc X = a init X;",
+        status: Status::Refused,
+        out: b"",
+        err: b"refused 4 Syntax 2\n",
+        ..TWO
+    },
+    Row {
+        name: "a text that starts twice",
+        text: b"init delta; init delta;",
+        status: Status::Refused,
+        out: b"",
+        err: b"refused 7 TwoInits 2\n",
+        ..TWO
+    },
+    Row {
+        name: "a text with data",
+        text: b"act a: Nat; init a(1);",
         status: Status::Refused,
         out: b"",
         err: b"refused 90 NotBuilt\n",
@@ -167,11 +215,26 @@ fn words_without_a_command_get_the_usage_line(rt: HostRuntime) -> Result<(), Fai
 }
 
 #[test]
+fn a_declaration_past_a_thousand_levels_is_too_deep(rt: HostRuntime) -> Result<(), Fail> {
+    let alloc = rt.alloc();
+    let words = strings(alloc, LINEARISE)?;
+    let mut text = b"init ".to_vec(alloc)?;
+    text.resize(1_006, b'(')?;
+    text.push(b';')?;
+    let mut shelf = SteadyShelf::new(texts(alloc, &text)?);
+    let mut err = MemSink::new(alloc, 200, Vec::new(alloc), 200)?;
+    let status = run(alloc, &words, &mut shelf, &mut SteadySink::new(), &mut err);
+    assert_eq!(rt; status, Status::Refused);
+    assert_eq!(rt; err.bytes(), b"refused 5 TooDeep 1\n");
+    Ok(())
+}
+
+#[test]
 fn a_text_past_the_limit_is_too_long(rt: HostRuntime) -> Result<(), Fail> {
     let alloc = rt.alloc();
     let words = strings(alloc, LINEARISE)?;
     for (len, line) in [
-        (MAX_TEXT_LEN, b"refused 90 NotBuilt\n".as_slice()),
+        (MAX_TEXT_LEN, b"refused 6 NoInit\n".as_slice()),
         (MAX_TEXT_LEN + 1, b"refused 0 TooLong\n".as_slice()),
     ] {
         let text = vec![in alloc; b' '; len]?;

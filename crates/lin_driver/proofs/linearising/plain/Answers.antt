@@ -1,69 +1,12 @@
-use Rattle.std.proofs.Common.{arith, ◌≡◌, ◌∷◌, List, length, sym, subst, ◌∙◌, string_bytes}
-use Rattle.std.proofs.lemmas.Grind.{common_steps}
-use Rattle.mcrl2_lexer.specs.Lexing.{HasTokens, SpansRise}
-use Rattle.mcrl2_lexer.proofs.Faulty.{fault_no_tokens}
-use Rattle.std.specs.Prelude.{codes}
-use Rattle.process_terms.specs.Fresh.{IsFresh, taken_at_start}
-use Rattle.process_terms.specs.Headline.{StandsFor}
-use Rattle.process_terms.specs.Printed.{printed}
-use Rattle.process_terms.specs.Systems.{Name, System}
-use Rattle.lin_driver.specs.FirstForm.{IsFirstForm}
-use Rattle.lin_driver.specs.Linearised.{IsLinearisedTo}
-use Rattle.lin_driver.specs.PlainSystems.{plain_system}
-use Rattle.lin_driver.specs.declared.linearising.PlainFault.TheVariants.{NotBuilt, NoMemory}
-use Rattle.lin_driver.proofs.FirstForms.{AreTokens, are_within}
-use Rattle.lin_driver.proofs.Linearises.{ill_named, is_fault, linearised, none_read, on_ok, stands_for}
+use Rattle.std.proofs.Common.{rules}
+use Rattle.lin_driver.proofs.Refused.{lex_no_first_form, refused_with}
 use Rattle.lin_driver.proofs.linearising.plain.Goals as goal
 
-pub returns-in_err-tokens-clause-not_built : goal.returns-in_err-tokens-clause-not_built
-returns-in_err-tokens-clause-not_built c = λ is form.
-    fault_no_tokens c.args.text.now c.in_err-tokens.field-0.0 form.1.tokens
-    (c.in_err-tokens.ensures.fault (is_fault c.from_residual.result c.in_err-tokens.field-0.0 c.from_residual.ensures.1 is)) form.1.has_tokens
+pub returns-in_err-tokens-clause-no_first_form : goal.returns-in_err-tokens-clause-no_first_form
+returns-in_err-tokens-clause-no_first_form c =
+    lex_no_first_form c.args.text.now c.in_err-tokens.field-0.0 c.from_residual.result c.in_err-tokens.ensures.fault c.from_residual.ensures.1
 
-pub read_system-requires : goal.read_system-requires
-read_system-requires c =
-    let rises : SpansRise 0 c.list.result.now (length c.args.text.now) = rw c.list.ensures.list c.in_ok-tokens.ensures.spans in
-    are_within 0 (length c.args.text.now) c.list.result.now rises
-
-pub returns-in_err-system-clause-not_built : goal.returns-in_err-system-clause-not_built
-returns-in_err-system-clause-not_built c = λ is.
-    let fault : c.in_err-system.field-0.0 ≡ NotBuilt = grind (arith, common_steps) in
-    let has : HasTokens c.args.text.now c.list.result.now = rw c.list.ensures.list c.in_ok-tokens.ensures.tokens in
-    none_read c.args.text.now c.list.result.now has
-    (λ system spells. let memory = c.in_err-system.ensures.only system spells in let clash : NotBuilt ≡ NoMemory = sym fault ∙ memory in cc)
-
-pub returns-in_err-declared-clause-not_built : goal.returns-in_err-declared-clause-not_built
-returns-in_err-declared-clause-not_built c = λ is.
-    let has : HasTokens c.args.text.now c.list.result.now = rw c.list.ensures.list c.in_ok-tokens.ensures.tokens in
-    ill_named c.args.text.now c.list.result.now has (plain_system c.in_ok-system.system) c.in_ok-system.ensures.only (c.in_err-declared.ensures.ill_named (grind (arith, common_steps)))
-
-pub returns-clause-linearised : goal.returns-clause-linearised
-returns-clause-linearised c =
-    let has : HasTokens c.args.text.now c.list.result.now = rw c.list.ensures.list c.in_ok-tokens.ensures.tokens in
-    let system = plain_system c.in_ok-system.system in
-    let process : IsFresh (taken_at_start system.acts) (codes "P") c.as_bytes.result.now =
-    rw c.as_bytes.ensures.value (subst (λ (acts : List Name). IsFresh (taken_at_start acts) (codes "P") (string_bytes c.in_ok-names.names.process)) c.in_ok-declared.ensures.acts c.in_ok-names.ensures.process) in
-    let control : IsFresh (c.as_bytes.result.now ∷ taken_at_start system.acts) (codes "s") c.as_bytes-2.result.now =
-    rw (c.as_bytes.ensures.value, c.as_bytes-2.ensures.value)
-    (subst (λ (acts : List Name). IsFresh (string_bytes c.in_ok-names.names.process ∷ taken_at_start acts) (codes "s") (string_bytes c.in_ok-names.names.control)) c.in_ok-declared.ensures.acts c.in_ok-names.ensures.control) in
-    on_ok c.print.result (λ bytes. bytes.items ≡ printed system c.in_ok-order.order c.as_bytes.result.now c.as_bytes-2.result.now)
-    (λ bytes. IsLinearisedTo c.args.text.now bytes.items)
-    (λ bytes prints. linearised c.args.text.now c.list.result.now has system c.in_ok-system.ensures.only c.in_ok-system.ensures.found c.in_ok-declared.ensures.well_named
-    c.in_ok-order.order c.in_ok-order.ensures.numbering c.in_ok-order.ensures.small c.as_bytes.result.now c.as_bytes-2.result.now bytes.items process control prints)
-    c.print.ensures.prints
-
-pub returns-clause-headline : goal.returns-clause-headline
-returns-clause-headline c =
-    let has : HasTokens c.args.text.now c.list.result.now = rw c.list.ensures.list c.in_ok-tokens.ensures.tokens in
-    let system = plain_system c.in_ok-system.system in
-    let process : IsFresh (taken_at_start system.acts) (codes "P") c.as_bytes.result.now =
-    rw c.as_bytes.ensures.value (subst (λ (acts : List Name). IsFresh (taken_at_start acts) (codes "P") (string_bytes c.in_ok-names.names.process)) c.in_ok-declared.ensures.acts c.in_ok-names.ensures.process) in
-    let control : IsFresh (c.as_bytes.result.now ∷ taken_at_start system.acts) (codes "s") c.as_bytes-2.result.now =
-    rw (c.as_bytes.ensures.value, c.as_bytes-2.ensures.value)
-    (subst (λ (acts : List Name). IsFresh (string_bytes c.in_ok-names.names.process ∷ taken_at_start acts) (codes "s") (string_bytes c.in_ok-names.names.control)) c.in_ok-declared.ensures.acts c.in_ok-names.ensures.control) in
-    let all : AreTokens c.args.text.now c.list.result.now = rw c.list.ensures.list c.in_ok-tokens.ensures.slices in
-    on_ok c.print.result (λ bytes. bytes.items ≡ printed system c.in_ok-order.order c.as_bytes.result.now c.as_bytes-2.result.now)
-    (λ bytes. (other : System) → IsFirstForm c.args.text.now other → StandsFor other bytes.items)
-    (λ bytes prints. stands_for c.args.text.now c.list.result.now has system c.in_ok-system.ensures.only c.in_ok-system.ensures.found c.in_ok-declared.ensures.well_named
-    c.in_ok-order.order c.in_ok-order.ensures.numbering c.in_ok-order.ensures.small c.as_bytes.result.now c.as_bytes-2.result.now bytes.items process control prints all)
-    c.print.ensures.prints
+pub returns-clause-refused : goal.returns-clause-refused
+returns-clause-refused c =
+    refused_with c.args.text.now c.in_ok-tokens.tokens.list c.why_not_built.result c.in_ok-tokens.ensures.tokens (c.linearise.ensures.not_built (search rules))
+    c.why_not_built.ensures.parse c.why_not_built.ensures.sound c.why_not_built.ensures.one_init c.why_not_built.ensures.no_lex

@@ -3,11 +3,17 @@ use Rattle.process_terms.specs.Headline.{StandsFor}
 use Rattle.process_terms.specs.Systems.{System}
 use Rattle.lin_driver.specs.FirstForm.{IsFirstForm}
 use Rattle.mcrl2lin.specs.Commands.{file_asked}
-use Rattle.mcrl2lin.proofs.Told.{of_loaded}
+use Rattle.mcrl2lin.proofs.Told.{has_cause, of_loaded}
 use Rattle.mcrl2lin.proofs.top.linearised.Goals as goal
 
-pub returns-clause-headline : goal.returns-clause-headline
-returns-clause-headline g c =
+pub returns-in-Ok-clause-headline : goal.returns-in-Ok-clause-headline
+returns-in-Ok-clause-headline g c =
     let asked : file_asked (map string_bytes c.args.words.now) ≡ Some c.in_ok-file.file.now = search rules in
     of_loaded (g.H.Shelf.text_of c.args.shelf.now) (map string_bytes c.args.words.now) c.in_ok-file.file.now c.in_ok-text.text.items
-    (λ text. (system : System) → IsFirstForm text system → StandsFor system c.in_ok-plain.field-0.items) asked (search rules) (search (rules, c.in_ok-plain.ensures.headline))
+    (λ text. (system : System) → IsFirstForm text system → StandsFor system c.in-Ok.printed.items) asked (search rules) (search (rules, c.in-Ok.ensures.headline))
+
+pub returns-clause-refused : goal.returns-clause-refused
+returns-clause-refused g c =
+    let asked : file_asked (map string_bytes c.args.words.now) ≡ Some c.in_ok-file.file.now = search rules in
+    has_cause (g.H.Shelf.text_of c.args.shelf.now) (map string_bytes c.args.words.now) c.in_ok-file.file.now c.in_ok-text.text.items c.in-Err.fault c.for_fault.result asked (search rules) (search rules)
+    (search (rules, c.in-Err.ensures.refused)) (search (rules, c.in-Err.ensures.no_first_form)) c.for_fault.ensures

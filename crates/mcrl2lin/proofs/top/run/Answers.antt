@@ -14,7 +14,7 @@ use Rattle.mcrl2lin.proofs.top.run.Goals as goal
 pub returns-in-Err-clause-err : goal.returns-in-Err-clause-err
 returns-in-Err-clause-err g c =
     let text = text_asked (g.H.Shelf.text_of c.args.shelf.now) (map string_bytes c.args.words.now.items) in
-    let says = line_of-stop c.in-Err.stop text (search rules) (search rules) in
+    let says = line_of-stop c.in-Err.stop text (search rules) in
     record {
       line = c.line.result.now;
       says = rw (c.line.ensures, c.status_of.ensures) says;

@@ -1,0 +1,26 @@
+-- The fault of a text, from the fault of a part of its reading.
+use Rattle.mcrl2_lexer.specs.declared.token.LexFault.{LexFault}
+use Rattle.mcrl2_lexer.specs.declared.token.LexFault.TheVariants as lex
+use Rattle.mcrl2_parser.specs.declared.faults.ParseFault.{ParseFault}
+use Rattle.mcrl2_parser.specs.declared.faults.ParseFault.TheVariants as parse
+use Rattle.lin_driver.specs.declared.fault.PlainFault.{PlainFault}
+use Rattle.lin_driver.specs.declared.fault.PlainFault.TheVariants as plain
+use Rattle.lin_driver.specs.declared.fault.LinFault.{LinFault}
+use Rattle.lin_driver.specs.declared.fault.LinFault.TheVariants.{Lex, Parse, NotBuilt, NoMemory}
+
+abbrev pub fault_of_lex : LexFault → LinFault
+fault_of_lex lex.NoMemory = NoMemory
+fault_of_lex (lex.BadByte place) = Lex (lex.BadByte place)
+fault_of_lex (lex.NumeralTooLarge place) = Lex (lex.NumeralTooLarge place)
+fault_of_lex (lex.OutOfProfile place) = Lex (lex.OutOfProfile place)
+
+abbrev pub fault_of_parse : ParseFault → LinFault
+fault_of_parse parse.NoMemory = NoMemory
+fault_of_parse (parse.Syntax number) = Parse (parse.Syntax number)
+fault_of_parse (parse.TooDeep number) = Parse (parse.TooDeep number)
+fault_of_parse parse.NoInit = Parse parse.NoInit
+fault_of_parse (parse.TwoInits number) = Parse (parse.TwoInits number)
+
+abbrev pub fault_of_plain : PlainFault → LinFault
+fault_of_plain plain.NotBuilt = NotBuilt
+fault_of_plain plain.NoMemory = NoMemory
