@@ -225,7 +225,7 @@ fn a_declaration_past_a_thousand_levels_is_too_deep(rt: HostRuntime) -> Result<(
     let mut err = MemSink::new(alloc, 200, Vec::new(alloc), 200)?;
     let status = run(alloc, &words, &mut shelf, &mut SteadySink::new(), &mut err);
     assert_eq!(rt; status, Status::Refused);
-    assert_eq!(rt; err.bytes(), b"refused 5 TooDeep 1\n");
+    assert_eq!(rt; err.bytes(), b"refused 5 TooDeep 1\n".as_slice());
     Ok(())
 }
 
