@@ -1,0 +1,5 @@
+use Rattle.data_theory.proofs.ConsistencyLemmas.{equal_numerals_are_the_same}
+use Rattle.data_theory.proofs.constructors.equal_numerals_are_the_same.Goals as goal
+
+pub returns : goal.returns
+returns c = equal_numerals_are_the_same

@@ -1,0 +1,15 @@
+pub mod Terms
+pub mod Declarations
+pub mod Arithmetic
+pub mod Equations
+pub mod Provable
+pub mod Values
+pub mod EqualityLaws
+pub mod BooleanLaws
+pub mod ConsistencyLaws
+pub mod Environments
+pub mod EnvironmentLaws
+pub mod Examples
+pub mod Rewriting
+pub mod Names
+pub mod SortLaws

@@ -1,0 +1,24 @@
+//! The theory of data.
+//!
+//! What the terms of a text are and when two closed terms are provably equal stands in `specs/`, and in plain words in
+//! `docs/definitions/data.md`. The functions in the modules of this crate have empty bodies: the contract of each is a law of
+//! that theory, so that the crates above can cite it. [`Names`] is the table of texts.
+#![tactic(auto)]
+
+pub mod booleans;
+pub mod constructors;
+pub mod environments;
+pub mod equality;
+pub mod examples;
+pub mod growth;
+mod names;
+mod no_memory;
+pub mod rewriting;
+pub mod sorts;
+pub mod values;
+
+pub use names::{NameId, Names};
+pub use no_memory::NoMemory;
+
+#[cfg(test)]
+mod tests;

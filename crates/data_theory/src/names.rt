@@ -1,0 +1,77 @@
+//! The table of texts.
+
+use crate::no_memory::NoMemory;
+use indexmap::IndexSet;
+use std::alloc::Global;
+use std::marker::Model;
+
+/// The place of a text in a table.
+#[derive(Clone, Copy, Debug, PartialEq, Eq, Hash)]
+pub struct NameId(pub usize);
+
+/// A table of different texts. A text keeps its place, and two places have two texts.
+#[derive(Drop)]
+pub struct Names {
+    texts: IndexSet<String>,
+    alloc: Global,
+}
+
+impl Model for Names {
+    ghost use Rattle.std.specs.Prelude.{List, ℕ, map};
+    ghost use Rattle.std.specs.String.{string_bytes};
+    ghost use Rattle.data_theory.specs.Names.{AreDifferent};
+
+    ghost Value = { List (List ℕ) };
+
+    ghost view = { λ table. map string_bytes table.texts.keys };
+
+    ghost invariant = { λ table. AreDifferent (map string_bytes table.texts.keys) };
+}
+
+impl Names {
+    ghost use Rattle.std.specs.Prelude.{◌≡◌, ◌<◌, [], length, IfOk, MatchOption, OnOk, OnErr, slice_get, Some};
+    ghost use Rattle.std.specs.List.{Contains};
+    ghost use Rattle.data_theory.specs.Names.{AreDifferent, Enters};
+
+    /// The empty table.
+    pub fn new(alloc: Global) -> Names
+        ensures { result ≡ [] }
+    {
+        Names {
+            texts: IndexSet::new(alloc),
+            alloc,
+        }
+    }
+
+    /// The place of a text, where the table has it.
+    pub fn find(&self, text: &str) -> Option<NameId>
+        ensures found { MatchOption result (¬ (Contains self.now text.now)) (λ name. slice_get self.now name.0 ≡ Some text.now) }
+        ensures different { AreDifferent self.now }
+    {
+        match self.texts.get_index_of(text) {
+            Some(place) => Some(NameId(place)),
+            None => None,
+        }
+    }
+
+    /// The text at a place.
+    pub fn text(&self, name: NameId) -> &str
+        requires { name.0 < length self.now }
+        ensures { slice_get self.now name.0 ≡ Some result.now }
+    {
+        self.texts[name.0].as_str()
+    }
+
+    /// The place of a text, which is added behind the others where the table hasn't it.
+    pub fn enter(&mut self, text: &str) -> Result<NameId, NoMemory>
+        ensures entered { OnOk result (Enters self.old text.now self.new) }
+        ensures place { IfOk result (λ name. slice_get self.new name.0 ≡ Some text.now) }
+        ensures unchanged { OnErr result (self.new ≡ self.old) }
+    {
+        if let Some(name) = self.find(text) {
+            return Ok(name);
+        }
+        let (place, _) = self.texts.insert_full(String::from_str(self.alloc, text)?)?;
+        Ok(NameId(place))
+    }
+}
