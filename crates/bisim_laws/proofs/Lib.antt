@@ -1,0 +1,4 @@
+pub mod PuttingEqualData
+pub mod AlikeProcesses
+pub mod ComposedLinks
+pub mod Firing

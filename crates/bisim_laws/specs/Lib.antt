@@ -1,0 +1,6 @@
+pub mod Sameness
+pub mod Bisimulations
+pub mod LinearProcesses
+pub mod BaseStates
+pub mod Links
+pub mod LinkLaws

@@ -1,0 +1,45 @@
+-- What the laws of links say.
+use Rattle.std.specs.Prelude.{◌≡◌, List, length, Option}
+use Rattle.data_theory.specs.Terms.{Term}
+use Rattle.process_terms.specs.Theories.{Theory}
+use Rattle.process_terms.specs.Labels.{Label}
+use Rattle.process_terms.specs.Processes.{Around, Process, merge, around}
+use Rattle.process_terms.specs.Steps.{Outcome, Step}
+use Rattle.bisim_laws.specs.Bisimulations.{Bisimulation, Progress}
+use Rattle.bisim_laws.specs.LinearProcesses.{Linear, state_of, IsLinear, outcome_of, Fires}
+use Rattle.bisim_laws.specs.BaseStates.{Side}
+use Rattle.bisim_laws.specs.Links.{Link, Same, Then, Product, Beside, Wrapped, Under, IsBase, States, Pairs, IsGood}
+
+-- ---- links
+abbrev pub SameIsGood : Type 0
+SameIsGood = (th : Theory) (p q : Process) → Pairs th Same p q → IsGood th Same p q
+
+abbrev pub ThenIsGood : Type 0
+ThenIsGood = (th : Theory) (k l : Link) (p z q : Process) → IsGood th k p z → IsGood th l z q → IsGood th (Then k l) p q
+
+-- from good parts and a good base relation
+abbrev pub BesideIsGood : Type 0
+BesideIsGood =
+    (th : Theory) (a b : Side) (l : Linear) (j k : Link) (p x q y r : Process) → IsGood th j p x → IsGood th k q y → IsGood th (Product a b l) (merge x y) r
+    → IsGood th (Beside a b l j k) (merge p q) r
+
+abbrev pub UnderIsGood : Type 0
+UnderIsGood =
+    (th : Theory) (o : Around) (l k : Linear) (j : Link) (p x r : Process) → IsGood th j p x → IsGood th (Wrapped o l k) (around o x) r
+    → IsGood th (Under o l k j) (around o p) r
+
+-- where the steps from the states of a base link are answered up to what is the same, its relation is a bisimulation
+abbrev pub UpToSameIsEnough : Type 0
+UpToSameIsEnough = (th : Theory) (l : Link) → IsBase l → Progress th (States th l) → Bisimulation th (Pairs th l)
+
+-- ---- linear processes
+-- a step of a state is a firing, and comes to what the firing's next arguments say
+abbrev pub StepsAreFirings : Type 0
+StepsAreFirings =
+    (th : Theory) (l : Linear) (ts : List Term) (m : Label) (r : Outcome) → IsLinear l → length ts ≡ length l.params → Step th (state_of l ts) m r
+    → (next : Option (List Term)) × (Fires th l ts m next × (r ≡ outcome_of l next))
+
+abbrev pub FiringsAreSteps : Type 0
+FiringsAreSteps =
+    (th : Theory) (l : Linear) (ts : List Term) (m : Label) (next : Option (List Term)) → IsLinear l → length ts ≡ length l.params → Fires th l ts m next
+    → Step th (state_of l ts) m (outcome_of l next)

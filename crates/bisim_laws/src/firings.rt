@@ -1,0 +1,13 @@
+//! What a linear process does.
+
+ghost use Rattle.bisim_laws.specs.LinkLaws.{FiringsAreSteps, StepsAreFirings};
+
+/// A step of a linear process's state is a firing of one summand.
+pub fn steps_are_firings()
+    ensures { StepsAreFirings }
+{}
+
+/// Each firing of a summand is a step.
+pub fn firings_are_steps()
+    ensures { FiringsAreSteps }
+{}
