@@ -16,3 +16,4 @@ pub mod Taking
 pub mod PermutedLists
 pub mod AgreeingLabels
 pub mod OperatorLemmas
+pub mod SmallSteps

@@ -33,7 +33,8 @@ group_equal h (next_agree (equal_args i) k) = equals_append (pair_equal h i) (gr
 
 conjunction_equal : {th : Theory} {ts us : List Term} → Equals th ts us → Equal th (conjunction_of ts) (conjunction_of us)
 conjunction_equal no_terms = reflexive
-conjunction_equal (more_terms h k) = congruent conjunction (place h (place (conjunction_equal k) no_places))
+conjunction_equal (more_terms h no_terms) = h
+conjunction_equal (more_terms h (more_terms i k)) = congruent conjunction (place h (place (conjunction_equal (more_terms i k)) no_places))
 
 all_true_along : {th : Theory} {ts us : List Term} → Equals th ts us → AllTrue th ts → AllTrue th us
 all_true_along no_terms h = none_left

@@ -39,8 +39,10 @@ abbrev pub group_equalities : Action → Label → List Term
 group_equalities a [] = []
 group_equalities a (b ∷ others) = equalities a.sorts a.args b.args ++ group_equalities a others
 
+-- one chain, without a `true` at its end
 abbrev pub conjunction_of : List Term → Term
 conjunction_of [] = trueᵗ
+conjunction_of (t ∷ []) = t
 conjunction_of (t ∷ ts) = t ∧ᵗ conjunction_of ts
 
 -- The first label is cut into groups and a rest: the second one has each group's result at the place of the group's first

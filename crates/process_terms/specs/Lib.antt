@@ -15,3 +15,4 @@ pub mod Communication
 pub mod Processes
 pub mod Steps
 pub mod AgreementLaws
+pub mod WorkedSteps

@@ -7,3 +7,4 @@
 pub mod agreement;
 pub mod examples;
 pub mod laws;
+pub mod worked_steps;
