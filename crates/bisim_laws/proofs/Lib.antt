@@ -2,3 +2,4 @@ pub mod PuttingEqualData
 pub mod AlikeProcesses
 pub mod ComposedLinks
 pub mod Firing
+pub mod Unpaired

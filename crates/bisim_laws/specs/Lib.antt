@@ -4,3 +4,4 @@ pub mod LinearProcesses
 pub mod BaseStates
 pub mod Links
 pub mod LinkLaws
+pub mod LinkChecks

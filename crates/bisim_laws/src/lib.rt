@@ -5,5 +5,6 @@
 //! so that the crates above can cite it.
 #![tactic(auto)]
 
+pub mod checks;
 pub mod firings;
 pub mod links;

@@ -1,0 +1,19 @@
+//! What no good link can pair, as checks of the definitions.
+
+ghost use Rattle.bisim_laws.specs.LinkChecks.{AMissingParameterPairsNothing, EndingIsNotStopping, NothingDoneIsNoAnswer, NothingPairedIsNotGood};
+
+/// A process that can do something has no good link with `delta`.
+pub fn nothing_done_is_no_answer()
+    ensures { NothingDoneIsNoAnswer }
+{}
+
+/// `a` has no good link with `a . delta`.
+pub fn ending_is_not_stopping()
+    ensures { EndingIsNotStopping }
+{}
+
+/// A link that pairs nothing isn't good, and there are such links.
+pub fn nothing_paired_is_not_good()
+    ensures not_good { NothingPairedIsNotGood }
+    ensures there_are { AMissingParameterPairsNothing }
+{}
