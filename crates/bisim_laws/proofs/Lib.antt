@@ -3,3 +3,5 @@ pub mod AlikeProcesses
 pub mod ComposedLinks
 pub mod Firing
 pub mod Unpaired
+pub mod PieceByPiece
+pub mod SortedFiring

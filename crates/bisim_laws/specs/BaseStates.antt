@@ -1,9 +1,9 @@
 -- The base relations of links: which states of a process a linear process has, before what is the same counts as equal.
-use Rattle.std.specs.Prelude.{◌≡◌, ℕ, ◌+◌, Bool, true, false, List, [], ◌∷◌, ◌++◌, length, Option, Some, None, slice_get, pos}
+use Rattle.std.specs.Prelude.{◌≡◌, ℕ, ◌+◌, Bool, true, false, List, [], ◌∷◌, ◌++◌, Option, Some, None, slice_get, pos}
 use Rattle.data_theory.specs.Terms.{Sort, boolean, positive, named, Term, numeral, application, function}
 use Rattle.data_theory.specs.Environments.{bound, terms_of}
 use Rattle.process_terms.specs.Theories.{Theory, Equal, Equals, IsTrue, IsFalse, IsOfSort, AreOfSorts}
-use Rattle.process_terms.specs.Processes.{Around, Bound, Definition, Table, Process, seq, call, around, close}
+use Rattle.process_terms.specs.Processes.{Around, Bound, Body, Table, Process, seq, call, around, close}
 use Rattle.process_terms.specs.Steps.{Outcome, ended, goes_on, beside}
 use Rattle.bisim_laws.specs.LinearProcesses.{Linear, variables, sorts, state_of, reading}
 
@@ -54,9 +54,15 @@ pub record GreibachCall : Type 0 where
 pub data IsCall (form : Table) : Process → GreibachCall → Type 0 where
   is_call : {i : ℕ} {ts : List Term} → IsCall form (call form i ts) (record { equation = i; args = ts })
 
--- what the equation stands for in the specification: a term over its parameters
-pub data StandsFor (d pieces : Table) : Process → GreibachCall → Type 0 where
-  stands_for : {i : ℕ} {ts : List Term} (f : Definition) → slice_get pieces i ≡ Some f → length ts ≡ length f.params → StandsFor d pieces (close d (bound f.params ts) f.body) (record { equation = i; args = ts })
+-- what an equation stands for in the specification: a written term over parameters with sorts
+pub record Piece : Type 0 where
+  pub params : List Bound
+  pub body : Body
+
+-- that term with arguments of the parameters' sorts
+pub data StandsFor (th : Theory) (d : Table) (pieces : List Piece) : Process → GreibachCall → Type 0 where
+  stands_for : {i : ℕ} {ts : List Term} (f : Piece) → slice_get pieces i ≡ Some f → AreOfSorts th (sorts f.params) ts
+      → StandsFor th d pieces (close d (bound (variables f.params) ts) f.body) (record { equation = i; args = ts })
 
 -- ---- columns
 -- The parameters of all equations share columns: each equation has its parameters at the columns with these variables, in
@@ -99,7 +105,8 @@ pushed k c (a ∷ calls) = application (function k.push) (terms_of (number_of a.
 
 -- a composition of calls, with a stack that is provably equal to their frames
 pub data StackState (th : Theory) (form : Table) (k : StackNames) (c : Columns) (l : Linear) : Process → Process → Type 0 where
-  stack_state : {p : Process} {calls : List GreibachCall} {t : Term} → Chain (IsCall form) p calls → IsOfSort th (named k.sort) t → Equal th t (pushed k c calls) → StackState th form k c l p (state_of l (t ∷ []))
+  stack_state : {p : Process} {calls : List GreibachCall} {t : Term} → Chain (IsCall form) p calls → IsOfSort th (named k.sort) (pushed k c calls) → IsOfSort th (named k.sort) t → Equal th t (pushed k c calls)
+      → StackState th form k c l p (state_of l (t ∷ []))
 
 -- ---- parameters that are dropped
 -- what becomes of a parameter: it stays, it is dropped and provably equal to its initial term, or it is dropped and not needed

@@ -3,5 +3,6 @@ pub mod Bisimulations
 pub mod LinearProcesses
 pub mod BaseStates
 pub mod Links
+pub mod Compositions
 pub mod LinkLaws
 pub mod LinkChecks

@@ -1,6 +1,7 @@
 -- Linear processes, and their firings.
 use Rattle.std.specs.Prelude.{◌≡◌, ℕ, Bool, true, false, List, [], ◌∷◌, ◌++◌, map, length, Option, Some, None, Contains, if◌then◌else◌}
-use Rattle.data_theory.specs.Terms.{Sort, truth, Term, application, none, put}
+use Rattle.data_theory.specs.Terms.{Sort, boolean, truth, Term, application, none, put}
+use Rattle.data_theory.specs.Declarations.{Data, Declares, HasSort, HaveSorts}
 use Rattle.data_theory.specs.Environments.{Environment, term_in, terms_of, IsOver, AreOver, Apart, AreDistinct}
 use Rattle.process_terms.specs.Theories.{Theory, IsTrue, IsOfSort, AreOfSorts}
 use Rattle.process_terms.specs.Labels.{Action, Label, put_label}
@@ -69,11 +70,37 @@ pub record IsLinear (l : Linear) : Type 0 where
   pub distinct : AreDistinct (variables l.params)
   pub summands : (s : Summand) → Contains l.summands s → IsSummand l.params s
 
--- A linear text's process: one call, with closed terms of the parameters' sorts, of a definition of that shape.
-pub record LinearText (th : Theory) (p : Process) : Type 0 where
+-- ---- sorts
+-- over variables of these sorts, by their numbers
+pub data LabelIsSorted (g : Data) (vs : List Sort) : Label → Type 0 where
+  no_action_to_sort : LabelIsSorted g vs []
+  action_sorted : {a : Action} {m : Label} → HaveSorts g vs (terms_of a.args) a.sorts → LabelIsSorted g vs m → LabelIsSorted g vs (a ∷ m)
+
+pub data NextIsSorted (g : Data) (vs ss : List Sort) : Option (List Term) → Type 0 where
+  no_next_to_sort : NextIsSorted g vs ss None
+  next_sorted : {ts : List Term} → HaveSorts g vs (terms_of ts) ss → NextIsSorted g vs ss (Some ts)
+
+-- each of these variables has its sort there
+abbrev pub AreDeclared : List Sort → List Bound → Type 0
+AreDeclared vs xs = (x : Bound) → Contains xs x → Declares vs x.var x.sort
+
+pub record SummandIsSorted (g : Data) (vs : List Sort) (params : List Bound) (s : Summand) : Type 0 where
+  pub sums : AreDeclared vs s.sums
+  pub condition : HasSort g vs s.condition boolean
+  pub label : LabelIsSorted g vs s.label
+  pub next : NextIsSorted g vs (sorts params) s.next
+
+pub record IsWellSorted (g : Data) (vs : List Sort) (l : Linear) : Type 0 where
+  pub params : AreDeclared vs l.params
+  pub summands : (s : Summand) → Contains l.summands s → SummandIsSorted g vs l.params s
+
+-- The process of a linear text: one call, with closed terms of the parameters' sorts, of a definition of that shape.
+pub record IsLinearText (th : Theory) (p : Process) : Type 0 where
   pub process : Linear
   pub initial : List Term
   pub is_linear : IsLinear process
+  pub variable_sorts : List Sort
+  pub is_sorted : IsWellSorted th.declared variable_sorts process
   pub of_sorts : AreOfSorts th (sorts process.params) initial
   pub is : p ≡ state_of process initial
 

@@ -1,14 +1,15 @@
 -- What the laws of links say.
-use Rattle.std.specs.Prelude.{◌≡◌, List, length, Option}
-use Rattle.data_theory.specs.Terms.{Term}
-use Rattle.process_terms.specs.Theories.{Theory}
+use Rattle.std.specs.Prelude.{◌≡◌, List, length, Option, Some}
+use Rattle.data_theory.specs.Terms.{Sort, Term}
+use Rattle.process_terms.specs.Theories.{Theory, AreOfSorts}
 use Rattle.process_terms.specs.Labels.{Label}
-use Rattle.process_terms.specs.Processes.{Around, Process, merge, around}
+use Rattle.process_terms.specs.Processes.{Around, Table, Process, merge, around}
 use Rattle.process_terms.specs.Steps.{Outcome, Step}
 use Rattle.bisim_laws.specs.Bisimulations.{Bisimulation, Progress}
-use Rattle.bisim_laws.specs.LinearProcesses.{Linear, state_of, IsLinear, outcome_of, Fires}
-use Rattle.bisim_laws.specs.BaseStates.{Side}
-use Rattle.bisim_laws.specs.Links.{Link, Same, Then, Product, Beside, Wrapped, Under, IsBase, States, Pairs, IsGood}
+use Rattle.bisim_laws.specs.LinearProcesses.{Linear, sorts, state_of, IsLinear, IsWellSorted, outcome_of, Fires}
+use Rattle.bisim_laws.specs.BaseStates.{Side, IsCall, Piece, StandsFor}
+use Rattle.bisim_laws.specs.Compositions.{PiecesAnswer}
+use Rattle.bisim_laws.specs.Links.{Link, Same, Then, Product, Beside, Wrapped, Under, Form, IsBase, States, Pairs, IsGood}
 
 -- ---- links
 abbrev pub SameIsGood : Type 0
@@ -43,3 +44,17 @@ abbrev pub FiringsAreSteps : Type 0
 FiringsAreSteps =
     (th : Theory) (l : Linear) (ts : List Term) (m : Label) (next : Option (List Term)) → IsLinear l → length ts ≡ length l.params → Fires th l ts m next
     → Step th (state_of l ts) m (outcome_of l next)
+
+-- a firing keeps the sorts of the arguments
+abbrev pub FiringsKeepSorts : Type 0
+FiringsKeepSorts =
+    (th : Theory) (vs : List Sort) (l : Linear) (ts us : List Term) (m : Label) → IsLinear l → IsWellSorted th.declared vs l → AreOfSorts th (sorts l.params) ts
+    → Fires th l ts m (Some us) → AreOfSorts th (sorts l.params) us
+
+-- ---- compositions along one list
+-- where what each equation stands for and its call answer each other, piece by piece, a whole composition and the calls of
+-- the equations do
+abbrev pub PiecesAreEnough : Type 0
+PiecesAreEnough =
+    (th : Theory) (d : Table) (pieces : List Piece) (form : Table) → PiecesAnswer th (StandsFor th d pieces) (IsCall form) → PiecesAnswer th (IsCall form) (StandsFor th d pieces)
+    → Bisimulation th (Pairs th (Form d pieces form))

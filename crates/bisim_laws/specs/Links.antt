@@ -5,7 +5,7 @@ use Rattle.process_terms.specs.Processes.{Around, Table, Process}
 use Rattle.bisim_laws.specs.Sameness.{Alike}
 use Rattle.bisim_laws.specs.Bisimulations.{Bisimulation, Joined, Sides, AroundBoth, UpTo}
 use Rattle.bisim_laws.specs.LinearProcesses.{Linear}
-use Rattle.bisim_laws.specs.BaseStates.{Side, ProductState, AroundState, AlongOneList, IsCall, StandsFor, Columns, RegularState, StackNames, StackState, Fate, DroppedState, SolvedState}
+use Rattle.bisim_laws.specs.BaseStates.{Side, ProductState, AroundState, AlongOneList, IsCall, Piece, StandsFor, Columns, RegularState, StackNames, StackState, Fate, DroppedState, SolvedState}
 
 -- `Product` and `Wrapped` are the base relations of `Beside` and `Under`. The linear processes, tables and columns are what
 -- the relation reads.
@@ -16,7 +16,7 @@ pub data Link : Type 0 where
   Beside : Side → Side → Linear → Link → Link → Link
   Wrapped : Around → Linear → Linear → Link
   Under : Around → Linear → Linear → Link → Link
-  Form : Table → Table → Table → Link  -- the definitions, what each equation stands for, and the form
+  Form : Table → List Piece → Table → Link  -- the definitions, what each equation stands for, and the form
   Regular : Table → Columns → Linear → Link
   Stack : Table → StackNames → Columns → Linear → Link
   Dropped : List Fate → Linear → Linear → Link
@@ -37,7 +37,7 @@ IsBase _ = ⊥
 abbrev pub States : Theory → Link → Process → Process → Type 0
 States th (Product a b l) = ProductState th a b l
 States th (Wrapped o l k) = AroundState th o l k
-States th (Form d pieces form) = AlongOneList (StandsFor d pieces) (IsCall form)
+States th (Form d pieces form) = AlongOneList (StandsFor th d pieces) (IsCall form)
 States th (Regular form c l) = RegularState th form c l
 States th (Stack form names c l) = StackState th form names c l
 States th (Dropped fates l k) = DroppedState th fates l k

@@ -1,6 +1,6 @@
 //! Good links compose.
 
-ghost use Rattle.bisim_laws.specs.LinkLaws.{BesideIsGood, SameIsGood, ThenIsGood, UnderIsGood, UpToSameIsEnough};
+ghost use Rattle.bisim_laws.specs.LinkLaws.{BesideIsGood, PiecesAreEnough, SameIsGood, ThenIsGood, UnderIsGood, UpToSameIsEnough};
 
 /// `Same` is good for two processes that it pairs.
 pub fn same_is_good()
@@ -25,4 +25,9 @@ pub fn under_is_good()
 /// Where the steps from the states of a base link are answered up to `Same`, its relation is a bisimulation.
 pub fn up_to_same_is_enough()
     ensures { UpToSameIsEnough }
+{}
+
+/// Where the pieces of two compositions along one list answer each other, the relation of `Form` is a bisimulation.
+pub fn pieces_are_enough()
+    ensures { PiecesAreEnough }
 {}
