@@ -1,10 +1,11 @@
 -- Agreement of labels.
 use Rattle.std.proofs.Common.{◌≡◌, List, [], ◌∷◌, ◌++◌, refl, ap}
 use Rattle.data_theory.specs.Terms.{Term}
-use Rattle.data_theory.specs.Provable.{reflexive, symmetric, transitive}
+use Rattle.data_theory.specs.Provable.{PlacesEqual, no_places, place, reflexive, symmetric, transitive}
+use Rattle.data_theory.specs.Environments.{terms_of}
 use Rattle.process_terms.specs.Theories.{Theory, Equals, no_terms, more_terms}
 use Rattle.process_terms.specs.Labels.{Action, Label, names, Inserted, at_front, further, Permuted, nothing_left, one_placed, AgreeAction, equal_args, AgreeInOrder, both_silent, next_agree}
-use Rattle.process_terms.specs.AgreementLaws.{AgreementInOrderIsReflexive, AgreementInOrderIsSymmetric, AgreementInOrderIsTransitive, JoinedLabelsAgreeInOrder, AgreementInOrderIsAgreement, AgreementIsReflexive, AgreementIsSymmetric, AgreementIsTransitive, JoinedLabelsAgree, JoinedEitherWay}
+use Rattle.process_terms.specs.AgreementLaws.{EqualListsAreEqualPlaces, AgreementInOrderIsReflexive, AgreementInOrderIsSymmetric, AgreementInOrderIsTransitive, JoinedLabelsAgreeInOrder, AgreementInOrderIsAgreement, AgreementIsReflexive, AgreementIsSymmetric, AgreementIsTransitive, JoinedLabelsAgree, JoinedEitherWay}
 use Rattle.process_terms.proofs.PermutedLists.{permuted_refl, permuted_sym, permuted_trans, permuted_append, permuted_either_way}
 
 pub equals_refl : (th : Theory) (ts : List Term) → Equals th ts ts
@@ -18,6 +19,19 @@ equals_sym (more_terms h k) = more_terms (symmetric h) (equals_sym k)
 pub equals_trans : {th : Theory} {ts us vs : List Term} → Equals th ts us → Equals th us vs → Equals th ts vs
 equals_trans no_terms h = h
 equals_trans (more_terms h k) (more_terms h' k') = more_terms (transitive h h') (equals_trans k k')
+
+equals_places : {th : Theory} {ts us : List Term} → Equals th ts us → PlacesEqual th.declared th.equations (terms_of ts) (terms_of us)
+equals_places no_terms = no_places
+equals_places (more_terms h k) = place h (equals_places k)
+
+places_equals : (th : Theory) (ts us : List Term) → PlacesEqual th.declared th.equations (terms_of ts) (terms_of us) → Equals th ts us
+places_equals th [] [] no_places = no_terms
+places_equals th [] (u ∷ us) h = elim h [ ]
+places_equals th (t ∷ ts) [] h = elim h [ ]
+places_equals th (t ∷ ts) (u ∷ us) (place h k) = more_terms h (places_equals th ts us k)
+
+pub equal_lists : EqualListsAreEqualPlaces
+equal_lists th ts us = (equals_places, places_equals th ts us)
 
 pub action_refl : (th : Theory) (a : Action) → AgreeAction th a a
 action_refl th a = equal_args (equals_refl th a.args)

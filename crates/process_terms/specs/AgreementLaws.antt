@@ -1,10 +1,18 @@
 -- What the laws of agreement say.
-use Rattle.std.specs.Prelude.{List, ◌++◌}
-use Rattle.process_terms.specs.Theories.{Theory}
+use Rattle.std.specs.Prelude.{◌↔◌, List, ◌++◌}
+use Rattle.data_theory.specs.Terms.{Term}
+use Rattle.data_theory.specs.Provable.{PlacesEqual}
+use Rattle.data_theory.specs.Environments.{terms_of}
+use Rattle.process_terms.specs.Theories.{Theory, Equals}
 use Rattle.process_terms.specs.Labels.{Label, AgreeInOrder, Agree}
 use Rattle.process_terms.specs.Communication.{Rule, Communicates}
 use Rattle.process_terms.specs.Processes.{Around}
 use Rattle.process_terms.specs.Steps.{Passes}
+
+-- ---- lists of terms
+-- lists that are provably equal place by place, as lists and as they stand behind a symbol
+abbrev pub EqualListsAreEqualPlaces : Type 0
+EqualListsAreEqualPlaces = (th : Theory) (ts us : List Term) → (Equals th ts us ↔ PlacesEqual th.declared th.equations (terms_of ts) (terms_of us))
 
 -- ---- in order
 abbrev pub AgreementInOrderIsReflexive : Type 0

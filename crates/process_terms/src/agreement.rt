@@ -1,6 +1,11 @@
 //! When labels agree. The functions do nothing: each contract is a law.
 
-ghost use Rattle.process_terms.specs.AgreementLaws.{AgreementInOrderIsAgreement, AgreementInOrderIsReflexive, AgreementInOrderIsSymmetric, AgreementInOrderIsTransitive, AgreementIsReflexive, AgreementIsSymmetric, AgreementIsTransitive, CommunicationRespectsAgreement, JoinedEitherWay, JoinedLabelsAgree, JoinedLabelsAgreeInOrder, OperatorsRespectAgreement};
+ghost use Rattle.process_terms.specs.AgreementLaws.{AgreementInOrderIsAgreement, AgreementInOrderIsReflexive, AgreementInOrderIsSymmetric, AgreementInOrderIsTransitive, AgreementIsReflexive, AgreementIsSymmetric, AgreementIsTransitive, CommunicationRespectsAgreement, EqualListsAreEqualPlaces, JoinedEitherWay, JoinedLabelsAgree, JoinedLabelsAgreeInOrder, OperatorsRespectAgreement};
+
+/// Lists of terms are provably equal place by place exactly where the terms behind a symbol are.
+pub fn equal_lists_are_equal_places()
+    ensures { EqualListsAreEqualPlaces }
+{}
 
 /// Agreement in order is an equivalence, and goes through joining.
 pub fn agreement_in_order()
