@@ -85,8 +85,8 @@ true_is_false_is_inconsistent g ok = ok (written true_is_false (λ v. variable v
 small_roles : (k : ℕ) → k < length small_data.functions → FitsRole small_data (function_at small_data k) (function_at small_data k).role
 small_roles zero l = (0, refl)
 small_roles (suc zero) l = (0, refl)
-small_roles (suc (suc zero)) l = (0, refl, refl, refl, omega arith, refl)
-small_roles (suc (suc (suc zero))) l = (0, refl, refl, refl, refl)
+small_roles (suc (suc zero)) l = (0, refl, refl, refl, omega arith, refl, refl)
+small_roles (suc (suc (suc zero))) l = (0, refl, refl, refl, refl, refl)
 small_roles (suc (suc (suc (suc zero)))) l = tt
 small_roles (suc (suc (suc (suc (suc k))))) l = absurd (omega (arith, l))
 

@@ -86,11 +86,11 @@ module _ (g : Data) (own : List Equation) (covered : (q : Equation) → Contains
       let c' = c ∙ ap (λ (x : Equation). put e x.condition) same in
       record { condition = c'; right = r ∙ ap (λ (x : Equation). put e x.right) same; charge = ap charge_of c' }
 
-  applies_one : {k : ℕ} {t c d r s : Term} {x y : ℕ} → Applies g own k t c r x → Applies g own k t d s y → SameApplication c d r s x y
-  applies_one {k} (a_line a e) (a_line b f) = record { condition = condition_at a b k e f; right = right_at a b k e f; charge = refl }
-  applies_one {k} (a_line a e) (an_equation i d p q h) = absurd (let l = place_below a k e in omega (arith, q, l))
-  applies_one {k} (an_equation i d p q h) (a_line a e) = absurd (let l = place_below a k e in omega (arith, q, l))
-  applies_one (an_equation {q = q} i d p k h) (an_equation {q = r} j e p' k' h') =
+  applies_alike : {k : ℕ} {t c d r s : Term} {x y : ℕ} → Applies g own k t c r x → Applies g own k t d s y → SameApplication c d r s x y
+  applies_alike {k} (a_line a e) (a_line b f) = record { condition = condition_at a b k e f; right = right_at a b k e f; charge = refl }
+  applies_alike {k} (a_line a e) (an_equation i d p q h) = absurd (let l = place_below a k e in omega (arith, q, l))
+  applies_alike {k} (an_equation i d p q h) (a_line a e) = absurd (let l = place_below a k e in omega (arith, q, l))
+  applies_alike (an_equation {q = q} i d p k h) (an_equation {q = r} j e p' k' h') =
       let same_place : i ≡ j = omega (arith, k, k') in
       let same : q ≡ r = some_inside (sym p ∙ (ap (slice_get own) same_place ∙ p')) in
       equations_same d e (read_contains own i q p) same h h'
@@ -99,73 +99,73 @@ module _ (g : Data) (own : List Equation) (covered : (q : Equation) → Contains
   decides_at f b d us ts p e = subst (λ x. LooksFirst f × IsTruthValue x) p e
 
   mutual
-    goes_one : {t u v : Term} {n m : ℕ} → GoesTo g own t u n → GoesTo g own t v m → Same u v n m
-    goes_one a_variable a_variable = record { term = refl; uses = refl }
-    goes_one a_numeral a_numeral = record { term = refl; uses = refl }
-    goes_one an_unknown an_unknown = record { term = refl; uses = refl }
-    goes_one {v = v} (by_the_first {f = f} {b = b} {ts = ts} a _ r) (by_the_first {b = d} {m = m} h _ s) =
-        let p = goes_one a h in
+    goes_alike : {t u v : Term} {n m : ℕ} → GoesTo g own t u n → GoesTo g own t v m → Same u v n m
+    goes_alike a_variable a_variable = record { term = refl; uses = refl }
+    goes_alike a_numeral a_numeral = record { term = refl; uses = refl }
+    goes_alike an_unknown an_unknown = record { term = refl; uses = refl }
+    goes_alike {v = v} (by_the_first {f = f} {b = b} {ts = ts} a _ r) (by_the_first {b = d} {m = m} h _ s) =
+        let p = goes_alike a h in
         let s' : RootGoesTo g own (application f (more b ts)) v m = subst (λ x. RootGoesTo g own (application f (more x ts)) v m) (sym p.term) s in
-        let q = root_one r s' in
+        let q = root_alike r s' in
         record { term = q.term; uses = λ i. p.uses i + q.uses i }
-    goes_one (by_the_first {f = f} {b = b} {ts = ts} a e r) (by_all (an_argument {u = d} {us = us} h hs) n s) =
-        absurd (n (decides_at f b d us ts (goes_one a h).term e))
-    goes_one (by_all (an_argument {u = d} {us = us} h hs) n s) (by_the_first {f = f} {b = b} {ts = ts} a e r) =
-        absurd (n (decides_at f b d us ts (sym (goes_one h a).term) e))
-    goes_one {v = v} (by_all {f = f} {us = us} a _ r) (by_all {us = ws} {m = m} h _ s) =
-        let p = arguments_one a h in
+    goes_alike (by_the_first {f = f} {b = b} {ts = ts} a e r) (by_all (an_argument {u = d} {us = us} h hs) n s) =
+        absurd (n (decides_at f b d us ts (goes_alike a h).term e))
+    goes_alike (by_all (an_argument {u = d} {us = us} h hs) n s) (by_the_first {f = f} {b = b} {ts = ts} a e r) =
+        absurd (n (decides_at f b d us ts (sym (goes_alike h a).term) e))
+    goes_alike {v = v} (by_all {f = f} {us = us} a _ r) (by_all {us = ws} {m = m} h _ s) =
+        let p = arguments_alike a h in
         let s' : RootGoesTo g own (apply f us) v m = subst (λ x. RootGoesTo g own (apply f x) v m) (sym p.terms) s in
-        let q = root_one r s' in
+        let q = root_alike r s' in
         record { term = q.term; uses = λ i. p.uses i + q.uses i }
 
-    arguments_one : {ts us vs : Terms} {n m : ℕ} → ArgumentsGoTo g own ts us n → ArgumentsGoTo g own ts vs m → SameAll us vs n m
-    arguments_one no_arguments no_arguments = record { terms = refl; uses = refl }
-    arguments_one (an_argument a rest) (an_argument h hs) =
-        let p = goes_one a h in
-        let q = arguments_one rest hs in
+    arguments_alike : {ts us vs : Terms} {n m : ℕ} → ArgumentsGoTo g own ts us n → ArgumentsGoTo g own ts vs m → SameAll us vs n m
+    arguments_alike no_arguments no_arguments = record { terms = refl; uses = refl }
+    arguments_alike (an_argument a rest) (an_argument h hs) =
+        let p = goes_alike a h in
+        let q = arguments_alike rest hs in
         record { terms = λ i. more (p.term i) (q.terms i); uses = λ i. p.uses i + q.uses i }
 
-    root_one : {t u v : Term} {n m : ℕ} → RootGoesTo g own t u n → RootGoesTo g own t v m → Same u v n m
-    root_one merged merged = record { term = refl; uses = refl }
-    root_one (tries a) (tries h) = from_one a h
+    root_alike : {t u v : Term} {n m : ℕ} → RootGoesTo g own t u n → RootGoesTo g own t v m → Same u v n m
+    root_alike merged merged = record { term = refl; uses = refl }
+    root_alike (tries a) (tries h) = equations_alike a h
 
-    condition_one : {c d b : Term} {n m : ℕ} → ConditionGoesTo g own c d n → ConditionGoesTo g own c b m → Same d b n m
-    condition_one (without_condition _) (without_condition _) = record { term = refl; uses = refl }
-    condition_one (without_condition e) (with_condition n _) = absurd (n e)
-    condition_one (with_condition n _) (without_condition e) = absurd (n e)
-    condition_one (with_condition _ a) (with_condition _ h) = goes_one a h
+    condition_alike : {c d b : Term} {n m : ℕ} → ConditionGoesTo g own c d n → ConditionGoesTo g own c b m → Same d b n m
+    condition_alike (without_condition _) (without_condition _) = record { term = refl; uses = refl }
+    condition_alike (without_condition e) (with_condition n _) = absurd (n e)
+    condition_alike (with_condition n _) (without_condition e) = absurd (n e)
+    condition_alike (with_condition _ a) (with_condition _ h) = goes_alike a h
 
-    from_one : {k : ℕ} {t u v : Term} {n m : ℕ} → FromEquation g own k t u n → FromEquation g own k t v m → Same u v n m
-    from_one (stays _) (stays _) = record { term = refl; uses = refl }
-    from_one (stays e) (passed l _ _) = absurd (omega (arith, e, l))
-    from_one (stays e) (refused l _ _ _ _) = absurd (omega (arith, e, l))
-    from_one (stays e) (used l _ _ _ _) = absurd (omega (arith, e, l))
-    from_one (passed l _ _) (stays e) = absurd (omega (arith, e, l))
-    from_one (passed l _ r) (passed _ _ s) = from_one r s
-    from_one (passed l n _) (refused _ a _ _ _) = absurd (n _ _ _ a)
-    from_one (passed l n _) (used _ a _ _ _) = absurd (n _ _ _ a)
-    from_one (refused l _ _ _ _) (stays e) = absurd (omega (arith, e, l))
-    from_one (refused l a _ _ _) (passed _ n _) = absurd (n _ _ _ a)
-    from_one (refused {c = c} l a h d r) (refused {c = c'} {d = d'} {n = n} _ b i _ s) =
-        let p = applies_one a b in
-        let q = condition_one h (subst (λ x. ConditionGoesTo g own x d' n) (sym p.condition) i) in
-        let o = from_one r s in
+    equations_alike : {k : ℕ} {t u v : Term} {n m : ℕ} → FromEquation g own k t u n → FromEquation g own k t v m → Same u v n m
+    equations_alike (stays _) (stays _) = record { term = refl; uses = refl }
+    equations_alike (stays e) (passed l _ _) = absurd (omega (arith, e, l))
+    equations_alike (stays e) (refused l _ _ _ _) = absurd (omega (arith, e, l))
+    equations_alike (stays e) (used l _ _ _ _) = absurd (omega (arith, e, l))
+    equations_alike (passed l _ _) (stays e) = absurd (omega (arith, e, l))
+    equations_alike (passed l _ r) (passed _ _ s) = equations_alike r s
+    equations_alike (passed l n _) (refused _ a _ _ _) = absurd (n _ _ _ a)
+    equations_alike (passed l n _) (used _ a _ _ _) = absurd (n _ _ _ a)
+    equations_alike (refused l _ _ _ _) (stays e) = absurd (omega (arith, e, l))
+    equations_alike (refused l a _ _ _) (passed _ n _) = absurd (n _ _ _ a)
+    equations_alike (refused {c = c} l a h d r) (refused {c = c'} {d = d'} {n = n} _ b i _ s) =
+        let p = applies_alike a b in
+        let q = condition_alike h (subst (λ x. ConditionGoesTo g own x d' n) (sym p.condition) i) in
+        let o = equations_alike r s in
         record { term = o.term; uses = λ j. p.charge j + q.uses j + o.uses j }
-    from_one (refused {c = c} l a h d r) (used {c = c'} {d = d'} {n = n} _ b i e _) =
-        let p = applies_one a b in
-        let q = condition_one h (subst (λ x. ConditionGoesTo g own x d' n) (sym p.condition) i) in
+    equations_alike (refused {c = c} l a h d r) (used {c = c'} {d = d'} {n = n} _ b i e _) =
+        let p = applies_alike a b in
+        let q = condition_alike h (subst (λ x. ConditionGoesTo g own x d' n) (sym p.condition) i) in
         absurd (d (q.term ∙ e))
-    from_one (used l _ _ _ _) (stays e) = absurd (omega (arith, e, l))
-    from_one (used l a _ _ _) (passed _ n _) = absurd (n _ _ _ a)
-    from_one (used {c = c} l a h e r) (refused {c = c'} {d = d'} {n = n} _ b i d _) =
-        let p = applies_one a b in
-        let q = condition_one h (subst (λ x. ConditionGoesTo g own x d' n) (sym p.condition) i) in
+    equations_alike (used l _ _ _ _) (stays e) = absurd (omega (arith, e, l))
+    equations_alike (used l a _ _ _) (passed _ n _) = absurd (n _ _ _ a)
+    equations_alike (used {c = c} l a h e r) (refused {c = c'} {d = d'} {n = n} _ b i d _) =
+        let p = applies_alike a b in
+        let q = condition_alike h (subst (λ x. ConditionGoesTo g own x d' n) (sym p.condition) i) in
         absurd (d (sym q.term ∙ e))
-    from_one {v = v} (used {c = c} l a h _ r) (used {c = c'} {d = d'} {n = n} {m = m} _ b i _ s) =
-        let p = applies_one a b in
-        let q = condition_one h (subst (λ x. ConditionGoesTo g own x d' n) (sym p.condition) i) in
-        let o = goes_one r (subst (λ x. GoesTo g own x v m) (sym p.right) s) in
+    equations_alike {v = v} (used {c = c} l a h _ r) (used {c = c'} {d = d'} {n = n} {m = m} _ b i _ s) =
+        let p = applies_alike a b in
+        let q = condition_alike h (subst (λ x. ConditionGoesTo g own x d' n) (sym p.condition) i) in
+        let o = goes_alike r (subst (λ x. GoesTo g own x v m) (sym p.right) s) in
         record { term = o.term; uses = λ j. suc (p.charge j + q.uses j + o.uses j) }
 
 pub goes_to_one_term : GoesToOneTerm
-goes_to_one_term g own covered t u v n m a h = let p = goes_one g own covered a h in (p.term, p.uses)
+goes_to_one_term g own covered t u v n m a h = let p = goes_alike g own covered a h in (p.term, p.uses)

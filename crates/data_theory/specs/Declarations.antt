@@ -195,11 +195,11 @@ abbrev mutual
   HaveSorts g vs (more t ts) [] = ⊥
   HaveSorts g vs (more t ts) (s ∷ ss) = HasSort g vs t s × HaveSorts g vs ts ss
 
--- what a declared function's role asks of its sorts
+-- what a declared function's role asks of its sorts; only a `struct` has projections and recognisers
 abbrev pub FitsRole : Data → Function → Role → Type 0
 FitsRole g f constructor = (d : ℕ) × (f.result ≡ named d)
-FitsRole g f (projection c i) = (d : ℕ) × (f.arguments ≡ named d ∷ []) × ((function_at g c).role ≡ constructor) × ((function_at g c).result ≡ named d) × (i < length (function_at g c).arguments) × (f.result ≡ get_or (function_at g c).arguments i boolean)
-FitsRole g f (recogniser c) = (d : ℕ) × (f.arguments ≡ named d ∷ []) × ((function_at g c).role ≡ constructor) × ((function_at g c).result ≡ named d) × (f.result ≡ boolean)
+FitsRole g f (projection c i) = (d : ℕ) × (f.arguments ≡ named d ∷ []) × ((function_at g c).role ≡ constructor) × ((function_at g c).result ≡ named d) × (i < length (function_at g c).arguments) × (f.result ≡ get_or (function_at g c).arguments i boolean) × (sort_at g d ≡ structured)
+FitsRole g f (recogniser c) = (d : ℕ) × (f.arguments ≡ named d ∷ []) × ((function_at g c).role ≡ constructor) × ((function_at g c).result ≡ named d) × (f.result ≡ boolean) × (sort_at g d ≡ structured)
 FitsRole g f mapping = Unit {0}
 
 -- each function's role fits its sorts, and its result is a sort of the data
