@@ -1,9 +1,8 @@
 -- The equation at the place of its name.
-use Rattle.std.proofs.Common.{◌≡◌, ◌<◌, ◌+◌, ℕ, zero, suc, List, [], ◌∷◌, Bool, true, false, not, cond, map, length, get_or, Option, None, Some, IsSome, refl, sym, ap, ◌∙◌, subst, arith, one-add, nat_lt}
+use Rattle.std.proofs.Common.{◌≡◌, ◌<◌, ◌+◌, ℕ, suc, List, [], ◌∷◌, Bool, true, false, not, cond, map, length, get_or, None, Some, IsSome, refl, sym, ap, ◌∙◌, subst, arith, one-add, nat_lt}
 use Rattle.std.specs.Prelude.{Contains, bytes_eq, find, position}
 use Rattle.std.specs.List.{position_or_len}
 use Rattle.std.proofs.lemmas.Bool.Decides.{nat_tests}
-use Rattle.std.proofs.lemmas.Grind.{common_steps}
 use Rattle.process_terms.specs.Systems.{Name, Equation}
 use Rattle.process_terms.proofs.Lists.{In, in_contains, same_bytes}
 use Rattle.process_terms.proofs.Lists.In.{here, there}

@@ -1,5 +1,5 @@
 -- What is made of a text of the first form.
-use Rattle.std.proofs.Common.{◌≡◌, ◌<◌, ◌^◌, ℕ, List, ◌∷◌, length, refl, sym, subst, ap, ◌∙◌, Result, Ok, Err}
+use Rattle.std.proofs.Common.{◌≡◌, ◌<◌, ◌^◌, ℕ, List, ◌∷◌, length, sym, subst, ap, ◌∙◌, Result, Ok, Err}
 use Rattle.std.specs.Prelude.{codes, IfOk, IsErrAnd, IsErrOf}
 use Rattle.mcrl2_lexer.specs.declared.token.Token.{Token}
 use Rattle.mcrl2_lexer.specs.Lexing.{HasTokens}

@@ -1,10 +1,10 @@
 -- Lists of items, read one item after the other.
-use Rattle.std.proofs.Common.{◌≡◌, ◌≢◌, ◌⊎◌, inl, inr, ℕ, List, [], ◌∷◌, ◌++◌, refl, sym, ap, ◌∙◌, subst, append_assoc, append-nil}
+use Rattle.std.proofs.Common.{◌≡◌, ◌≢◌, ◌⊎◌, inl, inr, ℕ, List, [], ◌∷◌, ◌++◌, refl, sym, ap, ◌∙◌, subst, append_assoc}
 use Rattle.mcrl2_lexer.specs.declared.kind.Kind.{Kind}
 use Rattle.mcrl2_lexer.specs.declared.kind.Kind.TheVariants.{Init}
 use Rattle.mcrl2_lexer.specs.declared.token.Token.{Token}
 use Rattle.process_terms.specs.Systems.{Equation}
-use Rattle.lin_driver.specs.FirstForm.{SpellsName, SpellsList, SpellsSummand, SpellsEquation, SpellsEquations}
+use Rattle.lin_driver.specs.FirstForm.{SpellsList, SpellsEquation, SpellsEquations}
 use Rattle.lin_driver.specs.FirstForm.SpellsName.{identifier}
 use Rattle.lin_driver.specs.FirstForm.SpellsEquation.{equation}
 use Rattle.lin_driver.specs.FirstForm.SpellsList.{last_item, more_items}

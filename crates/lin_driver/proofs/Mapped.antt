@@ -1,5 +1,5 @@
 -- Tests of mapped lists.
-use Rattle.std.proofs.Common.{◌≡◌, ◌+◌, List, [], ◌∷◌, Bool, cond, map, refl, sym, ◌∙◌, ap, true, get_or, position, ◌||◌, not}
+use Rattle.std.proofs.Common.{◌≡◌, ◌+◌, List, [], ◌∷◌, Bool, cond, map, refl, sym, ap, true, get_or, position, ◌||◌, not}
 use Rattle.std.specs.List.{list_any, position_or_len}
 use Rattle.std.specs.Prelude.{Contains, bytes_eq}
 use Rattle.std.specs.Bool.{Decides}

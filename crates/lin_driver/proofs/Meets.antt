@@ -1,20 +1,16 @@
 -- The names that are met, one equation after the other.
-use Rattle.std.proofs.Common.{◌≡◌, ◌≢◌, ◌<◌, ◌≤◌, ◌+◌, ◌-◌, ℕ, zero, suc, List, [], ◌∷◌, ◌++◌, Bool, true, false, not, ◌&&◌, ◌||◌, cond, map, length, take, drop, get_or, Option, None, Some, refl, sym, ap, ◌∙◌, subst, arith, add-one, append_assoc, append-nil, ◌⊎◌, inl, inr}
-use Rattle.std.specs.Prelude.{Contains, bytes_eq, filter, filter_map, flat_map, fold, find, position, slice_index_or}
-use Rattle.std.specs.List.{list_any, position_or_len}
-use Rattle.std.proofs.lemmas.Bool.{not-false, not-true}
+use Rattle.std.proofs.Common.{◌≡◌, ◌≤◌, ◌+◌, List, [], ◌∷◌, ◌++◌, Bool, true, false, not, ◌&&◌, ◌||◌, cond, length, refl, sym, ap, ◌∙◌, subst, arith, append_assoc, append-nil, ◌⊎◌, inl, inr}
+use Rattle.std.specs.Prelude.{bytes_eq, filter}
 use Rattle.std.proofs.lemmas.List.Folds.{list_any-append}
-use Rattle.std.proofs.lemmas.List.Sums.{fold-append}
 use Rattle.std.proofs.lemmas.Slice.Eq.{bytes_eq-Decides}
 use Rattle.std.proofs.lemmas.Grind.{common_steps}
-use Rattle.process_terms.specs.Systems.{Name, Summand, Equation, System, equation_names}
-use Rattle.process_terms.specs.Numbering.{IsNumbering, calls_of, equation_of, first_occurrences, summands_of}
-use Rattle.process_terms.proofs.Lists.{Apart, In, contains_in, in_append, in_back, in_filter, in_contains, in_front, same_bytes, bytes_tell}
+use Rattle.process_terms.specs.Systems.{Name}
+use Rattle.process_terms.specs.Numbering.{first_occurrences}
+use Rattle.process_terms.proofs.Lists.{Apart, In, in_append, in_filter, bytes_tell}
 use Rattle.process_terms.proofs.Lists.Apart.{no_name, one_more}
 use Rattle.process_terms.proofs.Lists.In.{here, there}
-use Rattle.lin_driver.specs.Meeting.{calls_in, met_name, met_with}
+use Rattle.lin_driver.specs.Meeting.{met_name, met_with}
 use Rattle.lin_driver.specs.Naming.{is_among}
-use Rattle.lin_driver.proofs.Mapped.{is_among-Contains}
 
 pub bytes_eq-sym : (x y : Name) → bytes_eq x y ≡ bytes_eq y x
 bytes_eq-sym x y = told (bytes_tell x y) (bytes_tell y x)

@@ -1,20 +1,20 @@
 -- The order in which equations are met, one equation after the other.
-use Rattle.std.proofs.Common.{◌≡◌, ◌<◌, ◌≤◌, ◌+◌, ◌-◌, ℕ, zero, suc, List, [], ◌∷◌, ◌++◌, Bool, true, false, not, cond, map, length, take, get_or, Bor, Option, None, Some, IfSome, refl, sym, ap, ◌∙◌, subst, arith, add-one, append_assoc, append-nil, ◌⊎◌, inl, inr, length-append}
-use Rattle.std.specs.Prelude.{Contains, filter, filter_map, flat_map, option_map, slice_index_or}
+use Rattle.std.proofs.Common.{◌≡◌, ◌<◌, ◌≤◌, ◌+◌, ◌-◌, ℕ, zero, suc, List, [], ◌∷◌, ◌++◌, Bool, true, false, not, cond, map, length, take, get_or, Bor, Option, None, Some, IfSome, refl, sym, ap, ◌∙◌, subst, arith, add-one, append-nil, inl, inr, length-append}
+use Rattle.std.specs.Prelude.{Contains, filter_map, flat_map, option_map, slice_index_or}
 use Rattle.std.specs.List.{cons_option}
 use Rattle.std.proofs.Math.Seq.{take-suc}
 use Rattle.std.proofs.lemmas.Grind.{common_steps, flat_map-append}
 use Rattle.std.proofs.lemmas.Bool.{cases_lt}
 use Rattle.std.proofs.lemmas.List.Elements.{filter_map-append}
-use Rattle.std.proofs.lemmas.List.{get_or_append_left, get_or_default, map-append, take-append-le, take_all}
+use Rattle.std.proofs.lemmas.List.{get_or_append_left, map-append, take-append-le, take_all}
 use Rattle.std.proofs.lemmas.List.Sums.{fold-append}
 use Rattle.process_terms.specs.Systems.{Name, Summand, Equation, System, IsWellNamed, equation_names}
-use Rattle.process_terms.specs.Numbering.{IsNumbering, calls_of, equation_of, first_occurrences, summands_in, summands_of}
-use Rattle.process_terms.proofs.Lists.{Apart, In, apart, contains_in, in_contains, in_filter}
+use Rattle.process_terms.specs.Numbering.{IsNumbering, calls_of, summands_of}
+use Rattle.process_terms.proofs.Lists.{Apart, In, contains_in, in_contains}
 use Rattle.process_terms.proofs.Lists.Apart.{no_name, one_more}
 use Rattle.process_terms.proofs.Lists.In.{here, there}
 use Rattle.process_terms.proofs.Numbered.{has_summand}
-use Rattle.lin_driver.specs.Meeting.{calls_in, met_name, met_with}
+use Rattle.lin_driver.specs.Meeting.{met_name, met_with}
 use Rattle.lin_driver.specs.Naming.{is_among}
 use Rattle.lin_driver.specs.PlainSystems.{plain_summand}
 use Rattle.lin_driver.specs.declared.system.Summand as code

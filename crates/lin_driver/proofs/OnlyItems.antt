@@ -1,5 +1,5 @@
 -- What the readers' clauses say of their items.
-use Rattle.std.proofs.Common.{◌≡◌, ◌≢◌, ◌⊎◌, ⊎_elim, ℕ, List, [], ◌∷◌, ◌++◌, map, refl, sym, ap, ◌∙◌, subst, Some, None}
+use Rattle.std.proofs.Common.{◌≡◌, ◌≢◌, ⊎_elim, ℕ, List, [], ◌∷◌, ◌++◌, map, sym, ap, ◌∙◌, subst, Some, None}
 use Rattle.std.proofs.lemmas.List.{map-append}
 use Rattle.mcrl2_lexer.specs.declared.kind.Kind.TheVariants.{Comma, Semicolon, Plus, Dot}
 use Rattle.mcrl2_lexer.specs.declared.token.Token.{Token}

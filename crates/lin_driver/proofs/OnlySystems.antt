@@ -1,5 +1,5 @@
 -- The only equation, and the only system, that tokens spell.
-use Rattle.std.proofs.Common.{◌≡◌, ℕ, List, [], ◌∷◌, refl, sym, ap, ◌∙◌, subst}
+use Rattle.std.proofs.Common.{◌≡◌, ℕ, List, [], ◌∷◌, sym, ap, ◌∙◌, subst}
 use Rattle.mcrl2_lexer.specs.declared.kind.Kind.TheVariants.{Comma, Semicolon, Plus, Equals, Proc}
 use Rattle.mcrl2_lexer.specs.declared.token.Token.{Token}
 use Rattle.process_terms.specs.Systems.{Name, Summand, Equation, System}

@@ -1,10 +1,10 @@
 -- When a system is well named, by tests.
-use Rattle.std.proofs.Common.{◌≡◌, ◌≢◌, ◌<◌, ◌+◌, ℕ, zero, suc, List, [], ◌∷◌, ◌++◌, Bool, true, false, not, ◌&&◌, map, length, take, drop, get_or, get_or-take, cond, Bor, Option, None, Some, IfSome, refl, sym, ap, ◌∙◌, subst, arith, add-one, ⊎_elim, inl, inr, ◌⊎◌}
-use Rattle.std.specs.Prelude.{All, AllPairs, Contains}
+use Rattle.std.proofs.Common.{◌≡◌, ◌≢◌, ◌<◌, ◌+◌, ℕ, zero, suc, List, [], ◌∷◌, ◌++◌, Bool, true, false, not, ◌&&◌, map, length, take, get_or, get_or-take, cond, Bor, Option, None, Some, IfSome, refl, sym, ap, ◌∙◌, subst, arith, add-one}
+use Rattle.std.specs.Prelude.{Contains}
 use Rattle.std.proofs.lemmas.Bool.{not-false, not-true}
 use Rattle.std.proofs.lemmas.List.{get_or_default, get_or-map, length-map, map-append}
 use Rattle.std.proofs.lemmas.List.Sums.{AllPass-from_list_all, list_all-from_AllPass}
-use Rattle.std.specs.List.{list_all, list_any}
+use Rattle.std.specs.List.{list_all}
 use Rattle.std.specs.Bool.{Decides}
 use Rattle.std.proofs.Math.Seq.{take-suc}
 use Rattle.std.proofs.lemmas.Grind.{common_steps}
@@ -13,7 +13,7 @@ use Rattle.std.proofs.lemmas.List.Quantifiers.{all_pairs_push}
 use Rattle.process_terms.specs.Systems.{Name, Summand, Equation, System, IsWellNamed, equation_names}
 use Rattle.process_terms.proofs.Lists.Apart.{one_more}
 use Rattle.process_terms.proofs.Lists.In.{here, there}
-use Rattle.process_terms.proofs.Lists.{Apart, In, apart, apart_append, apart_back, apart_front, contains_in, in_back, in_contains, in_front, pairs_apart}
+use Rattle.process_terms.proofs.Lists.{Apart, In, apart, apart_append, apart_back, apart_front, contains_in, in_back, in_contains, pairs_apart}
 use Rattle.lin_driver.specs.Naming.{AreDistinct, are_used, is_among, is_none_or_among, uses_names}
 use Rattle.lin_driver.specs.PlainSystems as plain
 use Rattle.lin_driver.specs.declared.system.Equation as code

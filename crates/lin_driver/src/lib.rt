@@ -11,3 +11,6 @@ mod reading;
 mod system;
 
 pub use linearising::{PlainFault, plain};
+
+#[cfg(test)]
+mod tests;

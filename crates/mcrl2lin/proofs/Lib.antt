@@ -1,1 +1,2 @@
 pub mod EndLines
+pub mod Told

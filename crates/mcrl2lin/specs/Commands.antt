@@ -1,5 +1,5 @@
 -- What the words of the command line ask for.
-use Rattle.std.specs.Prelude.{ℕ, List, [], ◌∷◌, ◌==◌, Option, Some, None, cond, codes, Bool, true, false, option_and_then}
+use Rattle.std.specs.Prelude.{ℕ, List, [], ◌∷◌, ◌==◌, Option, Some, None, cond, codes, Bool, false, option_and_then}
 use Rattle.std.specs.Str.{bytes_eq}
 
 -- a name that begins with a dash is an option

@@ -1,8 +1,10 @@
 -- How a run ends, and the line that says so.
-use Rattle.std.specs.Prelude.{ℕ, List, Option, Some, ◌++◌, [], ◌≡◌, ◌≤◌, ◌<◌, ◌⊎◌, length, IfSome}
+use Rattle.std.specs.Prelude.{⊤, ℕ, List, Option, Some, ◌++◌, [], ◌≡◌, ◌≤◌, ◌<◌, ◌⊎◌, length, IfSome}
 use Rattle.mcrl2_text.specs.Bytes.{TakesPrefix}
 use Rattle.mcrl2_text.specs.declared.loading.TheConstants.{MAX_TEXT_LEN}
 use Rattle.mcrl2_text.specs.Faults.{Rose}
+use Rattle.process_terms.specs.Headline.{StandsFor}
+use Rattle.process_terms.specs.Systems.{System}
 use Rattle.lin_driver.specs.FirstForm.{HasFirstForm}
 use Rattle.mcrl2lin.specs.Lines.{line_of, write_fault_line}
 use Rattle.mcrl2lin.specs.declared.stop.Stop.TheVariants as stop
@@ -28,3 +30,14 @@ pub record EndsWithLine (status : Status) (text : Option (List ℕ)) (before aft
   pub says : IsLineOf status text line
   pub prefix : IfSome before (λ bytes. TakesPrefix bytes after line)
   pub whole : Rose faults_before faults_after ⊎ IfSome before (λ bytes. after ≡ Some (bytes ++ line))
+
+-- the run is done, and the bytes that the output took stand for the system; or memory ran out
+abbrev pub EndsWell : Status → System → Option (List ℕ) → Option (List ℕ) → Type 0
+EndsWell Done system before after = IfSome before (λ bytes. (printed : List ℕ) × (after ≡ Some (bytes ++ printed)) × StandsFor system printed)
+EndsWell NoMemory system before after = ⊤
+EndsWell Refused system before after = ⊥
+EndsWell Words system before after = ⊥
+EndsWell ReadFault system before after = ⊥
+EndsWell WriteFault system before after = ⊥
+EndsWell Undecided system before after = ⊥
+EndsWell No system before after = ⊥

@@ -2,9 +2,12 @@
 ghost use Rattle.std.specs.Prelude.{◌≡◌, ◌≢◌, ◌≤◌, ◌<◌, ◌⊎◌, ◌↔◌, ◌++◌, List, ℕ, Some, None, IfOk, IfSome, IsErrOf, length, map, string_bytes};
 ghost use Rattle.mcrl2_text.specs.Bytes.{TakesPrefix};
 ghost use Rattle.mcrl2_text.specs.Faults.{Rose};
-ghost use Rattle.lin_driver.specs.FirstForm.{HasFirstForm, IsLinearisedTo};
+ghost use Rattle.process_terms.specs.Headline.{StandsFor};
+ghost use Rattle.process_terms.specs.Systems.{System};
+ghost use Rattle.lin_driver.specs.FirstForm.{HasFirstForm, IsFirstForm};
+ghost use Rattle.lin_driver.specs.Linearised.{IsLinearisedTo};
 ghost use Rattle.mcrl2lin.specs.Commands.{file_asked, text_asked};
-ghost use Rattle.mcrl2lin.specs.Ends.{EndsWithLine};
+ghost use Rattle.mcrl2lin.specs.Ends.{EndsWell, EndsWithLine};
 ghost use Rattle.mcrl2lin.specs.Stops.{status_of_stop};
 
 use crate::command::file_of;
@@ -64,6 +67,13 @@ pub fn run<H: Shelf, O: Sink, E: Sink>(
         (E.taken err.old) (E.taken err.new) (E.faults err.old) (E.faults err.new) }
 
     ensures shelf_kept { result ≡ Status.Words → shelf.new ≡ shelf.old }
+
+    // A text of the first form is linearised, and what is written has its steps; any other text is refused.
+    ensures headline { IfSome (text_asked (H.text_of shelf.old) (map string_bytes words.now.items)) (λ text. (system : System) → IsFirstForm text system
+        → length text ≤ MAX_TEXT_LEN → ¬ (Rose (H.faults shelf.old) (H.faults shelf.new)) → ¬ (Rose (O.faults out.old) (O.faults out.new))
+        → EndsWell result system (O.taken out.old) (O.taken out.new)) }
+    ensures refused { IfSome (text_asked (H.text_of shelf.old) (map string_bytes words.now.items)) (λ text. (MAX_TEXT_LEN < length text) ⊎ (¬ (HasFirstForm text))
+        → ¬ (Rose (H.faults shelf.old) (H.faults shelf.new)) → (result ≡ Status.Refused) ⊎ (result ≡ Status.NoMemory)) }
 {
     match linearised(alloc, words, shelf) {
         Ok(printed) => {
@@ -90,6 +100,8 @@ fn linearised<H: Shelf>(alloc: Global, words: &[String], shelf: &mut H) -> Resul
         (λ text. (length text ≤ MAX_TEXT_LEN) × (¬ (HasFirstForm text))) }
     ensures linearised { IfOk result (λ printed. IfSome (text_asked (H.text_of shelf.old) (map string_bytes words.now))
         (λ text. (length text ≤ MAX_TEXT_LEN) × IsLinearisedTo text printed.items)) }
+    ensures headline { IfOk result (λ printed. IfSome (text_asked (H.text_of shelf.old) (map string_bytes words.now))
+        (λ text. (system : System) → IsFirstForm text system → StandsFor system printed.items)) }
     ensures shelf_kept { IsErrOf result Stop.Words → shelf.new ≡ shelf.old }
 {
     let file = file_of(words).ok_or(Stop::Words)?;
@@ -107,3 +119,6 @@ fn status_of(stop: Stop) -> Status
         Stop::NoMemory => Status::NoMemory,
     }
 }
+
+#[cfg(test)]
+mod tests;

@@ -1,6 +1,5 @@
-use Rattle.std.proofs.Common.{rules, arith, ◌≡◌, ◌∷◌, List, length, sym, ap, subst, ◌∙◌, string_bytes}
+use Rattle.std.proofs.Common.{arith, ◌≡◌, ◌∷◌, List, length, sym, subst, ◌∙◌, string_bytes}
 use Rattle.std.proofs.lemmas.Grind.{common_steps}
-use Rattle.mcrl2_lexer.specs.declared.token.Token.{Token}
 use Rattle.mcrl2_lexer.specs.Lexing.{HasTokens, SpansRise}
 use Rattle.mcrl2_lexer.proofs.Faulty.{fault_no_tokens}
 use Rattle.std.specs.Prelude.{codes}

@@ -1,7 +1,7 @@
-use Rattle.std.proofs.Common.{◌≡◌, ◌∙◌, sym, ap, subst, List, Bor, ℕ, map, true, false, rules, arith, ◌&&◌}
+use Rattle.std.proofs.Common.{◌≡◌, ◌∙◌, sym, subst, map, true, false, rules, arith}
 use Rattle.std.proofs.lemmas.Grind.{common_steps}
-use Rattle.process_terms.specs.Systems.{Name, equation_names}
-use Rattle.lin_driver.specs.Naming.{AreDistinct, are_used}
+use Rattle.process_terms.specs.Systems.{equation_names}
+use Rattle.lin_driver.specs.Naming.{AreDistinct}
 use Rattle.lin_driver.specs.PlainSystems.{plain_system}
 use Rattle.lin_driver.specs.declared.system.Equation.{Equation}
 use Rattle.lin_driver.proofs.WellNamed.{acts_distinct, equations_distinct, names_of_equations, tests_hold, tests_of_code, well_named}

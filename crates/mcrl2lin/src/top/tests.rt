@@ -1,0 +1,185 @@
+use super::*;
+use mcrl2_text::{MemShelf, MemSink, MemText, SteadyShelf, SteadySink};
+use std::process::Abort;
+use std::test::Fail;
+
+/// A run of the program over a shelf and two sinks in memory whose calls move at most 5 bytes, and how it ends.
+struct Row {
+    name: &'static str,
+    words: &'static [&'static str],
+    text: &'static [u8],
+    open_fails: &'static [u64],
+    read_fails: &'static [u64],
+    write_fails: &'static [u64],
+    err_fails: &'static [u64],
+    status: Status,
+    out: &'static [u8],
+    err: &'static [u8],
+}
+
+const LINEARISE: &[&str] = &["mcrl2lin", "linearise", "f"];
+
+const TWO_STEPS: &[u8] = b"act a, b; proc X = a . Y; Y = b . X; init X;";
+
+const PRINTED: &[u8] =
+    b"act a, b;\nproc P(s: Pos) = (s == 1) -> a . P(s = 2)\n  + (s == 2) -> b . P(s = 1);\ninit P(1);\n";
+
+const USAGE: &[u8] =
+    b"usage: mcrl2lin TASK FILE [--trace FILE] [--method M] [--fuel N] [--bound N] [--seed N] [--depth N]\n";
+
+const TWO: Row = Row {
+    name: "two steps",
+    words: LINEARISE,
+    text: TWO_STEPS,
+    open_fails: &[],
+    read_fails: &[],
+    write_fails: &[],
+    err_fails: &[],
+    status: Status::Done,
+    out: PRINTED,
+    err: b"",
+};
+
+const ROWS: [Row; 8] = [
+    TWO,
+    Row {
+        name: "the empty text",
+        text: b"",
+        status: Status::Refused,
+        out: b"",
+        err: b"refused 90 NotBuilt\n",
+        ..TWO
+    },
+    Row {
+        name: "the third read fails",
+        read_fails: &[3],
+        status: Status::ReadFault,
+        out: b"",
+        err: b"read fault\n",
+        ..TWO
+    },
+    Row {
+        name: "the text can't be opened",
+        open_fails: &[1],
+        status: Status::ReadFault,
+        out: b"",
+        err: b"read fault\n",
+        ..TWO
+    },
+    Row {
+        name: "a name that the shelf hasn't",
+        words: &["mcrl2lin", "linearise", "g"],
+        status: Status::ReadFault,
+        out: b"",
+        err: b"read fault\n",
+        ..TWO
+    },
+    Row {
+        name: "the third write fails",
+        write_fails: &[3],
+        status: Status::WriteFault,
+        out: b"act a, b;\n",
+        err: b"write fault\n",
+        ..TWO
+    },
+    Row {
+        name: "the error output fails at its second write",
+        text: b"init delta;",
+        err_fails: &[2],
+        status: Status::Refused,
+        out: b"",
+        err: b"refus",
+        ..TWO
+    },
+    Row {
+        name: "the words are a task alone",
+        words: &["mcrl2lin", "linearise"],
+        status: Status::Words,
+        out: b"",
+        err: USAGE,
+        ..TWO
+    },
+];
+
+/// Words that give no command.
+const NO_COMMANDS: [&[&str]; 8] = [
+    &[],
+    &["mcrl2lin"],
+    &["mcrl2lin", "check", "f"],
+    &["mcrl2lin", "linearise", "-f"],
+    &["mcrl2lin", "linearise", "--", "f"],
+    &["mcrl2lin", "linearise", "f", "g"],
+    &["mcrl2lin", "Linearise", "f"],
+    &["mcrl2lin", "f", "linearise"],
+];
+
+fn strings(alloc: Global, words: &[&str]) -> Result<Vec<String>, Fail> {
+    let mut strings = Vec::new(alloc);
+    for word in words {
+        strings.push(String::from_str(alloc, word)?)?;
+    }
+    Ok(strings)
+}
+
+fn texts(alloc: Global, text: &[u8]) -> Result<Vec<MemText>, Fail> {
+    let mut texts = Vec::new(alloc);
+    texts.push(MemText {
+        name: String::from_str(alloc, "f")?,
+        text: text.to_vec(alloc)?,
+    })?;
+    Ok(texts)
+}
+
+fn ends_as_told(rt: &impl Abort, alloc: Global, row: &Row) -> Result<(), Fail> {
+    let words = strings(alloc, row.words)?;
+    let open_fails = row.open_fails.to_vec(alloc)?;
+    let read_fails = row.read_fails.to_vec(alloc)?;
+    let mut shelf = MemShelf::new(texts(alloc, row.text)?, open_fails, read_fails, 5);
+    let mut out = MemSink::new(alloc, 200, row.write_fails.to_vec(alloc)?, 5)?;
+    let mut err = MemSink::new(alloc, 200, row.err_fails.to_vec(alloc)?, 5)?;
+    let status = run(alloc, &words, &mut shelf, &mut out, &mut err);
+    assert_eq!(rt; status, row.status, "{}", row.name);
+    assert_eq!(rt; out.bytes(), row.out, "{}", row.name);
+    assert_eq!(rt; err.bytes(), row.err, "{}", row.name);
+    Ok(())
+}
+
+#[test]
+fn runs_end_with_their_status_and_bytes(rt: HostRuntime) -> Result<(), Fail> {
+    for row in &ROWS {
+        ends_as_told(&rt, rt.alloc(), row)?;
+    }
+    Ok(())
+}
+
+#[test]
+fn words_without_a_command_get_the_usage_line(rt: HostRuntime) -> Result<(), Fail> {
+    let alloc = rt.alloc();
+    for words in NO_COMMANDS {
+        let words = strings(alloc, words)?;
+        let mut shelf = SteadyShelf::new(texts(alloc, TWO_STEPS)?);
+        let mut err = MemSink::new(alloc, 200, Vec::new(alloc), 200)?;
+        let status = run(alloc, &words, &mut shelf, &mut SteadySink::new(), &mut err);
+        assert_eq!(rt; status, Status::Words);
+        assert_eq!(rt; err.bytes(), USAGE);
+    }
+    Ok(())
+}
+
+#[test]
+fn a_text_past_the_limit_is_too_long(rt: HostRuntime) -> Result<(), Fail> {
+    let alloc = rt.alloc();
+    let words = strings(alloc, LINEARISE)?;
+    for (len, line) in [
+        (MAX_TEXT_LEN, b"refused 90 NotBuilt\n".as_slice()),
+        (MAX_TEXT_LEN + 1, b"refused 0 TooLong\n".as_slice()),
+    ] {
+        let text = vec![in alloc; b' '; len]?;
+        let mut shelf = SteadyShelf::new(texts(alloc, &text)?);
+        let mut err = MemSink::new(alloc, 200, Vec::new(alloc), 200)?;
+        let status = run(alloc, &words, &mut shelf, &mut SteadySink::new(), &mut err);
+        assert_eq!(rt; status, Status::Refused);
+        assert_eq!(rt; err.bytes(), line);
+    }
+    Ok(())
+}
