@@ -1,10 +1,12 @@
 -- Processes that are the same answer each other's steps.
-use Rattle.std.proofs.Common.{ℕ, List}
+use Rattle.std.proofs.Common.{◌≡◌, ℕ, List, ap, subst, Some}
+use Rattle.std.specs.Prelude.{slice_get}
+use Rattle.data_theory.specs.Environments.{bound}
 use Rattle.data_theory.specs.Terms.{Sort, Term}
 use Rattle.data_theory.specs.Provable.{reflexive, symmetric, transitive}
 use Rattle.process_terms.specs.Theories.{Theory}
 use Rattle.process_terms.specs.Labels.{Label}
-use Rattle.process_terms.specs.Processes.{Around, Table, Process, delta, act, choice, seq, cond, sum, call, merge, around, body_of}
+use Rattle.process_terms.specs.Processes.{Around, Table, Process, delta, act, choice, seq, cond, sum, call, merge, around, Definition, close, BodyOf, the_body}
 use Rattle.process_terms.specs.Steps.{Outcome, ended, goes_on, before, beside, within, Step, by_act, by_left, by_right, by_seq, by_true, by_false, by_sum, by_call, by_left_alone, by_right_alone, by_both, by_around}
 use Rattle.process_terms.proofs.AgreeingLabels.{equals_refl, equals_sym, agree_refl, agree_sym, agree_trans, agree_append}
 use Rattle.process_terms.proofs.OperatorLemmas.{passes_along}
@@ -72,8 +74,10 @@ data_answers (by_false c s) q (equal_cond e h k) =
     let a = data_answers s _ k in record { label = a.label; outcome = a.outcome; step = by_false (transitive (symmetric e) c) a.step; agree = a.agree; lands = a.lands }
 data_answers (by_sum t i s) q (equal_sum h) =
     let a = data_answers s _ (h t) in record { label = a.label; outcome = a.outcome; step = by_sum t i a.step; agree = a.agree; lands = a.lands }
-data_answers (by_call {x = x} {ts = ts} s) q (equal_call {us = us} k e) =
-    let a = data_answers s _ (bodies_equal k x ts us e) in record { label = a.label; outcome = a.outcome; step = by_call a.step; agree = a.agree; lands = a.lands }
+data_answers (by_call b s) q (equal_call {us = us} k e) =
+    let c = bodies_equal k b us e in
+    let a = data_answers s c.other c.same in
+    record { label = a.label; outcome = a.outcome; step = by_call c.body a.step; agree = a.agree; lands = a.lands }
 data_answers (by_left_alone s) q (equal_merge h k) =
     let a = data_answers s _ h in
     record { label = a.label; outcome = _; step = by_left_alone a.step; agree = a.agree; lands = lands_beside (λ x x' y y' h k. equal_merge h k) a.lands (both_go_on k) }
@@ -118,11 +122,18 @@ through_both f g m o s =
 through_data : {th : Theory} {p q : Process} → EqualData th p q → AnswersAlike th p q
 through_data h m r s = answer_weaken (λ x y k. by_data k) (data_answers s _ h)
 
-into_body : {th : Theory} {d : Table} {x : ℕ} {ts : List Term} → AnswersAlike th (call d x ts) (body_of d x ts)
-into_body {th} m r (by_call s) = record { label = m; outcome = r; step = s; agree = agree_refl th m; lands = lands_refl th r }
+-- a call has one body
+one_body : {d : Table} {x : ℕ} {ts : List Term} {p q : Process} → BodyOf d x ts p → BodyOf d x ts q → p ≡ q
+one_body {d = d} {ts = ts} b (the_body f at l) = is_that b f at
+  where
+    is_that : {x : ℕ} {p : Process} → BodyOf d x ts p → (f : Definition) → slice_get d x ≡ Some f → p ≡ close d (bound f.params ts) f.body
+    is_that (the_body f' at' l') f at = let same : f' ≡ f = cc in ap (λ z. close d (bound z.params ts) z.body) same
 
-out_of_body : {th : Theory} {d : Table} {x : ℕ} {ts : List Term} → AnswersAlike th (body_of d x ts) (call d x ts)
-out_of_body {th} m r s = record { label = m; outcome = r; step = by_call s; agree = agree_refl th m; lands = lands_refl th r }
+into_body : {th : Theory} {d : Table} {x : ℕ} {ts : List Term} {p : Process} → BodyOf d x ts p → AnswersAlike th (call d x ts) p
+into_body {th} b m r (by_call c s) = record { label = m; outcome = r; step = subst (λ q. Step th q m r) (one_body c b) s; agree = agree_refl th m; lands = lands_refl th r }
+
+out_of_body : {th : Theory} {d : Table} {x : ℕ} {ts : List Term} {p : Process} → BodyOf d x ts p → AnswersAlike th p (call d x ts)
+out_of_body {th} b m r s = record { label = m; outcome = r; step = by_call b s; agree = agree_refl th m; lands = lands_refl th r }
 
 through_choice : {th : Theory} {p p' q q' : Process} → AnswersAlike th p p' → AnswersAlike th q q' → AnswersAlike th (choice p q) (choice p' q')
 through_choice f g m r (by_left s) = let a = f m r s in record { label = a.label; outcome = a.outcome; step = by_left a.step; agree = a.agree; lands = a.lands }
@@ -158,7 +169,7 @@ through_around {o = o} f m r (by_around s i) =
 
 mutual_of : {th : Theory} {p q : Process} → Alike th p q → Mutual th p q
 mutual_of (by_data h) = record { forth = through_data h; back = through_data (data_sym h) }
-mutual_of by_body = record { forth = into_body; back = out_of_body }
+mutual_of (by_body b) = record { forth = into_body b; back = out_of_body b }
 mutual_of (turned h) = let a = mutual_of h in record { forth = a.back; back = a.forth }
 mutual_of (joined_up h k) = let a = mutual_of h in let b = mutual_of k in record { forth = through_both a.forth b.forth; back = through_both b.back a.back }
 mutual_of (alike_choice h k) = let a = mutual_of h in let b = mutual_of k in record { forth = through_choice a.forth b.forth; back = through_choice a.back b.back }

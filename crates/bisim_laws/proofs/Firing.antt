@@ -10,9 +10,9 @@ use Rattle.data_theory.specs.Environments.{Environment, term_in, bound, Agree, A
 use Rattle.data_theory.proofs.EnvironmentLemmas.{contains_nothing, contains_cases as number_cases, contains_first as number_first, contains_later as number_later, agreeing_give_the_same_term, agreeing_give_the_same_terms, parameters_read_back}
 use Rattle.process_terms.specs.Theories.{Theory, IsTrue, IsOfSort}
 use Rattle.process_terms.specs.Labels.{Label, put_label}
-use Rattle.process_terms.specs.Processes.{Bound, Body, written_cond, written_delta, choice_of, sums_around, Table, close}
+use Rattle.process_terms.specs.Processes.{Bound, Body, written_cond, written_delta, choice_of, sums_around, Table, close, Definition, Process, BodyOf, the_body}
 use Rattle.process_terms.specs.Steps.{Outcome, Step, by_act, by_left, by_right, by_seq, by_true, by_false, by_sum, by_call}
-use Rattle.bisim_laws.specs.LinearProcesses.{Summand, Linear, variables, label_and_next, is_true, unless_true, summand_body, linear_table, state_of, LabelIsOver, no_action_left, action_over, NextIsOver, no_next, next_over, IsSummand, reading, put_next, outcome_of, Does, AreBound}
+use Rattle.bisim_laws.specs.LinearProcesses.{Summand, Linear, variables, label_and_next, is_true, unless_true, summand_body, linear_table, state_of, LabelIsOver, no_action_left, action_over, NextIsOver, no_next, next_over, IsSummand, IsLinear, reading, put_next, outcome_of, Does, AreBound, Fires}
 use Rattle.bisim_laws.specs.LinkLaws.{StepsAreFirings, FiringsAreSteps}
 
 -- ---- elements of lists
@@ -226,12 +226,17 @@ step_body th l (x ∷ y ∷ ss) s e {m} {r} i k = ⊎_elim
     (contains_cases x s (y ∷ ss) i)
 
 -- ---- the laws
-variables_long : (xs : List Bound) → length (variables xs) ≡ length xs
-variables_long [] = refl
-variables_long (x ∷ xs) = ap suc (variables_long xs)
+reading_long : (e : Environment) (xs : List ℕ) → length (reading e xs) ≡ length xs
+reading_long e [] = refl
+reading_long e (x ∷ xs) = ap suc (reading_long e xs)
 
-pub fired : StepsAreFirings
-fired th l ts m r is long (by_call s) =
+-- the one definition of a linear process
+abbrev the_definition : Linear → Definition
+the_definition l = record { params = variables l.params; body = choice_of (map summand_body l.summands) }
+
+fired_in : (th : Theory) (l : Linear) (ts : List Term) (m : Label) (r : Outcome) → IsLinear l → length ts ≡ length (variables l.params)
+    → Step th (close (linear_table l) (bound (variables l.params) ts) (choice_of (map summand_body l.summands))) m r → (next : Option (List Term)) × (Fires th l ts m next × (r ≡ outcome_of l next))
+fired_in th l ts m r is long s =
     let k = body_step th l l.summands (bound (variables l.params) ts) s in
     let f = is.summands k.summand k.among in (
       put_next k.environment k.summand.next,
@@ -240,7 +245,7 @@ fired th l ts m r is long (by_call s) =
           summand = k.summand;
           among = k.among;
           environment = k.environment;
-          reads = reading_same (variables l.params) k.environment (bound (variables l.params) ts) (λ v i. sums_keep k.sums v (λ j. f.apart v j i)) ∙ bound_reads (variables l.params) ts (long ∙ sym (variables_long l.params)) is.distinct;
+          reads = reading_same (variables l.params) k.environment (bound (variables l.params) ts) (λ v i. sums_keep k.sums v (λ j. f.apart v j i)) ∙ bound_reads (variables l.params) ts long is.distinct;
           bound = sums_of_sorts k.sums f.distinct;
           does = record { holds = k.holds; label = k.label; onward = refl };
         },
@@ -248,12 +253,22 @@ fired th l ts m r is long (by_call s) =
       ),
     )
 
+fired_by : (th : Theory) (l : Linear) (ts : List Term) (m : Label) (r : Outcome) → IsLinear l → {p : Process} → BodyOf (linear_table l) 0 ts p → Step th p m r
+    → (next : Option (List Term)) × (Fires th l ts m next × (r ≡ outcome_of l next))
+fired_by th l ts m r is (the_body f at long) s =
+    let same : the_definition l ≡ f = cc in
+    fired_in th l ts m r is (long ∙ sym (ap (λ z. length z.params) same)) (subst (λ z. Step th (close (linear_table l) (bound z.params ts) z.body) m r) (sym same) s)
+
+pub fired : StepsAreFirings
+fired th l ts m r is (by_call b s) = fired_by th l ts m r is b s
+
 pub fire : FiringsAreSteps
-fire th l ts m next is long k =
+fire th l ts m next is k =
     let s = k.summand in
     let base = bound (variables l.params) ts in
     let r = restored th s.sums base k.environment k.bound in
-    let reads : reading base (variables l.params) ≡ reading k.environment (variables l.params) = bound_reads (variables l.params) ts (long ∙ sym (variables_long l.params)) is.distinct ∙ sym k.reads in
+    let long : length ts ≡ length (variables l.params) = ap length (sym k.reads) ∙ reading_long k.environment (variables l.params) in
+    let reads : reading base (variables l.params) ≡ reading k.environment (variables l.params) = bound_reads (variables l.params) ts long is.distinct ∙ sym k.reads in
     let both : Agree (variables s.sums ++ variables l.params) (term_in k.environment) (term_in r.environment) =
     agree_on_both (variables s.sums) (variables l.params) (term_in k.environment) (term_in r.environment)
     (λ v i. sym (r.same v (inl i)))
@@ -261,4 +276,4 @@ fire th l ts m next is long k =
     let h = does_along th l.params s k.environment r.environment m next (is.summands s k.among) both k.does in
     subst (λ n. Step th (state_of l ts) n (outcome_of l next)) (sym h.label)
     (subst (λ n. Step th (state_of l ts) (put_label r.environment s.label) (outcome_of l n)) (sym h.onward)
-    (by_call (step_body th l l.summands s base k.among (step_summand th l s base r.environment r.sums h.holds))))
+    (by_call (the_body (the_definition l) refl long) (step_body th l l.summands s base k.among (step_summand th l s base r.environment r.sums h.holds))))

@@ -5,3 +5,4 @@ pub mod Firing
 pub mod Unpaired
 pub mod PieceByPiece
 pub mod SortedFiring
+pub mod NamesOfVariables

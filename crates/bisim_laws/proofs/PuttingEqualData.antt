@@ -1,5 +1,5 @@
 -- Provably equal arguments give the same bodies.
-use Rattle.std.proofs.Common.{ℕ, List, [], ◌∷◌, map, true, false, cond as by_test, ◌==◌, Option, Some, None}
+use Rattle.std.proofs.Common.{◌≡◌, ℕ, suc, List, [], ◌∷◌, map, length, refl, sym, ap, ◌∙◌, subst, true, false, cond as by_test, ◌==◌, Option, Some, None}
 use Rattle.std.specs.Prelude.{slice_get}
 use Rattle.data_theory.specs.Terms.{Term, put}
 use Rattle.data_theory.specs.Provable.{reflexive, symmetric}
@@ -7,7 +7,7 @@ use Rattle.data_theory.specs.Environments.{Environment, term_in, bound}
 use Rattle.data_theory.proofs.EqualityLemmas.{put_equal}
 use Rattle.process_terms.specs.Theories.{Theory, Equal, Equals, no_terms, more_terms}
 use Rattle.process_terms.specs.Labels.{Label, put_label, equal_args, AgreeInOrder, both_silent, next_agree}
-use Rattle.process_terms.specs.Processes.{Body, written_delta, written_act, written_choice, written_seq, written_cond, written_sum, written_call, written_merge, written_around, Definition, Table, close, entered, body_of}
+use Rattle.process_terms.specs.Processes.{Body, written_delta, written_act, written_choice, written_seq, written_cond, written_sum, written_call, written_merge, written_around, Definition, Table, Process, close, BodyOf, the_body}
 use Rattle.process_terms.proofs.AgreeingLabels.{equals_sym, agree_sym}
 use Rattle.bisim_laws.specs.Sameness.{SameBody, same_delta, same_act, same_choice, same_seq, same_cond, same_sum, same_call, same_merge, same_around, SameDefinition, both_missing, both_there, SameTables, EqualData, equal_delta, equal_act, equal_choice, equal_seq, equal_cond, equal_sum, equal_call, equal_merge, equal_around}
 
@@ -61,17 +61,35 @@ bound_equal (x ∷ xs) (more_terms h k) = one_binding h (bound_equal xs k)
 
 definition_refl : (th : Theory) (f : Option Definition) → SameDefinition th f f
 definition_refl th None = both_missing
-definition_refl th (Some f) = both_there (λ ts us h. body_refl th (bound f.params ts) (bound f.params us) (bound_equal f.params h) f.body)
+definition_refl th (Some f) = both_there refl (λ ts us l h. body_refl th (bound f.params ts) (bound f.params us) (bound_equal f.params h) f.body)
 
 pub tables_refl : (th : Theory) (d : Table) → SameTables th d d
 tables_refl th d = record { at = λ x. definition_refl th (slice_get d x) }
 
-entered_equal : {th : Theory} {d e : Table} → SameTables th d e → {f g : Option Definition} {ts us : List Term} → SameDefinition th f g → Equals th ts us → EqualData th (entered d f ts) (entered e g us)
-entered_equal k both_missing h = equal_delta
-entered_equal k (both_there f) h = closed_equal k (f _ _ h)
+pub equals_long : {th : Theory} {ts us : List Term} → Equals th ts us → length ts ≡ length us
+equals_long no_terms = refl
+equals_long (more_terms h k) = ap suc (equals_long k)
 
-pub bodies_equal : {th : Theory} {d e : Table} → SameTables th d e → (x : ℕ) (ts us : List Term) → Equals th ts us → EqualData th (body_of d x ts) (body_of e x us)
-bodies_equal k x ts us h = entered_equal k (k.at x) h
+-- the bodies of two calls
+pub record Bodies (th : Theory) (e : Table) (x : ℕ) (us : List Term) (p : Process) : Type 0 where
+  pub other : Process
+  pub body : BodyOf e x us other
+  pub same : EqualData th p other
+
+definitions_equal : (th : Theory) (d e : Table) → SameTables th d e → {o o' : Option Definition} → SameDefinition th o o' → (x : ℕ) → slice_get e x ≡ o' → (f : Definition) → o ≡ Some f
+    → (ts us : List Term) → length ts ≡ length f.params → Equals th ts us → Bodies th e x us (close d (bound f.params ts) f.body)
+definitions_equal th d e k both_missing x at f q ts us l h = absurd (nothing_there q)
+  where
+    nothing_there : None ≡ Some f → ⊥
+    nothing_there q = cc
+definitions_equal th d e k (both_there {f = f'} {g = g} n b) x at f q ts us l h =
+    let same : f' ≡ f = cc in
+    let l' : length ts ≡ length f'.params = l ∙ sym (ap (λ z. length z.params) same) in
+    subst (λ z. Bodies th e x us (close d (bound z.params ts) z.body)) same
+    (record { other = close e (bound g.params us) g.body; body = the_body g at (sym (equals_long h) ∙ l' ∙ n); same = closed_equal k (b ts us l' h) })
+
+pub bodies_equal : {th : Theory} {d e : Table} → SameTables th d e → {x : ℕ} {ts : List Term} {p : Process} → BodyOf d x ts p → (us : List Term) → Equals th ts us → Bodies th e x us p
+bodies_equal {th} {d} {e} k (the_body {x = x} {ts = ts} f at l) us h = definitions_equal th d e k (k.at x) x refl f at ts us l h
 
 -- ---- the other way round
 body_sym : {th : Theory} {d e : Environment} {p q : Body} → SameBody th d p e q → SameBody th e q d p
@@ -87,7 +105,7 @@ body_sym (same_around h) = same_around (body_sym h)
 
 definition_sym : {th : Theory} {f g : Option Definition} → SameDefinition th f g → SameDefinition th g f
 definition_sym both_missing = both_missing
-definition_sym (both_there h) = both_there (λ ts us e. body_sym (h us ts (equals_sym e)))
+definition_sym (both_there n h) = both_there (sym n) (λ ts us l e. body_sym (h us ts (sym (equals_long e) ∙ l ∙ sym n) (equals_sym e)))
 
 pub tables_sym : {th : Theory} {d e : Table} → SameTables th d e → SameTables th e d
 tables_sym k = record { at = λ x. definition_sym (k.at x) }

@@ -1,12 +1,13 @@
 -- What no good link can pair, as checks of the definitions.
-use Rattle.std.specs.Prelude.{◌≡◌, [], ◌∷◌}
+use Rattle.std.specs.Prelude.{◌≡◌, ℕ, [], ◌∷◌}
+use Rattle.data_theory.specs.Terms.{Term, variable}
 use Rattle.process_terms.specs.Theories.{Theory}
-use Rattle.process_terms.specs.Labels.{Label}
-use Rattle.process_terms.specs.Processes.{Process, delta, act, seq}
+use Rattle.process_terms.specs.Labels.{Action, Label}
+use Rattle.process_terms.specs.Processes.{Bound, written_act, written_sum, Table, Process, delta, act, seq, call, close}
 use Rattle.process_terms.specs.Steps.{Outcome, Step}
 use Rattle.bisim_laws.specs.LinearProcesses.{Linear}
 use Rattle.bisim_laws.specs.BaseStates.{kept}
-use Rattle.bisim_laws.specs.Links.{Link, Dropped, Pairs, IsGood}
+use Rattle.bisim_laws.specs.Links.{Link, Same, Dropped, Pairs, IsGood}
 
 -- a process that can do something has no good link with `delta`
 abbrev pub NothingDoneIsNoAnswer : Type 0
@@ -23,3 +24,18 @@ NothingPairedIsNotGood = (th : Theory) (l : Link) (p q : Process) → ((x y : Pr
 -- there are such links: one that keeps a parameter which isn't there
 abbrev pub AMissingParameterPairsNothing : Type 0
 AMissingParameterPairsNothing = (th : Theory) (l : Linear) → l.params ≡ [] → (p q : Process) → Pairs th (Dropped (kept ∷ []) l l) p q → ⊥
+
+-- ---- `Same` doesn't look at the names of variables
+-- `proc P(x: S) = a(x)`, for any x
+abbrev pub one_action : Action → ℕ → Table
+one_action a x = record { params = x ∷ []; body = written_act (record { name = a.name; sorts = a.sorts; args = variable x ∷ [] } ∷ []) } ∷ []
+
+abbrev pub NamesOfParametersDoNotCount : Type 0
+NamesOfParametersDoNotCount = (th : Theory) (a : Action) (x y : ℕ) (t : Term) → Pairs th Same (call (one_action a x) 0 (t ∷ [])) (call (one_action a y) 0 (t ∷ []))
+
+-- `sum x: S . a(x)`, for any x
+abbrev pub one_sum : Action → Bound → Process
+one_sum a x = close [] [] (written_sum x (written_act (record { name = a.name; sorts = a.sorts; args = variable x.var ∷ [] } ∷ [])))
+
+abbrev pub NamesOfSumsDoNotCount : Type 0
+NamesOfSumsDoNotCount = (th : Theory) (a : Action) (x y : Bound) → x.sort ≡ y.sort → Pairs th Same (one_sum a x) (one_sum a y)

@@ -1,5 +1,5 @@
 -- What the laws of links say.
-use Rattle.std.specs.Prelude.{◌≡◌, List, length, Option, Some}
+use Rattle.std.specs.Prelude.{◌≡◌, List, Option, Some}
 use Rattle.data_theory.specs.Terms.{Sort, Term}
 use Rattle.process_terms.specs.Theories.{Theory, AreOfSorts}
 use Rattle.process_terms.specs.Labels.{Label}
@@ -37,12 +37,12 @@ UpToSameIsEnough = (th : Theory) (l : Link) → IsBase l → Progress th (States
 -- a step of a state is a firing, and comes to what the firing's next arguments say
 abbrev pub StepsAreFirings : Type 0
 StepsAreFirings =
-    (th : Theory) (l : Linear) (ts : List Term) (m : Label) (r : Outcome) → IsLinear l → length ts ≡ length l.params → Step th (state_of l ts) m r
+    (th : Theory) (l : Linear) (ts : List Term) (m : Label) (r : Outcome) → IsLinear l → Step th (state_of l ts) m r
     → (next : Option (List Term)) × (Fires th l ts m next × (r ≡ outcome_of l next))
 
 abbrev pub FiringsAreSteps : Type 0
 FiringsAreSteps =
-    (th : Theory) (l : Linear) (ts : List Term) (m : Label) (next : Option (List Term)) → IsLinear l → length ts ≡ length l.params → Fires th l ts m next
+    (th : Theory) (l : Linear) (ts : List Term) (m : Label) (next : Option (List Term)) → IsLinear l → Fires th l ts m next
     → Step th (state_of l ts) m (outcome_of l next)
 
 -- a firing keeps the sorts of the arguments

@@ -1,10 +1,10 @@
 -- Processes that are equal up to provably equal data.
-use Rattle.std.specs.Prelude.{ℕ, List, ◌∷◌, map, Option, Some, None, slice_get}
+use Rattle.std.specs.Prelude.{◌≡◌, length, ℕ, List, ◌∷◌, map, Option, Some, None, slice_get}
 use Rattle.data_theory.specs.Terms.{Sort, Term, put}
 use Rattle.data_theory.specs.Environments.{Environment, term_in, bound}
 use Rattle.process_terms.specs.Theories.{Theory, Equal, Equals}
 use Rattle.process_terms.specs.Labels.{Label, put_label, AgreeInOrder}
-use Rattle.process_terms.specs.Processes.{Around, Body, written_delta, written_act, written_choice, written_seq, written_cond, written_sum, written_call, written_merge, written_around, Definition, Table, Process, delta, act, choice, seq, cond, sum, call, merge, around, body_of}
+use Rattle.process_terms.specs.Processes.{Around, Body, written_delta, written_act, written_choice, written_seq, written_cond, written_sum, written_call, written_merge, written_around, Definition, Table, Process, delta, act, choice, seq, cond, sum, call, merge, around, BodyOf}
 
 -- what is written, each under its own environment: the same up to provably equal data; the variables that a sum binds may differ
 pub data SameBody (th : Theory) : Environment → Body → Environment → Body → Type 0 where
@@ -19,10 +19,10 @@ pub data SameBody (th : Theory) : Environment → Body → Environment → Body 
   same_merge : {d e : Environment} {p p' q q' : Body} → SameBody th d p e p' → SameBody th d q e q' → SameBody th d (written_merge p q) e (written_merge p' q')
   same_around : {d e : Environment} {o : Around} {p p' : Body} → SameBody th d p e p' → SameBody th d (written_around o p) e (written_around o p')
 
--- definitions that give the same for provably equal arguments; the names of the parameters may differ
+-- definitions with as many parameters that give the same for provably equal arguments; the names of the parameters may differ
 pub data SameDefinition (th : Theory) : Option Definition → Option Definition → Type 0 where
   both_missing : SameDefinition th None None
-  both_there : {f g : Definition} → ((ts us : List Term) → Equals th ts us → SameBody th (bound f.params ts) f.body (bound g.params us) g.body) → SameDefinition th (Some f) (Some g)
+  both_there : {f g : Definition} → length f.params ≡ length g.params → ((ts us : List Term) → length ts ≡ length f.params → Equals th ts us → SameBody th (bound f.params ts) f.body (bound g.params us) g.body) → SameDefinition th (Some f) (Some g)
 
 pub record SameTables (th : Theory) (d e : Table) : Type 0 where
   pub at : (x : ℕ) → SameDefinition th (slice_get d x) (slice_get e x)
@@ -42,7 +42,7 @@ pub data EqualData (th : Theory) : Process → Process → Type 0 where
 -- The same where a call and its body count as equal: the least equivalence that goes through all operators.
 pub data Alike (th : Theory) : Process → Process → Type 0 where
   by_data : {p q : Process} → EqualData th p q → Alike th p q
-  by_body : {d : Table} {x : ℕ} {ts : List Term} → Alike th (call d x ts) (body_of d x ts)
+  by_body : {d : Table} {x : ℕ} {ts : List Term} {p : Process} → BodyOf d x ts p → Alike th (call d x ts) p
   turned : {p q : Process} → Alike th p q → Alike th q p
   joined_up : {p q r : Process} → Alike th p q → Alike th q r → Alike th p r
   alike_choice : {p p' q q' : Process} → Alike th p p' → Alike th q q' → Alike th (choice p q) (choice p' q')

@@ -1,6 +1,6 @@
-//! What no good link can pair, as checks of the definitions.
+//! What no good link can pair, and what `Same` pairs, as checks of the definitions.
 
-ghost use Rattle.bisim_laws.specs.LinkChecks.{AMissingParameterPairsNothing, EndingIsNotStopping, NothingDoneIsNoAnswer, NothingPairedIsNotGood};
+ghost use Rattle.bisim_laws.specs.LinkChecks.{AMissingParameterPairsNothing, EndingIsNotStopping, NamesOfParametersDoNotCount, NamesOfSumsDoNotCount, NothingDoneIsNoAnswer, NothingPairedIsNotGood};
 
 /// A process that can do something has no good link with `delta`.
 pub fn nothing_done_is_no_answer()
@@ -16,4 +16,10 @@ pub fn ending_is_not_stopping()
 pub fn nothing_paired_is_not_good()
     ensures not_good { NothingPairedIsNotGood }
     ensures there_are { AMissingParameterPairsNothing }
+{}
+
+/// `Same` doesn't look at the names of parameters and of sum variables.
+pub fn names_of_variables_do_not_count()
+    ensures parameters { NamesOfParametersDoNotCount }
+    ensures sums { NamesOfSumsDoNotCount }
 {}

@@ -17,3 +17,4 @@ pub mod PermutedLists
 pub mod AgreeingLabels
 pub mod OperatorLemmas
 pub mod SmallSteps
+pub mod UnknownData

@@ -1,5 +1,5 @@
 -- Process terms, as they are written and closed.
-use Rattle.std.specs.Prelude.{ℕ, List, [], ◌∷◌, map, Option, Some, None, slice_get}
+use Rattle.std.specs.Prelude.{◌≡◌, ℕ, List, [], ◌∷◌, map, length, Some, slice_get}
 use Rattle.data_theory.specs.Terms.{Sort, Term, put}
 use Rattle.data_theory.specs.Environments.{Environment, term_in, bound}
 use Rattle.process_terms.specs.Systems.{Name}
@@ -67,13 +67,10 @@ close d e (written_call x ts) = call d x (map (put (term_in e)) ts)
 close d e (written_merge p q) = merge (close d e p) (close d e q)
 close d e (written_around o p) = around o (close d e p)
 
--- the body of a definition with arguments for its parameters; without a definition nothing is done
-abbrev pub entered : Table → Option Definition → List Term → Process
-entered d None ts = delta
-entered d (Some f) ts = close d (bound f.params ts) f.body
-
-abbrev pub body_of : Table → ℕ → List Term → Process
-body_of d x ts = entered d (slice_get d x) ts
+-- the body of a call, with its arguments for the parameters; there is none where the table has no such place, or where the
+-- number of arguments isn't that of the parameters
+pub data BodyOf (d : Table) : ℕ → List Term → Process → Type 0 where
+  the_body : {x : ℕ} {ts : List Term} (f : Definition) → slice_get d x ≡ Some f → length ts ≡ length f.params → BodyOf d x ts (close d (bound f.params ts) f.body)
 
 -- ---- what is written with several operands
 abbrev pub choice_of : List Body → Body

@@ -5,7 +5,7 @@ use Rattle.process_terms.specs.Systems.{Name}
 use Rattle.process_terms.specs.Theories.{Theory, IsTrue, IsFalse, IsOfSort}
 use Rattle.process_terms.specs.Labels.{Action, Label, names, Permuted}
 use Rattle.process_terms.specs.Communication.{Rule, Communicates}
-use Rattle.process_terms.specs.Processes.{Renaming, Around, allow, block, hide, rename, comm, Process, act, choice, seq, cond, sum, Table, call, merge, around, body_of}
+use Rattle.process_terms.specs.Processes.{Renaming, Around, allow, block, hide, rename, comm, Process, act, choice, seq, cond, sum, Table, call, merge, around, BodyOf}
 
 -- what a step leads to
 pub data Outcome : Type 0 where
@@ -56,7 +56,7 @@ pub data Step (th : Theory) : Process → Label → Outcome → Type 0 where
   by_true : {c : Term} {p q : Process} {m : Label} {r : Outcome} → IsTrue th c → Step th p m r → Step th (cond c p q) m r
   by_false : {c : Term} {p q : Process} {m : Label} {r : Outcome} → IsFalse th c → Step th q m r → Step th (cond c p q) m r
   by_sum : {s : Sort} {f : Term → Process} {m : Label} {r : Outcome} (t : Term) → IsOfSort th s t → Step th (f t) m r → Step th (sum s f) m r
-  by_call : {d : Table} {x : ℕ} {ts : List Term} {m : Label} {r : Outcome} → Step th (body_of d x ts) m r → Step th (call d x ts) m r
+  by_call : {d : Table} {x : ℕ} {ts : List Term} {p : Process} {m : Label} {r : Outcome} → BodyOf d x ts p → Step th p m r → Step th (call d x ts) m r
   by_left_alone : {p q : Process} {m : Label} {r : Outcome} → Step th p m r → Step th (merge p q) m (beside r (goes_on q))
   by_right_alone : {p q : Process} {m : Label} {r : Outcome} → Step th q m r → Step th (merge p q) m (beside (goes_on p) r)
   by_both : {p q : Process} {m n : Label} {r s : Outcome} → Step th p m r → Step th q n s → Step th (merge p q) (m ++ n) (beside r s)

@@ -1,6 +1,7 @@
 -- Small processes whose steps are listed, as checks of the definitions.
 use Rattle.std.specs.Prelude.{◌≡◌, ◌↔◌, ◌⊎◌, List, [], ◌∷◌, ◌++◌}
-use Rattle.data_theory.specs.Terms.{Sort, Term}
+use Rattle.data_theory.specs.Terms.{Sort, named, function, Term, unknown, application, none}
+use Rattle.data_theory.specs.Declarations.{mapping, without_constructors}
 use Rattle.data_theory.specs.Equations.{equals}
 use Rattle.process_terms.specs.Systems.{Name}
 use Rattle.process_terms.specs.Theories.{Theory, IsTrue, IsFalse, IsConsistent, IsOfSort}
@@ -42,6 +43,19 @@ abbrev pub UnknownDataDoNothing : Type 0
 UnknownDataDoNothing =
     (th : Theory) (x y z : Name) (s : Sort) (t u : Term) → (IsTrue th (equals s t u) → ⊥) → (IsFalse th (equals s t u) → ⊥) → (m : Label) (r : Outcome)
     → Step th (two_joined x y z s t u) m r → ⊥
+
+-- there are such data: `sort E; map f: E;`, where nothing says whether f is the unknown element E#0
+abbrev pub unknown_data : Theory
+unknown_data = record {
+  declared = record { sorts = without_constructors ∷ []; functions = record { arguments = []; result = named 0; role = mapping } ∷ [] };
+  equations = [];
+}
+
+abbrev pub whether_equal : Term
+whether_equal = equals (named 0) (application (function 0) none) (unknown 0 0)
+
+abbrev pub SomeDataAreUnknown : Type 0
+SomeDataAreUnknown = IsConsistent unknown_data × ((IsTrue unknown_data whether_equal → ⊥) × (IsFalse unknown_data whether_equal → ⊥))
 
 -- ---- other operators
 -- `allow` keeps the empty label, whatever it allows

@@ -1,6 +1,6 @@
 //! Steps of small processes, as checks of the definitions. The functions do nothing.
 
-ghost use Rattle.process_terms.specs.WorkedSteps.{DeltaDoesNothing, EndingGoesOn, EqualDataJoin, SilenceIsAllowed, SumTakesEveryTerm, TwoActionsSideBySide, UnequalDataStay, UnknownDataDoNothing};
+ghost use Rattle.process_terms.specs.WorkedSteps.{DeltaDoesNothing, EndingGoesOn, EqualDataJoin, SilenceIsAllowed, SomeDataAreUnknown, SumTakesEveryTerm, TwoActionsSideBySide, UnequalDataStay, UnknownDataDoNothing};
 
 /// `delta` does nothing.
 pub fn delta_does_nothing()
@@ -13,11 +13,12 @@ pub fn two_actions_side_by_side()
 {}
 
 /// `comm({x|y -> z}, x(t)|y(u))` does `z(t)` where t and u are provably equal, `x(t)|y(u)` where they are provably unequal, and
-/// nothing where neither is provable.
+/// nothing where neither is provable, as there are data.
 pub fn data_decide_communication()
     ensures equal { EqualDataJoin }
     ensures unequal { UnequalDataStay }
     ensures unknown { UnknownDataDoNothing }
+    ensures there_are { SomeDataAreUnknown }
 {}
 
 /// `allow` keeps the empty label.
