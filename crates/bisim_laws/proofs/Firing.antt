@@ -12,8 +12,8 @@ use Rattle.process_terms.specs.Theories.{Theory, IsTrue, IsOfSort}
 use Rattle.process_terms.specs.Labels.{Label, put_label}
 use Rattle.process_terms.specs.Processes.{Bound, Body, written_cond, written_delta, choice_of, sums_around, Table, close, Definition, Process, BodyOf, the_body}
 use Rattle.process_terms.specs.Steps.{Outcome, Step, by_act, by_left, by_right, by_seq, by_true, by_false, by_sum, by_call}
-use Rattle.bisim_laws.specs.LinearProcesses.{Summand, Linear, variables, label_and_next, is_true, unless_true, summand_body, linear_table, state_of, LabelIsOver, no_action_left, action_over, NextIsOver, no_next, next_over, IsSummand, IsLinear, reading, put_next, outcome_of, Does, AreBound, Fires}
-use Rattle.bisim_laws.specs.LinkLaws.{StepsAreFirings, FiringsAreSteps}
+use Rattle.bisim_laws.specs.LinearProcesses.{Summand, Linear, variables, label_and_next, is_true, unless_true, summand_body, linear_table, state_of, LabelIsOver, no_action_left, action_over, NextIsOver, no_next, next_over, IsLinear, reading, put_next, outcome_of, AreBound, Fires}
+use Rattle.bisim_laws.specs.LinkLaws.{StepsAreFirings, FiringsAreSteps, OtherEnvironmentsServe}
 
 -- ---- elements of lists
 pub contains_first : {A : Type 0} (x : A) (xs : List A) → Contains (x ∷ xs) x
@@ -85,8 +85,7 @@ next_along : (xs : List ℕ) (params : List Bound) (d e : Environment) → Agree
 next_along xs params d e g _ no_next = refl
 next_along xs params d e g _ (next_over {ts = ts} h l) = ap (λ us. Some us) (agreeing_give_the_same_terms xs (term_in d) (term_in e) g ts h)
 
-pub does_along : (th : Theory) (params : List Bound) (s : Summand) (d e : Environment) (m : Label) (next : Option (List Term)) → IsSummand params s
-    → Agree (variables s.sums ++ variables params) (term_in d) (term_in e) → Does th s d m next → Does th s e m next
+pub does_along : OtherEnvironmentsServe
 does_along th params s d e m next is g k = record {
   holds = subst (λ t. IsTrue th t) (agreeing_give_the_same_term (variables s.sums ++ variables params) (term_in d) (term_in e) g s.condition is.condition) k.holds;
   label = k.label ∙ label_along (variables s.sums ++ variables params) d e g s.label is.label;

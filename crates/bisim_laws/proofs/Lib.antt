@@ -6,3 +6,4 @@ pub mod Unpaired
 pub mod PieceByPiece
 pub mod SortedFiring
 pub mod NamesOfVariables
+pub mod EqualFiring

@@ -3,7 +3,7 @@ use Rattle.std.specs.Prelude.{◌≡◌, ℕ, Bool, true, false, List, [], ◌�
 use Rattle.data_theory.specs.Terms.{Sort, boolean, truth, Term, application, none, put}
 use Rattle.data_theory.specs.Declarations.{Data, Declares, HasSort, HaveSorts}
 use Rattle.data_theory.specs.Environments.{Environment, term_in, terms_of, IsOver, AreOver, Apart, AreDistinct}
-use Rattle.process_terms.specs.Theories.{Theory, IsTrue, IsOfSort, AreOfSorts}
+use Rattle.process_terms.specs.Theories.{Theory, Equals, IsTrue, IsOfSort, AreOfSorts}
 use Rattle.process_terms.specs.Labels.{Action, Label, put_label}
 use Rattle.process_terms.specs.Processes.{Bound, Body, written_delta, written_act, written_seq, written_cond, written_call, choice_of, sums_around, Table, Process, call}
 use Rattle.process_terms.specs.Steps.{Outcome, ended, goes_on}
@@ -112,6 +112,11 @@ reading e xs = map (term_in e) xs
 abbrev pub put_next : Environment → Option (List Term) → Option (List Term)
 put_next e None = None
 put_next e (Some ts) = Some (map (put (term_in e)) ts)
+
+-- next arguments that are provably equal, or none on both sides
+pub data NextEquals (th : Theory) : Option (List Term) → Option (List Term) → Type 0 where
+  both_without : NextEquals th None None
+  both_with : {ts us : List Term} → Equals th ts us → NextEquals th (Some ts) (Some us)
 
 abbrev pub outcome_of : Linear → Option (List Term) → Outcome
 outcome_of l None = ended

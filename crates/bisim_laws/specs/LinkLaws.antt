@@ -1,12 +1,13 @@
 -- What the laws of links say.
-use Rattle.std.specs.Prelude.{◌≡◌, List, Option, Some}
+use Rattle.std.specs.Prelude.{◌≡◌, ℕ, List, ◌++◌, Option, Some, Contains}
 use Rattle.data_theory.specs.Terms.{Sort, Term}
-use Rattle.process_terms.specs.Theories.{Theory, AreOfSorts}
-use Rattle.process_terms.specs.Labels.{Label}
-use Rattle.process_terms.specs.Processes.{Around, Table, Process, merge, around}
+use Rattle.data_theory.specs.Environments.{Environment, term_in, Agree}
+use Rattle.process_terms.specs.Theories.{Theory, Equal, AreOfSorts}
+use Rattle.process_terms.specs.Labels.{Label, put_label, AgreeInOrder}
+use Rattle.process_terms.specs.Processes.{Around, Bound, Table, Process, merge, around}
 use Rattle.process_terms.specs.Steps.{Outcome, Step}
 use Rattle.bisim_laws.specs.Bisimulations.{Bisimulation, Progress}
-use Rattle.bisim_laws.specs.LinearProcesses.{Linear, sorts, state_of, IsLinear, IsWellSorted, outcome_of, Fires}
+use Rattle.bisim_laws.specs.LinearProcesses.{Summand, Linear, variables, sorts, state_of, IsSummand, IsLinear, IsWellSorted, put_next, NextEquals, outcome_of, Does, Fires}
 use Rattle.bisim_laws.specs.BaseStates.{Side, IsCall, Piece, StandsFor}
 use Rattle.bisim_laws.specs.Compositions.{PiecesAnswer}
 use Rattle.bisim_laws.specs.Links.{Link, Same, Then, Product, Beside, Wrapped, Under, Form, IsBase, States, Pairs, IsGood}
@@ -44,6 +45,23 @@ abbrev pub FiringsAreSteps : Type 0
 FiringsAreSteps =
     (th : Theory) (l : Linear) (ts : List Term) (m : Label) (next : Option (List Term)) → IsLinear l → Fires th l ts m next
     → Step th (state_of l ts) m (outcome_of l next)
+
+-- an environment that has the same terms for the summand's variables serves as well
+abbrev pub OtherEnvironmentsServe : Type 0
+OtherEnvironmentsServe =
+    (th : Theory) (params : List Bound) (s : Summand) (d e : Environment) (m : Label) (next : Option (List Term)) → IsSummand params s
+    → Agree (variables s.sums ++ variables params) (term_in d) (term_in e) → Does th s d m next → Does th s e m next
+
+-- one that has provably equal terms for them serves up to provable equality
+pub record ServesUpToEquality (th : Theory) (s : Summand) (e : Environment) (m : Label) (next : Option (List Term)) : Type 0 where
+  pub does : Does th s e (put_label e s.label) (put_next e s.next)
+  pub agree : AgreeInOrder th m (put_label e s.label)
+  pub onward : NextEquals th next (put_next e s.next)
+
+abbrev pub EqualEnvironmentsServe : Type 0
+EqualEnvironmentsServe =
+    (th : Theory) (params : List Bound) (s : Summand) (d e : Environment) (m : Label) (next : Option (List Term)) → IsSummand params s
+    → ((v : ℕ) → Contains (variables s.sums ++ variables params) v → Equal th (term_in d v) (term_in e v)) → Does th s d m next → ServesUpToEquality th s e m next
 
 -- a firing keeps the sorts of the arguments
 abbrev pub FiringsKeepSorts : Type 0

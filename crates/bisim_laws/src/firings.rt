@@ -1,6 +1,6 @@
 //! What a linear process does.
 
-ghost use Rattle.bisim_laws.specs.LinkLaws.{FiringsAreSteps, FiringsKeepSorts, StepsAreFirings};
+ghost use Rattle.bisim_laws.specs.LinkLaws.{EqualEnvironmentsServe, FiringsAreSteps, FiringsKeepSorts, OtherEnvironmentsServe, StepsAreFirings};
 
 /// A step of a linear process's state is a firing of one summand.
 pub fn steps_are_firings()
@@ -15,4 +15,11 @@ pub fn firings_are_steps()
 /// A firing keeps the sorts of the arguments.
 pub fn firings_keep_sorts()
     ensures { FiringsKeepSorts }
+{}
+
+/// Another environment serves a summand as well where it has the same terms for the summand's variables, and up to provable
+/// equality where it has provably equal ones.
+pub fn other_environments_serve()
+    ensures same { OtherEnvironmentsServe }
+    ensures equal { EqualEnvironmentsServe }
 {}
