@@ -225,7 +225,7 @@ step_body th l (x ∷ y ∷ ss) s e {m} {r} i k = ⊎_elim
     (contains_cases x s (y ∷ ss) i)
 
 -- ---- the laws
-reading_long : (e : Environment) (xs : List ℕ) → length (reading e xs) ≡ length xs
+pub reading_long : (e : Environment) (xs : List ℕ) → length (reading e xs) ≡ length xs
 reading_long e [] = refl
 reading_long e (x ∷ xs) = ap suc (reading_long e xs)
 

@@ -7,3 +7,4 @@ pub mod PieceByPiece
 pub mod SortedFiring
 pub mod NamesOfVariables
 pub mod EqualFiring
+pub mod AlikeFiring

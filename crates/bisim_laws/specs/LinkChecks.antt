@@ -1,13 +1,13 @@
 -- What no good link can pair, as checks of the definitions.
-use Rattle.std.specs.Prelude.{◌≡◌, ℕ, [], ◌∷◌}
-use Rattle.data_theory.specs.Terms.{Term, variable}
-use Rattle.process_terms.specs.Theories.{Theory}
+use Rattle.std.specs.Prelude.{◌≡◌, ℕ, List, [], ◌∷◌}
+use Rattle.data_theory.specs.Terms.{Sort, Term, variable}
+use Rattle.process_terms.specs.Theories.{Theory, AreOfSorts}
 use Rattle.process_terms.specs.Labels.{Action, Label}
 use Rattle.process_terms.specs.Processes.{Bound, written_act, written_sum, Table, Process, delta, act, seq, call, close}
 use Rattle.process_terms.specs.Steps.{Outcome, Step}
-use Rattle.bisim_laws.specs.LinearProcesses.{Linear}
+use Rattle.bisim_laws.specs.LinearProcesses.{Linear, sorts, state_of, IsLinear, IsWellSorted}
 use Rattle.bisim_laws.specs.BaseStates.{kept}
-use Rattle.bisim_laws.specs.Links.{Link, Same, Dropped, Pairs, IsGood}
+use Rattle.bisim_laws.specs.Links.{Link, Same, Dropped, Solved, Pairs, IsGood}
 
 -- a process that can do something has no good link with `delta`
 abbrev pub NothingDoneIsNoAnswer : Type 0
@@ -39,3 +39,10 @@ one_sum a x = close [] [] (written_sum x (written_act (record { name = a.name; s
 
 abbrev pub NamesOfSumsDoNotCount : Type 0
 NamesOfSumsDoNotCount = (th : Theory) (a : Action) (x y : Bound) → x.sort ≡ y.sort → Pairs th Same (one_sum a x) (one_sum a y)
+
+-- ---- a base link that is good
+-- the states of a linear process that have provably equal arguments, where no sum is removed
+abbrev pub SolvedWithItselfIsGood : Type 0
+SolvedWithItselfIsGood =
+    (th : Theory) (vs : List Sort) (l : Linear) (ts : List Term) → IsLinear l → IsWellSorted th.declared vs l → AreOfSorts th (sorts l.params) ts
+    → IsGood th (Solved l l) (state_of l ts) (state_of l ts)

@@ -2,7 +2,7 @@
 use Rattle.std.specs.Prelude.{◌≡◌, ℕ, List, ◌++◌, Option, Some, Contains}
 use Rattle.data_theory.specs.Terms.{Sort, Term}
 use Rattle.data_theory.specs.Environments.{Environment, term_in, Agree}
-use Rattle.process_terms.specs.Theories.{Theory, Equal, AreOfSorts}
+use Rattle.process_terms.specs.Theories.{Theory, Equal, Equals, AreOfSorts}
 use Rattle.process_terms.specs.Labels.{Label, put_label, AgreeInOrder}
 use Rattle.process_terms.specs.Processes.{Around, Bound, Table, Process, merge, around}
 use Rattle.process_terms.specs.Steps.{Outcome, Step}
@@ -62,6 +62,18 @@ abbrev pub EqualEnvironmentsServe : Type 0
 EqualEnvironmentsServe =
     (th : Theory) (params : List Bound) (s : Summand) (d e : Environment) (m : Label) (next : Option (List Term)) → IsSummand params s
     → ((v : ℕ) → Contains (variables s.sums ++ variables params) v → Equal th (term_in d v) (term_in e v)) → Does th s d m next → ServesUpToEquality th s e m next
+
+-- from provably equal arguments there is a firing with a label that agrees and provably equal next arguments
+pub record FiresAlike (th : Theory) (l : Linear) (us : List Term) (m : Label) (next : Option (List Term)) : Type 0 where
+  pub label : Label
+  pub onward : Option (List Term)
+  pub fires : Fires th l us label onward
+  pub agree : AgreeInOrder th m label
+  pub equal : NextEquals th next onward
+
+abbrev pub EqualArgumentsFireAlike : Type 0
+EqualArgumentsFireAlike =
+    (th : Theory) (l : Linear) (ts us : List Term) (m : Label) (next : Option (List Term)) → IsLinear l → Equals th ts us → Fires th l ts m next → FiresAlike th l us m next
 
 -- a firing keeps the sorts of the arguments
 abbrev pub FiringsKeepSorts : Type 0

@@ -1,6 +1,6 @@
 //! What no good link can pair, and what `Same` pairs, as checks of the definitions.
 
-ghost use Rattle.bisim_laws.specs.LinkChecks.{AMissingParameterPairsNothing, EndingIsNotStopping, NamesOfParametersDoNotCount, NamesOfSumsDoNotCount, NothingDoneIsNoAnswer, NothingPairedIsNotGood};
+ghost use Rattle.bisim_laws.specs.LinkChecks.{AMissingParameterPairsNothing, EndingIsNotStopping, NamesOfParametersDoNotCount, NamesOfSumsDoNotCount, NothingDoneIsNoAnswer, NothingPairedIsNotGood, SolvedWithItselfIsGood};
 
 /// A process that can do something has no good link with `delta`.
 pub fn nothing_done_is_no_answer()
@@ -22,4 +22,9 @@ pub fn nothing_paired_is_not_good()
 pub fn names_of_variables_do_not_count()
     ensures parameters { NamesOfParametersDoNotCount }
     ensures sums { NamesOfSumsDoNotCount }
+{}
+
+/// A base link that is good: a linear process with itself.
+pub fn solved_with_itself_is_good()
+    ensures { SolvedWithItselfIsGood }
 {}

@@ -1,6 +1,6 @@
 //! What a linear process does.
 
-ghost use Rattle.bisim_laws.specs.LinkLaws.{EqualEnvironmentsServe, FiringsAreSteps, FiringsKeepSorts, OtherEnvironmentsServe, StepsAreFirings};
+ghost use Rattle.bisim_laws.specs.LinkLaws.{EqualArgumentsFireAlike, EqualEnvironmentsServe, FiringsAreSteps, FiringsKeepSorts, OtherEnvironmentsServe, StepsAreFirings};
 
 /// A step of a linear process's state is a firing of one summand.
 pub fn steps_are_firings()
@@ -22,4 +22,9 @@ pub fn firings_keep_sorts()
 pub fn other_environments_serve()
     ensures same { OtherEnvironmentsServe }
     ensures equal { EqualEnvironmentsServe }
+{}
+
+/// From provably equal arguments there are firings with labels that agree and provably equal next arguments.
+pub fn equal_arguments_fire_alike()
+    ensures { EqualArgumentsFireAlike }
 {}
