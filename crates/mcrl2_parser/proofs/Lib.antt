@@ -1,0 +1,3 @@
+pub mod CutSoFar
+pub mod Refused
+pub mod SingleFaults

@@ -1,0 +1,72 @@
+-- The first declaration that is refused, and the second one in an init section.
+use Rattle.std.proofs.Common.{◌≡◌, ℕ, suc, ◌+◌, ◌<◌, ◌≤◌, true, List, [], ◌∷◌, ◌++◌, All, count_by, length, take, drop, get_or, ap, sym, ◌∙◌, subst, add-one, arith}
+use Rattle.std.proofs.Math.Seq.{drop-cons, take-suc, take-length}
+use Rattle.std.proofs.lemmas.List.{length-take, take-append-drop}
+use Rattle.std.proofs.lemmas.List.Elements.{All-nil, All-push}
+use Rattle.mcrl2_lexer.specs.declared.token.Token.{Token}
+use Rattle.mcrl2_parser.specs.declared.declaring.Declaration.{Declaration}
+use Rattle.mcrl2_parser.specs.declared.faults.ParseFault.{ParseFault}
+use Rattle.mcrl2_parser.specs.declared.faults.ParseFault.TheVariants.{Syntax, TooDeep, NoInit, TwoInits, NoMemory}
+use Rattle.mcrl2_parser.specs.Declarations.{declarations_of}
+use Rattle.mcrl2_parser.specs.Faults.{IsSound, IsRefused, IsFirstRefused, IsSecondInit, HasInitFault, HasFault, is_init}
+
+-- a list is what stands in front of a place, what stands there, and what stands behind it
+parted : (list : List Declaration) (i : ℕ) (d : Declaration) → i < length list → list ≡ take i list ++ get_or list i d ∷ drop (suc i) list
+parted list i d h = sym (take-append-drop i list) ∙ ap (λ (xs : List Declaration). take i list ++ xs) (drop-cons list i d h)
+
+front_length : (list : List Declaration) (i : ℕ) → i < length list → length (take i list) ≡ i
+front_length list i h = omega (arith, length-take i list)
+
+pub second_init : (list : List Declaration) (i : ℕ) (d : Declaration) → i < length list → count_by is_init (take i list) ≡ 1 → true ≡ is_init (get_or list i d)
+    → IsSecondInit list (i + 1)
+second_init list i d inside one here = record {
+  front = take i list;
+  second = get_or list i d;
+  behind = drop (suc i) list;
+  stands = parted list i d inside;
+  number_is = omega (arith, length-take i list);
+  one_before = one;
+  init = sym here;
+}
+
+first_refused : (tokens : List Token) (list : List Declaration) (i : ℕ) (d : Declaration) (fault : ParseFault) → list ≡ declarations_of tokens → i < length list
+    → All (IsSound tokens) (take i list) → IsRefused tokens (i + 1) (get_or list i d) fault → IsFirstRefused tokens fault
+first_refused tokens list i d fault e inside sound cause = record {
+  front = take i list;
+  refused = get_or list i d;
+  behind = drop (suc i) list;
+  stands = sym e ∙ parted list i d inside;
+  sound = sound;
+  cause = subst (λ (n : ℕ). IsRefused tokens (n + 1) (get_or list i d) fault) (sym (front_length list i inside)) cause;
+}
+
+pub has_fault : (tokens : List Token) (list : List Declaration) (i : ℕ) (d : Declaration) (fault : ParseFault) → list ≡ declarations_of tokens → i < length list
+    → All (IsSound tokens) (take i list) → IsRefused tokens (i + 1) (get_or list i d) fault → HasFault tokens fault
+has_fault tokens list i d (TooDeep n) e inside sound cause = first_refused tokens list i d (TooDeep n) e inside sound cause
+has_fault tokens list i d (Syntax n) e inside sound cause = first_refused tokens list i d (Syntax n) e inside sound cause
+has_fault tokens list i d NoInit e inside sound cause = absurd cause
+has_fault tokens list i d (TwoInits n) e inside sound cause = absurd cause
+has_fault tokens list i d NoMemory e inside sound cause = absurd cause
+
+pub has_init_fault : (tokens : List Token) (list : List Declaration) (fault : ParseFault) → list ≡ declarations_of tokens → All (IsSound tokens) list
+    → HasInitFault list fault → HasFault tokens fault
+has_init_fault tokens list NoInit e sound cause =
+    (subst (λ (xs : List Declaration). All (IsSound tokens) xs) e sound, subst (λ (xs : List Declaration). HasInitFault xs NoInit) e cause)
+has_init_fault tokens list (TwoInits n) e sound cause =
+    (subst (λ (xs : List Declaration). All (IsSound tokens) xs) e sound, subst (λ (xs : List Declaration). HasInitFault xs (TwoInits n)) e cause)
+has_init_fault tokens list (TooDeep n) e sound cause = absurd cause
+has_init_fault tokens list (Syntax n) e sound cause = absurd cause
+has_init_fault tokens list NoMemory e sound cause = absurd cause
+
+pub none_yet : (tokens : List Token) → All (IsSound tokens) []
+none_yet tokens = All-nil (IsSound tokens)
+
+pub one_more : (tokens : List Token) (list : List Declaration) (i : ℕ) (d : Declaration) → i < length list → All (IsSound tokens) (take i list)
+    → IsSound tokens (get_or list i d) → All (IsSound tokens) (take (i + 1) list)
+one_more tokens list i d inside sound here =
+    rw (add-one, take-suc list i d inside) (All-push (IsSound tokens) (take i list) (get_or list i d) sound here)
+
+pub all_sound : (tokens : List Token) (list : List Declaration) (i : ℕ) → length list ≤ i → i ≤ length list → All (IsSound tokens) (take i list) → All (IsSound tokens) list
+all_sound tokens list i over under sound =
+    let last : i ≡ length list = omega arith in
+    subst (λ (xs : List Declaration). All (IsSound tokens) xs) (ap (λ (n : ℕ). take n list) last ∙ take-length list) sound

@@ -1,0 +1,74 @@
+-- What is accepted of a list of declarations, and why a list of tokens is refused.
+use Rattle.std.specs.Prelude.{◌≡◌, ◌≤◌, ◌<◌, ℕ, ◌+◌, Bool, true, false, Option, Some, is_some, List, ◌∷◌, ◌++◌, length, slice_range, All, count_by}
+use Rattle.mcrl2_lexer.specs.declared.token.Token.{Token}
+use Rattle.mcrl2_parser.specs.declared.sections.Section.{Section}
+use Rattle.mcrl2_parser.specs.declared.sections.Section.TheVariants.{Init}
+use Rattle.mcrl2_parser.specs.declared.declaring.Declaration.{Declaration}
+use Rattle.mcrl2_parser.specs.declared.faults.ParseFault.{ParseFault}
+use Rattle.mcrl2_parser.specs.declared.faults.ParseFault.TheVariants.{Syntax, TooDeep, NoInit, TwoInits, NoMemory}
+use Rattle.mcrl2_parser.specs.Declarations.{declarations_of}
+use Rattle.mcrl2_parser.specs.Levels.{level_of}
+
+abbrev pub level_at : List Token → Declaration → ℕ
+level_at tokens declaration = level_of (slice_range tokens declaration.start declaration.end)
+
+-- it is in a section and ends at a `;`
+pub record IsWhole (declaration : Declaration) : Type 0 where
+  pub in_section : is_some declaration.section ≡ true
+  pub ended : declaration.is_ended ≡ true
+
+-- it is whole, and its level is 1,000 at most
+pub record IsSound (tokens : List Token) (declaration : Declaration) : Type 0 where
+  pub whole : IsWhole declaration
+  pub level : level_at tokens declaration ≤ 1000
+
+abbrev pub is_init_section : Option Section → Bool
+is_init_section (Some Init) = true
+is_init_section _ = false
+
+-- it is in an init section
+abbrev pub is_init : Declaration → Bool
+is_init declaration = is_init_section declaration.section
+
+-- Why one declaration of that number is refused. Want of memory is no fault of it.
+abbrev pub IsRefused : List Token → ℕ → Declaration → ParseFault → Type 0
+IsRefused tokens number declaration (TooDeep d) = (d ≡ number) × (1000 < level_at tokens declaration)
+IsRefused tokens number declaration (Syntax d) = (d ≡ number) × (level_at tokens declaration ≤ 1000) × (IsWhole declaration → ⊥)
+IsRefused tokens number declaration NoInit = ⊥
+IsRefused tokens number declaration (TwoInits d) = ⊥
+IsRefused tokens number declaration NoMemory = ⊥
+
+-- the fault is that of the first declaration that isn't sound
+pub record IsFirstRefused (tokens : List Token) (fault : ParseFault) : Type 0 where
+  pub front : List Declaration
+  pub refused : Declaration
+  pub behind : List Declaration
+  pub stands : declarations_of tokens ≡ front ++ refused ∷ behind
+  pub sound : All (IsSound tokens) front
+  pub cause : IsRefused tokens (length front + 1) refused fault
+
+-- that declaration is the second one in an init section
+pub record IsSecondInit (declarations : List Declaration) (number : ℕ) : Type 0 where
+  pub front : List Declaration
+  pub second : Declaration
+  pub behind : List Declaration
+  pub stands : declarations ≡ front ++ second ∷ behind
+  pub number_is : number ≡ length front + 1
+  pub one_before : count_by is_init front ≡ 1
+  pub init : is_init second ≡ true
+
+-- no declaration is in an init section, or more than one
+abbrev pub HasInitFault : List Declaration → ParseFault → Type 0
+HasInitFault declarations NoInit = count_by is_init declarations ≡ 0
+HasInitFault declarations (TwoInits d) = IsSecondInit declarations d
+HasInitFault declarations (Syntax d) = ⊥
+HasInitFault declarations (TooDeep d) = ⊥
+HasInitFault declarations NoMemory = ⊥
+
+-- The tokens have that fault: one of the first declaration that isn't sound, or, where all are, one of the init sections.
+abbrev pub HasFault : List Token → ParseFault → Type 0
+HasFault tokens (TooDeep d) = IsFirstRefused tokens (TooDeep d)
+HasFault tokens (Syntax d) = IsFirstRefused tokens (Syntax d)
+HasFault tokens NoInit = All (IsSound tokens) (declarations_of tokens) × HasInitFault (declarations_of tokens) NoInit
+HasFault tokens (TwoInits d) = All (IsSound tokens) (declarations_of tokens) × HasInitFault (declarations_of tokens) (TwoInits d)
+HasFault tokens NoMemory = ⊥

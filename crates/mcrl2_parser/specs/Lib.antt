@@ -1,0 +1,4 @@
+pub mod Sections
+pub mod Declarations
+pub mod Levels
+pub mod Faults

@@ -1,0 +1,77 @@
+//! The declarations of a list of tokens.
+ghost use Rattle.std.specs.Prelude.{◌≡◌, ◌≤◌, ◌++◌, ◌∷◌, [], All, IfOk, OnOk, length};
+ghost use Rattle.mcrl2_parser.specs.Declarations.{declarations_of, left_over, IsWithin};
+
+use crate::sections::{Section, is_semicolon, section_of};
+use mcrl2_lexer::Token;
+use std::alloc::{AllocError, Global};
+
+/// A declaration of a list of tokens: the tokens from one place up to another.
+///
+/// Declarations are numbered from 1 by their order in the list of all declarations of the text, whatever section they are in.
+#[derive(Clone, Copy, Debug, PartialEq, Eq)]
+pub struct Declaration {
+    /// The place of its first token in the list, counted from 0. The section's word is none of its tokens.
+    pub start: usize,
+    /// The place behind its last token. Its `;` is none of its tokens.
+    pub end: usize,
+    /// The section that it is in. There is none for tokens in front of the first word of a section.
+    pub section: Option<Section>,
+    /// Whether a `;` ends it. Where none does, the tokens spell no declaration.
+    pub is_ended: bool,
+}
+
+/// Takes the tokens from one place up to another as a declaration that no `;` ends, if there are any.
+fn push_left_over(
+    list: &mut Vec<Declaration>,
+    section: Option<Section>,
+    start: usize,
+    end: usize,
+) -> Result<(), AllocError>
+    ensures { OnOk result (list.new.items ≡ list.old.items ++ left_over section start end) }
+{
+    if start < end {
+        list.push(Declaration {
+            section,
+            start,
+            end,
+            is_ended: false,
+        })?;
+    }
+    Ok(())
+}
+
+/// The declarations of a list of tokens, in its order.
+///
+/// As in the mCRL2 language reference, a word such as `act` begins a section, and in a section each declaration ends at its
+/// `;`. Tokens behind the last `;` of a section, and tokens in front of the first word of a section, make a declaration that
+/// no `;` ends. A section may be empty.
+///
+/// # Errors
+///
+/// `AllocError` where no memory is left.
+pub fn declarations(alloc: Global, tokens: &[Token]) -> Result<Vec<Declaration>, AllocError>
+    ensures declarations { IfOk result (λ list. list.items ≡ declarations_of tokens.now) }
+    ensures within { IfOk result (λ list. All (IsWithin (length tokens.now)) list.items) }
+{
+    let mut list = Vec::new(alloc);
+    let mut section = None;
+    let mut start = 0;
+    for (at, token) in tokens.iter().enumerate() {
+        if let Some(next) = section_of(token.kind) {
+            push_left_over(&mut list, section, start, at)?;
+            section = Some(next);
+            start = at + 1;
+        } else if section.is_some() && is_semicolon(token.kind) {
+            list.push(Declaration {
+                section,
+                start,
+                end: at,
+                is_ended: true,
+            })?;
+            start = at + 1;
+        }
+    }
+    push_left_over(&mut list, section, start, tokens.len())?;
+    Ok(list)
+}
