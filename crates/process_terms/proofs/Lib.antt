@@ -13,3 +13,8 @@ pub mod Alternating
 pub mod Orders
 pub mod DeltaText
 pub mod Taking
+pub mod PermutedLists
+pub mod AgreeingLabels
+pub mod OperatorLemmas
+pub mod SmallSteps
+pub mod UnknownData

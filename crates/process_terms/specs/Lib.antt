@@ -9,3 +9,10 @@ pub mod Links
 pub mod LinearText
 pub mod Headline
 pub mod Examples
+pub mod Theories
+pub mod Labels
+pub mod Communication
+pub mod Processes
+pub mod Steps
+pub mod AgreementLaws
+pub mod WorkedSteps

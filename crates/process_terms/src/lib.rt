@@ -4,5 +4,7 @@
 //! that pair their states. The definitions stand in specs/; the functions of [`laws`] state what is proved of them.
 #![tactic(auto)]
 
+pub mod agreement;
 pub mod examples;
 pub mod laws;
+pub mod worked_steps;

@@ -1,0 +1,30 @@
+//! What no good link can pair, and what `Same` pairs, as checks of the definitions.
+
+ghost use Rattle.bisim_laws.specs.LinkChecks.{AMissingParameterPairsNothing, EndingIsNotStopping, NamesOfParametersDoNotCount, NamesOfSumsDoNotCount, NothingDoneIsNoAnswer, NothingPairedIsNotGood, SolvedWithItselfIsGood};
+
+/// A process that can do something has no good link with `delta`.
+pub fn nothing_done_is_no_answer()
+    ensures { NothingDoneIsNoAnswer }
+{}
+
+/// `a` has no good link with `a . delta`.
+pub fn ending_is_not_stopping()
+    ensures { EndingIsNotStopping }
+{}
+
+/// A link that pairs nothing isn't good, and there are such links.
+pub fn nothing_paired_is_not_good()
+    ensures not_good { NothingPairedIsNotGood }
+    ensures there_are { AMissingParameterPairsNothing }
+{}
+
+/// `Same` doesn't look at the names of parameters and of sum variables.
+pub fn names_of_variables_do_not_count()
+    ensures parameters { NamesOfParametersDoNotCount }
+    ensures sums { NamesOfSumsDoNotCount }
+{}
+
+/// A base link that is good: a linear process with itself.
+pub fn solved_with_itself_is_good()
+    ensures { SolvedWithItselfIsGood }
+{}

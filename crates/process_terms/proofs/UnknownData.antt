@@ -1,0 +1,51 @@
+-- Data of which nothing is known.
+use Rattle.std.proofs.Common.{◌≡◌, ℕ, zero, suc, ◌<◌, [], length, true, false, refl, arith}
+use Rattle.data_theory.specs.Terms.{Term}
+use Rattle.data_theory.specs.Declarations.{FitsRole, IsData, IsSort, function_at}
+use Rattle.data_theory.specs.Equations.{trueᵗ, falseᵗ}
+use Rattle.data_theory.specs.Provable.{ProvablyEqual}
+use Rattle.data_theory.specs.Values.{Value, a_truth, an_unknown, value, AreFirstValues, HoldOfValues}
+use Rattle.data_theory.proofs.ConsistencyLemmas.{equal_terms_have_one_value}
+use Rattle.process_terms.specs.WorkedSteps.{unknown_data, whether_equal, SomeDataAreUnknown}
+
+roles : (k : ℕ) → k < length unknown_data.declared.functions → FitsRole unknown_data.declared (function_at unknown_data.declared k) (function_at unknown_data.declared k).role
+roles zero l = tt
+roles (suc k) l = absurd (omega (arith, l))
+
+results : (k : ℕ) → k < length unknown_data.declared.functions → IsSort unknown_data.declared (function_at unknown_data.declared k).result
+results zero l = omega arith
+results (suc k) l = absurd (omega (arith, l))
+
+are_data : IsData unknown_data.declared
+are_data = record { roles = roles; results = results }
+
+-- f may be any of the unknown elements
+element : ℕ → ℕ → Value
+element k d = an_unknown d k
+
+first_values : (k : ℕ) → AreFirstValues unknown_data.declared (element k)
+unfolding element
+first_values k zero l = (refl, refl)
+first_values k (suc d) l = absurd (omega (arith, l))
+
+nothing_written : (k : ℕ) → HoldOfValues unknown_data.declared (element k) []
+nothing_written k q e h = let l = h.1 in absurd (omega (arith, l))
+
+one_value : (k : ℕ) (t u : Term) → ProvablyEqual unknown_data.declared [] t u → value unknown_data.declared (element k) t ≡ value unknown_data.declared (element k) u
+one_value k t u h = equal_terms_have_one_value unknown_data.declared (element k) are_data (first_values k) [] (nothing_written k) t u h
+
+truths_differ : a_truth true ≡ a_truth false → ⊥
+truths_differ e = cc
+
+falsities_differ : a_truth false ≡ a_truth true → ⊥
+falsities_differ e = cc
+
+pub some_unknown : SomeDataAreUnknown
+unfolding element
+some_unknown = (
+  λ h. truths_differ (one_value 0 trueᵗ falseᵗ h),
+  (
+    λ h. falsities_differ (one_value 1 whether_equal trueᵗ h),
+    λ h. truths_differ (one_value 0 whether_equal falseᵗ h),
+  ),
+)

@@ -1,0 +1,83 @@
+-- Process terms, as they are written and closed.
+use Rattle.std.specs.Prelude.{◌≡◌, ℕ, List, [], ◌∷◌, map, length, Some, slice_get}
+use Rattle.data_theory.specs.Terms.{Sort, Term, put}
+use Rattle.data_theory.specs.Environments.{Environment, term_in, bound}
+use Rattle.process_terms.specs.Systems.{Name}
+use Rattle.process_terms.specs.Labels.{Label, put_label}
+use Rattle.process_terms.specs.Communication.{Rule}
+
+-- a name that another one replaces
+pub record Renaming : Type 0 where
+  pub from : Name
+  pub to : Name
+
+-- an operator around a process
+pub data Around : Type 0 where
+  allow : List (List Name) → Around
+  block : List Name → Around
+  hide : List Name → Around
+  rename : List Renaming → Around
+  comm : List Rule → Around
+
+-- a variable that a `sum` or a parameter list binds, with its sort
+pub record Bound : Type 0 where
+  pub var : ℕ
+  pub sort : Sort
+
+-- A process term as it is written. A name that it calls is the place of its definition, from 0.
+pub data Body : Type 0 where
+  written_delta : Body
+  written_act : Label → Body
+  written_choice : Body → Body → Body
+  written_seq : Body → Body → Body
+  written_cond : Term → Body → Body → Body
+  written_sum : Bound → Body → Body
+  written_call : ℕ → List Term → Body
+  written_merge : Body → Body → Body
+  written_around : Around → Body → Body
+
+pub record Definition : Type 0 where
+  pub params : List ℕ
+  pub body : Body
+
+abbrev pub Table : Type 0
+Table = List Definition
+
+-- A closed process term. A sum holds a process term for each closed term, and a call its table of definitions.
+pub data Process : Type 0 where
+  delta : Process
+  act : Label → Process
+  choice : Process → Process → Process
+  seq : Process → Process → Process
+  cond : Term → Process → Process → Process
+  sum : Sort → (Term → Process) → Process
+  call : Table → ℕ → List Term → Process
+  merge : Process → Process → Process
+  around : Around → Process → Process
+
+-- what is written, under a table and an environment
+abbrev pub close : Table → Environment → Body → Process
+close d e written_delta = delta
+close d e (written_act m) = act (put_label e m)
+close d e (written_choice p q) = choice (close d e p) (close d e q)
+close d e (written_seq p q) = seq (close d e p) (close d e q)
+close d e (written_cond c p q) = cond (put (term_in e) c) (close d e p) (close d e q)
+close d e (written_sum x p) = sum x.sort (λ t. close d (record { var = x.var; term = t } ∷ e) p)
+close d e (written_call x ts) = call d x (map (put (term_in e)) ts)
+close d e (written_merge p q) = merge (close d e p) (close d e q)
+close d e (written_around o p) = around o (close d e p)
+
+-- the body of a call, with its arguments for the parameters; there is none where the table has no such place, or where the
+-- number of arguments isn't that of the parameters
+pub data BodyOf (d : Table) : ℕ → List Term → Process → Type 0 where
+  the_body : {x : ℕ} {ts : List Term} (f : Definition) → slice_get d x ≡ Some f → length ts ≡ length f.params → BodyOf d x ts (close d (bound f.params ts) f.body)
+
+-- ---- what is written with several operands
+abbrev pub choice_of : List Body → Body
+choice_of [] = written_delta
+choice_of (p ∷ []) = p
+choice_of (p ∷ ps) = written_choice p (choice_of ps)
+
+abbrev pub sums_around : List Bound → Body → Body
+sums_around [] p = p
+sums_around (x ∷ xs) p = written_sum x (sums_around xs p)
