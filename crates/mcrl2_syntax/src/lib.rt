@@ -1,0 +1,13 @@
+//! The trees of specifications, and which tokens spell them.
+//!
+//! Each form of the grammar is a variant with the stretch of text that it was read from. A function for each form makes its
+//! tree, and fails for want of memory alone.
+#![tactic(auto)]
+
+mod data_tree;
+mod sort_tree;
+mod word;
+
+pub use data_tree::{DataTree, InfixSign, PrefixSign};
+pub use sort_tree::SortTree;
+pub use word::{Span, Word, joined_spans, token_span};
