@@ -1,3 +1,5 @@
 pub mod Words
 pub mod SortTrees
 pub mod DataTrees
+pub mod ProcessParts
+pub mod ProcessTrees

@@ -5,9 +5,13 @@
 #![tactic(auto)]
 
 mod data_tree;
+mod process_tree;
 mod sort_tree;
 mod word;
 
 pub use data_tree::{DataTree, InfixSign, PrefixSign};
+pub use process_tree::{
+    ActionTree, Assignment, CommRule, LabelTree, NameSet, ProcTree, Renaming, VarGroup,
+};
 pub use sort_tree::SortTree;
 pub use word::{Span, Word, joined_spans, token_span};
