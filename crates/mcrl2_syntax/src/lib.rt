@@ -5,11 +5,13 @@
 #![tactic(auto)]
 
 mod data_tree;
+mod laws;
 mod process_tree;
 mod sort_tree;
 mod word;
 
 pub use data_tree::{DataTree, InfixSign, PrefixSign};
+pub use laws::{data_are_single, sorts_are_single};
 pub use process_tree::{
     ActionTree, Assignment, CommRule, LabelTree, NameSet, ProcTree, Renaming, VarGroup,
 };
