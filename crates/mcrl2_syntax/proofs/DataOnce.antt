@@ -70,6 +70,25 @@ items_opens : {text : List ℕ} {ds : List PlainData} {t : Token} {ts r : List T
 items_opens (items_last a) e = level_opens a e
 items_opens (items_more a h b) e = level_opens a e
 
+unit_paren : {text : List ℕ} {d : PlainData} {t : Token} {ts r : List Token} → SpellsUnit text d (t ∷ ts) r → t.kind ≡ RightParen → ⊥
+unit_paren (unit_prefix h a) e = not_prefix RightParen refl e h
+unit_paren (unit_name h) e = cc
+unit_paren (unit_numeral h) e = cc
+unit_paren (unit_true h) e = cc
+unit_paren (unit_false h) e = cc
+unit_paren (unit_empty h i) e = cc
+unit_paren (unit_list h a i) e = cc
+unit_paren (unit_apply h i a j) e = cc
+unit_paren (unit_brackets h a i) e = cc
+
+level_paren : {text : List ℕ} {k : ℕ} {d : PlainData} {t : Token} {ts r : List Token} → SpellsLevel text k d (t ∷ ts) r → t.kind ≡ RightParen → ⊥
+level_paren (level_unit a) e = unit_paren a e
+level_paren (level_chain a b) e = level_paren a e
+
+pub items_paren : {text : List ℕ} {ds : List PlainData} {t : Token} {ts r : List Token} → SpellsItems text ds (t ∷ ts) r → t.kind ≡ RightParen → ⊥
+items_paren (items_last a) e = level_paren a e
+items_paren (items_more a h b) e = level_paren a e
+
 -- What a list of expressions can't go on with.
 pub record Closed (r : List Token) : Type 0 where
   pub stops : Stops 11 r

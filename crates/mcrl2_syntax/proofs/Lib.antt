@@ -1,3 +1,6 @@
 pub mod Lists
 pub mod SortsOnce
 pub mod DataOnce
+pub mod LabelsOnce
+pub mod Balance
+pub mod ProcessesOnce

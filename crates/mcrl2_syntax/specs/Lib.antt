@@ -7,3 +7,5 @@ pub mod SpelledWords
 pub mod SpelledSorts
 pub mod InfixSigns
 pub mod SpelledData
+pub mod SpelledLabels
+pub mod SpelledProcesses

@@ -27,3 +27,13 @@ plain_sort_step (open_.Brackets span inner) = brackets_sort span inner.value
 
 abbrev pub plain_sort : SortTree → PlainSort
 plain_sort = fold-SortTree PlainSort plain_sort_step
+
+-- where the sort expression stands
+abbrev pub sort_span : PlainSort → Span
+sort_span (bool_sort span) = span
+sort_span (pos_sort span) = span
+sort_span (nat_sort span) = span
+sort_span (int_sort span) = span
+sort_span (list_sort span element) = span
+sort_span (named_sort name) = name.span
+sort_span (brackets_sort span inner) = span

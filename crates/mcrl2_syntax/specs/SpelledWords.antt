@@ -2,7 +2,7 @@
 -- tokens stand behind that front.
 use Rattle.std.specs.Prelude.{◌≡◌, ℕ, List, [], ◌∷◌}
 use Rattle.mcrl2_lexer.specs.declared.kind.Kind.{Kind}
-use Rattle.mcrl2_lexer.specs.declared.kind.Kind.TheVariants.{Identifier}
+use Rattle.mcrl2_lexer.specs.declared.kind.Kind.TheVariants.{Identifier, Comma, LeftBrace, RightBrace}
 use Rattle.mcrl2_lexer.specs.declared.token.Token.{Token}
 use Rattle.mcrl2_lexer.specs.Tokens.{slice_of}
 use Rattle.mcrl2_syntax.specs.Words.{PlainWord, span_of}
@@ -20,3 +20,9 @@ pub data SpellsList {Item : Type 0} (spells : Item → List Token → List Token
   last_item : {item : Item} {ts r : List Token} → spells item ts r → SpellsList spells separator (item ∷ []) ts r
   more_items : {item : Item} {items : List Item} {sign : Token} {ts us r : List Token} → spells item ts (sign ∷ us) → sign.kind ≡ separator
       → SpellsList spells separator items us r → SpellsList spells separator (item ∷ items) ts r
+
+-- items in braces, with commas between them
+pub data SpellsBraces {Item : Type 0} (spells : Item → List Token → List Token → Type 0) : List Item → List Token → List Token → Type 0 where
+  no_items : {t v : Token} {r : List Token} → t.kind ≡ LeftBrace → v.kind ≡ RightBrace → SpellsBraces spells [] (t ∷ v ∷ r) r
+  some_items : {items : List Item} {t v : Token} {ts r : List Token} → t.kind ≡ LeftBrace → SpellsList spells Comma items ts (v ∷ r) → v.kind ≡ RightBrace
+      → SpellsBraces spells items (t ∷ ts) r

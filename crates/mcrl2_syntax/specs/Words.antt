@@ -25,3 +25,16 @@ joined first last = record { start = first.start; end = last.end }
 abbrev pub Begins : Kind → List Token → Type 0
 Begins kind [] = ⊥
 Begins kind (token ∷ tokens) = token.kind ≡ kind
+
+-- where the last of some parts stands
+abbrev pub last_of : {Part : Type 0} → (Part → Span) → Span → List Part → Span
+last_of where_is here [] = here
+last_of where_is here (part ∷ parts) = last_of where_is (where_is part) parts
+
+-- from the first byte of the first part to the last byte of the last one
+abbrev pub spanned : {Part : Type 0} → (Part → Span) → List Part → Span
+spanned where_is [] = record { start = 0; end = 0 }
+spanned where_is (part ∷ parts) = joined (where_is part) (last_of where_is (where_is part) parts)
+
+abbrev pub word_span : PlainWord → Span
+word_span w = w.span

@@ -11,7 +11,7 @@ mod sort_tree;
 mod word;
 
 pub use data_tree::{DataTree, InfixSign, PrefixSign};
-pub use laws::{data_are_single, sorts_are_single};
+pub use laws::{data_are_single, labels_are_single, processes_are_single, sorts_are_single};
 pub use process_tree::{
     ActionTree, Assignment, CommRule, LabelTree, NameSet, ProcTree, Renaming, VarGroup,
 };
