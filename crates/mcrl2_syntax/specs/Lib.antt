@@ -3,6 +3,7 @@ pub mod SortTrees
 pub mod DataTrees
 pub mod ProcessParts
 pub mod ProcessTrees
+pub mod Declarations
 pub mod SpelledWords
 pub mod SpelledSorts
 pub mod InfixSigns

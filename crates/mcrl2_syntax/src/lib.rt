@@ -5,12 +5,14 @@
 #![tactic(auto)]
 
 mod data_tree;
+mod declaration;
 mod laws;
 mod process_tree;
 mod sort_tree;
 mod word;
 
 pub use data_tree::{DataTree, InfixSign, PrefixSign};
+pub use declaration::{Constructor, Decl, Field, Section, SectionWord, Spec};
 pub use laws::{data_are_single, labels_are_single, processes_are_single, sorts_are_single};
 pub use process_tree::{
     ActionTree, Assignment, CommRule, LabelTree, NameSet, ProcTree, Renaming, VarGroup,
