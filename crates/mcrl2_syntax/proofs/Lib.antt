@@ -4,3 +4,5 @@ pub mod DataOnce
 pub mod LabelsOnce
 pub mod Balance
 pub mod ProcessesOnce
+pub mod DeclarationsOnce
+pub mod SpecsOnce

@@ -10,3 +10,4 @@ pub mod InfixSigns
 pub mod SpelledData
 pub mod SpelledLabels
 pub mod SpelledProcesses
+pub mod SpelledDeclarations

@@ -3,6 +3,7 @@ ghost use Rattle.mcrl2_syntax.specs.SpelledSorts.{SortsAreSingle};
 ghost use Rattle.mcrl2_syntax.specs.SpelledData.{DataAreSingle};
 ghost use Rattle.mcrl2_syntax.specs.SpelledLabels.{LabelsAreSingle};
 ghost use Rattle.mcrl2_syntax.specs.SpelledProcesses.{ProcessesAreSingle};
+ghost use Rattle.mcrl2_syntax.specs.SpelledDeclarations.{DeclarationsAreSingle, SpecificationsAreSingle};
 
 /// The tokens spell one sort expression at most, and it ends at one place.
 pub fn sorts_are_single()
@@ -22,4 +23,14 @@ pub fn labels_are_single()
 /// The tokens spell one process term at most.
 pub fn processes_are_single()
     ensures { ProcessesAreSingle }
+{}
+
+/// The tokens of a declaration spell one in each section at most.
+pub fn declarations_are_single()
+    ensures { DeclarationsAreSingle }
+{}
+
+/// The tokens of a text spell one specification at most.
+pub fn specifications_are_single()
+    ensures { SpecificationsAreSingle }
 {}

@@ -13,7 +13,10 @@ mod word;
 
 pub use data_tree::{DataTree, InfixSign, PrefixSign};
 pub use declaration::{Constructor, Decl, Field, Section, SectionWord, Spec};
-pub use laws::{data_are_single, labels_are_single, processes_are_single, sorts_are_single};
+pub use laws::{
+    data_are_single, declarations_are_single, labels_are_single, processes_are_single,
+    sorts_are_single, specifications_are_single,
+};
 pub use process_tree::{
     ActionTree, Assignment, CommRule, LabelTree, NameSet, ProcTree, Renaming, VarGroup,
 };
