@@ -8,6 +8,7 @@ mod data_tree;
 mod declaration;
 mod laws;
 mod process_tree;
+mod signs;
 mod sort_tree;
 mod word;
 
@@ -20,5 +21,6 @@ pub use laws::{
 pub use process_tree::{
     ActionTree, Assignment, CommRule, LabelTree, NameSet, ProcTree, Renaming, VarGroup,
 };
+pub use signs::{infix_sign, prefix_sign, section_of_kind, sign_level};
 pub use sort_tree::SortTree;
 pub use word::{Span, Word, joined_spans, token_span};
