@@ -1,21 +1,17 @@
 -- The tokens of a declaration are read in one way, and so are those of a specification.
-use Rattle.std.proofs.Common.{◌≡◌, ◌≢◌, ℕ, List, [], ◌∷◌, ◌++◌, Option, Some, None, All, refl, ap, sym, ◌∙◌, subst}
-use Rattle.mcrl2_lexer.specs.declared.kind.Kind.{Kind}
+use Rattle.std.proofs.Common.{◌≡◌, ℕ, List, [], ◌∷◌, Option, refl, ap, sym, ◌∙◌, subst}
 use Rattle.mcrl2_lexer.specs.declared.kind.Kind.TheVariants as kind_
 use Rattle.mcrl2_lexer.specs.declared.token.Token.{Token}
-use Rattle.mcrl2_syntax.specs.declared.word.Span.{Span}
 use Rattle.mcrl2_syntax.specs.declared.declaration.SectionWord.{SectionWord}
-use Rattle.mcrl2_syntax.specs.declared.declaration.SectionWord.TheVariants.{Sort, Cons, Map, Var, Eqn, Act, Proc, Init}
-use Rattle.mcrl2_syntax.specs.Words.{PlainWord, Begins, span_of, joined, spanned, word_span}
-use Rattle.mcrl2_syntax.specs.SortTrees.{PlainSort, sort_span}
-use Rattle.mcrl2_syntax.specs.DataTrees.{PlainData, data_span}
+use Rattle.mcrl2_syntax.specs.Words.{PlainWord, Begins, spanned, word_span}
+use Rattle.mcrl2_syntax.specs.SortTrees.{PlainSort}
+use Rattle.mcrl2_syntax.specs.DataTrees.{PlainData}
 use Rattle.mcrl2_syntax.specs.ProcessParts.{PlainVarGroup}
 use Rattle.mcrl2_syntax.specs.ProcessTrees.{PlainProcess, process_span}
-use Rattle.mcrl2_syntax.specs.Declarations.{PlainField, PlainConstructor, PlainDecl, sorts_decl, cons_decl, map_decl, vars_decl, act_decl, init_decl, PlainSection, PlainSpec}
-use Rattle.mcrl2_syntax.specs.SpelledWords.{token_word, SpellsName, a_name, SpellsList, last_item, more_items}
+use Rattle.mcrl2_syntax.specs.Declarations.{PlainField, PlainConstructor, PlainDecl, sorts_decl, cons_decl, map_decl, vars_decl, act_decl, init_decl}
+use Rattle.mcrl2_syntax.specs.SpelledWords.{token_word, a_name, last_item, more_items}
 use Rattle.mcrl2_syntax.specs.SpelledSorts.{SpellsSort, spells_bool, spells_pos, spells_nat, spells_int, spells_list, spells_named_sort, spells_brackets_sort}
-use Rattle.mcrl2_syntax.specs.SpelledData.{SpellsData, SpellsLevel}
-use Rattle.mcrl2_syntax.specs.SpelledLabels.{SpellsVars}
+use Rattle.mcrl2_syntax.specs.SpelledData.{SpellsData}
 use Rattle.mcrl2_syntax.specs.SpelledProcesses.{SpellsProcess}
 use Rattle.mcrl2_syntax.specs.SpelledDeclarations.{SpellsNames, SpellsDomain, bare_field, named_field, SpellsField, field_bare, field_named, SpellsFields, no_fields, some_fields, SpellsRecogniser, no_recogniser, a_recogniser, constructor_from, SpellsConstructor, a_constructor, group_span, SpellsSignature, of_constants, of_functions, signature_span, alias_from, struct_from, equation_from, equation_where, act_over, proc_from, SpellsDecl, decl_sorts, decl_alias, decl_struct, decl_cons, decl_map, decl_vars, decl_equation, decl_conditional, decl_acts, decl_acts_over, decl_proc, decl_proc_over, decl_init}
 use Rattle.mcrl2_syntax.proofs.Lists.{heads, tails, moved, names_once, list_once, items_once as listed_once}

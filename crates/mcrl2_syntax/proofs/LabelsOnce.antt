@@ -1,16 +1,16 @@
 -- No front of the same tokens is read as two actions, labels, calls or operators.
-use Rattle.std.proofs.Common.{◌≡◌, ◌≢◌, ◌⊎◌, ◌<◌, ℕ, zero, suc, List, [], ◌∷◌, Option, Some, None, refl, ap, sym, ◌∙◌, subst, inl, inr}
+use Rattle.std.proofs.Common.{◌≡◌, ◌≢◌, ℕ, zero, suc, List, ◌∷◌, refl, ap, sym, ◌∙◌, subst}
 use Rattle.mcrl2_lexer.specs.declared.kind.Kind.{Kind}
-use Rattle.mcrl2_lexer.specs.declared.kind.Kind.TheVariants.{Identifier, Tau, LeftParen, RightParen, RightBrace, Comma, Colon, Equals, Bar, Arrow, Allow, Block, Hide, Rename, Comm}
+use Rattle.mcrl2_lexer.specs.declared.kind.Kind.TheVariants.{Identifier, LeftParen, RightParen, RightBrace, Comma, Colon, Equals, Bar, Arrow}
 use Rattle.mcrl2_lexer.specs.declared.token.Token.{Token}
-use Rattle.mcrl2_syntax.specs.Words.{PlainWord, Begins, span_of, joined, spanned, word_span}
+use Rattle.mcrl2_syntax.specs.Words.{PlainWord, Begins, span_of, joined}
 use Rattle.mcrl2_syntax.specs.SortTrees.{PlainSort}
 use Rattle.mcrl2_syntax.specs.DataTrees.{PlainData, named, data_span}
 use Rattle.mcrl2_syntax.specs.ProcessParts.{PlainAction, named_action, PlainAssignment, PlainNameSet, PlainRenaming, PlainCommRule, PlainVarGroup, PlainLabel}
 use Rattle.mcrl2_syntax.specs.ProcessTrees.{PlainProcess, call}
 use Rattle.mcrl2_syntax.specs.SpelledWords.{token_word, SpellsName, a_name, SpellsList, last_item, more_items, SpellsBraces, no_items, some_items}
 use Rattle.mcrl2_syntax.specs.SpelledSorts.{SpellsSort}
-use Rattle.mcrl2_syntax.specs.SpelledData.{SpellsLevel, level_unit, level_chain, SpellsTail, tail_end, SpellsUnit, unit_name, SpellsItems, items_last, items_more}
+use Rattle.mcrl2_syntax.specs.SpelledData.{SpellsLevel, level_unit, level_chain, tail_end, unit_name, SpellsItems, items_last, items_more}
 use Rattle.mcrl2_syntax.specs.SpelledLabels.{SpellsAction, action_tau, action_name, action_applied, SpellsActions, label_from, SpellsLabel, label_actions, SpellsAssignment, assignment, SpellsCall, call_empty, call_assigns, name_set, SpellsNameSet, names_at_once, SpellsRenaming, renaming, comm_rule, SpellsCommRule, communication, var_group, SpellsVarGroup, variables, SpellsVars, Operation, allowing, blocking, hiding, renamed_by, communicating, SpellsOperation, spells_allow, spells_block, spells_hide, spells_rename, spells_comm}
 use Rattle.mcrl2_syntax.proofs.Lists.{heads, tails, moved, name_once, names_once, list_once, items_once as listed_once}
 use Rattle.mcrl2_syntax.proofs.SortsOnce.{sort_once}

@@ -1,7 +1,6 @@
 -- Lists with a separator are read in one way where their items are.
 use Rattle.std.proofs.Common.{◌≡◌, ℕ, List, [], ◌∷◌, refl, ap, sym, ◌∙◌, subst}
 use Rattle.mcrl2_lexer.specs.declared.kind.Kind.{Kind}
-use Rattle.mcrl2_lexer.specs.declared.kind.Kind.TheVariants.{Identifier}
 use Rattle.mcrl2_lexer.specs.declared.token.Token.{Token}
 use Rattle.mcrl2_syntax.specs.Words.{PlainWord, Begins}
 use Rattle.mcrl2_syntax.specs.SpelledWords.{SpellsName, a_name, SpellsList, last_item, more_items}

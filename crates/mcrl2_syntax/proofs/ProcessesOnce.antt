@@ -1,9 +1,8 @@
 -- No front of the same tokens is read as two process terms, where each reading stops at what can't go on.
-use Rattle.std.proofs.Common.{◌≡◌, ◌≢◌, ◌⊎◌, ℕ, zero, Bool, true, false, List, [], ◌∷◌, Option, None, Some, refl, ap, sym, ◌∙◌, subst, inl, inr}
+use Rattle.std.proofs.Common.{◌≡◌, ◌≢◌, ◌⊎◌, ℕ, zero, Bool, true, false, List, [], ◌∷◌, Some, refl, ap, sym, ◌∙◌, subst, inl, inr}
 use Rattle.mcrl2_lexer.specs.declared.kind.Kind.{Kind}
-use Rattle.mcrl2_lexer.specs.declared.kind.Kind.TheVariants.{Identifier, Numeral, TrueWord, FalseWord, LeftBracket, Tau, Delta, LeftParen, RightParen, Comma, Plus, BarBar, Bar, Sum, Dot, Arrow, Else, Allow, Block, Hide, Rename, Comm}
+use Rattle.mcrl2_lexer.specs.declared.kind.Kind.TheVariants.{Identifier, Tau, Delta, LeftParen, RightParen, Comma, Plus, BarBar, Bar, Sum, Dot, Arrow, Else, Allow, Block, Hide, Rename, Comm}
 use Rattle.mcrl2_lexer.specs.declared.token.Token.{Token}
-use Rattle.mcrl2_syntax.specs.declared.word.Span.{Span}
 use Rattle.mcrl2_syntax.specs.declared.data_tree.PrefixSign.{PrefixSign}
 use Rattle.mcrl2_syntax.specs.Words.{Begins, span_of, joined, spanned}
 use Rattle.mcrl2_syntax.specs.DataTrees.{PlainData, data_span}
@@ -14,8 +13,8 @@ use Rattle.mcrl2_syntax.specs.SpelledData.{SpellsUnit, unit_name, unit_numeral, 
 use Rattle.mcrl2_syntax.specs.SpelledLabels.{SpellsAction, action_tau, action_name, action_applied, SpellsActions, SpellsCall, call_empty, call_assigns, Operation, operated, SpellsOperation, spells_allow, spells_block, spells_hide, spells_rename, spells_comm}
 use Rattle.mcrl2_syntax.specs.SpelledProcesses.{sequenced, merged, chosen, SpellsAtom, atom_delta, atom_action, atom_multi, atom_call, atom_brackets, atom_operator, SpellsOperand, operand_sum, operand_cond, operand_parts, SpellsDots, dots_end, dots_atom, dots_sum, dots_cond, SpellsSum, sum_over, SpellsCond, cond_then, cond_else, SpellsMerge, merge_last, merge_more, SpellsChoices, choices_last, choices_more, SpellsProcess, spells_process}
 use Rattle.mcrl2_syntax.proofs.Lists.{heads, tails, moved}
-use Rattle.mcrl2_syntax.proofs.DataOnce.{Stops, stops_at, closed_paren, not_prefix, unit_once, items_once}
-use Rattle.mcrl2_syntax.proofs.LabelsOnce.{no_other, NoAction, action_once, actions_once, action_call, items_call, call_once, vars_once, operation_once}
+use Rattle.mcrl2_syntax.proofs.DataOnce.{stops_at, closed_paren, not_prefix, unit_once, items_once}
+use Rattle.mcrl2_syntax.proofs.LabelsOnce.{no_other, action_once, actions_once, action_call, items_call, call_once, vars_once, operation_once}
 use Rattle.mcrl2_syntax.proofs.Balance.{past_close, at_close, level_balanced, choices_balanced}
 
 -- What no operand can go on with.

@@ -1,7 +1,5 @@
 -- No front of the same tokens spells two sort expressions, or one of them in two ways.
-use Rattle.std.proofs.Common.{◌≡◌, ℕ, List, [], ◌∷◌, refl, ap, ◌∙◌}
-use Rattle.mcrl2_lexer.specs.declared.kind.Kind.{Kind}
-use Rattle.mcrl2_lexer.specs.declared.kind.Kind.TheVariants.{BoolWord, PosWord, NatWord, IntWord, ListWord, Identifier, LeftParen, RightParen}
+use Rattle.std.proofs.Common.{◌≡◌, ℕ, List, refl, ap, ◌∙◌}
 use Rattle.mcrl2_lexer.specs.declared.token.Token.{Token}
 use Rattle.mcrl2_syntax.specs.Words.{span_of}
 use Rattle.mcrl2_syntax.specs.SortTrees.{PlainSort, list_sort, brackets_sort}

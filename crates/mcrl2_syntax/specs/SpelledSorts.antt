@@ -1,5 +1,5 @@
 -- Which tokens spell which sort expression.
-use Rattle.std.specs.Prelude.{◌≡◌, ℕ, List, [], ◌∷◌}
+use Rattle.std.specs.Prelude.{◌≡◌, ℕ, List, ◌∷◌}
 use Rattle.mcrl2_lexer.specs.declared.kind.Kind.TheVariants.{BoolWord, PosWord, NatWord, IntWord, ListWord, Identifier, LeftParen, RightParen}
 use Rattle.mcrl2_lexer.specs.declared.token.Token.{Token}
 use Rattle.mcrl2_syntax.specs.Words.{span_of}

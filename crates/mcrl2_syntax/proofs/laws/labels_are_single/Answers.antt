@@ -1,4 +1,4 @@
-use Rattle.mcrl2_syntax.proofs.LabelsOnce.{label_once, operation_once, call_once, vars_once}
+use Rattle.mcrl2_syntax.proofs.LabelsOnce.{label_once}
 use Rattle.mcrl2_syntax.proofs.laws.labels_are_single.Goals as goal
 
 pub returns : goal.returns
