@@ -1,0 +1,10 @@
+//! Sort expressions and data expressions, read off tokens.
+//!
+//! Each function gives what a front of the tokens spells, and the rest of them.
+#![tactic(auto)]
+
+mod reading;
+mod words;
+
+pub use reading::sort;
+pub use words::{Fault, expect, next, word};
