@@ -3,8 +3,10 @@
 //! Each function gives what a front of the tokens spells, and the rest of them.
 #![tactic(auto)]
 
+mod grouping;
 mod reading;
 mod words;
 
+pub use grouping::{grouped_left, grouped_right, operand_trees, operands_span};
 pub use reading::sort;
 pub use words::{Fault, expect, next, word};
