@@ -1,8 +1,8 @@
 //! The operands of a level in one tree.
 
 ghost use Rattle.std.specs.Prelude.{◌≡◌, ◌∷◌, IfOk, MatchOption, map};
-ghost use Rattle.mcrl2_syntax.specs.DataTrees.{PlainData, plain_data, plain_operands, data_span};
-ghost use Rattle.mcrl2_syntax.specs.InfixSigns.{joined_by, to_left, to_right, last_span, chain_span};
+ghost use Rattle.mcrl2_syntax.specs.DataTrees.{PlainData, plain_data, plain_operands, data_span, operands_of, datas_of};
+ghost use Rattle.mcrl2_syntax.specs.InfixSigns.{joined_by, to_left, to_right, to_sum, to_product, to_and, to_or, last_span, chain_span, grouped};
 
 use crate::words::Fault;
 use mcrl2_syntax::{DataTree, InfixSign, Span, joined_spans};
@@ -22,8 +22,8 @@ fn joined_by(
     Ok(tree)
 }
 
-/// The operands of a level that groups to the left.
-pub fn grouped_left(
+// The operands of a level that groups to the left.
+fn grouped_left(
     alloc: Global,
     first: DataTree,
     operands: Vec<(InfixSign, DataTree)>,
@@ -37,8 +37,8 @@ pub fn grouped_left(
     Ok(tree)
 }
 
-/// The operands of a level that groups to the right.
-pub fn grouped_right(
+// The operands of a level that groups to the right.
+fn grouped_right(
     alloc: Global,
     first: DataTree,
     operands: Vec<(InfixSign, DataTree)>,
@@ -83,15 +83,15 @@ fn last_span(span: Span, operands: &[(InfixSign, DataTree)]) -> Span
     end
 }
 
-/// From the first byte of the first operand to the last byte of the last one.
-pub fn operands_span(first: &DataTree, operands: &[(InfixSign, DataTree)]) -> Span
+// From the first byte of the first operand to the last byte of the last one.
+fn operands_span(first: &DataTree, operands: &[(InfixSign, DataTree)]) -> Span
     ensures { result ≡ chain_span (plain_data first.now) (plain_operands operands.now) }
 {
     joined_spans(first.span(), last_span(first.span(), operands))
 }
 
-/// All operands of a level, without their signs.
-pub fn operand_trees(
+// All operands of a level, without their signs.
+fn operand_trees(
     alloc: Global,
     first: DataTree,
     operands: Vec<(InfixSign, DataTree)>,
@@ -104,4 +104,87 @@ pub fn operand_trees(
         trees.push(operand)?;
     }
     Ok(trees)
+}
+
+// The operands of `+` and `-` as one chain, where there are further ones.
+fn sum_of(
+    alloc: Global,
+    first: DataTree,
+    operands: Vec<(InfixSign, DataTree)>,
+) -> Result<DataTree, Fault>
+    ensures { IfOk result (λ tree. plain_data tree ≡ to_sum (plain_data first) (plain_operands operands.items)) }
+{
+    if operands.is_empty() {
+        return Ok(first);
+    }
+    let span = operands_span(&first, &operands);
+    let tree = DataTree::sum_at(alloc, span, first, operands)?;
+    Ok(tree)
+}
+
+// The operands of `*` and `.` as one chain, where there are further ones.
+fn product_of(
+    alloc: Global,
+    first: DataTree,
+    operands: Vec<(InfixSign, DataTree)>,
+) -> Result<DataTree, Fault>
+    ensures { IfOk result (λ tree. plain_data tree ≡ to_product (plain_data first) (plain_operands operands.items)) }
+{
+    if operands.is_empty() {
+        return Ok(first);
+    }
+    let span = operands_span(&first, &operands);
+    let tree = DataTree::product_at(alloc, span, first, operands)?;
+    Ok(tree)
+}
+
+// The operands of `&&` as one chain, where there are further ones.
+fn and_of(
+    alloc: Global,
+    first: DataTree,
+    operands: Vec<(InfixSign, DataTree)>,
+) -> Result<DataTree, Fault>
+    ensures { IfOk result (λ tree. plain_data tree ≡ to_and (plain_data first) (plain_operands operands.items)) }
+{
+    if operands.is_empty() {
+        return Ok(first);
+    }
+    let span = operands_span(&first, &operands);
+    let trees = operand_trees(alloc, first, operands)?;
+    Ok(DataTree::and_at(span, trees))
+}
+
+// The operands of `||` as one chain, where there are further ones.
+fn or_of(
+    alloc: Global,
+    first: DataTree,
+    operands: Vec<(InfixSign, DataTree)>,
+) -> Result<DataTree, Fault>
+    ensures { IfOk result (λ tree. plain_data tree ≡ to_or (plain_data first) (plain_operands operands.items)) }
+{
+    if operands.is_empty() {
+        return Ok(first);
+    }
+    let span = operands_span(&first, &operands);
+    let trees = operand_trees(alloc, first, operands)?;
+    Ok(DataTree::or_at(span, trees))
+}
+
+/// The first operand of a level and the further ones in one tree, as the level groups.
+pub fn grouped(
+    alloc: Global,
+    level: u8,
+    first: DataTree,
+    operands: Vec<(InfixSign, DataTree)>,
+) -> Result<DataTree, Fault>
+    ensures { IfOk result (λ tree. plain_data tree ≡ grouped level (plain_data first) (plain_operands operands.items)) }
+{
+    match level {
+        1 => product_of(alloc, first, operands),
+        3 => sum_of(alloc, first, operands),
+        9 => and_of(alloc, first, operands),
+        10 => or_of(alloc, first, operands),
+        6 | 11 => grouped_right(alloc, first, operands),
+        _ => grouped_left(alloc, first, operands),
+    }
 }

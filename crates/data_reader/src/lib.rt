@@ -7,6 +7,6 @@ mod grouping;
 mod reading;
 mod words;
 
-pub use grouping::{grouped_left, grouped_right, operand_trees, operands_span};
+pub use grouping::grouped;
 pub use reading::sort;
 pub use words::{Fault, expect, next, word};
