@@ -11,3 +11,4 @@ pub mod SpelledData
 pub mod SpelledLabels
 pub mod SpelledProcesses
 pub mod SpelledDeclarations
+pub mod Copied

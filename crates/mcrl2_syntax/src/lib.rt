@@ -4,6 +4,7 @@
 //! tree, and fails for want of memory alone.
 #![tactic(auto)]
 
+mod copying;
 mod data_tree;
 mod declaration;
 mod laws;
@@ -12,6 +13,7 @@ mod signs;
 mod sort_tree;
 mod word;
 
+pub use copying::is_first_copied;
 pub use data_tree::{DataTree, InfixSign, PrefixSign};
 pub use declaration::{Constructor, Decl, Field, Section, SectionWord, Spec};
 pub use laws::{
