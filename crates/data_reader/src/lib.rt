@@ -10,3 +10,6 @@ mod words;
 pub use grouping::grouped;
 pub use reading::sort;
 pub use words::{Fault, expect, next, word};
+
+#[cfg(test)]
+mod tests;
