@@ -1,5 +1,5 @@
 -- Grouping, one operand more.
-use Rattle.std.proofs.Common.{◌≡◌, ℕ, List, [], ◌∷◌, ◌++◌, length, map, arith, refl, ap, sym, ◌∙◌}
+use Rattle.std.proofs.Common.{◌≡◌, List, [], ◌∷◌, ◌++◌, map, refl, ap, sym, ◌∙◌}
 use Rattle.std.proofs.lemmas.List.{map-append}
 use Rattle.mcrl2_syntax.specs.declared.data_tree.InfixSign.{InfixSign}
 use Rattle.mcrl2_syntax.specs.declared.data_tree.DataTree.{DataTree}

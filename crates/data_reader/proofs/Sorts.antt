@@ -1,6 +1,5 @@
 -- Each rule of sorts, as the code comes to it: the tree's plain form, and each list, by an equation.
-use Rattle.std.proofs.Common.{◌≡◌, ℕ, List, [], ◌∷◌, Result, Ok, Err, IfOk, IsErrOf, MatchResult, Bor, refl, ap, sym, ◌∙◌, subst}
-use Rattle.mcrl2_lexer.specs.declared.kind.Kind.{Kind}
+use Rattle.std.proofs.Common.{◌≡◌, ℕ, List, ◌∷◌, Result, Ok, Err, IfOk, IsErrOf, MatchResult, Bor, refl, sym, subst}
 use Rattle.mcrl2_lexer.specs.declared.kind.Kind.TheVariants.{BoolWord, PosWord, NatWord, IntWord, ListWord, Identifier, LeftParen, RightParen}
 use Rattle.mcrl2_lexer.specs.declared.token.Token.{Token}
 use Rattle.data_reader.specs.declared.words.Fault.{Fault}
