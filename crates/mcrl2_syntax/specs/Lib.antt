@@ -1,0 +1,14 @@
+pub mod Words
+pub mod SortTrees
+pub mod DataTrees
+pub mod ProcessParts
+pub mod ProcessTrees
+pub mod Declarations
+pub mod SpelledWords
+pub mod SpelledSorts
+pub mod InfixSigns
+pub mod SpelledData
+pub mod SpelledLabels
+pub mod SpelledProcesses
+pub mod SpelledDeclarations
+pub mod Copied

@@ -1,0 +1,398 @@
+//! Process terms, actions and labels.
+
+ghost use Rattle.std.specs.Prelude.{◌≡◌, IfOk, map};
+ghost use Rattle.mcrl2_syntax.specs.Words.{word_of};
+ghost use Rattle.mcrl2_syntax.specs.SortTrees.{plain_sort};
+ghost use Rattle.mcrl2_syntax.specs.DataTrees.{plain_data};
+ghost use Rattle.mcrl2_syntax.specs.ProcessParts.{tau_action, named_action, plain_action, action_span, assignment_of, name_set_of, renaming_of, comm_rule_of, var_group_of, label_of};
+ghost use Rattle.mcrl2_syntax.specs.ProcessTrees.{delta, acts, multi, call, within, allow, block, hide, rename, comm, sequence, sum, when, either, parallel, choice, processes_of, plain_process, process_span};
+
+use crate::data_tree::DataTree;
+use crate::sort_tree::SortTree;
+use crate::word::{Span, Word};
+use std::alloc::{AllocFailed, Global};
+
+/// An action, or none.
+#[derive(Debug, Drop)]
+pub enum ActionTree {
+    /// `tau`
+    Tau(Span),
+    /// `a` or `a(d, e)`; without brackets there are no arguments.
+    Named(Span, Word, Vec<DataTree>),
+}
+
+impl ActionTree {
+    /// The empty label.
+    pub fn tau_at(span: Span) -> ActionTree
+        ensures { plain_action result ≡ tau_action span }
+    {
+        ActionTree::Tau(span)
+    }
+
+    /// A name with arguments.
+    pub fn named_at(span: Span, name: Word, arguments: Vec<DataTree>) -> ActionTree
+        ensures { plain_action result ≡ named_action span (word_of name) (map plain_data arguments.items) }
+    {
+        ActionTree::Named(span, name, arguments)
+    }
+
+    /// Where the action stands.
+    pub fn span(&self) -> Span
+        ensures { result ≡ action_span (plain_action self.now) }
+    {
+        match self {
+            ActionTree::Tau(span) => *span,
+            ActionTree::Named(span, _, _) => *span,
+        }
+    }
+}
+
+/// A parameter and its value, as `x = d`.
+#[derive(Debug, Drop)]
+pub struct Assignment {
+    /// Where it stands.
+    pub span: Span,
+    /// The name.
+    pub name: Word,
+    /// The value.
+    pub value: DataTree,
+}
+
+impl Assignment {
+    /// A parameter and its value, as `x = d`.
+    pub fn new(span: Span, name: Word, value: DataTree) -> Assignment
+        ensures { assignment_of result ≡ record { span = span; name = word_of name; value = plain_data value } }
+    {
+        Assignment { span, name, value }
+    }
+}
+
+/// Names that act together, as `a|b`.
+#[derive(Debug, Drop)]
+pub struct NameSet {
+    /// Where it stands.
+    pub span: Span,
+    /// The names.
+    pub names: Vec<Word>,
+}
+
+impl NameSet {
+    /// Names that act together, as `a|b`.
+    pub fn new(span: Span, names: Vec<Word>) -> NameSet
+        ensures { name_set_of result ≡ record { span = span; names = map word_of names.items } }
+    {
+        NameSet { span, names }
+    }
+}
+
+/// A name and its new name, as `a -> b`.
+#[derive(Debug, Drop)]
+pub struct Renaming {
+    /// Where it stands.
+    pub span: Span,
+    /// The name that is replaced.
+    pub old: Word,
+    /// The name that stands in its place.
+    pub renamed: Word,
+}
+
+impl Renaming {
+    /// A name and its new name, as `a -> b`.
+    pub fn new(span: Span, old: Word, renamed: Word) -> Renaming
+        ensures { renaming_of result ≡ record { span = span; old = word_of old; renamed = word_of renamed } }
+    {
+        Renaming { span, old, renamed }
+    }
+}
+
+/// Names that communicate, and their result, as `a|b -> c`.
+#[derive(Debug, Drop)]
+pub struct CommRule {
+    /// Where it stands.
+    pub span: Span,
+    /// The names.
+    pub names: Vec<Word>,
+    /// The name of the result.
+    pub outcome: Word,
+}
+
+impl CommRule {
+    /// Names that communicate, and their result, as `a|b -> c`.
+    pub fn new(span: Span, names: Vec<Word>, outcome: Word) -> CommRule
+        ensures { comm_rule_of result ≡ record { span = span; names = map word_of names.items; outcome = word_of outcome } }
+    {
+        CommRule {
+            span,
+            names,
+            outcome,
+        }
+    }
+}
+
+/// Variables of a sort, as `x, y: S`.
+#[derive(Debug, Drop)]
+pub struct VarGroup {
+    /// Where it stands.
+    pub span: Span,
+    /// The names.
+    pub names: Vec<Word>,
+    /// The sort.
+    pub sort: SortTree,
+}
+
+impl VarGroup {
+    /// Variables of a sort, as `x, y: S`.
+    pub fn new(span: Span, names: Vec<Word>, sort: SortTree) -> VarGroup
+        ensures { var_group_of result ≡ record { span = span; names = map word_of names.items; sort = plain_sort sort } }
+    {
+        VarGroup { span, names, sort }
+    }
+}
+
+/// The label of a step, as `a(1)|b`.
+#[derive(Debug, Drop)]
+pub struct LabelTree {
+    /// Where it stands.
+    pub span: Span,
+    /// The actions.
+    pub actions: Vec<ActionTree>,
+}
+
+impl LabelTree {
+    /// The label of a step, as `a(1)|b`.
+    pub fn new(span: Span, actions: Vec<ActionTree>) -> LabelTree
+        ensures { label_of result ≡ record { span = span; actions = map plain_action actions.items } }
+    {
+        LabelTree { span, actions }
+    }
+}
+
+/// A process term.
+#[derive(Debug, Drop)]
+pub enum ProcTree {
+    /// `delta`
+    Delta(Span),
+    /// `tau`, `a` or `a(d)`
+    Action(ActionTree),
+    /// `a|b(d)`
+    Multi(Span, Vec<ActionTree>),
+    /// `P()` or `P(x = d)`
+    Call(Span, Word, Vec<Assignment>),
+    /// `(p)`
+    Brackets(Span, Box<ProcTree>),
+    /// `allow({a|b}, p)`
+    Allow(Span, Vec<NameSet>, Box<ProcTree>),
+    /// `block({a}, p)`
+    Block(Span, Vec<Word>, Box<ProcTree>),
+    /// `hide({a}, p)`
+    Hide(Span, Vec<Word>, Box<ProcTree>),
+    /// `rename({a -> b}, p)`
+    Rename(Span, Vec<Renaming>, Box<ProcTree>),
+    /// `comm({a|b -> c}, p)`
+    Comm(Span, Vec<CommRule>, Box<ProcTree>),
+    /// `p . q`
+    Sequence(Span, Vec<ProcTree>),
+    /// `sum x: S . p`
+    Sum(Span, Vec<VarGroup>, Box<ProcTree>),
+    /// `c -> p`
+    When(Span, DataTree, Box<ProcTree>),
+    /// `c -> p <> q`
+    Either(Span, DataTree, Box<ProcTree>, Box<ProcTree>),
+    /// `p || q`
+    Parallel(Span, Vec<ProcTree>),
+    /// `p + q`
+    Choice(Span, Vec<ProcTree>),
+}
+
+impl ProcTree {
+    /// The process that does nothing.
+    pub fn delta_at(span: Span) -> ProcTree
+        ensures { plain_process result ≡ delta span }
+    {
+        ProcTree::Delta(span)
+    }
+
+    /// One action; also the call of a process without assignments.
+    pub fn action_at(action: ActionTree) -> ProcTree
+        ensures { plain_process result ≡ acts (plain_action action) }
+    {
+        ProcTree::Action(action)
+    }
+
+    /// Actions at once.
+    pub fn multi_at(span: Span, actions: Vec<ActionTree>) -> ProcTree
+        ensures { plain_process result ≡ multi span (map plain_action actions.items) }
+    {
+        ProcTree::Multi(span, actions)
+    }
+
+    /// A call with assignments.
+    pub fn call_at(span: Span, name: Word, assignments: Vec<Assignment>) -> ProcTree
+        ensures { plain_process result ≡ call span (word_of name) (map assignment_of assignments.items) }
+    {
+        ProcTree::Call(span, name, assignments)
+    }
+
+    /// A process in brackets.
+    pub fn brackets_at(
+        alloc: Global,
+        span: Span,
+        inner: ProcTree,
+    ) -> Result<ProcTree, AllocFailed<ProcTree>>
+        ensures { IfOk result (λ tree. plain_process tree ≡ within span (plain_process inner)) }
+    {
+        let inner = Box::new(alloc, inner)?;
+        Ok(ProcTree::Brackets(span, inner))
+    }
+
+    /// The steps with these names.
+    pub fn allow_at(
+        alloc: Global,
+        span: Span,
+        sets: Vec<NameSet>,
+        inner: ProcTree,
+    ) -> Result<ProcTree, AllocFailed<ProcTree>>
+        ensures { IfOk result (λ tree. plain_process tree ≡ allow span (map name_set_of sets.items) (plain_process inner)) }
+    {
+        let inner = Box::new(alloc, inner)?;
+        Ok(ProcTree::Allow(span, sets, inner))
+    }
+
+    /// The steps without these names.
+    pub fn block_at(
+        alloc: Global,
+        span: Span,
+        names: Vec<Word>,
+        inner: ProcTree,
+    ) -> Result<ProcTree, AllocFailed<ProcTree>>
+        ensures { IfOk result (λ tree. plain_process tree ≡ block span (map word_of names.items) (plain_process inner)) }
+    {
+        let inner = Box::new(alloc, inner)?;
+        Ok(ProcTree::Block(span, names, inner))
+    }
+
+    /// The steps, with the actions of these names left out.
+    pub fn hide_at(
+        alloc: Global,
+        span: Span,
+        names: Vec<Word>,
+        inner: ProcTree,
+    ) -> Result<ProcTree, AllocFailed<ProcTree>>
+        ensures { IfOk result (λ tree. plain_process tree ≡ hide span (map word_of names.items) (plain_process inner)) }
+    {
+        let inner = Box::new(alloc, inner)?;
+        Ok(ProcTree::Hide(span, names, inner))
+    }
+
+    /// The steps under other names.
+    pub fn rename_at(
+        alloc: Global,
+        span: Span,
+        renamings: Vec<Renaming>,
+        inner: ProcTree,
+    ) -> Result<ProcTree, AllocFailed<ProcTree>>
+        ensures { IfOk result (λ tree. plain_process tree ≡ rename span (map renaming_of renamings.items) (plain_process inner)) }
+    {
+        let inner = Box::new(alloc, inner)?;
+        Ok(ProcTree::Rename(span, renamings, inner))
+    }
+
+    /// The steps, with actions that communicate.
+    pub fn comm_at(
+        alloc: Global,
+        span: Span,
+        rules: Vec<CommRule>,
+        inner: ProcTree,
+    ) -> Result<ProcTree, AllocFailed<ProcTree>>
+        ensures { IfOk result (λ tree. plain_process tree ≡ comm span (map comm_rule_of rules.items) (plain_process inner)) }
+    {
+        let inner = Box::new(alloc, inner)?;
+        Ok(ProcTree::Comm(span, rules, inner))
+    }
+
+    /// One process after the other.
+    pub fn sequence_at(span: Span, parts: Vec<ProcTree>) -> ProcTree
+        ensures { plain_process result ≡ sequence span (processes_of (map plain_process parts.items)) }
+    {
+        ProcTree::Sequence(span, parts)
+    }
+
+    /// A process for each value of the variables.
+    pub fn sum_at(
+        alloc: Global,
+        span: Span,
+        variables: Vec<VarGroup>,
+        inner: ProcTree,
+    ) -> Result<ProcTree, AllocFailed<ProcTree>>
+        ensures { IfOk result (λ tree. plain_process tree ≡ sum span (map var_group_of variables.items) (plain_process inner)) }
+    {
+        let inner = Box::new(alloc, inner)?;
+        Ok(ProcTree::Sum(span, variables, inner))
+    }
+
+    /// A process under a condition.
+    pub fn when_at(
+        alloc: Global,
+        span: Span,
+        condition: DataTree,
+        then: ProcTree,
+    ) -> Result<ProcTree, AllocFailed<ProcTree>>
+        ensures { IfOk result (λ tree. plain_process tree ≡ when span (plain_data condition) (plain_process then)) }
+    {
+        let then = Box::new(alloc, then)?;
+        Ok(ProcTree::When(span, condition, then))
+    }
+
+    /// A process under a condition, and another one where it doesn't hold.
+    pub fn either_at(
+        alloc: Global,
+        span: Span,
+        condition: DataTree,
+        then: ProcTree,
+        other: ProcTree,
+    ) -> Result<ProcTree, AllocFailed<ProcTree>>
+        ensures { IfOk result (λ tree. plain_process tree ≡ either span (plain_data condition) (plain_process then) (plain_process other)) }
+    {
+        let then = Box::new(alloc, then)?;
+        let other = Box::new(alloc, other)?;
+        Ok(ProcTree::Either(span, condition, then, other))
+    }
+
+    /// Processes side by side.
+    pub fn parallel_at(span: Span, parts: Vec<ProcTree>) -> ProcTree
+        ensures { plain_process result ≡ parallel span (processes_of (map plain_process parts.items)) }
+    {
+        ProcTree::Parallel(span, parts)
+    }
+
+    /// A choice of processes.
+    pub fn choice_at(span: Span, parts: Vec<ProcTree>) -> ProcTree
+        ensures { plain_process result ≡ choice span (processes_of (map plain_process parts.items)) }
+    {
+        ProcTree::Choice(span, parts)
+    }
+
+    /// Where the process term stands.
+    pub fn span(&self) -> Span
+        ensures { result ≡ process_span (plain_process self.now) }
+    {
+        match self {
+            ProcTree::Delta(span) => *span,
+            ProcTree::Action(action) => action.span(),
+            ProcTree::Multi(span, _) => *span,
+            ProcTree::Call(span, _, _) => *span,
+            ProcTree::Brackets(span, _) => *span,
+            ProcTree::Allow(span, _, _) => *span,
+            ProcTree::Block(span, _, _) => *span,
+            ProcTree::Hide(span, _, _) => *span,
+            ProcTree::Rename(span, _, _) => *span,
+            ProcTree::Comm(span, _, _) => *span,
+            ProcTree::Sequence(span, _) => *span,
+            ProcTree::Sum(span, _, _) => *span,
+            ProcTree::When(span, _, _) => *span,
+            ProcTree::Either(span, _, _, _) => *span,
+            ProcTree::Parallel(span, _) => *span,
+            ProcTree::Choice(span, _) => *span,
+        }
+    }
+}
