@@ -13,3 +13,4 @@ pub mod Examples
 pub mod Rewriting
 pub mod Names
 pub mod SortLaws
+pub mod Whole

@@ -11,14 +11,18 @@ pub mod environments;
 pub mod equality;
 pub mod examples;
 pub mod growth;
+mod ids;
 mod names;
 mod no_memory;
+mod num;
 pub mod rewriting;
 pub mod sorts;
 pub mod values;
 
-pub use names::{NameId, Names};
+pub use ids::{ActId, FunId, NameId, ProcId, SortId, TermId, VarId};
+pub use names::Names;
 pub use no_memory::NoMemory;
+pub use num::Num;
 
 #[cfg(test)]
 mod tests;
