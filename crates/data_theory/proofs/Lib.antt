@@ -19,3 +19,7 @@ pub mod TextLemmas
 pub mod SameSorts
 pub mod NoNewVariable
 pub mod NormalForms
+pub mod PlaceLemmas
+pub mod IdLemmas
+pub mod KeyLemmas
+pub mod FunctionLemmas

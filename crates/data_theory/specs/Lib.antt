@@ -14,3 +14,8 @@ pub mod Rewriting
 pub mod Names
 pub mod SortLaws
 pub mod Whole
+pub mod Places
+pub mod Keys
+pub mod Functions
+pub mod Actions
+pub mod SortNames

@@ -5,20 +5,27 @@
 //! that theory, so that the crates above can cite it. [`Names`] is the table of texts.
 #![tactic(auto)]
 
+mod actions;
 pub mod booleans;
 pub mod constructors;
 pub mod environments;
 pub mod equality;
 pub mod examples;
 pub mod growth;
+mod functions;
 mod ids;
+mod keys;
 mod names;
 mod no_memory;
 mod num;
 pub mod rewriting;
+mod sort_lists;
+mod sort_names;
 pub mod sorts;
 pub mod values;
+mod words;
 
+pub use actions::ActEntry;
 pub use ids::{ActId, FunId, NameId, ProcId, SortId, TermId, VarId};
 pub use names::Names;
 pub use no_memory::NoMemory;
