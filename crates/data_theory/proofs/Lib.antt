@@ -23,3 +23,5 @@ pub mod PlaceLemmas
 pub mod IdLemmas
 pub mod KeyLemmas
 pub mod FunctionLemmas
+pub mod SortNameLemmas
+pub mod ListSortLemmas

@@ -19,3 +19,4 @@ pub mod Keys
 pub mod Functions
 pub mod Actions
 pub mod SortNames
+pub mod Sorts

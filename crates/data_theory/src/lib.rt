@@ -21,6 +21,7 @@ mod num;
 pub mod rewriting;
 mod sort_lists;
 mod sort_names;
+mod sort_table;
 pub mod sorts;
 pub mod values;
 mod words;
@@ -30,6 +31,7 @@ pub use ids::{ActId, FunId, NameId, ProcId, SortId, TermId, VarId};
 pub use names::Names;
 pub use no_memory::NoMemory;
 pub use num::Num;
+pub use sort_table::SortKind;
 
 #[cfg(test)]
 mod tests;
