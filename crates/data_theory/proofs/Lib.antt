@@ -25,3 +25,4 @@ pub mod KeyLemmas
 pub mod FunctionLemmas
 pub mod SortNameLemmas
 pub mod ListSortLemmas
+pub mod RowLemmas

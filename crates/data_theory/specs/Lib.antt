@@ -20,3 +20,5 @@ pub mod Functions
 pub mod Actions
 pub mod SortNames
 pub mod Sorts
+pub mod Words
+pub mod Rows

@@ -7,6 +7,7 @@
 
 mod actions;
 pub mod booleans;
+mod built_ins;
 pub mod constructors;
 pub mod environments;
 pub mod equality;
@@ -19,6 +20,7 @@ mod names;
 mod no_memory;
 mod num;
 pub mod rewriting;
+mod rows;
 mod sort_lists;
 mod sort_names;
 mod sort_table;
