@@ -26,3 +26,5 @@ pub mod FunctionLemmas
 pub mod SortNameLemmas
 pub mod ListSortLemmas
 pub mod RowLemmas
+pub mod GrowthOfTexts
+pub mod SignatureLemmas

@@ -57,3 +57,7 @@ if_not_err (Err x) e h = cc
 pub if_err : {A E : Type 0} (r : Result A E) {P : Type 0} → is_err r ≡ true → OnErr r P → P
 if_err (Ok x) e h = cc
 if_err (Err x) e h = h
+
+-- rows behind what was there
+pub added_step : (texts : List (List ℕ)) (old mid new : List Function) (rows named : List Row) → mid ≡ old → new ≡ mid ++ built_ins texts rows → rows ≡ named → new ≡ old ++ built_ins texts named
+added_step texts old mid new rows named e f g = f ∙ (λ i. e i ++ built_ins texts (g i))

@@ -1,5 +1,5 @@
 -- The functions of a signature.
-use Rattle.std.specs.Prelude.{◌≡◌, ℕ, List, Option, map, Some, slice_get}
+use Rattle.std.specs.Prelude.{◌≡◌, ℕ, Bool, [], cond, List, Option, map, Some, slice_get}
 use Rattle.data_theory.specs.declared.ids.NameId.{NameId}
 use Rattle.data_theory.specs.declared.ids.SortId.{SortId}
 use Rattle.data_theory.specs.declared.ids.FunId.{FunId}
@@ -14,11 +14,12 @@ pub record Function : Type 0 where
   pub sorts : List SortId
   pub result : SortId
   pub word : Option Word
+  pub is_list_constant : Bool
   pub projections : List (Option FunId)
   pub test : Option FunId
 
 abbrev pub function_of : FunEntry → Function
-function_of f = record { name = f.name; sorts = f.sorts.items; result = f.to; word = f.word; projections = f.projections.items; test = f.test }
+function_of f = record { name = f.name; sorts = f.sorts.items; result = f.to; word = f.word; is_list_constant = f.is_list_constant; projections = f.projections.items; test = f.test }
 
 abbrev pub functions_of : List FunEntry → List Function
 functions_of fs = map function_of fs
@@ -29,3 +30,7 @@ key_of f = key f.name f.sorts
 -- the function with this number is found by this key
 abbrev pub HasKey : List Function → Key → ℕ → Type 0
 HasKey fs k n = (f : Function) × (slice_get fs n ≡ Some f) × (key_of f ≡ k)
+
+-- the sorts of its arguments
+abbrev pub arguments_of : Function → List SortId
+arguments_of f = cond f.is_list_constant [] f.sorts

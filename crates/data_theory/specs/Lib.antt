@@ -22,3 +22,6 @@ pub mod SortNames
 pub mod Sorts
 pub mod Words
 pub mod Rows
+pub mod Table
+pub mod Grows
+pub mod Signature

@@ -14,6 +14,7 @@ pub struct FunEntry {
     pub sorts: Vec<SortId>,
     pub to: SortId,
     pub word: Option<Word>,
+    pub is_list_constant: bool,
     pub projections: Vec<Option<FunId>>,
     pub test: Option<FunId>,
 }

@@ -21,10 +21,12 @@ mod no_memory;
 mod num;
 pub mod rewriting;
 mod rows;
+mod signature;
 mod sort_lists;
 mod sort_names;
 mod sort_table;
 pub mod sorts;
+mod table;
 pub mod values;
 mod words;
 
@@ -33,6 +35,7 @@ pub use ids::{ActId, FunId, NameId, ProcId, SortId, TermId, VarId};
 pub use names::Names;
 pub use no_memory::NoMemory;
 pub use num::Num;
+pub use signature::{Signature, Variable};
 pub use sort_table::SortKind;
 
 #[cfg(test)]
