@@ -72,10 +72,10 @@ list_pushed ss index d are l e = by_place (decide d.0 e)
     by_place : (d.0 ≡ e) ⊎ (d.0 ≡ e → ⊥) → IsTheListOver (ss ++ list_sort d ∷ []) (record { 0 = e }) (get_or (slice_set index d.0 (Some (record { 0 = length ss }))) e None)
     by_place (inl same) =
         subst (λ (k : ℕ). IsTheListOver (ss ++ list_sort d ∷ []) (record { 0 = k }) (get_or (slice_set index d.0 (Some (record { 0 = length ss }))) k None)) same
-          (rw (set_here index d.0 (Some (record { 0 = length ss })) l) (list_sort d, read_last ss (list_sort d), refl))
+        (rw (set_here index d.0 (Some (record { 0 = length ss })) l) (list_sort d, read_last ss (list_sort d), refl))
     by_place (inr differ) =
         rw (set_there index d.0 e (Some (record { 0 = length ss })) differ)
-          (list_step ss d (record { 0 = e }) (get_or index e None) (λ p. differ (ap (λ (s : SortId). s.0) p)) (are e))
+        (list_step ss d (record { 0 = e }) (get_or index e None) (λ p. differ (ap (λ (s : SortId). s.0) p)) (are e))
 
 -- an index that grew by nothing
 pub same_answers : (ss : List SortInfo) (old new : List (Option SortId)) → AreLists ss old → ((k : ℕ) → get_or new k None ≡ get_or old k None) → AreLists ss new

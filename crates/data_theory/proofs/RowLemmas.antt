@@ -28,7 +28,7 @@ pub row_added : (texts : List (List ℕ)) (old mid new : List Function) (rows : 
     → mid ≡ old ++ built_ins texts (take i rows) → new ≡ mid ++ built_in texts (get_or rows i d) ∷ [] → new ≡ old ++ built_ins texts (take (i + 1) rows)
 row_added texts old mid new rows i d l e f =
     let one : built_ins texts (take (i + 1) rows) ≡ built_ins texts (take i rows) ++ built_in texts (get_or rows i d) ∷ [] =
-      ap (built_ins texts) (take_more rows i d l) ∙ map-append (built_in texts) (take i rows) (get_or rows i d ∷ []) in
+    ap (built_ins texts) (take_more rows i d l) ∙ map-append (built_in texts) (take i rows) (get_or rows i d ∷ []) in
     f ∙ ap (λ fs. fs ++ built_in texts (get_or rows i d) ∷ []) e ∙ append_assoc old _ _ ∙ ap (λ fs. old ++ fs) (sym one)
 
 pub take_over : {A : Type 0} (xs : List A) (n : ℕ) → length xs ≤ n → take n xs ≡ xs

@@ -69,3 +69,7 @@ declared_function n args to = record { name = n; sorts = args; result = to; word
 -- with a declared function, whose name is taken
 abbrev pub with_function : Sig → Function → Sig
 with_function s f = record s { functions = s.functions ++ f ∷ []; declared = s.declared ++ record { 0 = length s.functions } ∷ []; taken = with_name s.taken f.name }
+
+-- with a further name of a sort, which is taken
+abbrev pub with_alias : Sig → NameId → SortId → Sig
+with_alias s n sort = record s { sort_names = s.sort_names ++ (n, sort) ∷ []; taken = with_name s.taken n }

@@ -42,7 +42,7 @@ impl Model for Signature {
 }
 
 impl Signature {
-    ghost use Rattle.std.specs.Prelude.{◌≡◌, ◌<◌, ◌⊎◌, ◌↔◌, ℕ, length, IsTrue, IsSome, IfOk, IfSome, OnOk, OnErr, MatchOption, slice_get, Some};
+    ghost use Rattle.std.specs.Prelude.{◌≡◌, ◌<◌, ◌⊎◌, ◌↔◌, ℕ, [], length, IsTrue, IsSome, IfOk, IfSome, OnOk, OnErr, MatchOption, slice_get, Some};
     ghost use Rattle.std.specs.List.{Contains};
     ghost use Rattle.data_theory.specs.Keys.{key};
     ghost use Rattle.data_theory.specs.Functions.{HasKey, arguments_of};
@@ -50,7 +50,7 @@ impl Signature {
     ghost use Rattle.data_theory.specs.SortNames.{IsName, IsSortName};
     ghost use Rattle.data_theory.specs.Actions.{actions_of};
     ghost use Rattle.data_theory.specs.Names.{Enters};
-    ghost use Rattle.data_theory.specs.Signature.{Sig, IsFun, IsTaken, Starts, with_name, with_variable, with_function, declared_function};
+    ghost use Rattle.data_theory.specs.Signature.{Sig, IsFun, IsTaken, Starts, with_name, with_variable, with_function, with_alias, declared_function};
 
     /// The sorts Bool, Pos, Nat and Int with their built-in functions, over the given names. The names of the built-in
     /// functions come behind these.
@@ -93,6 +93,22 @@ impl Signature {
             return &[];
         }
         entry.sorts.as_slice()
+    }
+
+    /// For each field of a `struct`'s constructor, its projection if there is one.
+    pub fn projections(&self, cons: FunId) -> &[Option<FunId>]
+        requires { cons.0 < length self.now.functions }
+        ensures { IfSome (slice_get self.now.functions cons.0) (λ f. f.projections ≡ result.now) }
+    {
+        self.functions.get(cons).projections.as_slice()
+    }
+
+    /// The recogniser of a `struct`'s constructor, if there is one.
+    pub fn test(&self, cons: FunId) -> Option<FunId>
+        requires { cons.0 < length self.now.functions }
+        ensures { IfSome (slice_get self.now.functions cons.0) (λ f. f.test ≡ result) }
+    {
+        self.functions.get(cons).test
     }
 
     /// The declared functions, in their order.
@@ -190,7 +206,17 @@ impl Signature {
     pub fn into_names(self) -> Names
         ensures { result ≡ self.texts }
     {
-        let Signature { names, taken: _, sorts: _, sort_names: _, functions: _, declared: _, actions: _, variables: _, alloc: _ } = self;
+        let Signature {
+            names,
+            taken: _,
+            sorts: _,
+            sort_names: _,
+            functions: _,
+            declared: _,
+            actions: _,
+            variables: _,
+            alloc: _,
+        } = self;
         names
     }
 
@@ -231,6 +257,28 @@ impl Signature {
         let _ = self.declared.push(fun);
         let _ = self.taken.insert(name);
         Ok(fun)
+    }
+
+    /// Adds a function without arguments that isn't there.
+    pub fn add_map(&mut self, name: NameId, sort: SortId) -> Result<FunId, NoMemory>
+        requires { (k : ℕ) → HasKey self.old.functions (key name []) k → ⊥ }
+        ensures number { IfOk result (λ fun. fun.0 ≡ length self.old.functions) }
+        ensures added { IfOk result (λ _. self.new ≡ with_function self.old (declared_function name [] sort)) }
+        ensures unchanged { OnErr result (self.new ≡ self.old) }
+    {
+        self.add_fun(name, Vec::new(self.alloc), sort)
+    }
+
+    /// Adds a further name of a sort. The name is taken from then on.
+    pub fn add_alias(&mut self, name: NameId, sort: SortId) -> Result<(), NoMemory>
+        requires { ¬ (IsName self.old.sort_names name) }
+        ensures added { OnOk result (self.new ≡ with_alias self.old name sort) }
+        ensures unchanged { OnErr result (self.new ≡ self.old) }
+    {
+        self.taken.reserve(1)?;
+        self.sort_names.push(name, sort)?;
+        let _ = self.taken.insert(name);
+        Ok(())
     }
 
     /// Whether a text is taken.

@@ -54,13 +54,28 @@ impl SortTable {
         let entries = Vec::from_array(
             alloc,
             [
-                SortEntry { kind: SortKind::Bool, name: None },
-                SortEntry { kind: SortKind::Pos, name: None },
-                SortEntry { kind: SortKind::Nat, name: None },
-                SortEntry { kind: SortKind::Int, name: None },
+                SortEntry {
+                    kind: SortKind::Bool,
+                    name: None,
+                },
+                SortEntry {
+                    kind: SortKind::Pos,
+                    name: None,
+                },
+                SortEntry {
+                    kind: SortKind::Nat,
+                    name: None,
+                },
+                SortEntry {
+                    kind: SortKind::Int,
+                    name: None,
+                },
             ],
         )?;
-        Ok(SortTable { entries, lists: Vec::new(alloc) })
+        Ok(SortTable {
+            entries,
+            lists: Vec::new(alloc),
+        })
     }
 
     /// How many there are.
@@ -93,7 +108,10 @@ impl SortTable {
         ensures unchanged { OnErr result (self.new ≡ self.old) }
     {
         let sort = SortId(self.entries.len());
-        self.entries.push(SortEntry { kind: SortKind::Abstract, name: Some(name) })?;
+        self.entries.push(SortEntry {
+            kind: SortKind::Abstract,
+            name: Some(name),
+        })?;
         Ok(sort)
     }
 
@@ -107,7 +125,10 @@ impl SortTable {
     {
         make_room(&mut self.lists, element.0)?;
         let sort = SortId(self.entries.len());
-        self.entries.push(SortEntry { kind: SortKind::List(element), name: None })?;
+        self.entries.push(SortEntry {
+            kind: SortKind::List(element),
+            name: None,
+        })?;
         self.lists[element.0] = Some(sort);
         Ok(sort)
     }

@@ -8,8 +8,11 @@ use crate::rows::Row;
 use crate::words::{ListWord, NumberWord, Word};
 
 const BOOL: SortId = SortId(0);
+
 const POS: SortId = SortId(1);
+
 const NAT: SortId = SortId(2);
+
 const INT: SortId = SortId(3);
 
 /// The prefix `-` and the upcasts, which have the numbers 0 to 5.

@@ -7,7 +7,7 @@ use Rattle.data_theory.proofs.built_ins.add_rows.Goals as goal
 pub loop-row-preserved : goal.loop-row-preserved
 loop-row-preserved c =
     row_added c.args.names.now c.args.functions.now c.loop-row.functions c.add_row.new.functions c.args.rows.now c.loop-row.row-index _ c.loop-row-test.true
-      c.loop-row.invariant (if_not_err c.add_row.result (sym c.is_err.ensures.value ∙ c.if-is_err.false) c.add_row.ensures.added)
+    c.loop-row.invariant (if_not_err c.add_row.result (sym c.is_err.ensures.value ∙ c.if-is_err.false) c.add_row.ensures.added)
 
 pub returns : goal.returns
 returns c = record {
@@ -18,4 +18,4 @@ returns c = record {
 pub returns-then-is_err-clause-unchanged : goal.returns-then-is_err-clause-unchanged
 returns-then-is_err-clause-unchanged c =
     cut_back c.args.functions.now _ c.add_row.new.functions _ c.len-length.result c.len-length.ensures
-      (if_err c.add_row.result (sym c.is_err.ensures.value ∙ c.if-is_err.true) c.add_row.ensures.unchanged ∙ c.loop-row.invariant) c.truncate.ensures
+    (if_err c.add_row.result (sym c.is_err.ensures.value ∙ c.if-is_err.true) c.add_row.ensures.unchanged ∙ c.loop-row.invariant) c.truncate.ensures

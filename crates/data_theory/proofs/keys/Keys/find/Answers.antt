@@ -11,6 +11,6 @@ returns-in_err-list c =
 pub returns : goal.returns
 returns c =
     rw (← c.self.view_is) (found_by (key_at c.self.inside.lists) (key c.args.name c.args.sorts.now) _ c.self.inside.places.keys
-      (λ p e. names_key c.self.inside.lists c.args.name c.args.sorts.now c.in_ok-list.list p c.in_ok-list.ensures.found (places_tell _ p e))
-      (λ p h e. places_told _ p (is_place_of_key c.self.inside.lists c.self.inside.places.keys c.self.invariant c.args.name c.args.sorts.now c.in_ok-list.list p c.in_ok-list.ensures.found h e))
-      _ c.get_index_of.ensures.index c.get_index_of.ensures.found)
+    (λ p e. names_key c.self.inside.lists c.args.name c.args.sorts.now c.in_ok-list.list p c.in_ok-list.ensures.found (places_tell _ p e))
+    (λ p h e. places_told _ p (is_place_of_key c.self.inside.lists c.self.inside.places.keys c.self.invariant c.args.name c.args.sorts.now c.in_ok-list.list p c.in_ok-list.ensures.found h e))
+    _ c.get_index_of.ensures.index c.get_index_of.ensures.found)
