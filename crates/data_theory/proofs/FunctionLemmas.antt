@@ -1,9 +1,8 @@
 -- Functions by their keys.
-use Rattle.std.proofs.Common.{◌≡◌, ℕ, zero, suc, List, [], ◌∷◌, ◌++◌, map, take, Some, refl, sym, ap, ◌∙◌, subst}
+use Rattle.std.proofs.Common.{◌≡◌, ℕ, zero, suc, List, [], ◌∷◌, map, take, Some, refl, sym, ap, ◌∙◌, subst}
 use Rattle.std.specs.Prelude.{slice_get, option_map}
 use Rattle.std.specs.List.{Contains}
 use Rattle.std.proofs.lemmas.Option.{slice_get-map}
-use Rattle.std.proofs.lemmas.List.{map-append}
 use Rattle.data_theory.specs.Keys.{Key}
 use Rattle.data_theory.specs.Functions.{Function, key_of, HasKey}
 use Rattle.data_theory.proofs.PlaceLemmas.{contains_read, read_contained}

@@ -1,5 +1,5 @@
 -- Tables of texts that grow.
-use Rattle.std.proofs.Common.{◌≡◌, ℕ, inl, inr, List, [], ◌∷◌, ◌++◌, refl, sym, ap, ◌∙◌, append_assoc, append-nil}
+use Rattle.std.proofs.Common.{ℕ, inl, inr, List, [], ◌∷◌, ◌++◌, sym, ap, ◌∙◌, append_assoc, append-nil}
 use Rattle.data_theory.specs.Names.{Enters}
 use Rattle.data_theory.specs.Grows.{Grows}
 

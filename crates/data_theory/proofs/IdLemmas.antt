@@ -1,5 +1,5 @@
 -- What the derived `==` of ids tells.
-use Rattle.std.proofs.Common.{◌≡◌, ℕ, List, Bool, true, ◌==◌, ap, refl, Vec}
+use Rattle.std.proofs.Common.{◌≡◌, ℕ, List, true, ◌==◌, ap, refl, Vec}
 use Rattle.std.specs.Global.{Global}
 use Rattle.std.specs.Bool.{Decides}
 use Rattle.std.specs.Cmp.Lexicographic.{pointwise}

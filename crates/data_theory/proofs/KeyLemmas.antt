@@ -1,5 +1,5 @@
 -- Pairs of a name and a list of sorts, by places.
-use Rattle.std.proofs.Common.{◌≡◌, ℕ, zero, suc, ◌<◌, ◌≤◌, ◌+◌, ◌⊎◌, inl, inr, List, [], ◌∷◌, ◌++◌, map, length, get_or, take, Bool, true, false, ◌&&◌, ◌||◌, cond, Some, Ok, Err, Result, refl, sym, ap, ◌∙◌, subst, arith, length-append}
+use Rattle.std.proofs.Common.{◌≡◌, ℕ, zero, suc, ◌<◌, ◌≤◌, ◌⊎◌, inl, inr, List, [], ◌∷◌, ◌++◌, length, get_or, take, Bool, true, false, ◌&&◌, cond, Some, Ok, Err, Result, refl, sym, ap, ◌∙◌, subst, arith, length-append}
 use Rattle.std.specs.Prelude.{slice_get, OnErr}
 use Rattle.std.specs.List.{Contains, list_any}
 use Rattle.std.proofs.lemmas.Bool.Decides.{Decides-eqb}
@@ -11,7 +11,7 @@ use Rattle.data_theory.specs.declared.keys.Place.{Place}
 use Rattle.data_theory.specs.contracts.keys.PlacePartialEq.TheImpl as places
 use Rattle.data_theory.specs.Places.{Joins}
 use Rattle.data_theory.specs.Keys.{Key, key, key_at, keys_at, AreKeys}
-use Rattle.data_theory.proofs.PlaceLemmas.{contains_read, pushed_by_place, read_front, seen_pushed, map_pushed}
+use Rattle.data_theory.proofs.PlaceLemmas.{contains_read, pushed_by_place, seen_pushed, map_pushed}
 use Rattle.data_theory.proofs.IdLemmas.{name_ids_agree}
 
 pub on_err : {T E : Type 0} {P : Type 0} (r : Result T E) → P → OnErr r P

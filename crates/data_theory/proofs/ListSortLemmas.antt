@@ -1,9 +1,9 @@
 -- The index of list sorts.
-use Rattle.std.proofs.Common.{◌≡◌, ℕ, zero, suc, ◌<◌, ◌⊎◌, inl, inr, List, [], ◌∷◌, ◌++◌, length, get_or, Option, Some, None, refl, sym, ap, ◌∙◌, subst, arith}
+use Rattle.std.proofs.Common.{◌≡◌, ℕ, zero, suc, ◌<◌, ◌⊎◌, inl, inr, List, [], ◌∷◌, ◌++◌, length, get_or, Option, Some, None, refl, ap, ◌∙◌, subst, arith}
 use Rattle.std.specs.Prelude.{slice_get, slice_set, MatchOption}
 use Rattle.data_theory.specs.declared.ids.NameId.{NameId}
 use Rattle.data_theory.specs.declared.ids.SortId.{SortId}
-use Rattle.data_theory.specs.Sorts.{Kind, lists_over, without_constructors, SortInfo, first_sorts, abstract_sort, list_sort, IsListOver, IsAnyListOver, IsTheListOver, AreLists}
+use Rattle.data_theory.specs.Sorts.{lists_over, without_constructors, SortInfo, abstract_sort, list_sort, IsListOver, IsAnyListOver, IsTheListOver, AreLists}
 use Rattle.data_theory.proofs.PlaceLemmas.{pushed_by_place, read_front, read_last}
 
 -- an answer of the index, as a clause says it

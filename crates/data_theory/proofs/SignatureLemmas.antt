@@ -7,7 +7,7 @@ use Rattle.data_theory.specs.declared.ids.SortId.{SortId}
 use Rattle.data_theory.specs.declared.ids.FunId.{FunId}
 use Rattle.data_theory.specs.Names.{AreDifferent}
 use Rattle.data_theory.specs.Keys.{Key, key}
-use Rattle.data_theory.specs.Functions.{Function, key_of, HasKey}
+use Rattle.data_theory.specs.Functions.{Function, HasKey}
 use Rattle.data_theory.specs.Signature.{IsFunAmong, IsTakenAmong}
 use Rattle.data_theory.proofs.PlaceLemmas.{contains_read}
 use Rattle.data_theory.proofs.IdLemmas.{name_ids_agree}

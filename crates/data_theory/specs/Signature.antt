@@ -1,11 +1,11 @@
 -- A signature: what stands under each number.
-use Rattle.std.specs.Prelude.{◌≡◌, ℕ, ◌<◌, List, [], ◌∷◌, ◌++◌, length, Option, Some, None, Bool, false, cond, ◌==◌, slice_get, decimal}
+use Rattle.std.specs.Prelude.{◌≡◌, ℕ, List, [], ◌∷◌, ◌++◌, length, Some, None, false, cond, ◌==◌, slice_get}
 use Rattle.std.specs.List.{Contains, list_any}
 use Rattle.data_theory.specs.declared.ids.NameId.{NameId}
 use Rattle.data_theory.specs.declared.ids.SortId.{SortId}
 use Rattle.data_theory.specs.declared.ids.FunId.{FunId}
 use Rattle.data_theory.specs.declared.signature.Variable.{Variable}
-use Rattle.data_theory.specs.Keys.{Key, key}
+use Rattle.data_theory.specs.Keys.{Key}
 use Rattle.data_theory.specs.Functions.{Function}
 use Rattle.data_theory.specs.Sorts.{SortInfo, first_sorts}
 use Rattle.data_theory.specs.Table.{with_first_functions}

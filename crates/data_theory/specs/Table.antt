@@ -3,7 +3,6 @@ use Rattle.std.specs.Prelude.{List, [], ◌∷◌, ◌++◌, ℕ}
 use Rattle.data_theory.specs.declared.ids.SortId.{SortId}
 use Rattle.data_theory.specs.declared.words.NumberWord.TheVariants as numbers
 use Rattle.data_theory.specs.declared.words.ListWord.TheVariants as lists
-use Rattle.data_theory.specs.declared.words.Word.{Word}
 use Rattle.data_theory.specs.declared.words.Word.TheVariants as words
 use Rattle.data_theory.specs.declared.rows.Row.{Row}
 use Rattle.data_theory.specs.declared.rows.Row.TheVariants as rows

@@ -1,7 +1,6 @@
 use Rattle.std.proofs.Common.{◌++◌, ap, ◌∙◌, sym}
 use Rattle.data_theory.specs.Rows.{built_ins}
 use Rattle.data_theory.proofs.RowLemmas.{row_added, take_over, if_not_err, if_err, cut_back}
-use Rattle.data_theory.proofs.KeyLemmas.{on_err}
 use Rattle.data_theory.proofs.built_ins.add_rows.Goals as goal
 
 pub loop-row-preserved : goal.loop-row-preserved

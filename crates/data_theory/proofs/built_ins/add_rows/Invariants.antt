@@ -1,4 +1,4 @@
-use Rattle.std.proofs.Common.{◌≡◌, ◌++◌, length, take}
+use Rattle.std.proofs.Common.{◌≡◌, ◌++◌, take}
 use Rattle.data_theory.specs.Rows.{built_ins}
 use Rattle.data_theory.proofs.built_ins.add_rows.Given as goal
 

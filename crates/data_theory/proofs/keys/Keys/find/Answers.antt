@@ -1,4 +1,3 @@
-use Rattle.std.proofs.Common.{◌∙◌, sym}
 use Rattle.data_theory.specs.Keys.{key, key_at}
 use Rattle.data_theory.proofs.PlaceLemmas.{found_by}
 use Rattle.data_theory.proofs.KeyLemmas.{no_list_no_key, names_key, is_place_of_key, places_tell, places_told}

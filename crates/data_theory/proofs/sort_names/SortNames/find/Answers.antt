@@ -1,4 +1,4 @@
-use Rattle.std.proofs.Common.{◌≡◌, Some, None, ap, ◌∙◌, sym, subst}
+use Rattle.std.proofs.Common.{sym, subst}
 use Rattle.std.specs.List.{Contains}
 use Rattle.data_theory.proofs.SortNameLemmas.{looked_up, not_looked_up}
 use Rattle.data_theory.proofs.sort_names.SortNames.find.Goals as goal

@@ -1,4 +1,4 @@
-use Rattle.std.proofs.Common.{ap, ◌∙◌, sym, subst, ◌++◌, ◌∷◌, []}
+use Rattle.std.proofs.Common.{ap, ◌∙◌, subst, ◌++◌, ◌∷◌, []}
 use Rattle.std.specs.List.{Contains}
 use Rattle.data_theory.proofs.SortNameLemmas.{name_pushed}
 use Rattle.data_theory.proofs.sort_names.SortNames.push.Goals as goal
