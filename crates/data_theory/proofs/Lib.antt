@@ -19,3 +19,12 @@ pub mod TextLemmas
 pub mod SameSorts
 pub mod NoNewVariable
 pub mod NormalForms
+pub mod PlaceLemmas
+pub mod IdLemmas
+pub mod KeyLemmas
+pub mod FunctionLemmas
+pub mod SortNameLemmas
+pub mod ListSortLemmas
+pub mod RowLemmas
+pub mod GrowthOfTexts
+pub mod SignatureLemmas

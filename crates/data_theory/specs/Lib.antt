@@ -13,3 +13,15 @@ pub mod Examples
 pub mod Rewriting
 pub mod Names
 pub mod SortLaws
+pub mod Whole
+pub mod Places
+pub mod Keys
+pub mod Functions
+pub mod Actions
+pub mod SortNames
+pub mod Sorts
+pub mod Words
+pub mod Rows
+pub mod Table
+pub mod Grows
+pub mod Signature

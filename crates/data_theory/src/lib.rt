@@ -5,20 +5,38 @@
 //! that theory, so that the crates above can cite it. [`Names`] is the table of texts.
 #![tactic(auto)]
 
+mod actions;
 pub mod booleans;
+mod built_ins;
 pub mod constructors;
 pub mod environments;
 pub mod equality;
 pub mod examples;
+mod functions;
 pub mod growth;
+mod ids;
+mod keys;
 mod names;
 mod no_memory;
+mod num;
 pub mod rewriting;
+mod rows;
+mod signature;
+mod sort_lists;
+mod sort_names;
+mod sort_table;
 pub mod sorts;
+mod table;
 pub mod values;
+mod words;
 
-pub use names::{NameId, Names};
+pub use actions::ActEntry;
+pub use ids::{ActId, FunId, NameId, ProcId, SortId, TermId, VarId};
+pub use names::Names;
 pub use no_memory::NoMemory;
+pub use num::Num;
+pub use signature::{Signature, Variable};
+pub use sort_table::SortKind;
 
 #[cfg(test)]
 mod tests;

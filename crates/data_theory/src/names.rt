@@ -1,13 +1,10 @@
 //! The table of texts.
 
+use crate::ids::NameId;
 use crate::no_memory::NoMemory;
 use indexmap::IndexSet;
 use std::alloc::Global;
 use std::marker::Model;
-
-/// The place of a text in a table.
-#[derive(Clone, Copy, Debug, PartialEq, Eq, Hash)]
-pub struct NameId(pub usize);
 
 /// A table of different texts. A text keeps its place, and two places have two texts.
 #[derive(Drop)]

@@ -1,0 +1,100 @@
+//! The functions of a signature, with their index.
+
+use crate::ids::{FunId, NameId, SortId};
+use crate::keys::Keys;
+use crate::no_memory::NoMemory;
+use crate::words::Word;
+use std::alloc::Global;
+use std::marker::Model;
+
+/// A function. Its sorts are those by which it is found: its arguments' sorts, and for `[]` its list sort.
+#[derive(Drop)]
+pub struct FunEntry {
+    pub name: NameId,
+    pub sorts: Vec<SortId>,
+    pub to: SortId,
+    pub word: Option<Word>,
+    pub is_list_constant: bool,
+    pub projections: Vec<Option<FunId>>,
+    pub test: Option<FunId>,
+}
+
+/// The functions of a signature, in the order of their numbers. No two have one name and the same sorts.
+#[derive(Drop)]
+pub struct Functions {
+    entries: Vec<FunEntry>,
+    keys: Keys,
+}
+
+impl Model for Functions {
+    ghost use Rattle.std.specs.Prelude.{◌≡◌, List, map};
+    ghost use Rattle.data_theory.specs.Functions.{Function, functions_of, key_of};
+
+    ghost Value = { List Function };
+
+    ghost view = { λ table. functions_of table.entries.items };
+
+    ghost invariant = { λ table. table.keys ≡ map key_of (functions_of table.entries.items) };
+}
+
+impl Functions {
+    ghost use Rattle.std.specs.Prelude.{◌≡◌, ◌<◌, ◌++◌, ◌∷◌, ℕ, [], length, IfOk, OnErr, MatchOption, slice_get, map, Some, take};
+    ghost use Rattle.std.specs.List.{Contains};
+    ghost use Rattle.data_theory.specs.Keys.{key};
+    ghost use Rattle.data_theory.specs.Functions.{function_of, key_of, HasKey};
+
+    /// No functions.
+    pub fn new(alloc: Global) -> Functions
+        ensures { result ≡ [] }
+    {
+        Functions {
+            entries: Vec::new(alloc),
+            keys: Keys::new(alloc),
+        }
+    }
+
+    /// How many there are.
+    pub fn len(&self) -> usize
+        ensures { result ≡ length self.now }
+    {
+        self.entries.len()
+    }
+
+    /// The function with a number.
+    pub fn get(&self, fun: FunId) -> &FunEntry
+        requires { fun.0 < length self.now }
+        ensures { slice_get self.now fun.0 ≡ Some (function_of result.now) }
+    {
+        &self.entries[fun.0]
+    }
+
+    /// The function with a name and sorts.
+    pub fn find(&self, name: NameId, sorts: &[SortId]) -> Option<FunId>
+        ensures { MatchOption result ((k : ℕ) → HasKey self.now (key name sorts.now) k → ⊥) (λ fun. HasKey self.now (key name sorts.now) fun.0) }
+    {
+        let place = self.keys.find(name, sorts)?;
+        Some(FunId(place))
+    }
+
+    /// Adds a function behind the others.
+    pub fn push(&mut self, entry: FunEntry) -> Result<FunId, NoMemory>
+        requires { (k : ℕ) → HasKey self.old (key_of (function_of entry)) k → ⊥ }
+        ensures number { IfOk result (λ fun. fun.0 ≡ length self.old) }
+        ensures pushed { IfOk result (λ _. self.new ≡ self.old ++ function_of entry ∷ []) }
+        ensures unchanged { OnErr result (self.new ≡ self.old) }
+    {
+        self.entries.reserve(1)?;
+        self.keys.push(entry.name, entry.sorts.as_slice())?;
+        let fun = FunId(self.entries.len());
+        let _ = self.entries.push(entry);
+        Ok(fun)
+    }
+
+    /// Keeps the first functions alone.
+    pub fn truncate(&mut self, length: usize)
+        ensures { self.new ≡ take length self.old }
+    {
+        self.entries.truncate(length);
+        self.keys.truncate(length);
+    }
+}
