@@ -8,9 +8,12 @@
 mod cutting;
 mod declaring;
 mod faults;
+mod grouping;
 mod laws;
 mod levels;
+mod reading;
 mod sections;
+mod words;
 
 pub use cutting::cut;
 pub use declaring::{Declaration, declarations};
@@ -19,5 +22,7 @@ pub use laws::{parse_faults_are_single, sound_tokens_have_no_fault};
 pub use levels::{MAX_LEVEL, level};
 pub use sections::Section;
 
+#[cfg(test)]
+mod reader_tests;
 #[cfg(test)]
 mod tests;

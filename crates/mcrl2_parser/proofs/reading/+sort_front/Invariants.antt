@@ -1,5 +1,5 @@
 use Rattle.std.proofs.Common.{length}
-use Rattle.data_reader.proofs.reading.+sort_front.Given as goal
+use Rattle.mcrl2_parser.proofs.reading.+sort_front.Given as goal
 
 abbrev pub decreases-sort_front : goal.decreases-sort_front
 decreases-sort_front l = length l.tokens.now

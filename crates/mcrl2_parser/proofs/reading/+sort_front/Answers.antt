@@ -1,6 +1,6 @@
 use Rattle.std.proofs.Common.{refl}
-use Rattle.data_reader.proofs.Sorts.{by_list, no_list, no_open, no_brackets, no_sort}
-use Rattle.data_reader.proofs.reading.+sort_front.Goals as goal
+use Rattle.mcrl2_parser.proofs.Sorts.{by_list, no_list, no_open, no_brackets, no_sort}
+use Rattle.mcrl2_parser.proofs.reading.+sort_front.Goals as goal
 
 pub returns-in_err-rest-in-ListWord-clause-none : goal.returns-in_err-rest-in-ListWord-clause-none
 returns-in_err-rest-in-ListWord-clause-none t c =

@@ -2,8 +2,8 @@
 use Rattle.std.proofs.Common.{◌≡◌, ℕ, List, ◌∷◌, Result, Ok, Err, IfOk, IsErrOf, MatchResult, Bor, refl, sym, subst}
 use Rattle.mcrl2_lexer.specs.declared.kind.Kind.TheVariants.{BoolWord, PosWord, NatWord, IntWord, ListWord, Identifier, LeftParen, RightParen}
 use Rattle.mcrl2_lexer.specs.declared.token.Token.{Token}
-use Rattle.data_reader.specs.declared.words.Fault.{Fault}
-use Rattle.data_reader.specs.declared.words.Fault.TheVariants.{Syntax, NoMemory}
+use Rattle.mcrl2_parser.specs.declared.words.Fault.{Fault}
+use Rattle.mcrl2_parser.specs.declared.words.Fault.TheVariants.{Syntax, NoMemory}
 use Rattle.mcrl2_syntax.specs.declared.sort_tree.SortTree.{SortTree}
 use Rattle.mcrl2_syntax.specs.declared.word.Span.{Span}
 use Rattle.mcrl2_syntax.specs.Words.{PlainWord, Begins, span_of}

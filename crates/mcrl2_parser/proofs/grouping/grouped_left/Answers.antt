@@ -1,6 +1,6 @@
 use Rattle.mcrl2_syntax.specs.DataTrees.{plain_data}
-use Rattle.data_reader.proofs.Groups.{left_step}
-use Rattle.data_reader.proofs.grouping.grouped_left.Goals as goal
+use Rattle.mcrl2_parser.proofs.Groups.{left_step}
+use Rattle.mcrl2_parser.proofs.grouping.grouped_left.Goals as goal
 
 pub loop-sign-preserved : goal.loop-sign-preserved
 loop-sign-preserved c =

@@ -1,7 +1,7 @@
 use Rattle.std.proofs.Common.{◌≡◌, ◌++◌, ◌∷◌, [], vec_len}
 use Rattle.mcrl2_syntax.specs.DataTrees.{PlainData, plain_data, plain_operands}
 use Rattle.mcrl2_syntax.specs.InfixSigns.{to_right}
-use Rattle.data_reader.proofs.grouping.joined_right.Given as goal
+use Rattle.mcrl2_parser.proofs.grouping.joined_right.Given as goal
 
 abbrev pub invariant-loop-before : goal.invariant-loop-before
 invariant-loop-before l =

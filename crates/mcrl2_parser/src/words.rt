@@ -19,7 +19,7 @@ pub enum Fault {
 }
 
 impl From<AllocError> for Fault {
-    ghost use Rattle.data_reader.specs.declared.words.Fault.TheVariants.{NoMemory};
+    ghost use Rattle.mcrl2_parser.specs.declared.words.Fault.TheVariants.{NoMemory};
 
     ghost from_gives = { λ _ fault. fault ≡ NoMemory };
 
@@ -29,7 +29,7 @@ impl From<AllocError> for Fault {
 }
 
 impl<T: Drop> From<AllocFailed<T>> for Fault {
-    ghost use Rattle.data_reader.specs.declared.words.Fault.TheVariants.{NoMemory};
+    ghost use Rattle.mcrl2_parser.specs.declared.words.Fault.TheVariants.{NoMemory};
 
     ghost from_gives = { λ _ fault. fault ≡ NoMemory };
 

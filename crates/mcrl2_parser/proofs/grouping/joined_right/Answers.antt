@@ -1,7 +1,7 @@
 use Rattle.std.proofs.Common.{◌∙◌}
 use Rattle.mcrl2_syntax.specs.DataTrees.{plain_data}
-use Rattle.data_reader.proofs.Groups.{right_step}
-use Rattle.data_reader.proofs.grouping.joined_right.Goals as goal
+use Rattle.mcrl2_parser.proofs.Groups.{right_step}
+use Rattle.mcrl2_parser.proofs.grouping.joined_right.Goals as goal
 
 pub loop-before-preserved : goal.loop-before-preserved
 loop-before-preserved c =

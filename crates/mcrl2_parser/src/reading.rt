@@ -2,7 +2,7 @@
 
 ghost use Rattle.std.specs.Prelude.{◌≡◌, List, IfOk, IsErrOf, MatchResult};
 ghost use Rattle.mcrl2_lexer.specs.declared.token.Token.{Token};
-ghost use Rattle.data_reader.specs.declared.words.Fault.TheVariants.{NoMemory};
+ghost use Rattle.mcrl2_parser.specs.declared.words.Fault.TheVariants.{NoMemory};
 ghost use Rattle.mcrl2_syntax.specs.SortTrees.{PlainSort, plain_sort};
 ghost use Rattle.mcrl2_syntax.specs.SpelledSorts.{SpellsSort};
 

@@ -1,5 +1,7 @@
 //! A sort that is read, and operands that are grouped: that memory is found for each form.
-use super::*;
+use crate::grouping::grouped;
+use crate::reading::sort;
+use crate::words::Fault;
 use mcrl2_lexer::lex;
 use mcrl2_syntax::{DataTree, InfixSign, SortTree, Span, Word};
 use std::alloc::Global;
