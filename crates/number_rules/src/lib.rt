@@ -5,6 +5,7 @@
 //! whole numbers of any size; `specs/` says how an answer speaks of such a value.
 #![tactic(auto)]
 
+pub mod laws;
 mod magnitudes;
 mod num_op;
 mod operations;
