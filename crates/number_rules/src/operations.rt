@@ -4,7 +4,9 @@ ghost use Rattle.number_rules.specs.NumberValues.{IsAnswer, value_of};
 ghost use Rattle.data_theory.specs.Whole.{whole_of};
 
 use crate::num_op::NumOp;
-use crate::signs::{divided, is_less, left, negated, product, raised, signed, sum};
+use crate::signs::{
+    is_less, negated, product, raised, signed, sum, whole_quotient, whole_remainder,
+};
 use data_theory::Num;
 
 /// The value of an operation on numbers with magnitudes of at most 2^128 - 1, computed with no wider type; `None` exactly
@@ -16,8 +18,8 @@ pub fn exact(op: NumOp, x: Num, y: Num) -> Option<Num>
         NumOp::Add => sum(x, y),
         NumOp::Sub => sum(x, negated(y)),
         NumOp::Mul => product(x, y),
-        NumOp::Div => divided(x, y),
-        NumOp::Mod => left(x, y),
+        NumOp::Div => whole_quotient(x, y),
+        NumOp::Mod => whole_remainder(x, y),
         NumOp::Neg => Some(negated(x)),
         NumOp::Abs => Some(signed(false, x.magnitude)),
         NumOp::Succ => sum(x, signed(false, 1)),

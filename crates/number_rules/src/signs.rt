@@ -85,7 +85,7 @@ fn remainder_by(x: Num, divisor: u128) -> Num
 }
 
 /// `x div y`
-pub fn divided(x: Num, y: Num) -> Option<Num>
+pub fn whole_quotient(x: Num, y: Num) -> Option<Num>
     ensures { IsAnswer (quotient_if (whole_of x) (whole_of y)) result }
 {
     if y.negative || y.magnitude == 0 {
@@ -96,7 +96,7 @@ pub fn divided(x: Num, y: Num) -> Option<Num>
 }
 
 /// `x mod y`
-pub fn left(x: Num, y: Num) -> Option<Num>
+pub fn whole_remainder(x: Num, y: Num) -> Option<Num>
     ensures { IsAnswer (remainder_if (whole_of x) (whole_of y)) result }
 {
     if y.negative || y.magnitude == 0 {

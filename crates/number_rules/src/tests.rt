@@ -1,4 +1,5 @@
 use super::*;
+use data_theory::Num;
 use std::process::Abort;
 
 /// A number as its sign and magnitude.
