@@ -1,0 +1,3 @@
+pub mod NumberValues
+pub mod Rule
+pub mod NumberLaws
