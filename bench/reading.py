@@ -3,7 +3,7 @@
 
 Run it from the top of the repository, after a build: bench/reading.py
 It prints one line for each text: its kind, size, seconds, bytes a second, peak memory, and how many times the time of
-`wc -w` that was. It is no part of the gate.
+`wc -w` that was. The peak is never less than that of this script, which starts the program. It is no part of the gate.
 """
 
 import os
