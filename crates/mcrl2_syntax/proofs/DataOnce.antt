@@ -1,21 +1,17 @@
 -- No front of the same tokens is read as two data expressions, where each reading stops at what can't go on.
-use Rattle.std.proofs.Common.{◌≡◌, ◌≢◌, ◌⊎◌, ◌<◌, ℕ, suc, List, [], ◌∷◌, Option, Some, None, refl, ap, sym, ◌∙◌, subst, inl, inr, arith}
+use Rattle.std.proofs.Common.{◌≡◌, ◌≢◌, ℕ, suc, List, [], ◌∷◌, Option, Some, None, refl, ap, sym, ◌∙◌, subst, inl, inr, arith}
 use Rattle.mcrl2_lexer.specs.declared.kind.Kind.{Kind}
 use Rattle.mcrl2_lexer.specs.declared.kind.Kind.TheVariants.{Identifier, Numeral, TrueWord, FalseWord, LeftParen, RightParen, LeftBracket, RightBracket, Comma}
 use Rattle.mcrl2_lexer.specs.declared.token.Token.{Token}
 use Rattle.mcrl2_syntax.specs.declared.data_tree.PrefixSign.{PrefixSign}
 use Rattle.mcrl2_syntax.specs.declared.data_tree.InfixSign.{InfixSign}
-use Rattle.mcrl2_syntax.specs.Words.{Begins, span_of, joined}
+use Rattle.mcrl2_syntax.specs.Words.{span_of, joined}
 use Rattle.mcrl2_syntax.specs.DataTrees.{PlainData, Operand, listed, applied, brackets, prefix, datas_of, data_span}
 use Rattle.mcrl2_syntax.specs.InfixSigns.{prefix_of, infix_of, level_of, height_of, height, grouped}
 use Rattle.mcrl2_syntax.specs.SpelledWords.{token_word}
 use Rattle.mcrl2_syntax.specs.SpelledData.{SpellsUnit, unit_name, unit_numeral, unit_true, unit_false, unit_empty, unit_list, unit_apply, unit_brackets, unit_prefix, SpellsItems, items_last, items_more, SpellsLevel, level_unit, level_chain, SpellsTail, tail_end, tail_more}
+use Rattle.mcrl2_syntax.specs.Follow.{Stops, Closed}
 use Rattle.mcrl2_syntax.proofs.Lists.{heads, tails, moved}
-
--- What an expression of a level can't go on with: a sign of its levels, or a bracket behind a name.
-abbrev pub Stops : ℕ → List Token → Type 0
-Stops k [] = Unit {0}
-Stops k (t ∷ ts) = (t.kind ≢ LeftParen) × ((height t.kind ≡ 0) ⊎ (k < height t.kind))
 
 stops_less : (k : ℕ) (ts : List Token) → Stops (suc k) ts → Stops k ts
 stops_less k [] s = tt
@@ -89,15 +85,10 @@ pub items_paren : {text : List ℕ} {ds : List PlainData} {t : Token} {ts r : Li
 items_paren (items_last a) e = level_paren a e
 items_paren (items_more a h b) e = level_paren a e
 
--- What a list of expressions can't go on with.
-pub record Closed (r : List Token) : Type 0 where
-  pub stops : Stops 11 r
-  pub comma : Begins Comma r → ⊥
-
 pub closed_paren : (v : Token) (r : List Token) → v.kind ≡ RightParen → Closed (v ∷ r)
 closed_paren v r e = record { stops = stops_at RightParen (λ f. cc) refl 11 v r e; comma = λ f. cc }
 
-closed_bracket : (v : Token) (r : List Token) → v.kind ≡ RightBracket → Closed (v ∷ r)
+pub closed_bracket : (v : Token) (r : List Token) → v.kind ≡ RightBracket → Closed (v ∷ r)
 closed_bracket v r e = record { stops = stops_at RightBracket (λ f. cc) refl 11 v r e; comma = λ f. cc }
 
 pub stops_comma : (k : ℕ) (v : Token) (r : List Token) → v.kind ≡ Comma → Stops k (v ∷ r)

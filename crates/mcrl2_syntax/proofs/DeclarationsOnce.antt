@@ -16,7 +16,8 @@ use Rattle.mcrl2_syntax.specs.SpelledProcesses.{SpellsProcess}
 use Rattle.mcrl2_syntax.specs.SpelledDeclarations.{SpellsNames, SpellsDomain, bare_field, named_field, SpellsField, field_bare, field_named, SpellsFields, no_fields, some_fields, SpellsRecogniser, no_recogniser, a_recogniser, constructor_from, SpellsConstructor, a_constructor, group_span, SpellsSignature, of_constants, of_functions, signature_span, alias_from, struct_from, equation_from, equation_where, act_over, proc_from, SpellsDecl, decl_sorts, decl_alias, decl_struct, decl_cons, decl_map, decl_vars, decl_equation, decl_conditional, decl_acts, decl_acts_over, decl_proc, decl_proc_over, decl_init}
 use Rattle.mcrl2_syntax.proofs.Lists.{heads, tails, moved, names_once, list_once, items_once as listed_once}
 use Rattle.mcrl2_syntax.proofs.SortsOnce.{sort_once}
-use Rattle.mcrl2_syntax.proofs.DataOnce.{Stops, stops_at, level_once}
+use Rattle.mcrl2_syntax.specs.Follow.{Stops}
+use Rattle.mcrl2_syntax.proofs.DataOnce.{stops_at, level_once}
 use Rattle.mcrl2_syntax.proofs.LabelsOnce.{no_other, vars_once}
 use Rattle.mcrl2_syntax.proofs.ProcessesOnce.{process_once, ends_nowhere}
 

@@ -14,7 +14,8 @@ use Rattle.mcrl2_syntax.specs.SpelledData.{SpellsLevel, level_unit, level_chain,
 use Rattle.mcrl2_syntax.specs.SpelledLabels.{SpellsAction, action_tau, action_name, action_applied, SpellsActions, label_from, SpellsLabel, label_actions, SpellsAssignment, assignment, SpellsCall, call_empty, call_assigns, name_set, SpellsNameSet, names_at_once, SpellsRenaming, renaming, comm_rule, SpellsCommRule, communication, var_group, SpellsVarGroup, variables, SpellsVars, Operation, allowing, blocking, hiding, renamed_by, communicating, SpellsOperation, spells_allow, spells_block, spells_hide, spells_rename, spells_comm}
 use Rattle.mcrl2_syntax.proofs.Lists.{heads, tails, moved, name_once, names_once, list_once, items_once as listed_once}
 use Rattle.mcrl2_syntax.proofs.SortsOnce.{sort_once}
-use Rattle.mcrl2_syntax.proofs.DataOnce.{Stops, stops_at, stops_comma, closed_paren, items_once, level_once, items_paren}
+use Rattle.mcrl2_syntax.specs.Follow.{Stops, NoAction}
+use Rattle.mcrl2_syntax.proofs.DataOnce.{stops_at, stops_comma, closed_paren, items_once, level_once, items_paren}
 
 -- what stands behind a sign doesn't begin with another one
 pub no_other : (k l : Kind) (t : Token) (ts : List Token) → t.kind ≡ k → k ≢ l → Begins l (t ∷ ts) → ⊥
@@ -32,11 +33,6 @@ action_once (action_applied h i a j) (action_name k) f g = absurd (g i)
 action_once {text = text} (action_applied {t = x} {v = v} {ds = ds} {r = q} h i a j) (action_applied {v = w} {ds = es} {r = r} k l b m) f g =
     let e = items_once a b (closed_paren v q j) (closed_paren w r m) in
     (ap (λ (y : Token). named_action (span_of x y) (token_word text x) ds) (heads e.1) ∙ ap (λ (y : List PlainData). named_action (span_of x w) (token_word text x) y) e.0, tails e.1)
-
--- What a list of actions can't go on with.
-pub record NoAction (r : List Token) : Type 0 where
-  pub paren : Begins LeftParen r → ⊥
-  pub bar : Begins Bar r → ⊥
 
 abbrev NoParen : List Token → Type 0
 NoParen r = Begins LeftParen r → ⊥

@@ -12,29 +12,11 @@ use Rattle.mcrl2_syntax.specs.InfixSigns.{prefix_of}
 use Rattle.mcrl2_syntax.specs.SpelledData.{SpellsUnit, unit_name, unit_numeral, unit_true, unit_false, unit_empty, unit_list, unit_apply, unit_brackets, unit_prefix}
 use Rattle.mcrl2_syntax.specs.SpelledLabels.{SpellsAction, action_tau, action_name, action_applied, SpellsActions, SpellsCall, call_empty, call_assigns, Operation, operated, SpellsOperation, spells_allow, spells_block, spells_hide, spells_rename, spells_comm}
 use Rattle.mcrl2_syntax.specs.SpelledProcesses.{sequenced, merged, chosen, SpellsAtom, atom_delta, atom_action, atom_multi, atom_call, atom_brackets, atom_operator, SpellsOperand, operand_sum, operand_cond, operand_parts, SpellsDots, dots_end, dots_atom, dots_sum, dots_cond, SpellsSum, sum_over, SpellsCond, cond_then, cond_else, SpellsMerge, merge_last, merge_more, SpellsChoices, choices_last, choices_more, SpellsProcess, spells_process}
+use Rattle.mcrl2_syntax.specs.Follow.{Follows, Stays, Ends}
 use Rattle.mcrl2_syntax.proofs.Lists.{heads, tails, moved}
 use Rattle.mcrl2_syntax.proofs.DataOnce.{stops_at, closed_paren, not_prefix, unit_once, items_once}
 use Rattle.mcrl2_syntax.proofs.LabelsOnce.{no_other, action_once, actions_once, action_call, items_call, call_once, vars_once, operation_once}
 use Rattle.mcrl2_syntax.proofs.Balance.{past_close, at_close, level_balanced, choices_balanced}
-
--- What no operand can go on with.
-pub record Follows (r : List Token) : Type 0 where
-  pub dot : Begins Dot r → ⊥
-  pub arrow : Begins Arrow r → ⊥
-  pub paren : Begins LeftParen r → ⊥
-  pub bar : Begins Bar r → ⊥
-
--- What an operand that ends so can't go on with.
-pub record Stays (s o : Bool) (r : List Token) : Type 0 where
-  pub sum_ends : s ≡ true → Begins BarBar r → ⊥
-  pub open_ends : o ≡ true → Begins Else r → ⊥
-
--- What no whole term can go on with.
-pub record Ends (r : List Token) : Type 0 where
-  pub follows : Follows r
-  pub plus : Begins Plus r → ⊥
-  pub parallel : Begins BarBar r → ⊥
-  pub else : Begins Else r → ⊥
 
 follows : (b : Token) (us : List Token) (k : Kind) → b.kind ≡ k → k ≢ Dot → k ≢ Arrow → k ≢ LeftParen → k ≢ Bar → Follows (b ∷ us)
 follows b us k e w x y z = record { dot = λ f. w (sym e ∙ f); arrow = λ f. x (sym e ∙ f); paren = λ f. y (sym e ∙ f); bar = λ f. z (sym e ∙ f) }

@@ -7,6 +7,7 @@ pub mod Declarations
 pub mod SpelledWords
 pub mod SpelledSorts
 pub mod InfixSigns
+pub mod Follow
 pub mod SpelledData
 pub mod SpelledLabels
 pub mod SpelledProcesses
