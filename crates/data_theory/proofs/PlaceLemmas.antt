@@ -1,5 +1,5 @@
 -- Entries by their places.
-use Rattle.std.proofs.Common.{◌≡◌, ℕ, zero, suc, ◌⊎◌, inl, inr, List, [], ◌∷◌, ◌++◌, map, length, get_or, Bool, true, false, ◌||◌, cond, Option, Some, None, refl, sym, ap, ◌∙◌, subst, arith}
+use Rattle.std.proofs.Common.{◌≡◌, ℕ, zero, suc, ◌⊎◌, inl, inr, List, [], ◌∷◌, ◌++◌, ◌<◌, map, take, length, get_or, Bool, true, false, ◌||◌, cond, Option, Some, None, refl, sym, ap, ◌∙◌, subst, arith}
 use Rattle.std.specs.Prelude.{slice_get, is_some, option_map, MatchOption}
 use Rattle.std.specs.List.{Contains, list_any, position}
 use Rattle.std.proofs.lemmas.Option.{slice_get-map, slice_get-get_or, slice_get_within, get_or_from_slice_get}
@@ -92,3 +92,20 @@ module _ {K A : Type 0} (seen : K → A) (x : A) (test : K → Bool) (ks : List 
   found_by (Some i) e f =
       let h = position_reads test ks i (sym e) in
       slice_get-map seen ks i ∙ ap (option_map seen) h.1 ∙ ap Some (tells h.0 h.2)
+
+-- ---- the first entries, and those behind
+pub map_taken : {A B : Type 0} (f : A → B) (n : ℕ) (xs : List A) → map f (take n xs) ≡ take n (map f xs)
+map_taken f zero xs = refl
+map_taken f (suc n) [] = refl
+map_taken f (suc n) (x ∷ xs) = ap (λ ys. f x ∷ ys) (map_taken f n xs)
+
+pub read_taken : {A : Type 0} (n : ℕ) (xs : List A) (i : ℕ) (x : A) → slice_get (take n xs) i ≡ Some x → (i < n) × (slice_get xs i ≡ Some x)
+read_taken zero xs i x e = cc
+read_taken (suc n) [] i x e = cc
+read_taken (suc n) (y ∷ xs) zero x e = (omega arith, e)
+read_taken (suc n) (y ∷ xs) (suc i) x e = let h = read_taken n xs i x e in let l = h.0 in (omega arith, h.1)
+
+pub read_appended : {A : Type 0} (xs ys : List A) (i : ℕ) (x : A) → slice_get (xs ++ ys) i ≡ Some x → (slice_get xs i ≡ Some x) ⊎ ((j : ℕ) × (slice_get ys j ≡ Some x))
+read_appended [] ys i x e = inr (i, e)
+read_appended (y ∷ xs) ys zero x e = inl e
+read_appended (y ∷ xs) ys (suc i) x e = read_appended xs ys i x e

@@ -1,63 +1,37 @@
 -- Rows of the table of built-in functions.
-use Rattle.std.proofs.Common.{◌≡◌, ℕ, zero, suc, ◌<◌, ◌≤◌, ◌+◌, List, [], ◌∷◌, ◌++◌, length, take, get_or, Bool, true, false, Option, Some, None, Result, Ok, Err, refl, sym, ap, ◌∙◌, arith, append_assoc}
-use Rattle.std.specs.Prelude.{slice_get, bytes_eq, is_some, is_err, MatchOption, OnOk, OnErr}
-use Rattle.std.proofs.lemmas.Slice.Eq.{bytes_eq-Decides}
+use Rattle.std.proofs.Common.{◌≡◌, ℕ, ◌<◌, ◌+◌, List, [], ◌∷◌, ◌++◌, length, take, get_or, Option, Some, None, refl, ap, ◌∙◌, sym, subst}
+use Rattle.std.specs.Prelude.{IsSome, MatchOption, slice_get}
+use Rattle.std.specs.List.{Contains}
 use Rattle.std.proofs.lemmas.List.{map-append, take_more}
-use Rattle.data_theory.specs.Names.{AreDifferent}
+use Rattle.data_theory.specs.declared.ids.NameId.{NameId}
 use Rattle.data_theory.specs.declared.rows.Row.{Row}
-use Rattle.data_theory.specs.Functions.{Function}
-use Rattle.data_theory.specs.Rows.{first_place, place_in, built_in, built_ins}
+use Rattle.data_theory.specs.declared.functions.FunEntry.{FunEntry}
+use Rattle.data_theory.specs.Functions.{Function, function_of, functions_of}
+use Rattle.data_theory.specs.Names.{AreDifferent}
+use Rattle.data_theory.specs.Rows.{row_text, row_function, built_in, built_ins}
+use Rattle.data_theory.proofs.NameLemmas.{place_is}
 
--- a text in a table of different texts has one place
-pub first_place_is : (texts : List (List ℕ)) (t : List ℕ) (i : ℕ) → AreDifferent texts → slice_get texts i ≡ Some t → first_place texts t ≡ i
-first_place_is [] t i d e = cc
-first_place_is (x ∷ xs) t zero d e = let p : t ≡ x = (let q : x ≡ t = cc in sym q) in rw ((bytes_eq-Decides t x).1 p) refl
-first_place_is (x ∷ xs) t (suc i) d e =
-    let rest = first_place_is xs t i (λ j k u p q. let s = d (suc j) (suc k) u p q in omega (arith, s)) e in
-    rw (differs (bytes_eq t x) refl) (ap suc rest)
-  where
-    differs : (b : Bool) → bytes_eq t x ≡ b → b ≡ false
-    differs false q = refl
-    differs true q = let s : zero ≡ suc i = d zero (suc i) t (ap Some (sym ((bytes_eq-Decides t x).0 q))) e in absurd (omega (arith, s))
-
-pub place_is : (texts : List (List ℕ)) (t : List ℕ) (i : ℕ) → AreDifferent texts → slice_get texts i ≡ Some t → record { 0 = i } ≡ place_in texts t
-place_is texts t i d e = ap (λ (n : ℕ). record { 0 = n }) (sym (first_place_is texts t i d e))
+-- a look-up of what is there finds something
+pub some_if_there : {A : Type 0} (r : Option A) {P : Type 0} (Q : A → Type 0) → MatchOption r (P → ⊥) Q → P → IsSome r
+some_if_there None Q h p = absurd (h p)
+some_if_there (Some x) Q h p = refl
 
 -- one more row
-pub row_added : (texts : List (List ℕ)) (old mid new : List Function) (rows : List Row) (i : ℕ) (d : Row) → i < length rows
-    → mid ≡ old ++ built_ins texts (take i rows) → new ≡ mid ++ built_in texts (get_or rows i d) ∷ [] → new ≡ old ++ built_ins texts (take (i + 1) rows)
-row_added texts old mid new rows i d l e f =
-    let one : built_ins texts (take (i + 1) rows) ≡ built_ins texts (take i rows) ++ built_in texts (get_or rows i d) ∷ [] =
-    ap (built_ins texts) (take_more rows i d l) ∙ map-append (built_in texts) (take i rows) (get_or rows i d ∷ []) in
-    f ∙ ap (λ fs. fs ++ built_in texts (get_or rows i d) ∷ []) e ∙ append_assoc old _ _ ∙ ap (λ fs. old ++ fs) (sym one)
+row_added : (texts : List (List ℕ)) (mid new : List Function) (rows : List Row) (i : ℕ) (d : Row) → i < length rows
+    → mid ≡ built_ins texts (take i rows) → new ≡ mid ++ built_in texts (get_or rows i d) ∷ [] → new ≡ built_ins texts (take (i + 1) rows)
+row_added texts mid new rows i d l e f =
+    f ∙ ap (λ fs. fs ++ built_in texts (get_or rows i d) ∷ []) e ∙ sym (map-append (built_in texts) (take i rows) (get_or rows i d ∷ [])) ∙ ap (built_ins texts) (sym (take_more rows i d l))
 
-pub take_over : {A : Type 0} (xs : List A) (n : ℕ) → length xs ≤ n → take n xs ≡ xs
-take_over [] zero l = refl
-take_over [] (suc n) l = refl
-take_over (x ∷ xs) zero l = absurd (omega (arith, l))
-take_over (x ∷ xs) (suc n) l = ap (λ zs. x ∷ zs) (take_over xs n (omega (arith, l)))
-
-pub take_all_of : {A : Type 0} (xs ys : List A) → take (length xs) (xs ++ ys) ≡ xs
-take_all_of [] ys = refl
-take_all_of (x ∷ xs) ys = ap (λ zs. x ∷ zs) (take_all_of xs ys)
-
--- what was added goes again
-pub cut_back : {A : Type 0} (old more mid new : List A) (n : ℕ) → n ≡ length old → mid ≡ old ++ more → new ≡ take n mid → new ≡ old
-cut_back old more mid new n l e f = f ∙ (λ i. take (l i) (e i)) ∙ take_all_of old more
-
--- what a test of an answer tells
-pub if_not_some : {A : Type 0} (r : Option A) {P : Type 0} (Q : A → Type 0) → is_some r ≡ false → MatchOption r P Q → P
-if_not_some None Q e h = h
-if_not_some (Some x) Q e h = cc
-
-pub if_not_err : {A E : Type 0} (r : Result A E) {P : Type 0} → is_err r ≡ false → OnOk r P → P
-if_not_err (Ok x) e h = h
-if_not_err (Err x) e h = cc
-
-pub if_err : {A E : Type 0} (r : Result A E) {P : Type 0} → is_err r ≡ true → OnErr r P → P
-if_err (Ok x) e h = cc
-if_err (Err x) e h = h
+-- the same, with the name that a look-up found
+pub row_entered : (texts : List (List ℕ)) (mid new : List FunEntry) (entry : FunEntry) (rows : List Row) (i : ℕ) (d : Row) (t : List ℕ) (name : NameId) (r : Option NameId) → i < length rows
+    → functions_of mid ≡ built_ins texts (take i rows) → AreDifferent texts → r ≡ Some name → MatchOption r (Contains texts t → ⊥) (λ n. slice_get texts n.0 ≡ Some t) → t ≡ row_text (get_or rows i d)
+    → function_of entry ≡ row_function name (get_or rows i d) → new ≡ mid ++ entry ∷ [] → functions_of new ≡ built_ins texts (take (i + 1) rows)
+row_entered texts mid new entry rows i d t name r l e different is found text function pushed =
+    let at : slice_get texts name.0 ≡ Some t = subst (λ (o : Option NameId). MatchOption o (Contains texts t → ⊥) (λ n. slice_get texts n.0 ≡ Some t)) is found in
+    let here : function_of entry ≡ built_in texts (get_or rows i d) =
+    function ∙ ap (λ n. row_function n (get_or rows i d)) (place_is texts (row_text (get_or rows i d)) name.0 different (at ∙ ap Some text)) in
+    row_added texts (functions_of mid) (functions_of new) rows i d l e (ap functions_of pushed ∙ map-append function_of mid (entry ∷ []) ∙ ap (λ f. functions_of mid ++ f ∷ []) here)
 
 -- rows behind what was there
-pub added_step : (texts : List (List ℕ)) (old mid new : List Function) (rows named : List Row) → mid ≡ old → new ≡ mid ++ built_ins texts rows → rows ≡ named → new ≡ old ++ built_ins texts named
-added_step texts old mid new rows named e f g = f ∙ (λ i. e i ++ built_ins texts (g i))
+pub rows_appended : (front mid new rows named : List Row) → mid ≡ front → new ≡ mid ++ rows → rows ≡ named → new ≡ front ++ named
+rows_appended front mid new rows named e f g = f ∙ (λ i. e i ++ g i)

@@ -1,14 +1,21 @@
 -- Functions by name, and taken texts.
-use Rattle.std.proofs.Common.{◌≡◌, ℕ, zero, suc, ◌↔◌, List, [], ◌∷◌, Bool, true, false, ◌||◌, ◌==◌, IsTrue, Option, Some, None, refl, sym, ap, ◌∙◌, subst, arith}
+use Rattle.std.proofs.Common.{◌≡◌, ℕ, zero, suc, ◌↔◌, List, [], ◌∷◌, ◌++◌, Bool, true, false, ◌||◌, ◌==◌, IsTrue, Option, Some, None, refl, sym, ap, ◌∙◌, subst, arith}
 use Rattle.std.specs.Prelude.{slice_get, MatchOption}
 use Rattle.std.specs.List.{Contains, list_any}
 use Rattle.data_theory.specs.declared.ids.NameId.{NameId}
 use Rattle.data_theory.specs.declared.ids.SortId.{SortId}
 use Rattle.data_theory.specs.declared.ids.FunId.{FunId}
-use Rattle.data_theory.specs.Names.{AreDifferent}
+use Rattle.data_theory.specs.declared.signature.Variable.{Variable}
+use Rattle.data_theory.specs.declared.rows.Row.{Row}
+use Rattle.data_theory.specs.Names.{AreDifferent, place_in, places_in, with_text, with_texts}
+use Rattle.data_theory.specs.Taken.{with_name, with_names, Takes}
+use Rattle.data_theory.specs.Sorts.{SortInfo, first_sorts}
+use Rattle.data_theory.specs.Rows.{built_ins}
+use Rattle.data_theory.specs.Table.{first_table}
+use Rattle.data_theory.specs.FirstNames.{first_names}
 use Rattle.data_theory.specs.Keys.{Key, key}
 use Rattle.data_theory.specs.Functions.{Function, HasKey}
-use Rattle.data_theory.specs.Signature.{IsFunAmong, IsTakenAmong}
+use Rattle.data_theory.specs.Signature.{Sig, first_signature, with_taken, IsFunAmong, IsTakenAmong}
 use Rattle.data_theory.proofs.PlaceLemmas.{contains_read}
 use Rattle.data_theory.proofs.IdLemmas.{name_ids_agree}
 
@@ -56,3 +63,20 @@ taken_by_name texts taken t n r d at e = (
 
 pub no_name_no_taken : (texts : List (List ℕ)) (taken : List NameId) (t : List ℕ) → (Contains texts t → ⊥) → IsTrue false ↔ IsTakenAmong texts taken t
 no_name_no_taken texts taken t none = (λ e. absurd (let z : false ≡ true = e in cc), λ h. absurd (none (contains_read texts h.0.0 t h.1)))
+
+-- ---- how a signature begins
+pub first_signature_is : (given texts : List (List ℕ)) (taken none : List NameId) (sorts : List SortInfo) (names : List (NameId × SortId)) (functions no_functions : List Function) (declared : List FunId) (actions : List Key) (variables : List Variable) (rows : List Row)
+    → Takes given none first_names texts taken → none ≡ [] → sorts ≡ first_sorts → names ≡ [] → functions ≡ no_functions ++ built_ins texts rows → no_functions ≡ [] → rows ≡ first_table → declared ≡ [] → actions ≡ [] → variables ≡ []
+    → record { texts = texts; taken = taken; sorts = sorts; sort_names = names; functions = functions; declared = declared; actions = actions; variables = variables } ≡ first_signature given
+unfolding first_signature
+first_signature_is given texts taken none sorts names functions no_functions declared actions variables rows t e f g h n r d a v =
+    let texts' : texts ≡ with_texts given first_names = t.entered in
+    let taken' : taken ≡ with_names [] (places_in (with_texts given first_names) first_names) = t.named ∙ (λ i. with_names (e i) (places_in (texts' i) first_names)) in
+    let functions' : functions ≡ built_ins (with_texts given first_names) first_table = h ∙ (λ i. n i ++ built_ins (texts' i) (r i)) in
+    (λ i. record { texts = texts' i; taken = taken' i; sorts = f i; sort_names = g i; functions = functions' i; declared = d i; actions = a i; variables = v i })
+
+-- ---- a text is taken
+pub name_taken : (s : Sig) (t : List ℕ) (texts : List (List ℕ)) (taken : List NameId) (name : NameId) → texts ≡ with_text s.texts t → taken ≡ with_name s.taken name → name ≡ place_in texts t → record s { texts = texts; taken = taken } ≡ with_taken s t
+name_taken s t texts taken name e f g =
+    let named : taken ≡ with_name s.taken (place_in (with_text s.texts t) t) = f ∙ ap (with_name s.taken) g ∙ ap (λ ts. with_name s.taken (place_in ts t)) e in
+    (λ i. record s { texts = e i; taken = named i })

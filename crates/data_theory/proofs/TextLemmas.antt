@@ -1,5 +1,5 @@
 -- Texts of the keys of a set.
-use Rattle.std.proofs.Common.{◌≡◌, ℕ, zero, suc, ◌⊎◌, inl, inr, List, [], ◌∷◌, ◌++◌, map, length, get_or, Bool, true, false, ◌||◌, cond, Global, String, Some, refl, sym, ap, ◌∙◌, subst, arith}
+use Rattle.std.proofs.Common.{◌≡◌, ℕ, zero, suc, ◌⊎◌, inl, inr, List, [], ◌∷◌, ◌++◌, map, take, length, get_or, Bool, true, false, ◌||◌, cond, Global, String, Some, refl, sym, ap, ◌∙◌, subst, arith}
 use Rattle.std.specs.Prelude.{slice_get, option_map}
 use Rattle.std.specs.List.{Contains, list_any, position}
 use Rattle.std.specs.Str.{bytes_eq}
@@ -9,6 +9,7 @@ use Rattle.std.proofs.lemmas.List.{map-append}
 use Rattle.std.proofs.lemmas.List.Quantifiers.{position-Some}
 use Rattle.std.proofs.lemmas.Slice.Eq.{bytes_eq-Decides}
 use Rattle.data_theory.specs.Names.{AreDifferent}
+use Rattle.data_theory.proofs.PlaceLemmas.{read_taken}
 
 pub string_eq_tells : (x y : String Global) → string_eq x y ≡ true → string_bytes x ≡ string_bytes y
 string_eq_tells x y e = (bytes_eq-Decides (string_bytes x) (string_bytes y)).0 e
@@ -78,3 +79,7 @@ module _ {K : Type 0} (text_of : K → List ℕ) (same : K → K → Bool) (tell
         different = subst AreDifferent (sym texts) (pushed_are_different (map text_of ks) (text_of k) d is_new);
         texts = texts ∙ (λ i. v i ++ e i ∷ []);
       }
+
+-- ---- fewer texts
+pub taken_are_different : (n : ℕ) (ts : List (List ℕ)) → AreDifferent ts → AreDifferent (take n ts)
+taken_are_different n ts d i j t p q = d i j t (read_taken n ts i t p).1 (read_taken n ts j t q).1

@@ -1,5 +1,5 @@
 -- The sorts of a signature.
-use Rattle.std.specs.Prelude.{◌≡◌, ℕ, List, [], ◌∷◌, Option, map, Some, None, slice_get, get_or}
+use Rattle.std.specs.Prelude.{◌≡◌, ℕ, List, [], ◌∷◌, Option, map, Some, None, slice_get, get_or, zero, suc}
 use Rattle.data_theory.specs.declared.ids.NameId.{NameId}
 use Rattle.data_theory.specs.declared.ids.SortId.{SortId}
 use Rattle.data_theory.specs.declared.ids.FunId.{FunId}
@@ -68,3 +68,16 @@ IsTheListOver ss e (Some l) = IsListOver ss e l
 -- the index has the list sort over each sort
 abbrev pub AreLists : List SortInfo → List (Option SortId) → Type 0
 AreLists ss index = (e : ℕ) → IsTheListOver ss (record { 0 = e }) (get_or index e None)
+
+-- a declared sort stands here, and has no constructors
+abbrev pub IsBare : List SortInfo → SortId → Type 0
+IsBare ss sort = (s : SortInfo) × (slice_get ss sort.0 ≡ Some s) × (s.kind ≡ without_constructors)
+
+-- what is at a place becomes this
+abbrev pub with_kind : List SortInfo → ℕ → Kind → List SortInfo
+with_kind [] k d = []
+with_kind (s ∷ ss) zero d = record s { kind = d } ∷ ss
+with_kind (s ∷ ss) (suc k) d = s ∷ with_kind ss k d
+
+abbrev pub IsListKind : Kind → Type 0
+IsListKind k = (element : SortId) × (k ≡ lists_over element)

@@ -1,13 +1,11 @@
 -- The table of built-in functions, by the mCRL2 language reference.
-use Rattle.std.specs.Prelude.{List, [], ◌∷◌, ◌++◌, ℕ}
+use Rattle.std.specs.Prelude.{List, [], ◌∷◌, ◌++◌}
 use Rattle.data_theory.specs.declared.ids.SortId.{SortId}
 use Rattle.data_theory.specs.declared.words.NumberWord.TheVariants as numbers
 use Rattle.data_theory.specs.declared.words.ListWord.TheVariants as lists
 use Rattle.data_theory.specs.declared.words.Word.TheVariants as words
 use Rattle.data_theory.specs.declared.rows.Row.{Row}
 use Rattle.data_theory.specs.declared.rows.Row.TheVariants as rows
-use Rattle.data_theory.specs.Functions.{Function}
-use Rattle.data_theory.specs.Rows.{built_ins}
 
 abbrev pub bool_sort : SortId
 bool_sort = record { 0 = 0 }
@@ -22,7 +20,7 @@ abbrev pub int_sort : SortId
 int_sort = record { 0 = 3 }
 
 -- the prefix `-` and the upcasts, which have the numbers 0 to 5
-abbrev pub first_rows : List Row
+unfoldable pub first_rows : List Row
 first_rows =
     rows.One (words.Number numbers.Minus) pos_sort int_sort
     ∷ rows.One (words.Number numbers.Minus) nat_sort int_sort
@@ -33,7 +31,7 @@ first_rows =
     ∷ []
 
 -- the functions on truth values
-abbrev pub truth_rows : List Row
+unfoldable pub truth_rows : List Row
 truth_rows =
     rows.Constant words.True bool_sort
     ∷ rows.Constant words.False bool_sort
@@ -44,7 +42,7 @@ truth_rows =
     ∷ []
 
 -- the comparisons of numbers
-abbrev pub comparison_rows : List Row
+unfoldable pub comparison_rows : List Row
 comparison_rows =
     rows.Two words.Less pos_sort pos_sort bool_sort
     ∷ rows.Two words.Less nat_sort nat_sort bool_sort
@@ -61,7 +59,7 @@ comparison_rows =
     ∷ []
 
 -- sums, differences and products
-abbrev pub sum_rows : List Row
+unfoldable pub sum_rows : List Row
 sum_rows =
     rows.Two (words.Number numbers.Plus) pos_sort pos_sort pos_sort
     ∷ rows.Two (words.Number numbers.Plus) pos_sort nat_sort pos_sort
@@ -77,7 +75,7 @@ sum_rows =
     ∷ []
 
 -- quotients, remainders and powers
-abbrev pub quotient_rows : List Row
+unfoldable pub quotient_rows : List Row
 quotient_rows =
     rows.Two (words.Number numbers.Div) nat_sort pos_sort nat_sort
     ∷ rows.Two (words.Number numbers.Div) int_sort pos_sort int_sort
@@ -89,7 +87,7 @@ quotient_rows =
     ∷ []
 
 -- the least and the greatest of two numbers
-abbrev pub extreme_rows : List Row
+unfoldable pub extreme_rows : List Row
 extreme_rows =
     rows.Two (words.Number numbers.Min) pos_sort pos_sort pos_sort
     ∷ rows.Two (words.Number numbers.Min) nat_sort nat_sort nat_sort
@@ -100,7 +98,7 @@ extreme_rows =
     ∷ []
 
 -- functions of one number
-abbrev pub step_rows : List Row
+unfoldable pub step_rows : List Row
 step_rows =
     rows.One (words.Number numbers.Abs) int_sort nat_sort
     ∷ rows.One (words.Number numbers.Succ) pos_sort pos_sort
@@ -115,7 +113,7 @@ step_rows =
     ∷ []
 
 -- the functions over any sort
-abbrev pub sort_rows : SortId → List Row
+unfoldable pub sort_rows : SortId → List Row
 sort_rows sort =
     rows.Two words.Equal sort sort bool_sort
     ∷ rows.Two words.Different sort sort bool_sort
@@ -123,7 +121,7 @@ sort_rows sort =
     ∷ []
 
 -- the functions over a list sort and its element sort
-abbrev pub list_rows : SortId → SortId → List Row
+unfoldable pub list_rows : SortId → SortId → List Row
 list_rows element list =
     rows.ListConstant (words.List lists.Empty) list
     ∷ rows.Two (words.List lists.Cons) element list list
@@ -138,6 +136,10 @@ list_rows element list =
     ∷ rows.Two (words.List lists.In) element list bool_sort
     ∷ []
 
--- all that a signature begins with, behind some functions
-abbrev pub with_first_functions : List (List ℕ) → List Function → List Function
-with_first_functions texts old = ((((((((((old ++ built_ins texts first_rows) ++ built_ins texts truth_rows) ++ built_ins texts (sort_rows bool_sort)) ++ built_ins texts (sort_rows pos_sort)) ++ built_ins texts (sort_rows nat_sort)) ++ built_ins texts (sort_rows int_sort)) ++ built_ins texts comparison_rows) ++ built_ins texts sum_rows) ++ built_ins texts quotient_rows) ++ built_ins texts extreme_rows) ++ built_ins texts step_rows
+-- all that a signature begins with, in order
+unfoldable pub first_table : List Row
+first_table = first_rows ++ truth_rows ++ sort_rows bool_sort ++ sort_rows pos_sort ++ sort_rows nat_sort ++ sort_rows int_sort ++ comparison_rows ++ sum_rows ++ quotient_rows ++ extreme_rows ++ step_rows
+
+-- all that comes with a list sort, in order
+unfoldable pub list_table : SortId → SortId → List Row
+list_table element list = sort_rows list ++ list_rows element list

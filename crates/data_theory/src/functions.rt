@@ -38,10 +38,10 @@ impl Model for Functions {
 }
 
 impl Functions {
-    ghost use Rattle.std.specs.Prelude.{◌≡◌, ◌<◌, ◌++◌, ◌∷◌, ℕ, [], length, IfOk, OnErr, MatchOption, slice_get, map, Some, take};
+    ghost use Rattle.std.specs.Prelude.{◌≡◌, ◌<◌, ◌+◌, ◌^◌, ◌++◌, ◌∷◌, ℕ, [], length, IfOk, OnOk, OnErr, MatchOption, slice_get, map, Some, take};
     ghost use Rattle.std.specs.List.{Contains};
     ghost use Rattle.data_theory.specs.Keys.{key};
-    ghost use Rattle.data_theory.specs.Functions.{function_of, key_of, HasKey};
+    ghost use Rattle.data_theory.specs.Functions.{function_of, functions_of, key_of, HasKey, AreNew};
 
     /// No functions.
     pub fn new(alloc: Global) -> Functions
@@ -58,6 +58,15 @@ impl Functions {
         ensures { result ≡ length self.now }
     {
         self.entries.len()
+    }
+
+    /// Makes room for further functions.
+    pub fn reserve(&mut self, additional: usize) -> Result<(), NoMemory>
+        ensures room { OnOk result (length self.old + additional < 2 ^ 63) }
+        ensures kept { self.new ≡ self.old }
+    {
+        self.entries.reserve(additional)?;
+        Ok(())
     }
 
     /// The function with a number.
@@ -88,6 +97,22 @@ impl Functions {
         let fun = FunId(self.entries.len());
         let _ = self.entries.push(entry);
         Ok(fun)
+    }
+
+    /// Adds functions behind the others, all or none.
+    pub fn push_all(&mut self, added: Vec<FunEntry>) -> Result<(), NoMemory>
+        requires { AreNew self.old (functions_of added.items) }
+        ensures pushed { OnOk result (self.new ≡ self.old ++ functions_of added.items) }
+        ensures unchanged { OnErr result (self.new ≡ self.old) }
+    {
+        let length = self.len();
+        for entry in added {
+            if self.push(entry).is_err() {
+                self.truncate(length);
+                return Err(NoMemory);
+            }
+        }
+        Ok(())
     }
 
     /// Keeps the first functions alone.

@@ -9,6 +9,7 @@ mod actions;
 pub mod booleans;
 mod built_ins;
 pub mod constructors;
+mod declaring;
 pub mod environments;
 pub mod equality;
 pub mod examples;
@@ -16,6 +17,7 @@ mod functions;
 pub mod growth;
 mod ids;
 mod keys;
+pub mod meanings;
 mod names;
 mod no_memory;
 mod num;
@@ -26,7 +28,9 @@ mod sort_lists;
 mod sort_names;
 mod sort_table;
 pub mod sorts;
+mod structs;
 mod table;
+mod taken;
 pub mod values;
 mod words;
 
@@ -37,6 +41,7 @@ pub use no_memory::NoMemory;
 pub use num::Num;
 pub use signature::{Signature, Variable};
 pub use sort_table::SortKind;
+pub use structs::ConDecl;
 
 #[cfg(test)]
 mod tests;

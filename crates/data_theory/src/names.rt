@@ -26,7 +26,7 @@ impl Model for Names {
 }
 
 impl Names {
-    ghost use Rattle.std.specs.Prelude.{◌≡◌, ◌<◌, [], length, IfOk, MatchOption, OnOk, OnErr, slice_get, Some};
+    ghost use Rattle.std.specs.Prelude.{◌≡◌, ◌<◌, [], length, IfOk, MatchOption, OnOk, OnErr, slice_get, Some, take};
     ghost use Rattle.std.specs.List.{Contains};
     ghost use Rattle.data_theory.specs.Names.{AreDifferent, Enters};
 
@@ -63,6 +63,7 @@ impl Names {
     pub fn enter(&mut self, text: &str) -> Result<NameId, NoMemory>
         ensures entered { OnOk result (Enters self.old text.now self.new) }
         ensures place { IfOk result (λ name. slice_get self.new name.0 ≡ Some text.now) }
+        ensures different { AreDifferent self.new }
         ensures unchanged { OnErr result (self.new ≡ self.old) }
     {
         if let Some(name) = self.find(text) {
@@ -70,5 +71,19 @@ impl Names {
         }
         let (place, _) = self.texts.insert_full(String::from_str(self.alloc, text)?)?;
         Ok(NameId(place))
+    }
+
+    /// How many there are.
+    pub(crate) fn len(&self) -> usize
+        ensures { result ≡ length self.now }
+    {
+        self.texts.len()
+    }
+
+    /// Keeps the first texts alone.
+    pub(crate) fn truncate(&mut self, length: usize)
+        ensures { self.new ≡ take length self.old }
+    {
+        self.texts.truncate(length);
     }
 }

@@ -23,7 +23,7 @@ impl Model for SortNames {
 }
 
 impl SortNames {
-    ghost use Rattle.std.specs.Prelude.{◌≡◌, ◌++◌, ◌∷◌, [], MatchOption, OnOk, OnErr, take};
+    ghost use Rattle.std.specs.Prelude.{◌≡◌, ◌++◌, ◌∷◌, [], length, MatchOption, OnOk, OnErr, take};
     ghost use Rattle.data_theory.specs.SortNames.{IsSortName, IsName};
 
     /// No names.
@@ -33,6 +33,13 @@ impl SortNames {
         SortNames {
             sorts: IndexMap::new(alloc),
         }
+    }
+
+    /// How many there are.
+    pub fn len(&self) -> usize
+        ensures { result ≡ length self.now }
+    {
+        self.sorts.len()
     }
 
     /// The sort with a name or alias.
@@ -61,4 +68,33 @@ impl SortNames {
     {
         self.sorts.truncate(length);
     }
+}
+
+ghost use Rattle.std.specs.Prelude.{◌≡◌, ◌++◌, ◌∷◌, [], length, IfOk, OnErr};
+ghost use Rattle.data_theory.specs.Sorts.{abstract_sort};
+ghost use Rattle.data_theory.specs.SortNames.{IsName};
+
+use crate::sort_table::SortTable;
+
+/// Adds a declared sort without constructors, and its name, or neither.
+pub fn declare_sort(
+    sorts: &mut SortTable,
+    names: &mut SortNames,
+    name: NameId,
+) -> Result<SortId, NoMemory>
+    requires { ¬ (IsName names.old name) }
+    ensures number { IfOk result (λ sort. sort.0 ≡ length sorts.old) }
+    ensures sort { IfOk result (λ _. sorts.new ≡ sorts.old ++ abstract_sort name ∷ []) }
+    ensures named { IfOk result (λ sort. names.new ≡ names.old ++ (name, sort) ∷ []) }
+    ensures no_sort { OnErr result (sorts.new ≡ sorts.old) }
+    ensures no_name { OnErr result (names.new ≡ names.old) }
+{
+    let sort = SortId(sorts.len());
+    let count = names.len();
+    names.push(name, sort)?;
+    if sorts.push_abstract(name).is_err() {
+        names.truncate(count);
+        return Err(NoMemory);
+    }
+    Ok(sort)
 }

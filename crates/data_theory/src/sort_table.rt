@@ -44,8 +44,8 @@ impl Model for SortTable {
 }
 
 impl SortTable {
-    ghost use Rattle.std.specs.Prelude.{◌≡◌, ◌<◌, ◌++◌, ◌∷◌, [], length, IfOk, OnErr, MatchOption, slice_get, Some, ℕ};
-    ghost use Rattle.data_theory.specs.Sorts.{SortInfo, info_of, first_sorts, abstract_sort, list_sort, IsListOver, IsAnyListOver};
+    ghost use Rattle.std.specs.Prelude.{◌≡◌, ◌<◌, ◌≤◌, ◌++◌, ◌∷◌, [], take, length, IfOk, OnErr, MatchOption, slice_get, Some, ℕ};
+    ghost use Rattle.data_theory.specs.Sorts.{SortInfo, info_of, first_sorts, abstract_sort, list_sort, kind_of, with_kind, IsBare, IsListKind, IsListOver, IsAnyListOver};
 
     /// Bool, Pos, Nat and Int.
     pub fn new(alloc: Global) -> Result<SortTable, NoMemory>
@@ -131,6 +131,23 @@ impl SortTable {
         })?;
         self.lists[element.0] = Some(sort);
         Ok(sort)
+    }
+
+    /// Keeps the first sorts alone, where those behind are no list sorts.
+    pub fn truncate(&mut self, length: usize)
+        requires { (i : ℕ) (sort : SortInfo) → length ≤ i → slice_get self.old i ≡ Some sort → ¬ (IsListKind sort.kind) }
+        ensures { self.new ≡ take length self.old }
+    {
+        self.entries.truncate(length);
+    }
+
+    /// Says what a declared sort without constructors is.
+    pub fn set_kind(&mut self, sort: SortId, kind: SortKind)
+        requires bare { IsBare self.old sort }
+        requires no_list { ¬ (IsListKind (kind_of kind)) }
+        ensures { self.new ≡ with_kind self.old sort.0 (kind_of kind) }
+    {
+        self.entries[sort.0].kind = kind;
     }
 }
 

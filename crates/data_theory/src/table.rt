@@ -1,13 +1,15 @@
 //! The table of built-in functions, by the mCRL2 language reference.
 
-ghost use Rattle.std.specs.Prelude.{◌≡◌};
+ghost use Rattle.std.specs.Prelude.{◌≡◌, IfOk};
 ghost use Rattle.data_theory.specs.Table as table;
 
 use crate::ids::SortId;
+use crate::no_memory::NoMemory;
 use crate::rows::Row;
 use crate::words::{ListWord, NumberWord, Word};
+use std::alloc::Global;
 
-const BOOL: SortId = SortId(0);
+pub const BOOL: SortId = SortId(0);
 
 const POS: SortId = SortId(1);
 
@@ -16,6 +18,7 @@ const NAT: SortId = SortId(2);
 const INT: SortId = SortId(3);
 
 /// The prefix `-` and the upcasts, which have the numbers 0 to 5.
+#[tactic(auto, unfolding(crate::specs::Table::first_rows))]
 pub fn first_rows() -> [Row; 6]
     ensures { result ≡ table.first_rows }
 {
@@ -30,6 +33,7 @@ pub fn first_rows() -> [Row; 6]
 }
 
 /// The functions on truth values.
+#[tactic(auto, unfolding(crate::specs::Table::truth_rows))]
 pub fn truth_rows() -> [Row; 6]
     ensures { result ≡ table.truth_rows }
 {
@@ -44,6 +48,7 @@ pub fn truth_rows() -> [Row; 6]
 }
 
 /// The comparisons of numbers.
+#[tactic(auto, unfolding(crate::specs::Table::comparison_rows))]
 pub fn comparison_rows() -> [Row; 12]
     ensures { result ≡ table.comparison_rows }
 {
@@ -64,6 +69,7 @@ pub fn comparison_rows() -> [Row; 12]
 }
 
 /// Sums, differences and products.
+#[tactic(auto, unfolding(crate::specs::Table::sum_rows))]
 pub fn sum_rows() -> [Row; 11]
     ensures { result ≡ table.sum_rows }
 {
@@ -83,6 +89,7 @@ pub fn sum_rows() -> [Row; 11]
 }
 
 /// Quotients, remainders and powers.
+#[tactic(auto, unfolding(crate::specs::Table::quotient_rows))]
 pub fn quotient_rows() -> [Row; 7]
     ensures { result ≡ table.quotient_rows }
 {
@@ -98,6 +105,7 @@ pub fn quotient_rows() -> [Row; 7]
 }
 
 /// The least and the greatest of two numbers.
+#[tactic(auto, unfolding(crate::specs::Table::extreme_rows))]
 pub fn extreme_rows() -> [Row; 6]
     ensures { result ≡ table.extreme_rows }
 {
@@ -112,6 +120,7 @@ pub fn extreme_rows() -> [Row; 6]
 }
 
 /// Functions of one number.
+#[tactic(auto, unfolding(crate::specs::Table::step_rows))]
 pub fn step_rows() -> [Row; 10]
     ensures { result ≡ table.step_rows }
 {
@@ -130,6 +139,7 @@ pub fn step_rows() -> [Row; 10]
 }
 
 /// The functions over any sort.
+#[tactic(auto, unfolding(crate::specs::Table::sort_rows))]
 pub fn sort_rows(sort: SortId) -> [Row; 3]
     ensures { result ≡ table.sort_rows sort }
 {
@@ -141,6 +151,7 @@ pub fn sort_rows(sort: SortId) -> [Row; 3]
 }
 
 /// The functions over a list sort and its element sort.
+#[tactic(auto, unfolding(crate::specs::Table::list_rows))]
 pub fn list_rows(element: SortId, list: SortId) -> [Row; 11]
     ensures { result ≡ table.list_rows element list }
 {
@@ -157,4 +168,31 @@ pub fn list_rows(element: SortId, list: SortId) -> [Row; 11]
         Row::One(Word::List(ListWord::Rtail), list, list),
         Row::Two(Word::List(ListWord::In), element, list, BOOL),
     ]
+}
+
+/// All that a signature begins with, in order.
+pub fn first_table(alloc: Global) -> Result<Vec<Row>, NoMemory>
+    ensures { IfOk result (λ rows. rows.items ≡ table.first_table) }
+{
+    let mut rows = Vec::from_slice(alloc, &first_rows())?;
+    rows.extend_from_slice(&truth_rows())?;
+    rows.extend_from_slice(&sort_rows(BOOL))?;
+    rows.extend_from_slice(&sort_rows(POS))?;
+    rows.extend_from_slice(&sort_rows(NAT))?;
+    rows.extend_from_slice(&sort_rows(INT))?;
+    rows.extend_from_slice(&comparison_rows())?;
+    rows.extend_from_slice(&sum_rows())?;
+    rows.extend_from_slice(&quotient_rows())?;
+    rows.extend_from_slice(&extreme_rows())?;
+    rows.extend_from_slice(&step_rows())?;
+    Ok(rows)
+}
+
+/// All that comes with a list sort, in order.
+pub fn list_table(alloc: Global, element: SortId, list: SortId) -> Result<Vec<Row>, NoMemory>
+    ensures { IfOk result (λ rows. rows.items ≡ table.list_table element list) }
+{
+    let mut rows = Vec::from_slice(alloc, &sort_rows(list))?;
+    rows.extend_from_slice(&list_rows(element, list))?;
+    Ok(rows)
 }

@@ -1,6 +1,6 @@
 use Rattle.std.proofs.Common.{sym, ap, ◌∙◌, take, map}
 use Rattle.data_theory.specs.Functions.{key_of, function_of, functions_of}
-use Rattle.data_theory.proofs.FunctionLemmas.{map_taken}
+use Rattle.data_theory.proofs.PlaceLemmas.{map_taken}
 use Rattle.data_theory.proofs.functions.Functions.truncate.Goals as goal
 
 pub invariant_of-self : goal.invariant_of-self

@@ -20,3 +20,6 @@ pub returns-clause-place : goal.returns-clause-place
 returns-clause-place c =
     let stored = c.in_ok-place.ensures.stored in
     slice_get-map string_bytes c.insert_full.new.self.keys c.in_ok-place.place ∙ ap (option_map string_bytes) stored.1 ∙ ap Some (sym (string_eq_tells c.in_ok-from_str.field-0 stored.0 stored.2) ∙ c.in_ok-from_str.ensures.ok)
+
+pub returns-clause-different : goal.returns-clause-different
+returns-clause-different c = (pushed c).different
