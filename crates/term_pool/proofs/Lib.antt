@@ -1,0 +1,12 @@
+mod NodeTrees
+mod SameNodes
+mod NewNodes
+mod Entered
+mod OneArgument
+mod Lists
+mod ArgumentTrees
+mod OpenTerms
+mod PutTrees
+mod InsertedTerms
+mod Filling
+mod KeptSorts

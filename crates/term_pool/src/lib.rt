@@ -1,0 +1,18 @@
+//! Terms by number.
+//!
+//! A [`Pool`] holds terms as nodes, and hands out an id for each: two ids are equal exactly where their trees are, so that a
+//! subterm that stands in many terms is held once. The trees are those of the theory of data over the numbers of a
+//! signature; `specs/` says which tree a node is.
+#![tactic(auto)]
+
+mod bindings;
+pub mod laws;
+mod merging;
+mod pool;
+mod terms;
+
+pub use pool::Pool;
+pub use terms::{Equation, Head, Node, Theory};
+
+#[cfg(test)]
+mod tests;
