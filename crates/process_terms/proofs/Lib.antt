@@ -18,3 +18,5 @@ pub mod AgreeingLabels
 pub mod OperatorLemmas
 pub mod SmallSteps
 pub mod UnknownData
+pub mod MeaningLemmas
+pub mod EntryLemmas

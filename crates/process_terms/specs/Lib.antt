@@ -16,3 +16,8 @@ pub mod Processes
 pub mod Steps
 pub mod AgreementLaws
 pub mod WorkedSteps
+pub mod PlainProcesses
+pub mod Meanings
+pub mod SignatureEntries
+pub mod MeaningLaws
+pub mod WorkedMeanings

@@ -73,10 +73,20 @@ pub data BodyOf (d : Table) : ℕ → List Term → Process → Type 0 where
   the_body : {x : ℕ} {ts : List Term} (f : Definition) → slice_get d x ≡ Some f → length ts ≡ length f.params → BodyOf d x ts (close d (bound f.params ts) f.body)
 
 -- ---- what is written with several operands
+-- nested to the right; without operands it does nothing
+abbrev pub chain_of : (Body → Body → Body) → List Body → Body
+chain_of op [] = written_delta
+chain_of op (p ∷ []) = p
+chain_of op (p ∷ ps) = op p (chain_of op ps)
+
 abbrev pub choice_of : List Body → Body
-choice_of [] = written_delta
-choice_of (p ∷ []) = p
-choice_of (p ∷ ps) = written_choice p (choice_of ps)
+choice_of ps = chain_of written_choice ps
+
+abbrev pub seq_of : List Body → Body
+seq_of ps = chain_of written_seq ps
+
+abbrev pub merge_of : List Body → Body
+merge_of ps = chain_of written_merge ps
 
 abbrev pub sums_around : List Bound → Body → Body
 sums_around [] p = p
