@@ -5,9 +5,10 @@ use Rattle.std.proofs.lemmas.List.Elements.{All-nil, All-push, All-append}
 use Rattle.std.proofs.lemmas.Grind.{common_steps}
 use borrow.Author.Tests.{ltb-true}
 use Rattle.mcrl2_lexer.specs.declared.token.Token.{Token}
-use Rattle.mcrl2_parser.specs.declared.sections.Section.{Section}
+use Rattle.mcrl2_syntax.specs.declared.declaration.SectionWord.{SectionWord}
 use Rattle.mcrl2_parser.specs.declared.declaring.Declaration.{Declaration}
-use Rattle.mcrl2_parser.specs.Sections.{section_of, is_semicolon}
+use Rattle.mcrl2_syntax.specs.SpelledDeclarations.{section_word}
+use Rattle.mcrl2_parser.specs.Sections.{is_semicolon}
 use Rattle.mcrl2_parser.specs.Declarations.{Parts, with_token, parts_of, Pieces, with_piece_token, pieces_of, left_over, of_pieces, of_part, of_sections, declarations_of, IsWithin}
 
 -- no token is a `;`
@@ -16,17 +17,17 @@ HasNoEnd [] = Unit {0}
 HasNoEnd (token ∷ tokens) = (is_semicolon token.kind ≡ false) × HasNoEnd tokens
 
 -- In a section a piece has no `;`. In front of all sections it may have any.
-abbrev pub IsPiece : Option Section → List Token → Type 0
+abbrev pub IsPiece : Option SectionWord → List Token → Type 0
 IsPiece None tokens = Unit {0}
 IsPiece (Some s) tokens = HasNoEnd tokens
 
 -- the declarations of a piece that goes on with parts
-abbrev pub rest_of : Option Section → ℕ → List Token → Parts → List Declaration
+abbrev pub rest_of : Option SectionWord → ℕ → List Token → Parts → List Declaration
 rest_of section start piece parts =
     of_part section start (piece ++ parts.front) ++ of_sections (start + length (piece ++ parts.front)) parts.sections
 
 -- The list has the declarations that end in front of a place. The piece between stands in that section.
-pub record CutSoFar (tokens : List Token) (list : List Declaration) (section : Option Section) (start at : ℕ) : Type 0 where
+pub record CutSoFar (tokens : List Token) (list : List Declaration) (section : Option SectionWord) (start at : ℕ) : Type 0 where
   pub piece : List Token
   pub free : IsPiece section piece
   pub place : start + length piece ≡ at
@@ -41,13 +42,13 @@ append_nil [] = refl
 append_nil {A} (x ∷ xs) = ap (λ (ys : List A). x ∷ ys) (append_nil xs)
 
 -- a token that begins no section stands in front of what is behind it
-parts_plain : (token : Token) (tokens : List Token) → section_of token.kind ≡ None
+pub parts_plain : (token : Token) (tokens : List Token) → section_word token.kind ≡ None
     → parts_of (token ∷ tokens) ≡ record { front = token ∷ (parts_of tokens).front; sections = (parts_of tokens).sections }
-parts_plain token tokens e = ap (λ (s : Option Section). with_token s token (parts_of tokens)) e
+parts_plain token tokens e = ap (λ (s : Option SectionWord). with_token s token (parts_of tokens)) e
 
-parts_word : (token : Token) (tokens : List Token) (s : Section) → section_of token.kind ≡ Some s
+pub parts_word : (token : Token) (tokens : List Token) (s : SectionWord) → section_word token.kind ≡ Some s
     → parts_of (token ∷ tokens) ≡ record { front = []; sections = record { section = s; tokens = (parts_of tokens).front } ∷ (parts_of tokens).sections }
-parts_word token tokens s e = ap (λ (x : Option Section). with_token x token (parts_of tokens)) e
+parts_word token tokens s e = ap (λ (x : Option SectionWord). with_token x token (parts_of tokens)) e
 
 -- a piece without a `;` is left over
 pieces_left : (piece : List Token) → HasNoEnd piece → pieces_of piece ≡ record { ended = []; left = piece }
@@ -63,11 +64,11 @@ pieces_end [] token tokens h e = ap (λ (b : Bool). with_piece_token b token (pi
 pieces_end (first ∷ piece) token tokens h e =
     ap (λ (b : Bool). with_piece_token b first (pieces_of (piece ++ token ∷ tokens))) h.0 ∙ ap (with_piece_token false first) (pieces_end piece token tokens h.1 e)
 
-part_left : (section : Option Section) (start : ℕ) (piece : List Token) → IsPiece section piece → of_part section start piece ≡ left_over section start (start + length piece)
+part_left : (section : Option SectionWord) (start : ℕ) (piece : List Token) → IsPiece section piece → of_part section start piece ≡ left_over section start (start + length piece)
 part_left None start piece h = refl
 part_left (Some s) start piece h = ap (λ (p : Pieces). of_pieces s start p.ended p.left) (pieces_left piece h)
 
-part_end : (s : Section) (start : ℕ) (piece : List Token) (token : Token) (tokens : List Token) → IsPiece (Some s) piece → is_semicolon token.kind ≡ true
+part_end : (s : SectionWord) (start : ℕ) (piece : List Token) (token : Token) (tokens : List Token) → IsPiece (Some s) piece → is_semicolon token.kind ≡ true
     → of_part (Some s) start (piece ++ token ∷ tokens)
     ≡ record { section = Some s; start = start; end = start + length piece; is_ended = true } ∷ of_part (Some s) (start + length piece + 1) tokens
 part_end s start piece token tokens h e = ap (λ (p : Pieces). of_pieces s start p.ended p.left) (pieces_end piece token tokens h e)
@@ -76,15 +77,15 @@ no_end_push : (piece : List Token) (token : Token) → HasNoEnd piece → is_sem
 no_end_push [] token h p = (p, tt)
 no_end_push (first ∷ piece) token h p = (h.0, no_end_push piece token h.1 p)
 
-piece_push : (section : Option Section) (piece : List Token) (token : Token) → IsPiece section piece → IsPiece section (token ∷ []) → IsPiece section (piece ++ token ∷ [])
+piece_push : (section : Option SectionWord) (piece : List Token) (token : Token) → IsPiece section piece → IsPiece section (token ∷ []) → IsPiece section (piece ++ token ∷ [])
 piece_push None piece token h p = tt
 piece_push (Some s) piece token h p = no_end_push piece token h p.0
 
-pub piece_outside : (section : Option Section) (token : Token) → is_some section ≡ false → IsPiece section (token ∷ [])
+pub piece_outside : (section : Option SectionWord) (token : Token) → is_some section ≡ false → IsPiece section (token ∷ [])
 piece_outside None token h = tt
 piece_outside (Some s) token h = absurd (cc)
 
-pub piece_inside : (section : Option Section) (token : Token) → is_semicolon token.kind ≡ false → IsPiece section (token ∷ [])
+pub piece_inside : (section : Option SectionWord) (token : Token) → is_semicolon token.kind ≡ false → IsPiece section (token ∷ [])
 piece_inside None token h = tt
 piece_inside (Some s) token h = (h, tt)
 
@@ -94,7 +95,7 @@ no_declarations n = All-nil (IsWithin n)
 one_within : (n : ℕ) (declaration : Declaration) → IsWithin n declaration → All (IsWithin n) (declaration ∷ [])
 one_within n declaration h = All-push (IsWithin n) [] declaration (no_declarations n) h
 
-left_over_within : (section : Option Section) (start end n : ℕ) → end ≤ n → All (IsWithin n) (left_over section start end)
+left_over_within : (section : Option SectionWord) (start end n : ℕ) → end ≤ n → All (IsWithin n) (left_over section start end)
 left_over_within section start end n h =
     (elim (nat_lt start end) as (λ b. nat_lt start end ≡ b → All (IsWithin n) (if b then record { section = section; start = start; end = end; is_ended = false } ∷ [] else [])) [
       | true ↦ λ e. one_within n (record { section = section; start = start; end = end; is_ended = false }) (record { ordered = omega (arith, ltb-true start end e); within = h })
@@ -110,9 +111,9 @@ begin tokens = record {
   within = no_declarations (length tokens);
 }
 
-past_plain : (tokens : List Token) (list : List Declaration) (section : Option Section) (start at : ℕ) (token : Token)
+past_plain : (tokens : List Token) (list : List Declaration) (section : Option SectionWord) (start at : ℕ) (token : Token)
     → CutSoFar tokens list section start at → drop at tokens ≡ token ∷ drop (at + 1) tokens
-    → section_of token.kind ≡ None → IsPiece section (token ∷ []) → CutSoFar tokens list section start (at + 1)
+    → section_word token.kind ≡ None → IsPiece section (token ∷ []) → CutSoFar tokens list section start (at + 1)
 past_plain tokens list section start at token so_far here plain free =
     let rest : List Token = drop (at + 1) tokens in
     let parts : parts_of (drop at tokens) ≡ record { front = token ∷ (parts_of rest).front; sections = (parts_of rest).sections } = ap parts_of here ∙ parts_plain token rest plain in
@@ -127,9 +128,9 @@ past_plain tokens list section start at token so_far here plain free =
       within = so_far.within;
     }
 
-past_word : (tokens : List Token) (list : List Declaration) (section : Option Section) (start at : ℕ) (token : Token) (s : Section)
+past_word : (tokens : List Token) (list : List Declaration) (section : Option SectionWord) (start at : ℕ) (token : Token) (s : SectionWord)
     → CutSoFar tokens list section start at → drop at tokens ≡ token ∷ drop (at + 1) tokens → at ≤ length tokens
-    → section_of token.kind ≡ Some s → CutSoFar tokens (list ++ left_over section start at) (Some s) (at + 1) (at + 1)
+    → section_word token.kind ≡ Some s → CutSoFar tokens (list ++ left_over section start at) (Some s) (at + 1) (at + 1)
 past_word tokens list section start at token s so_far here inside word =
     let rest : List Token = drop (at + 1) tokens in
     let parts : parts_of (drop at tokens) ≡ record { front = []; sections = record { section = s; tokens = (parts_of rest).front } ∷ (parts_of rest).sections } = ap parts_of here ∙ parts_word token rest s word in
@@ -146,9 +147,9 @@ past_word tokens list section start at token s so_far here inside word =
       within = All-append (IsWithin (length tokens)) list (left_over section start at) so_far.within (left_over_within section start at (length tokens) inside);
     }
 
-past_end_of : (tokens : List Token) (list : List Declaration) (s : Section) (start at : ℕ) (token : Token)
+past_end_of : (tokens : List Token) (list : List Declaration) (s : SectionWord) (start at : ℕ) (token : Token)
     → CutSoFar tokens list (Some s) start at → drop at tokens ≡ token ∷ drop (at + 1) tokens → at ≤ length tokens
-    → section_of token.kind ≡ None → is_semicolon token.kind ≡ true
+    → section_word token.kind ≡ None → is_semicolon token.kind ≡ true
     → CutSoFar tokens (list ++ record { section = Some s; start = start; end = at; is_ended = true } ∷ []) (Some s) (at + 1) (at + 1)
 past_end_of tokens list s start at token so_far here inside plain ends =
     let rest : List Token = drop (at + 1) tokens in
@@ -168,14 +169,14 @@ past_end_of tokens list s start at token so_far here inside plain ends =
       within = All-append (IsWithin (length tokens)) list (ended ∷ []) so_far.within (one_within (length tokens) ended (record { ordered = omega (arith, so_far.place); within = inside }));
     }
 
-past_end : (tokens : List Token) (list : List Declaration) (section : Option Section) (start at : ℕ) (token : Token)
+past_end : (tokens : List Token) (list : List Declaration) (section : Option SectionWord) (start at : ℕ) (token : Token)
     → CutSoFar tokens list section start at → drop at tokens ≡ token ∷ drop (at + 1) tokens → at ≤ length tokens
-    → section_of token.kind ≡ None → is_some section ≡ true → is_semicolon token.kind ≡ true
+    → section_word token.kind ≡ None → is_some section ≡ true → is_semicolon token.kind ≡ true
     → CutSoFar tokens (list ++ record { section = section; start = start; end = at; is_ended = true } ∷ []) section (at + 1) (at + 1)
 past_end tokens list None start at token so_far here inside plain some ends = absurd (cc)
 past_end tokens list (Some s) start at token so_far here inside plain some ends = past_end_of tokens list s start at token so_far here inside plain ends
 
-all_cut : (tokens : List Token) (list : List Declaration) (section : Option Section) (start at : ℕ)
+all_cut : (tokens : List Token) (list : List Declaration) (section : Option SectionWord) (start at : ℕ)
     → CutSoFar tokens list section start at → drop at tokens ≡ [] → list ++ left_over section start at ≡ declarations_of tokens
 all_cut tokens list section start at so_far none =
     let same : rest_of section start so_far.piece (parts_of (drop at tokens)) ≡ left_over section start at =
@@ -186,27 +187,27 @@ all_cut tokens list section start at so_far none =
     ∙ ap (left_over section start) so_far.place in
     ap (λ (x : List Declaration). list ++ x) (sym same) ∙ so_far.whole
 
-all_within : (tokens : List Token) (list : List Declaration) (section : Option Section) (start at : ℕ)
+all_within : (tokens : List Token) (list : List Declaration) (section : Option SectionWord) (start at : ℕ)
     → CutSoFar tokens list section start at → at ≤ length tokens → All (IsWithin (length tokens)) (list ++ left_over section start at)
 all_within tokens list section start at so_far inside =
     All-append (IsWithin (length tokens)) list (left_over section start at) so_far.within (left_over_within section start at (length tokens) inside)
 
 -- the same of what is equal
-moved : {tokens : List Token} {ds es : List Declaration} {s t : Option Section} {n m at : ℕ} → CutSoFar tokens ds s n at → es ≡ ds → t ≡ s → m ≡ n → CutSoFar tokens es t m at
+moved : {tokens : List Token} {ds es : List Declaration} {s t : Option SectionWord} {n m at : ℕ} → CutSoFar tokens ds s n at → es ≡ ds → t ≡ s → m ≡ n → CutSoFar tokens es t m at
 moved {tokens} {ds} {es} {s} {t} {n} {m} {at} so_far e f g =
-    subst (λ (x : List Declaration). CutSoFar tokens x t m at) (sym e) (subst (λ (x : Option Section). CutSoFar tokens ds x m at) (sym f) (subst (λ (x : ℕ). CutSoFar tokens ds s x at) (sym g) so_far))
+    subst (λ (x : List Declaration). CutSoFar tokens x t m at) (sym e) (subst (λ (x : Option SectionWord). CutSoFar tokens ds x m at) (sym f) (subst (λ (x : ℕ). CutSoFar tokens ds s x at) (sym g) so_far))
 
 -- the next token is a word of a section
-pub at_word : {tokens : List Token} {ds es : List Declaration} {section next : Option Section} {start m at : ℕ} (s : Section) (d : Token)
-    → CutSoFar tokens ds section start at → at < length tokens → Some s ≡ section_of (get_or tokens at d).kind
+pub at_word : {tokens : List Token} {ds es : List Declaration} {section next : Option SectionWord} {start m at : ℕ} (s : SectionWord) (d : Token)
+    → CutSoFar tokens ds section start at → at < length tokens → Some s ≡ section_word (get_or tokens at d).kind
     → es ≡ ds ++ left_over section start at → next ≡ Some s → m ≡ at + 1 → CutSoFar tokens es next m (at + 1)
 at_word {tokens} {ds} {es} {section} {next} {start} {m} {at} s d so_far inside word e f g =
     let under : at ≤ length tokens = omega arith in
     moved (past_word tokens ds section start at (get_or tokens at d) s so_far (drop_at tokens at d inside) under (sym word)) e f g
 
 -- the next token is a `;` in a section
-pub at_end : {tokens : List Token} {ds es : List Declaration} {section next : Option Section} {start m at : ℕ} (d : Token)
-    → CutSoFar tokens ds section start at → at < length tokens → None ≡ section_of (get_or tokens at d).kind
+pub at_end : {tokens : List Token} {ds es : List Declaration} {section next : Option SectionWord} {start m at : ℕ} (d : Token)
+    → CutSoFar tokens ds section start at → at < length tokens → None ≡ section_word (get_or tokens at d).kind
     → is_some section ≡ true → true ≡ is_semicolon (get_or tokens at d).kind
     → es ≡ ds ++ record { section = section; start = start; end = at; is_ended = true } ∷ [] → next ≡ section → m ≡ at + 1 → CutSoFar tokens es next m (at + 1)
 at_end {tokens} {ds} {es} {section} {next} {start} {m} {at} d so_far inside plain some ends e f g =
@@ -214,20 +215,20 @@ at_end {tokens} {ds} {es} {section} {next} {start} {m} {at} d so_far inside plai
     moved (past_end tokens ds section start at (get_or tokens at d) so_far (drop_at tokens at d inside) under (sym plain) some (sym ends)) e f g
 
 -- the next token is neither
-pub at_other : {tokens : List Token} {ds es : List Declaration} {section next : Option Section} {start m at : ℕ} (d : Token)
-    → CutSoFar tokens ds section start at → at < length tokens → None ≡ section_of (get_or tokens at d).kind
+pub at_other : {tokens : List Token} {ds es : List Declaration} {section next : Option SectionWord} {start m at : ℕ} (d : Token)
+    → CutSoFar tokens ds section start at → at < length tokens → None ≡ section_word (get_or tokens at d).kind
     → IsPiece section (get_or tokens at d ∷ []) → es ≡ ds → next ≡ section → m ≡ start → CutSoFar tokens es next m (at + 1)
 at_other {tokens} {ds} {es} {section} {next} {start} {m} {at} d so_far inside plain free e f g =
     moved (past_plain tokens ds section start at (get_or tokens at d) so_far (drop_at tokens at d inside) (sym plain) free) e f g
 
 -- behind the last token nothing is left to cut
-pub cut_whole : {tokens : List Token} {ds es : List Declaration} {section : Option Section} {start at : ℕ}
+pub cut_whole : {tokens : List Token} {ds es : List Declaration} {section : Option SectionWord} {start at : ℕ}
     → CutSoFar tokens ds section start at → length tokens ≤ at → at ≤ length tokens → es ≡ ds ++ left_over section start (length tokens) → es ≡ declarations_of tokens
 cut_whole {tokens} {ds} {es} {section} {start} {at} so_far over under e =
     let last : at ≡ length tokens = omega arith in
     e ∙ all_cut tokens ds section start (length tokens) (subst (λ (n : ℕ). CutSoFar tokens ds section start n) last so_far) (drop-length tokens)
 
-pub cut_within : {tokens : List Token} {ds es : List Declaration} {section : Option Section} {start at : ℕ}
+pub cut_within : {tokens : List Token} {ds es : List Declaration} {section : Option SectionWord} {start at : ℕ}
     → CutSoFar tokens ds section start at → length tokens ≤ at → at ≤ length tokens → es ≡ ds ++ left_over section start (length tokens) → All (IsWithin (length tokens)) es
 cut_within {tokens} {ds} {es} {section} {start} {at} so_far over under e =
     let last : at ≡ length tokens = omega arith in

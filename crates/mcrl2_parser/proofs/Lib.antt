@@ -3,3 +3,23 @@ pub mod Refused
 pub mod SingleFaults
 pub mod Sorts
 pub mod Groups
+pub mod ListLeft
+pub mod Units
+pub mod Operands
+pub mod ItemLists
+mod ProcessGuards
+mod ChainLeft
+mod Atoms
+mod ProcessChains
+mod Conditions
+pub mod Braces
+pub mod Names
+pub mod Actions
+pub mod Calls
+pub mod Operations
+pub mod Joins
+pub mod LabelLines
+pub mod Exits
+pub mod ConstructorCases
+pub mod DeclarationCases
+pub mod SpelledByDeclarations

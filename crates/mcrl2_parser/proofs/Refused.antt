@@ -29,44 +29,50 @@ second_init list i d inside one here = record {
   init = sym here;
 }
 
-first_refused : (tokens : List Token) (list : List Declaration) (i : ℕ) (d : Declaration) (fault : ParseFault) → list ≡ declarations_of tokens → i < length list
-    → All (IsSound tokens) (take i list) → IsRefused tokens (i + 1) (get_or list i d) fault → IsFirstRefused tokens fault
-first_refused tokens list i d fault e inside sound cause = record {
+first_refused : (text : List ℕ) (tokens : List Token) (list : List Declaration) (i : ℕ) (d : Declaration) (fault : ParseFault) → list ≡ declarations_of tokens → i < length list
+    → All (IsSound text tokens) (take i list) → IsRefused text tokens (i + 1) (get_or list i d) fault → IsFirstRefused text tokens fault
+first_refused text tokens list i d fault e inside sound cause = record {
   front = take i list;
   refused = get_or list i d;
   behind = drop (suc i) list;
   stands = sym e ∙ parted list i d inside;
   sound = sound;
-  cause = subst (λ (n : ℕ). IsRefused tokens (n + 1) (get_or list i d) fault) (sym (front_length list i inside)) cause;
+  cause = subst (λ (n : ℕ). IsRefused text tokens (n + 1) (get_or list i d) fault) (sym (front_length list i inside)) cause;
 }
 
-pub has_fault : (tokens : List Token) (list : List Declaration) (i : ℕ) (d : Declaration) (fault : ParseFault) → list ≡ declarations_of tokens → i < length list
-    → All (IsSound tokens) (take i list) → IsRefused tokens (i + 1) (get_or list i d) fault → HasFault tokens fault
-has_fault tokens list i d (TooDeep n) e inside sound cause = first_refused tokens list i d (TooDeep n) e inside sound cause
-has_fault tokens list i d (Syntax n) e inside sound cause = first_refused tokens list i d (Syntax n) e inside sound cause
-has_fault tokens list i d NoInit e inside sound cause = absurd cause
-has_fault tokens list i d (TwoInits n) e inside sound cause = absurd cause
-has_fault tokens list i d NoMemory e inside sound cause = absurd cause
+pub has_fault : (text : List ℕ) (tokens : List Token) (list : List Declaration) (i : ℕ) (d : Declaration) (fault : ParseFault) → list ≡ declarations_of tokens → i < length list
+    → All (IsSound text tokens) (take i list) → IsRefused text tokens (i + 1) (get_or list i d) fault → HasFault text tokens fault
+has_fault text tokens list i d (TooDeep n) e inside sound cause = first_refused text tokens list i d (TooDeep n) e inside sound cause
+has_fault text tokens list i d (Syntax n) e inside sound cause = first_refused text tokens list i d (Syntax n) e inside sound cause
+has_fault text tokens list i d NoInit e inside sound cause = absurd cause
+has_fault text tokens list i d (TwoInits n) e inside sound cause = absurd cause
+has_fault text tokens list i d NoMemory e inside sound cause = absurd cause
 
-pub has_init_fault : (tokens : List Token) (list : List Declaration) (fault : ParseFault) → list ≡ declarations_of tokens → All (IsSound tokens) list
-    → HasInitFault list fault → HasFault tokens fault
-has_init_fault tokens list NoInit e sound cause =
-    (subst (λ (xs : List Declaration). All (IsSound tokens) xs) e sound, subst (λ (xs : List Declaration). HasInitFault xs NoInit) e cause)
-has_init_fault tokens list (TwoInits n) e sound cause =
-    (subst (λ (xs : List Declaration). All (IsSound tokens) xs) e sound, subst (λ (xs : List Declaration). HasInitFault xs (TwoInits n)) e cause)
-has_init_fault tokens list (TooDeep n) e sound cause = absurd cause
-has_init_fault tokens list (Syntax n) e sound cause = absurd cause
-has_init_fault tokens list NoMemory e sound cause = absurd cause
+pub has_init_fault : (text : List ℕ) (tokens : List Token) (list : List Declaration) (fault : ParseFault) → list ≡ declarations_of tokens → All (IsSound text tokens) list
+    → HasInitFault list fault → HasFault text tokens fault
+has_init_fault text tokens list NoInit e sound cause =
+    (subst (λ (xs : List Declaration). All (IsSound text tokens) xs) e sound, subst (λ (xs : List Declaration). HasInitFault xs NoInit) e cause)
+has_init_fault text tokens list (TwoInits n) e sound cause =
+    (subst (λ (xs : List Declaration). All (IsSound text tokens) xs) e sound, subst (λ (xs : List Declaration). HasInitFault xs (TwoInits n)) e cause)
+has_init_fault text tokens list (TooDeep n) e sound cause = absurd cause
+has_init_fault text tokens list (Syntax n) e sound cause = absurd cause
+has_init_fault text tokens list NoMemory e sound cause = absurd cause
 
-pub none_yet : (tokens : List Token) → All (IsSound tokens) []
-none_yet tokens = All-nil (IsSound tokens)
+pub none_yet : (text : List ℕ) (tokens : List Token) → All (IsSound text tokens) []
+none_yet text tokens = All-nil (IsSound text tokens)
 
-pub one_more : (tokens : List Token) (list : List Declaration) (i : ℕ) (d : Declaration) → i < length list → All (IsSound tokens) (take i list)
-    → IsSound tokens (get_or list i d) → All (IsSound tokens) (take (i + 1) list)
-one_more tokens list i d inside sound here =
-    rw (add-one, take-suc list i d inside) (All-push (IsSound tokens) (take i list) (get_or list i d) sound here)
+pub one_more : (text : List ℕ) (tokens : List Token) (list : List Declaration) (i : ℕ) (d : Declaration) → i < length list → All (IsSound text tokens) (take i list)
+    → IsSound text tokens (get_or list i d) → All (IsSound text tokens) (take (i + 1) list)
+one_more text tokens list i d inside sound here =
+    rw (add-one, take-suc list i d inside) (All-push (IsSound text tokens) (take i list) (get_or list i d) sound here)
 
-pub all_sound : (tokens : List Token) (list : List Declaration) (i : ℕ) → length list ≤ i → i ≤ length list → All (IsSound tokens) (take i list) → All (IsSound tokens) list
-all_sound tokens list i over under sound =
+pub all_sound : (text : List ℕ) (tokens : List Token) (list : List Declaration) (i : ℕ) → length list ≤ i → i ≤ length list → All (IsSound text tokens) (take i list) → All (IsSound text tokens) list
+all_sound text tokens list i over under sound =
     let last : i ≡ length list = omega arith in
-    subst (λ (xs : List Declaration). All (IsSound tokens) xs) (ap (λ (n : ℕ). take n list) last ∙ take-length list) sound
+    subst (λ (xs : List Declaration). All (IsSound text tokens) xs) (ap (λ (n : ℕ). take n list) last ∙ take-length list) sound
+
+pub moved_fault : {text others : List ℕ} {tokens us : List Token} (fault : ParseFault) → text ≡ others → tokens ≡ us → HasFault text tokens fault → HasFault others us fault
+moved_fault {text = text} {us = us} fault e f h = subst (λ (x : List ℕ). HasFault x us fault) e (subst (λ (x : List Token). HasFault text x fault) f h)
+
+pub moved_sound : {text others : List ℕ} {tokens us : List Token} (list : List Declaration) → text ≡ others → tokens ≡ us → All (IsSound text tokens) list → All (IsSound others us) list
+moved_sound {text = text} {us = us} list e f h = subst (λ (x : List ℕ). All (IsSound x us) list) e (subst (λ (x : List Token). All (IsSound text x) list) f h)

@@ -19,12 +19,12 @@ all_middle : (P : Declaration → Type 0) (front : List Declaration) (x : Declar
 all_middle P [] x behind h = all_head P x behind h
 all_middle P (first ∷ front) x behind h = all_middle P front x behind (all_tail P first (front ++ x ∷ behind) h)
 
-refused_unsound : (tokens : List Token) (n : ℕ) (d : Declaration) (fault : ParseFault) → IsRefused tokens n d fault → IsSound tokens d → ⊥
-refused_unsound tokens n d (TooDeep m) cause sound = omega (arith, cause.1, sound.level)
-refused_unsound tokens n d (Syntax m) cause sound = cause.2 sound.whole
-refused_unsound tokens n d NoInit cause sound = cause
-refused_unsound tokens n d (TwoInits m) cause sound = cause
-refused_unsound tokens n d NoMemory cause sound = cause
+refused_unsound : (text : List ℕ) (tokens : List Token) (n : ℕ) (d : Declaration) (fault : ParseFault) → IsRefused text tokens n d fault → IsSound text tokens d → ⊥
+refused_unsound text tokens n d (TooDeep m) cause sound = omega (arith, cause.1, sound.level)
+refused_unsound text tokens n d (Syntax m) cause sound = cause.2 sound.whole
+refused_unsound text tokens n d NoInit cause sound = cause
+refused_unsound text tokens n d (TwoInits m) cause sound = cause
+refused_unsound text tokens n d NoMemory cause sound = cause
 
 pub record SamePlace (f g : List Declaration) (x y : Declaration) : Type 0 where
   pub front : length f ≡ length g
@@ -77,32 +77,32 @@ second_single [] (z ∷ g) x y b c e n u v = absurd (omega (arith, n, count_firs
 second_single (w ∷ f) [] x y b c e n u v = absurd (omega (arith, n, count_first w f (ap is_init (heads e) ∙ v)))
 second_single (w ∷ f) (z ∷ g) x y b c e n u v = ap suc (second_single f g x y b c (tails e) (count_same w z f g (heads e) n) u v)
 
-refused_is_none_sound : (tokens : List Token) (fault : ParseFault) → IsFirstRefused tokens fault → All (IsSound tokens) (declarations_of tokens) → ⊥
-refused_is_none_sound tokens fault h sound =
-    refused_unsound tokens (length h.front + 1) h.refused fault h.cause
-    (all_middle (IsSound tokens) h.front h.refused h.behind (subst (λ (xs : List Declaration). All (IsSound tokens) xs) h.stands sound))
+refused_is_none_sound : (text : List ℕ) (tokens : List Token) (fault : ParseFault) → IsFirstRefused text tokens fault → All (IsSound text tokens) (declarations_of tokens) → ⊥
+refused_is_none_sound text tokens fault h sound =
+    refused_unsound text tokens (length h.front + 1) h.refused fault h.cause
+    (all_middle (IsSound text tokens) h.front h.refused h.behind (subst (λ (xs : List Declaration). All (IsSound text tokens) xs) h.stands sound))
 
-same_cause : (tokens : List Token) (n m : ℕ) (x y : Declaration) (one other : ParseFault) → n ≡ m → x ≡ y → IsRefused tokens n x one → IsRefused tokens m y other → one ≡ other
-same_cause tokens n m x y (TooDeep a) (TooDeep b) e f h k = ap TooDeep (h.0 ∙ e ∙ sym k.0)
-same_cause tokens n m x y (Syntax a) (Syntax b) e f h k = ap Syntax (h.0 ∙ e ∙ sym k.0)
-same_cause tokens n m x y (TooDeep a) (Syntax b) e f h k = absurd (omega (arith, h.1, k.1, ap (level_at tokens) f))
-same_cause tokens n m x y (Syntax a) (TooDeep b) e f h k = absurd (omega (arith, h.1, k.1, ap (level_at tokens) f))
-same_cause tokens n m x y NoInit other e f h k = absurd h
-same_cause tokens n m x y (TwoInits a) other e f h k = absurd h
-same_cause tokens n m x y NoMemory other e f h k = absurd h
-same_cause tokens n m x y (TooDeep a) NoInit e f h k = absurd k
-same_cause tokens n m x y (TooDeep a) (TwoInits b) e f h k = absurd k
-same_cause tokens n m x y (TooDeep a) NoMemory e f h k = absurd k
-same_cause tokens n m x y (Syntax a) NoInit e f h k = absurd k
-same_cause tokens n m x y (Syntax a) (TwoInits b) e f h k = absurd k
-same_cause tokens n m x y (Syntax a) NoMemory e f h k = absurd k
+same_cause : (text : List ℕ) (tokens : List Token) (n m : ℕ) (x y : Declaration) (one other : ParseFault) → n ≡ m → x ≡ y → IsRefused text tokens n x one → IsRefused text tokens m y other → one ≡ other
+same_cause text tokens n m x y (TooDeep a) (TooDeep b) e f h k = ap TooDeep (h.0 ∙ e ∙ sym k.0)
+same_cause text tokens n m x y (Syntax a) (Syntax b) e f h k = ap Syntax (h.0 ∙ e ∙ sym k.0)
+same_cause text tokens n m x y (TooDeep a) (Syntax b) e f h k = absurd (omega (arith, h.1, k.1, ap (level_at tokens) f))
+same_cause text tokens n m x y (Syntax a) (TooDeep b) e f h k = absurd (omega (arith, h.1, k.1, ap (level_at tokens) f))
+same_cause text tokens n m x y NoInit other e f h k = absurd h
+same_cause text tokens n m x y (TwoInits a) other e f h k = absurd h
+same_cause text tokens n m x y NoMemory other e f h k = absurd h
+same_cause text tokens n m x y (TooDeep a) NoInit e f h k = absurd k
+same_cause text tokens n m x y (TooDeep a) (TwoInits b) e f h k = absurd k
+same_cause text tokens n m x y (TooDeep a) NoMemory e f h k = absurd k
+same_cause text tokens n m x y (Syntax a) NoInit e f h k = absurd k
+same_cause text tokens n m x y (Syntax a) (TwoInits b) e f h k = absurd k
+same_cause text tokens n m x y (Syntax a) NoMemory e f h k = absurd k
 
-refused_single : (tokens : List Token) (one other : ParseFault) → IsFirstRefused tokens one → IsFirstRefused tokens other → one ≡ other
-refused_single tokens one other h k =
+refused_single : (text : List ℕ) (tokens : List Token) (one other : ParseFault) → IsFirstRefused text tokens one → IsFirstRefused text tokens other → one ≡ other
+refused_single text tokens one other h k =
     let same : SamePlace h.front k.front h.refused k.refused =
-    first_single (IsSound tokens) h.front k.front h.refused k.refused h.behind k.behind (sym h.stands ∙ k.stands) h.sound k.sound
-    (refused_unsound tokens (length h.front + 1) h.refused one h.cause) (refused_unsound tokens (length k.front + 1) k.refused other k.cause) in
-    same_cause tokens (length h.front + 1) (length k.front + 1) h.refused k.refused one other (ap (λ (n : ℕ). n + 1) same.front) same.here h.cause k.cause
+    first_single (IsSound text tokens) h.front k.front h.refused k.refused h.behind k.behind (sym h.stands ∙ k.stands) h.sound k.sound
+    (refused_unsound text tokens (length h.front + 1) h.refused one h.cause) (refused_unsound text tokens (length k.front + 1) k.refused other k.cause) in
+    same_cause text tokens (length h.front + 1) (length k.front + 1) h.refused k.refused one other (ap (λ (n : ℕ). n + 1) same.front) same.here h.cause k.cause
 
 second_is_two : (ds : List Declaration) (n : ℕ) → IsSecondInit ds n → 2 ≤ count_by is_init ds
 second_is_two ds n h =
@@ -115,32 +115,32 @@ second_number ds n m h k =
     second_single h.front k.front h.second k.second h.behind k.behind (sym h.stands ∙ k.stands) (h.one_before ∙ sym k.one_before) h.init k.init in
     h.number_is ∙ ap (λ (x : ℕ). x + 1) same ∙ sym k.number_is
 
-pub fault_single : (tokens : List Token) (one other : ParseFault) → HasFault tokens one → HasFault tokens other → one ≡ other
-fault_single tokens (TooDeep a) (TooDeep b) h k = refused_single tokens (TooDeep a) (TooDeep b) h k
-fault_single tokens (TooDeep a) (Syntax b) h k = refused_single tokens (TooDeep a) (Syntax b) h k
-fault_single tokens (Syntax a) (TooDeep b) h k = refused_single tokens (Syntax a) (TooDeep b) h k
-fault_single tokens (Syntax a) (Syntax b) h k = refused_single tokens (Syntax a) (Syntax b) h k
-fault_single tokens (TooDeep a) NoInit h k = absurd (refused_is_none_sound tokens (TooDeep a) h k.0)
-fault_single tokens (TooDeep a) (TwoInits b) h k = absurd (refused_is_none_sound tokens (TooDeep a) h k.0)
-fault_single tokens (Syntax a) NoInit h k = absurd (refused_is_none_sound tokens (Syntax a) h k.0)
-fault_single tokens (Syntax a) (TwoInits b) h k = absurd (refused_is_none_sound tokens (Syntax a) h k.0)
-fault_single tokens NoInit (TooDeep b) h k = absurd (refused_is_none_sound tokens (TooDeep b) k h.0)
-fault_single tokens NoInit (Syntax b) h k = absurd (refused_is_none_sound tokens (Syntax b) k h.0)
-fault_single tokens (TwoInits a) (TooDeep b) h k = absurd (refused_is_none_sound tokens (TooDeep b) k h.0)
-fault_single tokens (TwoInits a) (Syntax b) h k = absurd (refused_is_none_sound tokens (Syntax b) k h.0)
-fault_single tokens NoInit NoInit h k = refl
-fault_single tokens NoInit (TwoInits b) h k = absurd (omega (arith, second_is_two (declarations_of tokens) b k.1, h.1))
-fault_single tokens (TwoInits a) NoInit h k = absurd (omega (arith, second_is_two (declarations_of tokens) a h.1, k.1))
-fault_single tokens (TwoInits a) (TwoInits b) h k = ap TwoInits (second_number (declarations_of tokens) a b h.1 k.1)
-fault_single tokens NoMemory other h k = absurd h
-fault_single tokens (TooDeep a) NoMemory h k = absurd k
-fault_single tokens (Syntax a) NoMemory h k = absurd k
-fault_single tokens NoInit NoMemory h k = absurd k
-fault_single tokens (TwoInits a) NoMemory h k = absurd k
+pub fault_single : (text : List ℕ) (tokens : List Token) (one other : ParseFault) → HasFault text tokens one → HasFault text tokens other → one ≡ other
+fault_single text tokens (TooDeep a) (TooDeep b) h k = refused_single text tokens (TooDeep a) (TooDeep b) h k
+fault_single text tokens (TooDeep a) (Syntax b) h k = refused_single text tokens (TooDeep a) (Syntax b) h k
+fault_single text tokens (Syntax a) (TooDeep b) h k = refused_single text tokens (Syntax a) (TooDeep b) h k
+fault_single text tokens (Syntax a) (Syntax b) h k = refused_single text tokens (Syntax a) (Syntax b) h k
+fault_single text tokens (TooDeep a) NoInit h k = absurd (refused_is_none_sound text tokens (TooDeep a) h k.0)
+fault_single text tokens (TooDeep a) (TwoInits b) h k = absurd (refused_is_none_sound text tokens (TooDeep a) h k.0)
+fault_single text tokens (Syntax a) NoInit h k = absurd (refused_is_none_sound text tokens (Syntax a) h k.0)
+fault_single text tokens (Syntax a) (TwoInits b) h k = absurd (refused_is_none_sound text tokens (Syntax a) h k.0)
+fault_single text tokens NoInit (TooDeep b) h k = absurd (refused_is_none_sound text tokens (TooDeep b) k h.0)
+fault_single text tokens NoInit (Syntax b) h k = absurd (refused_is_none_sound text tokens (Syntax b) k h.0)
+fault_single text tokens (TwoInits a) (TooDeep b) h k = absurd (refused_is_none_sound text tokens (TooDeep b) k h.0)
+fault_single text tokens (TwoInits a) (Syntax b) h k = absurd (refused_is_none_sound text tokens (Syntax b) k h.0)
+fault_single text tokens NoInit NoInit h k = refl
+fault_single text tokens NoInit (TwoInits b) h k = absurd (omega (arith, second_is_two (declarations_of tokens) b k.1, h.1))
+fault_single text tokens (TwoInits a) NoInit h k = absurd (omega (arith, second_is_two (declarations_of tokens) a h.1, k.1))
+fault_single text tokens (TwoInits a) (TwoInits b) h k = ap TwoInits (second_number (declarations_of tokens) a b h.1 k.1)
+fault_single text tokens NoMemory other h k = absurd h
+fault_single text tokens (TooDeep a) NoMemory h k = absurd k
+fault_single text tokens (Syntax a) NoMemory h k = absurd k
+fault_single text tokens NoInit NoMemory h k = absurd k
+fault_single text tokens (TwoInits a) NoMemory h k = absurd k
 
-pub no_fault : (tokens : List Token) (fault : ParseFault) → All (IsSound tokens) (declarations_of tokens) → count_by is_init (declarations_of tokens) ≡ 1 → HasFault tokens fault → ⊥
-no_fault tokens (TooDeep a) sound one h = refused_is_none_sound tokens (TooDeep a) h sound
-no_fault tokens (Syntax a) sound one h = refused_is_none_sound tokens (Syntax a) h sound
-no_fault tokens NoInit sound one h = omega (arith, one, h.1)
-no_fault tokens (TwoInits a) sound one h = omega (arith, one, second_is_two (declarations_of tokens) a h.1)
-no_fault tokens NoMemory sound one h = h
+pub no_fault : (text : List ℕ) (tokens : List Token) (fault : ParseFault) → All (IsSound text tokens) (declarations_of tokens) → count_by is_init (declarations_of tokens) ≡ 1 → HasFault text tokens fault → ⊥
+no_fault text tokens (TooDeep a) sound one h = refused_is_none_sound text tokens (TooDeep a) h sound
+no_fault text tokens (Syntax a) sound one h = refused_is_none_sound text tokens (Syntax a) h sound
+no_fault text tokens NoInit sound one h = omega (arith, one, h.1)
+no_fault text tokens (TwoInits a) sound one h = omega (arith, one, second_is_two (declarations_of tokens) a h.1)
+no_fault text tokens NoMemory sound one h = h

@@ -2,13 +2,14 @@
 -- declarations, and then these get their places.
 use Rattle.std.specs.Prelude.{◌≤◌, ℕ, ◌+◌, Bool, true, false, if◌then◌else◌, nat_lt, Option, Some, None, List, [], ◌∷◌, ◌++◌, length}
 use Rattle.mcrl2_lexer.specs.declared.token.Token.{Token}
-use Rattle.mcrl2_parser.specs.declared.sections.Section.{Section}
+use Rattle.mcrl2_syntax.specs.declared.declaration.SectionWord.{SectionWord}
 use Rattle.mcrl2_parser.specs.declared.declaring.Declaration.{Declaration}
-use Rattle.mcrl2_parser.specs.Sections.{section_of, is_semicolon}
+use Rattle.mcrl2_syntax.specs.SpelledDeclarations.{section_word}
+use Rattle.mcrl2_parser.specs.Sections.{is_semicolon}
 
 -- a section: which one it is, and the tokens behind its word
 pub record SectionTokens : Type 0 where
-  pub section : Section
+  pub section : SectionWord
   pub tokens : List Token
 
 -- the tokens in front of the first word of a section, and the sections
@@ -17,13 +18,13 @@ pub record Parts : Type 0 where
   pub sections : List SectionTokens
 
 -- A word of a section begins one. Any other token stands where those behind it do.
-abbrev pub with_token : Option Section → Token → Parts → Parts
+abbrev pub with_token : Option SectionWord → Token → Parts → Parts
 with_token None token parts = record { front = token ∷ parts.front; sections = parts.sections }
 with_token (Some s) token parts = record { front = []; sections = record { section = s; tokens = parts.front } ∷ parts.sections }
 
 abbrev pub parts_of : List Token → Parts
 parts_of [] = record { front = []; sections = [] }
-parts_of (token ∷ tokens) = with_token (section_of token.kind) token (parts_of tokens)
+parts_of (token ∷ tokens) = with_token (section_word token.kind) token (parts_of tokens)
 
 -- the tokens of a section: those in front of each `;`, and those behind the last one
 pub record Pieces : Type 0 where
@@ -45,17 +46,17 @@ pieces_of [] = record { ended = []; left = [] }
 pieces_of (token ∷ tokens) = with_piece_token (is_semicolon token.kind) token (pieces_of tokens)
 
 -- the declaration of tokens that no `;` ends, if there are any
-abbrev pub left_over : Option Section → ℕ → ℕ → List Declaration
+abbrev pub left_over : Option SectionWord → ℕ → ℕ → List Declaration
 left_over section start end = if nat_lt start end then record { section = section; start = start; end = end; is_ended = false } ∷ [] else []
 
 -- The declarations of a section whose tokens begin at a place: one for each `;`, and maybe one behind the last.
-abbrev pub of_pieces : Section → ℕ → List (List Token) → List Token → List Declaration
+abbrev pub of_pieces : SectionWord → ℕ → List (List Token) → List Token → List Declaration
 of_pieces s at [] left = left_over (Some s) at (at + length left)
 of_pieces s at (piece ∷ pieces) left =
     record { section = Some s; start = at; end = at + length piece; is_ended = true } ∷ of_pieces s (at + length piece + 1) pieces left
 
 -- the declarations of a section, or of the tokens in front of the first one
-abbrev pub of_part : Option Section → ℕ → List Token → List Declaration
+abbrev pub of_part : Option SectionWord → ℕ → List Token → List Declaration
 of_part None at tokens = left_over None at (at + length tokens)
 of_part (Some s) at tokens = of_pieces s at (pieces_of tokens).ended (pieces_of tokens).left
 

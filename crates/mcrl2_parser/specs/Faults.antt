@@ -1,28 +1,37 @@
 -- What is accepted of a list of declarations, and why a list of tokens is refused.
-use Rattle.std.specs.Prelude.{◌≡◌, ◌≤◌, ◌<◌, ℕ, ◌+◌, Bool, true, false, Option, Some, is_some, List, ◌∷◌, ◌++◌, length, slice_range, All, count_by}
+use Rattle.std.specs.Prelude.{◌≡◌, ◌≤◌, ◌<◌, ℕ, ◌+◌, Bool, true, false, Option, Some, List, ◌∷◌, ◌++◌, length, slice_range, All, count_by}
 use Rattle.mcrl2_lexer.specs.declared.token.Token.{Token}
-use Rattle.mcrl2_parser.specs.declared.sections.Section.{Section}
-use Rattle.mcrl2_parser.specs.declared.sections.Section.TheVariants.{Init}
+use Rattle.mcrl2_syntax.specs.declared.declaration.SectionWord.{SectionWord}
+use Rattle.mcrl2_syntax.specs.declared.declaration.SectionWord.TheVariants.{Init}
+use Rattle.mcrl2_syntax.specs.Declarations.{PlainDecl}
+use Rattle.mcrl2_syntax.specs.SpelledDeclarations.{SpellsDecl}
 use Rattle.mcrl2_parser.specs.declared.declaring.Declaration.{Declaration}
 use Rattle.mcrl2_parser.specs.declared.faults.ParseFault.{ParseFault}
 use Rattle.mcrl2_parser.specs.declared.faults.ParseFault.TheVariants.{Syntax, TooDeep, NoInit, TwoInits, NoMemory}
 use Rattle.mcrl2_parser.specs.Declarations.{declarations_of}
 use Rattle.mcrl2_parser.specs.Levels.{level_of}
 
-abbrev pub level_at : List Token → Declaration → ℕ
-level_at tokens declaration = level_of (slice_range tokens declaration.start declaration.end)
+-- the declaration's tokens, without its `;`
+abbrev pub tokens_of : List Token → Declaration → List Token
+tokens_of tokens declaration = slice_range tokens declaration.start declaration.end
 
--- it is in a section and ends at a `;`
-pub record IsWhole (declaration : Declaration) : Type 0 where
-  pub in_section : is_some declaration.section ≡ true
+abbrev pub level_at : List Token → Declaration → ℕ
+level_at tokens declaration = level_of (tokens_of tokens declaration)
+
+-- it is in a section and ends at a `;`, and its tokens spell a declaration of that section
+pub record IsWhole (text : List ℕ) (tokens : List Token) (declaration : Declaration) : Type 0 where
+  pub word : SectionWord
+  pub in_section : declaration.section ≡ Some word
   pub ended : declaration.is_ended ≡ true
+  pub spelled : PlainDecl
+  pub spells : SpellsDecl text word spelled (tokens_of tokens declaration)
 
 -- it is whole, and its level is 1,000 at most
-pub record IsSound (tokens : List Token) (declaration : Declaration) : Type 0 where
-  pub whole : IsWhole declaration
+pub record IsSound (text : List ℕ) (tokens : List Token) (declaration : Declaration) : Type 0 where
+  pub whole : IsWhole text tokens declaration
   pub level : level_at tokens declaration ≤ 1000
 
-abbrev pub is_init_section : Option Section → Bool
+abbrev pub is_init_section : Option SectionWord → Bool
 is_init_section (Some Init) = true
 is_init_section _ = false
 
@@ -31,21 +40,21 @@ abbrev pub is_init : Declaration → Bool
 is_init declaration = is_init_section declaration.section
 
 -- Why one declaration of that number is refused. Want of memory is no fault of it.
-abbrev pub IsRefused : List Token → ℕ → Declaration → ParseFault → Type 0
-IsRefused tokens number declaration (TooDeep d) = (d ≡ number) × (1000 < level_at tokens declaration)
-IsRefused tokens number declaration (Syntax d) = (d ≡ number) × (level_at tokens declaration ≤ 1000) × (IsWhole declaration → ⊥)
-IsRefused tokens number declaration NoInit = ⊥
-IsRefused tokens number declaration (TwoInits d) = ⊥
-IsRefused tokens number declaration NoMemory = ⊥
+abbrev pub IsRefused : List ℕ → List Token → ℕ → Declaration → ParseFault → Type 0
+IsRefused text tokens number declaration (TooDeep d) = (d ≡ number) × (1000 < level_at tokens declaration)
+IsRefused text tokens number declaration (Syntax d) = (d ≡ number) × (level_at tokens declaration ≤ 1000) × (IsWhole text tokens declaration → ⊥)
+IsRefused text tokens number declaration NoInit = ⊥
+IsRefused text tokens number declaration (TwoInits d) = ⊥
+IsRefused text tokens number declaration NoMemory = ⊥
 
 -- the fault is that of the first declaration that isn't sound
-pub record IsFirstRefused (tokens : List Token) (fault : ParseFault) : Type 0 where
+pub record IsFirstRefused (text : List ℕ) (tokens : List Token) (fault : ParseFault) : Type 0 where
   pub front : List Declaration
   pub refused : Declaration
   pub behind : List Declaration
   pub stands : declarations_of tokens ≡ front ++ refused ∷ behind
-  pub sound : All (IsSound tokens) front
-  pub cause : IsRefused tokens (length front + 1) refused fault
+  pub sound : All (IsSound text tokens) front
+  pub cause : IsRefused text tokens (length front + 1) refused fault
 
 -- that declaration is the second one in an init section
 pub record IsSecondInit (declarations : List Declaration) (number : ℕ) : Type 0 where
@@ -66,9 +75,9 @@ HasInitFault declarations (TooDeep d) = ⊥
 HasInitFault declarations NoMemory = ⊥
 
 -- The tokens have that fault: one of the first declaration that isn't sound, or, where all are, one of the init sections.
-abbrev pub HasFault : List Token → ParseFault → Type 0
-HasFault tokens (TooDeep d) = IsFirstRefused tokens (TooDeep d)
-HasFault tokens (Syntax d) = IsFirstRefused tokens (Syntax d)
-HasFault tokens NoInit = All (IsSound tokens) (declarations_of tokens) × HasInitFault (declarations_of tokens) NoInit
-HasFault tokens (TwoInits d) = All (IsSound tokens) (declarations_of tokens) × HasInitFault (declarations_of tokens) (TwoInits d)
-HasFault tokens NoMemory = ⊥
+abbrev pub HasFault : List ℕ → List Token → ParseFault → Type 0
+HasFault text tokens (TooDeep d) = IsFirstRefused text tokens (TooDeep d)
+HasFault text tokens (Syntax d) = IsFirstRefused text tokens (Syntax d)
+HasFault text tokens NoInit = All (IsSound text tokens) (declarations_of tokens) × HasInitFault (declarations_of tokens) NoInit
+HasFault text tokens (TwoInits d) = All (IsSound text tokens) (declarations_of tokens) × HasInitFault (declarations_of tokens) (TwoInits d)
+HasFault text tokens NoMemory = ⊥

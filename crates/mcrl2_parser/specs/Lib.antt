@@ -2,3 +2,9 @@ pub mod Sections
 pub mod Declarations
 pub mod Levels
 pub mod Faults
+pub mod Operators
+pub mod ProcessReading
+pub mod DeclarationParts
+pub mod Lists
+pub mod Operands
+pub mod LabelLines

@@ -3,35 +3,51 @@ ghost use Rattle.std.specs.Prelude.{◌≡◌, ◌≢◌, ◌<◌, ◌+◌, ◌^
 ghost use Rattle.mcrl2_parser.specs.Declarations.{declarations_of, IsWithin};
 ghost use Rattle.mcrl2_parser.specs.Faults.{HasFault, IsRefused, HasInitFault, IsSound, is_init};
 
+use crate::declaration_readers::read_declaration;
 use crate::declaring::{Declaration, declarations};
 use crate::faults::ParseFault;
 use crate::levels::{MAX_LEVEL, level};
-use crate::sections::Section;
+use crate::stack::has_room;
+use crate::words::Fault;
 use mcrl2_lexer::{Token, Tokens};
+use mcrl2_syntax::SectionWord;
 use std::alloc::Global;
 
-/// Refuses a declaration of tokens, which has that number, if it nests too deep or spells none.
+/// Refuses a declaration of a text's tokens, which has that number, if it nests too deep or spells none.
 ///
 /// # Errors
 ///
-/// `TooDeep` where its level passes [`MAX_LEVEL`], else `Syntax` where it is in no section or no `;` ends it.
+/// `TooDeep` where its level passes [`MAX_LEVEL`], else `Syntax` where it is in no section, no `;` ends it, or its tokens spell
+/// no declaration of its section. `NoMemory` where no memory is left, or the stack has no room.
 fn check(
     alloc: Global,
+    text: &[u8],
     tokens: &[Token],
     number: usize,
     declaration: Declaration,
 ) -> Result<(), ParseFault>
     requires { IsWithin (length tokens.now) declaration }
-    ensures sound { OnOk result (IsSound tokens.now declaration) }
-    ensures refused { IfErr result (λ fault. fault ≢ ParseFault.NoMemory → IsRefused tokens.now number declaration fault) }
+    ensures sound { OnOk result (IsSound text.now tokens.now declaration) }
+    ensures refused { IfErr result (λ fault. fault ≢ ParseFault.NoMemory → IsRefused text.now tokens.now number declaration fault) }
 {
-    if level(alloc, &tokens[declaration.start..declaration.end])? > MAX_LEVEL {
+    let own = &tokens[declaration.start..declaration.end];
+    if level(alloc, own)? > MAX_LEVEL {
         return Err(ParseFault::TooDeep(number));
     }
-    if declaration.section.is_none() || !declaration.is_ended {
+    let Some(section) = declaration.section else {
+        return Err(ParseFault::Syntax(number));
+    };
+    if !declaration.is_ended {
         return Err(ParseFault::Syntax(number));
     }
-    Ok(())
+    if !has_room(alloc, own)? {
+        return Err(ParseFault::NoMemory);
+    }
+    match read_declaration(alloc, text, section, own) {
+        Ok(_) => Ok(()),
+        Err(Fault::Syntax) => Err(ParseFault::Syntax(number)),
+        Err(Fault::NoMemory) => Err(ParseFault::NoMemory),
+    }
 }
 
 /// Whether a declaration is in an `init` section.
@@ -39,7 +55,7 @@ fn is_init(declaration: Declaration) -> bool
     ensures { result ≡ is_init declaration }
 {
     match declaration.section {
-        Some(Section::Init) => true,
+        Some(SectionWord::Init) => true,
         _ => false,
     }
 }
@@ -71,9 +87,8 @@ fn check_inits(list: &[Declaration]) -> Result<(), ParseFault>
 
 /// The declarations of a text, in its order, of which each one may be read by itself.
 ///
-/// The declarations are taken in the order of the text, and the first one that nests too deep or spells none is refused. What
-/// is known here to spell none is a declaration in no section and one that no `;` ends. Others are refused where their
-/// tokens are read, and that belongs to the same pass: a declaration is refused for its tokens before a later one is looked at.
+/// The declarations are taken in the order of the text, and the first one that nests too deep or spells none is refused: its
+/// level is looked at first. A declaration in no section spells none, and neither does one that no `;` ends.
 ///
 /// # Errors
 ///
@@ -83,14 +98,15 @@ fn check_inits(list: &[Declaration]) -> Result<(), ParseFault>
 pub fn cut(alloc: Global, tokens: &Tokens) -> Result<Vec<Declaration>, ParseFault>
     ensures declarations { IfOk result (λ list. list.items ≡ declarations_of tokens.now.list) }
     ensures within { IfOk result (λ list. All (IsWithin (length tokens.now.list)) list.items) }
-    ensures sound { IfOk result (λ list. All (IsSound tokens.now.list) list.items) }
+    ensures sound { IfOk result (λ list. All (IsSound tokens.now.text tokens.now.list) list.items) }
     ensures one_init { IfOk result (λ list. count_by is_init list.items ≡ 1) }
-    ensures fault { IfErr result (λ fault. fault ≢ ParseFault.NoMemory → HasFault tokens.now.list fault) }
+    ensures fault { IfErr result (λ fault. fault ≢ ParseFault.NoMemory → HasFault tokens.now.text tokens.now.list fault) }
 {
+    let text = tokens.text();
     let all = tokens.list();
     let list = declarations(alloc, all)?;
     for (index, declaration) in list.iter().enumerate() {
-        check(alloc, all, index + 1, *declaration)?;
+        check(alloc, text, all, index + 1, *declaration)?;
     }
     check_inits(&list)?;
     Ok(list)

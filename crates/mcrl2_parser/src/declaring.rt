@@ -2,8 +2,9 @@
 ghost use Rattle.std.specs.Prelude.{◌≡◌, ◌≤◌, ◌++◌, ◌∷◌, [], All, IfOk, OnOk, length};
 ghost use Rattle.mcrl2_parser.specs.Declarations.{declarations_of, left_over, IsWithin};
 
-use crate::sections::{Section, is_semicolon, section_of};
+use crate::sections::is_semicolon;
 use mcrl2_lexer::Token;
+use mcrl2_syntax::{SectionWord, section_of_kind};
 use std::alloc::{AllocError, Global};
 
 /// A declaration of a list of tokens: the tokens from one place up to another.
@@ -16,7 +17,7 @@ pub struct Declaration {
     /// The place behind its last token. Its `;` is none of its tokens.
     pub end: usize,
     /// The section that it is in. There is none for tokens in front of the first word of a section.
-    pub section: Option<Section>,
+    pub section: Option<SectionWord>,
     /// Whether a `;` ends it. Where none does, the tokens spell no declaration.
     pub is_ended: bool,
 }
@@ -24,7 +25,7 @@ pub struct Declaration {
 /// Takes the tokens from one place up to another as a declaration that no `;` ends, if there are any.
 fn push_left_over(
     list: &mut Vec<Declaration>,
-    section: Option<Section>,
+    section: Option<SectionWord>,
     start: usize,
     end: usize,
 ) -> Result<(), AllocError>
@@ -58,7 +59,7 @@ pub fn declarations(alloc: Global, tokens: &[Token]) -> Result<Vec<Declaration>,
     let mut section = None;
     let mut start = 0;
     for (at, token) in tokens.iter().enumerate() {
-        if let Some(next) = section_of(token.kind) {
+        if let Some(next) = section_of_kind(token.kind) {
             push_left_over(&mut list, section, start, at)?;
             section = Some(next);
             start = at + 1;

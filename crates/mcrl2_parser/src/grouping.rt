@@ -1,6 +1,6 @@
 //! The operands of a level in one tree.
 
-ghost use Rattle.std.specs.Prelude.{◌≡◌, ◌∷◌, IfOk, MatchOption, map};
+ghost use Rattle.std.specs.Prelude.{◌≡◌, ◌∷◌, IfErr, IfOk, MatchOption, map};
 ghost use Rattle.mcrl2_syntax.specs.DataTrees.{PlainData, plain_data, plain_operands, data_span, operands_of, datas_of};
 ghost use Rattle.mcrl2_syntax.specs.InfixSigns.{joined_by, to_left, to_right, to_sum, to_product, to_and, to_or, last_span, chain_span, grouped};
 
@@ -15,7 +15,8 @@ fn joined_by(
     left: DataTree,
     right: DataTree,
 ) -> Result<DataTree, Fault>
-    ensures { IfOk result (λ tree. plain_data tree ≡ joined_by sign (plain_data left) (plain_data right)) }
+    ensures tree { IfOk result (λ tree. plain_data tree ≡ joined_by sign (plain_data left) (plain_data right)) }
+    ensures no_memory { IfErr result (λ e. e ≡ Fault.NoMemory) }
 {
     let span = joined_spans(left.span(), right.span());
     let tree = DataTree::infix_at(alloc, span, sign, left, right)?;
@@ -28,7 +29,8 @@ fn grouped_left(
     first: DataTree,
     operands: Vec<(InfixSign, DataTree)>,
 ) -> Result<DataTree, Fault>
-    ensures { IfOk result (λ tree. plain_data tree ≡ to_left (plain_data first) (plain_operands operands.items)) }
+    ensures tree { IfOk result (λ tree. plain_data tree ≡ to_left (plain_data first) (plain_operands operands.items)) }
+    ensures no_memory { IfErr result (λ e. e ≡ Fault.NoMemory) }
 {
     let mut tree = first;
     for (sign, operand) in operands {
@@ -43,7 +45,8 @@ fn grouped_right(
     first: DataTree,
     operands: Vec<(InfixSign, DataTree)>,
 ) -> Result<DataTree, Fault>
-    ensures { IfOk result (λ tree. plain_data tree ≡ to_right (plain_data first) (plain_operands operands.items)) }
+    ensures tree { IfOk result (λ tree. plain_data tree ≡ to_right (plain_data first) (plain_operands operands.items)) }
+    ensures no_memory { IfErr result (λ e. e ≡ Fault.NoMemory) }
 {
     match joined_right(alloc, operands)? {
         None => Ok(first),
@@ -56,8 +59,9 @@ fn joined_right(
     alloc: Global,
     operands: Vec<(InfixSign, DataTree)>,
 ) -> Result<Option<(InfixSign, DataTree)>, Fault>
-    ensures { IfOk result (λ o. MatchOption o ((d : PlainData) → to_right d (plain_operands operands.items) ≡ d)
+    ensures joined { IfOk result (λ o. MatchOption o ((d : PlainData) → to_right d (plain_operands operands.items) ≡ d)
         (λ x. (d : PlainData) → to_right d (plain_operands operands.items) ≡ joined_by x.0 d (plain_data x.1))) }
+    ensures no_memory { IfErr result (λ e. e ≡ Fault.NoMemory) }
 {
     let mut operands = operands;
     let Some((sign, last)) = operands.pop() else {
@@ -96,7 +100,8 @@ fn operand_trees(
     first: DataTree,
     operands: Vec<(InfixSign, DataTree)>,
 ) -> Result<Vec<DataTree>, Fault>
-    ensures { IfOk result (λ trees. map plain_data trees.items ≡ plain_data first ∷ map (λ x. x.1) (plain_operands operands.items)) }
+    ensures trees { IfOk result (λ trees. map plain_data trees.items ≡ plain_data first ∷ map (λ x. x.1) (plain_operands operands.items)) }
+    ensures no_memory { IfErr result (λ e. e ≡ Fault.NoMemory) }
 {
     let mut trees = Vec::new(alloc);
     trees.push(first)?;
@@ -112,7 +117,8 @@ fn sum_of(
     first: DataTree,
     operands: Vec<(InfixSign, DataTree)>,
 ) -> Result<DataTree, Fault>
-    ensures { IfOk result (λ tree. plain_data tree ≡ to_sum (plain_data first) (plain_operands operands.items)) }
+    ensures tree { IfOk result (λ tree. plain_data tree ≡ to_sum (plain_data first) (plain_operands operands.items)) }
+    ensures no_memory { IfErr result (λ e. e ≡ Fault.NoMemory) }
 {
     if operands.is_empty() {
         return Ok(first);
@@ -128,7 +134,8 @@ fn product_of(
     first: DataTree,
     operands: Vec<(InfixSign, DataTree)>,
 ) -> Result<DataTree, Fault>
-    ensures { IfOk result (λ tree. plain_data tree ≡ to_product (plain_data first) (plain_operands operands.items)) }
+    ensures tree { IfOk result (λ tree. plain_data tree ≡ to_product (plain_data first) (plain_operands operands.items)) }
+    ensures no_memory { IfErr result (λ e. e ≡ Fault.NoMemory) }
 {
     if operands.is_empty() {
         return Ok(first);
@@ -144,7 +151,8 @@ fn and_of(
     first: DataTree,
     operands: Vec<(InfixSign, DataTree)>,
 ) -> Result<DataTree, Fault>
-    ensures { IfOk result (λ tree. plain_data tree ≡ to_and (plain_data first) (plain_operands operands.items)) }
+    ensures tree { IfOk result (λ tree. plain_data tree ≡ to_and (plain_data first) (plain_operands operands.items)) }
+    ensures no_memory { IfErr result (λ e. e ≡ Fault.NoMemory) }
 {
     if operands.is_empty() {
         return Ok(first);
@@ -160,7 +168,8 @@ fn or_of(
     first: DataTree,
     operands: Vec<(InfixSign, DataTree)>,
 ) -> Result<DataTree, Fault>
-    ensures { IfOk result (λ tree. plain_data tree ≡ to_or (plain_data first) (plain_operands operands.items)) }
+    ensures tree { IfOk result (λ tree. plain_data tree ≡ to_or (plain_data first) (plain_operands operands.items)) }
+    ensures no_memory { IfErr result (λ e. e ≡ Fault.NoMemory) }
 {
     if operands.is_empty() {
         return Ok(first);
@@ -177,7 +186,8 @@ pub fn grouped(
     first: DataTree,
     operands: Vec<(InfixSign, DataTree)>,
 ) -> Result<DataTree, Fault>
-    ensures { IfOk result (λ tree. plain_data tree ≡ grouped level (plain_data first) (plain_operands operands.items)) }
+    ensures tree { IfOk result (λ tree. plain_data tree ≡ grouped level (plain_data first) (plain_operands operands.items)) }
+    ensures no_memory { IfErr result (λ e. e ≡ Fault.NoMemory) }
 {
     match level {
         1 => product_of(alloc, first, operands),

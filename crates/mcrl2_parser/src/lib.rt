@@ -2,27 +2,57 @@
 //!
 //! [`declarations`] cuts a list of tokens into its declarations, and [`level`] says how deep the tokens of one nest. [`cut`]
 //! gives the declarations of a text, or says which of them is refused, or that the text hasn't exactly one that starts it.
+//! [`parse_label`] reads the label that a line is.
 //! Sections and declarations are those of the mCRL2 language reference; the levels and their bound are this program's own.
 #![tactic(auto)]
 
+mod chains;
+mod constructor_readers;
 mod cutting;
+mod datas;
+mod declaration_readers;
 mod declaring;
 mod faults;
 mod grouping;
+mod guards;
+mod joining;
+mod label_line;
 mod laws;
 mod levels;
+mod lists;
+mod operator_parts;
+mod operators;
+mod part_spans;
+mod parts;
+mod processes;
 mod reading;
 mod sections;
+mod signature_readers;
+mod stack;
 mod words;
 
 pub use cutting::cut;
 pub use declaring::{Declaration, declarations};
 pub use faults::ParseFault;
-pub use laws::{parse_faults_are_single, sound_tokens_have_no_fault};
+pub use label_line::{LabelFault, parse_label};
+pub use laws::{
+    parse_faults_are_single, sound_tokens_have_no_fault, whole_declarations_spell_a_specification,
+};
 pub use levels::{MAX_LEVEL, level};
-pub use sections::Section;
 
 #[cfg(test)]
+mod data_tests;
+#[cfg(test)]
+mod declaration_tests;
+#[cfg(test)]
+mod grammar_tests;
+#[cfg(test)]
+mod part_tests;
+#[cfg(test)]
+mod process_tests;
+#[cfg(test)]
 mod reader_tests;
+#[cfg(test)]
+mod shapes;
 #[cfg(test)]
 mod tests;

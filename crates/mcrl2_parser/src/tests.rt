@@ -1,11 +1,12 @@
 //! Texts with their declarations, levels and faults.
 use super::*;
 use mcrl2_lexer::lex;
+use mcrl2_syntax::SectionWord;
 use std::alloc::{AllocError, Global};
 use std::test::Fail;
 
 /// A declaration by its section, the places of its tokens, and whether a `;` ends it.
-type Cut = (Option<Section>, usize, usize, bool);
+type Cut = (Option<SectionWord>, usize, usize, bool);
 
 /// Texts and their declarations, put down by hand from the rules of the language.
 const DECLARATIONS: [(&[u8], &[Cut]); 25] = [
@@ -15,96 +16,102 @@ const DECLARATIONS: [(&[u8], &[Cut]); 25] = [
     (b"a", &[(None, 0, 1, false)]),
     (b"a; b;", &[(None, 0, 4, false)]),
     (b";", &[(None, 0, 1, false)]),
-    (b"sort A;", &[(Some(Section::Sort), 1, 2, true)]),
-    (b"sort A", &[(Some(Section::Sort), 1, 2, false)]),
-    (b"sort ;", &[(Some(Section::Sort), 1, 1, true)]),
+    (b"sort A;", &[(Some(SectionWord::Sort), 1, 2, true)]),
+    (b"sort A", &[(Some(SectionWord::Sort), 1, 2, false)]),
+    (b"sort ;", &[(Some(SectionWord::Sort), 1, 1, true)]),
     (
         b"sort ; ;",
         &[
-            (Some(Section::Sort), 1, 1, true),
-            (Some(Section::Sort), 2, 2, true),
+            (Some(SectionWord::Sort), 1, 1, true),
+            (Some(SectionWord::Sort), 2, 2, true),
         ],
     ),
     (
         b"sort A; B;",
         &[
-            (Some(Section::Sort), 1, 2, true),
-            (Some(Section::Sort), 3, 4, true),
+            (Some(SectionWord::Sort), 1, 2, true),
+            (Some(SectionWord::Sort), 3, 4, true),
         ],
     ),
     (
         b"sort A; B",
         &[
-            (Some(Section::Sort), 1, 2, true),
-            (Some(Section::Sort), 3, 4, false),
+            (Some(SectionWord::Sort), 1, 2, true),
+            (Some(SectionWord::Sort), 3, 4, false),
         ],
     ),
     (
         b"sort A; B cons c: A;",
         &[
-            (Some(Section::Sort), 1, 2, true),
-            (Some(Section::Sort), 3, 4, false),
-            (Some(Section::Cons), 5, 8, true),
+            (Some(SectionWord::Sort), 1, 2, true),
+            (Some(SectionWord::Sort), 3, 4, false),
+            (Some(SectionWord::Cons), 5, 8, true),
         ],
     ),
-    (b"sort A cons", &[(Some(Section::Sort), 1, 2, false)]),
+    (b"sort A cons", &[(Some(SectionWord::Sort), 1, 2, false)]),
     (
         b"a sort A;",
-        &[(None, 0, 1, false), (Some(Section::Sort), 2, 3, true)],
+        &[(None, 0, 1, false), (Some(SectionWord::Sort), 2, 3, true)],
     ),
     (
         b"; init delta;",
-        &[(None, 0, 1, false), (Some(Section::Init), 2, 3, true)],
+        &[(None, 0, 1, false), (Some(SectionWord::Init), 2, 3, true)],
     ),
-    (b"init init delta;", &[(Some(Section::Init), 2, 3, true)]),
+    (
+        b"init init delta;",
+        &[(Some(SectionWord::Init), 2, 3, true)],
+    ),
     (
         b"init delta; init delta;",
         &[
-            (Some(Section::Init), 1, 2, true),
-            (Some(Section::Init), 4, 5, true),
+            (Some(SectionWord::Init), 1, 2, true),
+            (Some(SectionWord::Init), 4, 5, true),
         ],
     ),
     (
         b"init delta; tau;",
         &[
-            (Some(Section::Init), 1, 2, true),
-            (Some(Section::Init), 3, 4, true),
+            (Some(SectionWord::Init), 1, 2, true),
+            (Some(SectionWord::Init), 3, 4, true),
         ],
     ),
     (
         b"var x: Nat; eqn f(x) = x;",
         &[
-            (Some(Section::Var), 1, 4, true),
-            (Some(Section::Eqn), 6, 12, true),
+            (Some(SectionWord::Var), 1, 4, true),
+            (Some(SectionWord::Eqn), 6, 12, true),
         ],
     ),
     (
         b"var x: Nat; y: Nat; eqn eqn",
         &[
-            (Some(Section::Var), 1, 4, true),
-            (Some(Section::Var), 5, 8, true),
+            (Some(SectionWord::Var), 1, 4, true),
+            (Some(SectionWord::Var), 5, 8, true),
         ],
     ),
     (
         b"act a; proc P = a; init P;",
         &[
-            (Some(Section::Act), 1, 2, true),
-            (Some(Section::Proc), 4, 7, true),
-            (Some(Section::Init), 9, 10, true),
+            (Some(SectionWord::Act), 1, 2, true),
+            (Some(SectionWord::Proc), 4, 7, true),
+            (Some(SectionWord::Init), 9, 10, true),
         ],
     ),
     (
         b"map f: Nat -> Nat; g: Nat",
         &[
-            (Some(Section::Map), 1, 6, true),
-            (Some(Section::Map), 7, 10, false),
+            (Some(SectionWord::Map), 1, 6, true),
+            (Some(SectionWord::Map), 7, 10, false),
         ],
     ),
     (
         b"(sort)",
-        &[(None, 0, 1, false), (Some(Section::Sort), 2, 3, false)],
+        &[(None, 0, 1, false), (Some(SectionWord::Sort), 2, 3, false)],
     ),
-    (b"init delta % a;\n;", &[(Some(Section::Init), 1, 2, true)]),
+    (
+        b"init delta % a;\n;",
+        &[(Some(SectionWord::Init), 1, 2, true)],
+    ),
 ];
 
 /// Texts and their levels, counted by hand from the rules.
@@ -258,7 +265,7 @@ fn a_text_is_refused_by_its_first_fault(rt: HostRuntime) -> Result<(), Fail> {
 #[test]
 fn a_deep_text_is_refused_past_the_greatest_level(rt: HostRuntime) -> Result<(), Fail> {
     let rows: [(&[u8], u16, &[u8], Option<ParseFault>); 8] = [
-        (b"init ", 1_000, b"delta;", None),
+        (b"act ", 1_000, b";", Some(ParseFault::Syntax(1))),
         (b"init ", 1_001, b"delta;", Some(ParseFault::TooDeep(1))),
         (b"init ", 1_001, b"delta", Some(ParseFault::TooDeep(1))),
         (b"", 1_001, b"; init delta;", Some(ParseFault::TooDeep(1))),
@@ -279,6 +286,60 @@ fn a_deep_text_is_refused_past_the_greatest_level(rt: HostRuntime) -> Result<(),
             fault,
             "{front:?} {depth} {behind:?}"
         );
+    }
+    Ok(())
+}
+
+/// A front, a piece as often as that, and what stands behind.
+fn repeated(
+    alloc: Global,
+    front: &[u8],
+    piece: &[u8],
+    count: usize,
+    behind: &[u8],
+) -> Result<Vec<u8>, AllocError> {
+    let mut text = front.to_vec(alloc)?;
+    for _ in 0..count {
+        text.extend_from_slice(piece)?;
+    }
+    text.extend_from_slice(behind)?;
+    Ok(text)
+}
+
+#[test]
+fn what_nests_deeper_than_its_level_ends_for_want_of_stack(rt: HostRuntime) -> Result<(), Fail> {
+    for (front, piece, behind) in [
+        (
+            b"init ".as_slice(),
+            b"sum x: S . a || ".as_slice(),
+            b"a;".as_slice(),
+        ),
+        (b"init ", b"sum x, y: S . ", b"a;"),
+        (b"init a(b", b" + b == b", b");"),
+        (b"init a(b", b" => b && b", b");"),
+    ] {
+        let text = repeated(rt.alloc(), front, piece, 20_000, behind)?;
+        let tokens = lex(rt.alloc(), &text)?;
+        assert!(rt; matches!(cut(rt.alloc(), &tokens), Err(ParseFault::NoMemory)));
+    }
+    Ok(())
+}
+
+#[test]
+fn what_is_only_long_has_room(rt: HostRuntime) -> Result<(), Fail> {
+    for (front, piece, behind) in [
+        (
+            b"init a".as_slice(),
+            b" + sum x, y: S . (c == d) -> a . b <> a".as_slice(),
+            b";".as_slice(),
+        ),
+        (b"init rename({a -> b", b", a -> b", b"}, a);"),
+        (b"init a(b", b", !b => b == b", b");"),
+        (b"init a(b", b" && (b || b == b)", b");"),
+    ] {
+        let text = repeated(rt.alloc(), front, piece, 3_000, behind)?;
+        let tokens = lex(rt.alloc(), &text)?;
+        assert!(rt; cut(rt.alloc(), &tokens).is_ok());
     }
     Ok(())
 }

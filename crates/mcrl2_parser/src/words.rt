@@ -1,9 +1,11 @@
 //! What each reader stands on: the next token, and the word that it is.
 
-ghost use Rattle.std.specs.Prelude.{◌≡◌, ◌∷◌, [], IfOk, IsErr, IsErrOf};
+ghost use Rattle.std.specs.Prelude.{◌≡◌, ◌∷◌, [], List, None, IfOk, IfSome, OnOk, IsErr, IsErrOf};
+ghost use Rattle.mcrl2_lexer.specs.declared.token.Token.{Token};
 ghost use Rattle.mcrl2_syntax.specs.Words.{word_of, Begins};
 ghost use Rattle.mcrl2_syntax.specs.SpelledWords.{token_word};
 ghost use Rattle.mcrl2_lexer.specs.Tokens.{slice_of};
+ghost use Rattle.mcrl2_parser.specs.DeclarationParts.{BeginsNamed};
 
 use mcrl2_lexer::{Kind, Token};
 use mcrl2_syntax::{Word, token_span};
@@ -66,6 +68,32 @@ pub fn expect(tokens: &[Token], kind: Kind) -> Result<(&Token, &[Token]), Fault>
             }
         }
     }
+}
+
+/// Passes where no token is left.
+pub fn end(tokens: &[Token]) -> Result<(), Fault>
+    ensures found { OnOk result (tokens.now ≡ []) }
+    ensures none { IsErr result → tokens.now ≡ [] → ⊥ }
+    ensures syntax { IsErrOf result Fault.NoMemory → ⊥ }
+{
+    match tokens {
+        [] => Ok(()),
+        [_, ..] => Err(Fault::Syntax),
+    }
+}
+
+/// The name that a sign of a kind stands behind, and the rest behind the sign.
+pub fn name_before(tokens: &[Token], sign: Kind) -> Option<(&Token, &[Token])>
+    ensures found { IfSome result (λ x. BeginsNamed sign x.0.now tokens.now x.1.now) }
+    ensures none { result ≡ None → (name : Token) (r : List Token) → BeginsNamed sign name tokens.now r → ⊥ }
+{
+    let Ok((name, rest)) = expect(tokens, Kind::Identifier) else {
+        return None;
+    };
+    let Ok((_, rest)) = expect(rest, sign) else {
+        return None;
+    };
+    Some((name, rest))
 }
 
 // The bytes of a token, as far as the text has them.

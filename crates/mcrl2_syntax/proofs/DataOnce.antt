@@ -13,7 +13,7 @@ use Rattle.mcrl2_syntax.specs.SpelledData.{SpellsUnit, unit_name, unit_numeral, 
 use Rattle.mcrl2_syntax.specs.Follow.{Stops, Closed}
 use Rattle.mcrl2_syntax.proofs.Lists.{heads, tails, moved}
 
-stops_less : (k : ℕ) (ts : List Token) → Stops (suc k) ts → Stops k ts
+pub stops_less : (k : ℕ) (ts : List Token) → Stops (suc k) ts → Stops k ts
 stops_less k [] s = tt
 stops_less k (t ∷ ts) s = (s.0, elim s.1 [ inl e ↦ inl e | inr h ↦ inr (omega arith) ])
 
@@ -21,17 +21,17 @@ stops_less k (t ∷ ts) s = (s.0, elim s.1 [ inl e ↦ inl e | inr h ↦ inr (om
 pub stops_at : (kind : Kind) → kind ≢ LeftParen → height kind ≡ 0 → (k : ℕ) (t : Token) (ts : List Token) → t.kind ≡ kind → Stops k (t ∷ ts)
 stops_at kind no_open flat k t ts e = (λ f. no_open (sym e ∙ f), inl (ap height e ∙ flat))
 
-sign_height : (kind : Kind) {sign : InfixSign} {n : ℕ} → infix_of kind ≡ Some sign → level_of sign ≡ n → height kind ≡ n
+pub sign_height : (kind : Kind) {sign : InfixSign} {n : ℕ} → infix_of kind ≡ Some sign → level_of sign ≡ n → height kind ≡ n
 sign_height kind h i = ap height_of h ∙ i
 
-stops_at_sign : (k : ℕ) (t : Token) (ts : List Token) → height t.kind ≡ suc k → Stops k (t ∷ ts)
+pub stops_at_sign : (k : ℕ) (t : Token) (ts : List Token) → height t.kind ≡ suc k → Stops k (t ∷ ts)
 stops_at_sign k t ts e = (λ f. let g : height t.kind ≡ 0 = ap height f in absurd (omega (arith, e, g)), inr (omega (arith, e)))
 
 pub stops_before : {text : List ℕ} {k : ℕ} {os : List Operand} {us r : List Token} → SpellsTail text k os us r → Stops (suc k) r → Stops k us
 stops_before (tail_end {k = k} {r = r}) s = stops_less k r s
 stops_before (tail_more {k = k} {t = t} {ts = ts} h i a b) s = stops_at_sign k t ts (sign_height t.kind h i)
 
-not_sign : (k : ℕ) (t : Token) (ts : List Token) → height t.kind ≡ suc k → Stops (suc k) (t ∷ ts) → ⊥
+pub not_sign : (k : ℕ) (t : Token) (ts : List Token) → height t.kind ≡ suc k → Stops (suc k) (t ∷ ts) → ⊥
 not_sign k t ts e s = elim s.1 [ inl f ↦ omega (arith, e, f) | inr f ↦ omega (arith, e, f) ]
 
 pub not_prefix : (c : Kind) {k : Kind} {sign : PrefixSign} → prefix_of c ≡ None → k ≡ c → prefix_of k ≡ Some sign → ⊥
@@ -62,7 +62,7 @@ level_opens : {text : List ℕ} {k : ℕ} {d : PlainData} {t : Token} {ts r : Li
 level_opens (level_unit a) e = unit_opens a e
 level_opens (level_chain a b) e = level_opens a e
 
-items_opens : {text : List ℕ} {ds : List PlainData} {t : Token} {ts r : List Token} → SpellsItems text ds (t ∷ ts) r → t.kind ≡ RightBracket → ⊥
+pub items_opens : {text : List ℕ} {ds : List PlainData} {t : Token} {ts r : List Token} → SpellsItems text ds (t ∷ ts) r → t.kind ≡ RightBracket → ⊥
 items_opens (items_last a) e = level_opens a e
 items_opens (items_more a h b) e = level_opens a e
 

@@ -21,20 +21,20 @@ use Rattle.mcrl2_syntax.proofs.DataOnce.{stops_at, level_once}
 use Rattle.mcrl2_syntax.proofs.LabelsOnce.{no_other, vars_once}
 use Rattle.mcrl2_syntax.proofs.ProcessesOnce.{process_once, ends_nowhere}
 
-sort_from : {text : List ℕ} {s : PlainSort} {ts us r : List Token} → ts ≡ us → SpellsSort text s us r → SpellsSort text s ts r
+pub sort_from : {text : List ℕ} {s : PlainSort} {ts us r : List Token} → ts ≡ us → SpellsSort text s us r → SpellsSort text s ts r
 sort_from {text = text} {s = s} {r = r} e d = subst (λ (x : List Token). SpellsSort text s x r) (sym e) d
 
-domain_from : {text : List ℕ} {s : List PlainSort} {ts us r : List Token} → ts ≡ us → SpellsDomain text s us r → SpellsDomain text s ts r
+pub domain_from : {text : List ℕ} {s : List PlainSort} {ts us r : List Token} → ts ≡ us → SpellsDomain text s us r → SpellsDomain text s ts r
 domain_from {text = text} {s = s} {r = r} e d = subst (λ (x : List Token). SpellsDomain text s x r) (sym e) d
 
-data_from : {text : List ℕ} {d : PlainData} {ts us r : List Token} → ts ≡ us → SpellsData text d us r → SpellsData text d ts r
+pub data_from : {text : List ℕ} {d : PlainData} {ts us r : List Token} → ts ≡ us → SpellsData text d us r → SpellsData text d ts r
 data_from {text = text} {d = d} {r = r} e a = subst (λ (x : List Token). SpellsData text d x r) (sym e) a
 
-process_from : {text : List ℕ} {p : PlainProcess} {ts us r : List Token} → ts ≡ us → SpellsProcess text p us r → SpellsProcess text p ts r
+pub process_from : {text : List ℕ} {p : PlainProcess} {ts us r : List Token} → ts ≡ us → SpellsProcess text p us r → SpellsProcess text p ts r
 process_from {text = text} {p = p} {r = r} e a = subst (λ (x : List Token). SpellsProcess text p x r) (sym e) a
 
 -- a sort that begins with a name is the name
-name_ends : {text : List ℕ} {s : PlainSort} {t : Token} {ts r : List Token} → SpellsSort text s (t ∷ ts) r → t.kind ≡ kind_.Identifier → ts ≡ r
+pub name_ends : {text : List ℕ} {s : PlainSort} {t : Token} {ts r : List Token} → SpellsSort text s (t ∷ ts) r → t.kind ≡ kind_.Identifier → ts ≡ r
 name_ends (spells_bool h) e = absurd cc
 name_ends (spells_pos h) e = absurd cc
 name_ends (spells_nat h) e = absurd cc
@@ -43,7 +43,7 @@ name_ends (spells_list h i a j) e = absurd cc
 name_ends (spells_named_sort h) e = refl
 name_ends (spells_brackets_sort h a j) e = absurd cc
 
-abbrev NoColon : List Token → Type 0
+abbrev pub NoColon : List Token → Type 0
 NoColon r = Begins kind_.Colon r → ⊥
 
 field_once : {text : List ℕ} {f g : PlainField} {ts q r : List Token} → SpellsField text f ts q → SpellsField text g ts r → NoColon q → NoColon r → (f ≡ g) × (q ≡ r)
@@ -52,18 +52,18 @@ field_once (field_bare a) (field_named h i b) s t = absurd (s (moved kind_.Colon
 field_once (field_named h i a) (field_bare b) s t = absurd (t (moved kind_.Colon (name_ends b h) i))
 field_once {text = text} (field_named {t = x} h i a) (field_named k j b) s t = let e = sort_once a b in (ap (λ (y : PlainSort). named_field (token_word text x) y) e.0, e.1)
 
-comma_colon : (t : Token) (ts : List Token) → t.kind ≡ kind_.Comma → NoColon (t ∷ ts)
+pub comma_colon : (t : Token) (ts : List Token) → t.kind ≡ kind_.Comma → NoColon (t ∷ ts)
 comma_colon t ts e = no_other kind_.Comma kind_.Colon t ts e (λ f. cc)
 
 -- What no constructor can go on with.
-record Whole (r : List Token) : Type 0 where
+pub record Whole (r : List Token) : Type 0 where
   pub paren : Begins kind_.LeftParen r → ⊥
   pub question : Begins kind_.Question r → ⊥
 
-bar_whole : (t : Token) (ts : List Token) → t.kind ≡ kind_.Bar → Whole (t ∷ ts)
+pub bar_whole : (t : Token) (ts : List Token) → t.kind ≡ kind_.Bar → Whole (t ∷ ts)
 bar_whole t ts e = record { paren = no_other kind_.Bar kind_.LeftParen t ts e (λ f. cc); question = no_other kind_.Bar kind_.Question t ts e (λ f. cc) }
 
-recogniser_paren : {text : List ℕ} {t v : Token} {o : Option PlainWord} {ts r : List Token} → SpellsRecogniser text t o v ts r → (Begins kind_.LeftParen r → ⊥) → Begins kind_.LeftParen ts → ⊥
+pub recogniser_paren : {text : List ℕ} {t v : Token} {o : Option PlainWord} {ts r : List Token} → SpellsRecogniser text t o v ts r → (Begins kind_.LeftParen r → ⊥) → Begins kind_.LeftParen ts → ⊥
 recogniser_paren no_recogniser n b = n b
 recogniser_paren (a_recogniser {q = q} {v = v} {r = r} h i) n b = no_other kind_.Question kind_.LeftParen q (v ∷ r) h (λ f. cc) b
 
@@ -94,7 +94,7 @@ recogniser_once no_recogniser (a_recogniser h i) m n = absurd (m h)
 recogniser_once (a_recogniser h i) no_recogniser m n = absurd (n h)
 recogniser_once (a_recogniser h i) (a_recogniser k j) m n = record { recogniser = refl; last = refl; rest = refl }
 
-recogniser_from : {text : List ℕ} {t u v : Token} {o : Option PlainWord} {ts us r : List Token} → t ≡ u → ts ≡ us → SpellsRecogniser text u o v us r → SpellsRecogniser text t o v ts r
+pub recogniser_from : {text : List ℕ} {t u v : Token} {o : Option PlainWord} {ts us r : List Token} → t ≡ u → ts ≡ us → SpellsRecogniser text u o v us r → SpellsRecogniser text t o v ts r
 recogniser_from {text = text} {t = t} {v = v} {o = o} {us = us} {r = r} e f d =
     subst (λ (x : List Token). SpellsRecogniser text t o v x r) (sym f) (subst (λ (x : Token). SpellsRecogniser text x o v us r) (sym e) d)
 
@@ -107,7 +107,7 @@ constructor_once {text = text} (a_constructor {t = t} {v = v} {fields = f} {reco
       i.rest,
     )
 
-record SameSignature (xs ys : List PlainWord) (ds es : List PlainSort) (s o : PlainSort) : Type 0 where
+pub record SameSignature (xs ys : List PlainWord) (ds es : List PlainSort) (s o : PlainSort) : Type 0 where
   pub names : xs ≡ ys
   pub domain : ds ≡ es
   pub sort : s ≡ o
@@ -116,16 +116,16 @@ domain_once : {text : List ℕ} {ds es : List PlainSort} {ts q r : List Token} �
 domain_once a b m n = listed_once (λ x y us v w c d. sort_once c d) a b m n
 
 -- a domain isn't a sort that ends the declaration
-sort_domain : {text : List ℕ} {s : PlainSort} {ds : List PlainSort} {a : Token} {ts r : List Token} → SpellsSort text s ts [] → SpellsDomain text ds ts (a ∷ r) → ⊥
+pub sort_domain : {text : List ℕ} {s : PlainSort} {ds : List PlainSort} {a : Token} {ts r : List Token} → SpellsSort text s ts [] → SpellsDomain text ds ts (a ∷ r) → ⊥
 sort_domain a (last_item b) = let e = (sort_once a b).1 in cc
 sort_domain a (more_items b h c) = let e = (sort_once a b).1 in cc
 
-names_colon : {text : List ℕ} {xs ys : List PlainWord} {c d : Token} {ts us vs : List Token} → SpellsNames text xs ts (c ∷ us) → c.kind ≡ kind_.Colon → SpellsNames text ys ts (d ∷ vs) → d.kind ≡ kind_.Colon
+pub names_colon : {text : List ℕ} {xs ys : List PlainWord} {c d : Token} {ts us vs : List Token} → SpellsNames text xs ts (c ∷ us) → c.kind ≡ kind_.Colon → SpellsNames text ys ts (d ∷ vs) → d.kind ≡ kind_.Colon
     → (xs ≡ ys) × (us ≡ vs)
 names_colon {c = c} {d = d} {us = us} {vs = vs} a h b k =
     let e = names_once a b (no_other kind_.Colon kind_.Comma c us h (λ f. cc)) (no_other kind_.Colon kind_.Comma d vs k (λ f. cc)) in (e.0, tails e.1)
 
-signature_once : {text : List ℕ} {xs ys : List PlainWord} {ds es : List PlainSort} {s o : PlainSort} {ts : List Token} → SpellsSignature text xs ds s ts → SpellsSignature text ys es o ts → SameSignature xs ys ds es s o
+pub signature_once : {text : List ℕ} {xs ys : List PlainWord} {ds es : List PlainSort} {s o : PlainSort} {ts : List Token} → SpellsSignature text xs ds s ts → SpellsSignature text ys es o ts → SameSignature xs ys ds es s o
 signature_once (of_constants a h b) (of_constants c k d) =
     let e = names_colon a h c k in record { names = e.0; domain = refl; sort = (sort_once b (sort_from e.1 d)).0 }
 signature_once (of_constants a h b) (of_functions c k d l f) = let e = names_colon a h c k in absurd (sort_domain b (domain_from e.1 d))
@@ -135,11 +135,11 @@ signature_once (of_functions {a = v} {vs = us} a h b i g) (of_functions {a = w} 
     let z = domain_once b (domain_from e.1 d) (no_other kind_.Arrow kind_.Hash v us i (λ x. cc)) (no_other kind_.Arrow kind_.Hash w vs l (λ x. cc)) in
     record { names = e.0; domain = z.0; sort = (sort_once g (sort_from (tails z.1) f)).0 }
 
-names_equals : {text : List ℕ} {xs : List PlainWord} {t e : Token} {ts r : List Token} → SpellsNames text xs (t ∷ e ∷ ts) r → e.kind ≡ kind_.Equals → Begins kind_.Equals r
+pub names_equals : {text : List ℕ} {xs : List PlainWord} {t e : Token} {ts r : List Token} → SpellsNames text xs (t ∷ e ∷ ts) r → e.kind ≡ kind_.Equals → Begins kind_.Equals r
 names_equals (last_item (a_name i)) h = h
 names_equals (more_items (a_name i) k c) h = absurd cc
 
-sort_struct : {text : List ℕ} {s : PlainSort} {w : Token} {ts r : List Token} → SpellsSort text s (w ∷ ts) r → w.kind ≡ kind_.Struct → ⊥
+pub sort_struct : {text : List ℕ} {s : PlainSort} {w : Token} {ts r : List Token} → SpellsSort text s (w ∷ ts) r → w.kind ≡ kind_.Struct → ⊥
 sort_struct (spells_bool h) e = cc
 sort_struct (spells_pos h) e = cc
 sort_struct (spells_nat h) e = cc
@@ -148,10 +148,10 @@ sort_struct (spells_list h i a j) e = cc
 sort_struct (spells_named_sort h) e = cc
 sort_struct (spells_brackets_sort h a j) e = cc
 
-stop_arrow : (t : Token) (ts : List Token) → t.kind ≡ kind_.Arrow → Stops 11 (t ∷ ts)
+pub stop_arrow : (t : Token) (ts : List Token) → t.kind ≡ kind_.Arrow → Stops 11 (t ∷ ts)
 stop_arrow t ts e = stops_at kind_.Arrow (λ f. cc) refl 11 t ts e
 
-stop_equals : (t : Token) (ts : List Token) → t.kind ≡ kind_.Equals → Stops 11 (t ∷ ts)
+pub stop_equals : (t : Token) (ts : List Token) → t.kind ≡ kind_.Equals → Stops 11 (t ∷ ts)
 stop_equals t ts e = stops_at kind_.Equals (λ f. cc) refl 11 t ts e
 
 pub decl_once : {text : List ℕ} {word : SectionWord} {d e : PlainDecl} {ts : List Token} → SpellsDecl text word d ts → SpellsDecl text word e ts → d ≡ e

@@ -34,10 +34,10 @@ action_once {text = text} (action_applied {t = x} {v = v} {ds = ds} {r = q} h i 
     let e = items_once a b (closed_paren v q j) (closed_paren w r m) in
     (ap (λ (y : Token). named_action (span_of x y) (token_word text x) ds) (heads e.1) ∙ ap (λ (y : List PlainData). named_action (span_of x w) (token_word text x) y) e.0, tails e.1)
 
-abbrev NoParen : List Token → Type 0
+abbrev pub NoParen : List Token → Type 0
 NoParen r = Begins LeftParen r → ⊥
 
-bar_paren : (t : Token) (ts : List Token) → t.kind ≡ Bar → NoParen (t ∷ ts)
+pub bar_paren : (t : Token) (ts : List Token) → t.kind ≡ Bar → NoParen (t ∷ ts)
 bar_paren t ts e = no_other Bar LeftParen t ts e (λ f. cc)
 
 pub actions_once : {text : List ℕ} {xs ys : List PlainAction} {ts q r : List Token} → SpellsActions text xs ts q → SpellsActions text ys ts r → NoAction q → NoAction r → (xs ≡ ys) × (q ≡ r)
@@ -57,10 +57,10 @@ pub level_name : {text : List ℕ} {t : Token} {ts : List Token} (k : ℕ) → t
 level_name {text = text} {t = t} zero h = (named (token_word text t), level_unit (unit_name h))
 level_name {text = text} {t = t} {ts = ts} (suc k) h = let d = level_name {text = text} {t = t} {ts = ts} k h in (_, level_chain d.1 tail_end)
 
-equals_stop : (t : Token) (ts : List Token) → t.kind ≡ Equals → Stops 11 (t ∷ ts)
+pub equals_stop : (t : Token) (ts : List Token) → t.kind ≡ Equals → Stops 11 (t ∷ ts)
 equals_stop t ts e = stops_at Equals (λ f. cc) refl 11 t ts e
 
-before_equals : {text : List ℕ} {d : PlainData} {t e : Token} {ts r : List Token} → SpellsLevel text 11 d (t ∷ e ∷ ts) r → t.kind ≡ Identifier → e.kind ≡ Equals → Stops 11 r → Begins Equals r
+pub before_equals : {text : List ℕ} {d : PlainData} {t e : Token} {ts r : List Token} → SpellsLevel text 11 d (t ∷ e ∷ ts) r → t.kind ≡ Identifier → e.kind ≡ Equals → Stops 11 r → Begins Equals r
 before_equals {text = text} {t = t} {e = e} {ts = ts} a h i s =
     moved Equals (level_once (level_name {text = text} {t = t} {ts = e ∷ ts} 11 h).1 a (equals_stop e ts i) s).1 i
 
@@ -69,12 +69,12 @@ items_assign : {text : List ℕ} {ds : List PlainData} {x : PlainAssignment} {ts
 items_assign {q = q} {v = v} (items_last a) k (assignment h i b) = let e : Equals ≡ RightParen = sym (before_equals a h i (closed_paren v q k).stops) ∙ k in cc
 items_assign (items_more {v = w} {us = us} a l c) k (assignment h i b) = let e : Equals ≡ Comma = sym (before_equals a h i (stops_comma 11 w us l)) ∙ l in cc
 
-items_assigns : {text : List ℕ} {ds : List PlainData} {xs : List PlainAssignment} {ts q r : List Token} {v : Token} → SpellsItems text ds ts (v ∷ q) → v.kind ≡ RightParen
+pub items_assigns : {text : List ℕ} {ds : List PlainData} {xs : List PlainAssignment} {ts q r : List Token} {v : Token} → SpellsItems text ds ts (v ∷ q) → v.kind ≡ RightParen
     → SpellsList (SpellsAssignment text) Comma xs ts r → ⊥
 items_assigns a k (last_item b) = items_assign a k b
 items_assigns a k (more_items b h c) = items_assign a k b
 
-assigns_paren : {text : List ℕ} {xs : List PlainAssignment} {t : Token} {ts r : List Token} → SpellsList (SpellsAssignment text) Comma xs (t ∷ ts) r → t.kind ≡ RightParen → ⊥
+pub assigns_paren : {text : List ℕ} {xs : List PlainAssignment} {t : Token} {ts r : List Token} → SpellsList (SpellsAssignment text) Comma xs (t ∷ ts) r → t.kind ≡ RightParen → ⊥
 assigns_paren (last_item (assignment h i a)) e = cc
 assigns_paren (more_items (assignment h i a) k c) e = cc
 
@@ -90,7 +90,7 @@ action_call (action_name h) (call_assigns k l b m) f = f l
 action_call (action_applied h i a j) (call_empty k l m) f = items_paren a m
 action_call (action_applied h i a j) (call_assigns k l b m) f = items_assigns a j b
 
-comma_stop : (t : Token) (ts : List Token) → t.kind ≡ Comma → Stops 11 (t ∷ ts)
+pub comma_stop : (t : Token) (ts : List Token) → t.kind ≡ Comma → Stops 11 (t ∷ ts)
 comma_stop t ts e = stops_comma 11 t ts e
 
 pub call_once : {text : List ℕ} {p o : PlainProcess} {ts q r : List Token} → SpellsCall text p ts q → SpellsCall text o ts r → (p ≡ o) × (q ≡ r)
@@ -117,35 +117,35 @@ braces_once Stop once at shut opens (some_items {v = v} {r = q} h a i) (some_ite
     let e = list_once Stop once at a b (shut v q i) (shut w r l) (no_other RightBrace Comma v q i (λ f. cc)) (no_other RightBrace Comma w r l (λ f. cc)) in
     (e.0, tails e.1)
 
-abbrev NoBar : List Token → Type 0
+abbrev pub NoBar : List Token → Type 0
 NoBar r = Begins Bar r → ⊥
 
-name_opens : {text : List ℕ} (a : PlainWord) (t : Token) (us v : List Token) → SpellsName text a (t ∷ us) v → t.kind ≡ Identifier
+pub name_opens : {text : List ℕ} (a : PlainWord) (t : Token) (us v : List Token) → SpellsName text a (t ∷ us) v → t.kind ≡ Identifier
 name_opens a t us v (a_name h) = h
 
-name_set_once : {text : List ℕ} {x y : PlainNameSet} {ts q r : List Token} → SpellsNameSet text x ts q → SpellsNameSet text y ts r → NoBar q → NoBar r → (x ≡ y) × (q ≡ r)
+pub name_set_once : {text : List ℕ} {x y : PlainNameSet} {ts q r : List Token} → SpellsNameSet text x ts q → SpellsNameSet text y ts r → NoBar q → NoBar r → (x ≡ y) × (q ≡ r)
 name_set_once (names_at_once a) (names_at_once b) s t = let e = names_once a b s t in (ap (λ (z : List PlainWord). name_set z) e.0, e.1)
 
-name_set_opens : {text : List ℕ} (a : PlainNameSet) (t : Token) (us v : List Token) → SpellsNameSet text a (t ∷ us) v → t.kind ≡ Identifier
+pub name_set_opens : {text : List ℕ} (a : PlainNameSet) (t : Token) (us v : List Token) → SpellsNameSet text a (t ∷ us) v → t.kind ≡ Identifier
 name_set_opens a t us v (names_at_once (last_item (a_name h))) = h
 name_set_opens a t us v (names_at_once (more_items (a_name h) k c)) = h
 
-renaming_once : {text : List ℕ} {x y : PlainRenaming} {ts q r : List Token} → SpellsRenaming text x ts q → SpellsRenaming text y ts r → (x ≡ y) × (q ≡ r)
+pub renaming_once : {text : List ℕ} {x y : PlainRenaming} {ts q r : List Token} → SpellsRenaming text x ts q → SpellsRenaming text y ts r → (x ≡ y) × (q ≡ r)
 renaming_once (renaming h i j) (renaming k l m) = (refl, refl)
 
-renaming_opens : {text : List ℕ} (a : PlainRenaming) (t : Token) (us v : List Token) → SpellsRenaming text a (t ∷ us) v → t.kind ≡ Identifier
+pub renaming_opens : {text : List ℕ} (a : PlainRenaming) (t : Token) (us v : List Token) → SpellsRenaming text a (t ∷ us) v → t.kind ≡ Identifier
 renaming_opens a t us v (renaming h i j) = h
 
-comm_rule_once : {text : List ℕ} {x y : PlainCommRule} {ts q r : List Token} → SpellsCommRule text x ts q → SpellsCommRule text y ts r → (x ≡ y) × (q ≡ r)
+pub comm_rule_once : {text : List ℕ} {x y : PlainCommRule} {ts q r : List Token} → SpellsCommRule text x ts q → SpellsCommRule text y ts r → (x ≡ y) × (q ≡ r)
 comm_rule_once {text = text} (communication {t = t} {a = a} {u = u} {names = xs} {r = q} h i c j k) (communication {a = b} {u = v} {names = ys} {r = r} l m d n o) =
     let e = names_once c d (no_other Arrow Bar a (u ∷ q) j (λ f. cc)) (no_other Arrow Bar b (v ∷ r) n (λ f. cc)) in
     let f = tails e.1 in
     (ap (λ (y : List PlainWord). comm_rule (token_word text t) y (token_word text u)) e.0 ∙ ap (λ (y : Token). comm_rule (token_word text t) ys (token_word text y)) (heads f), tails f)
 
-comm_rule_opens : {text : List ℕ} (a : PlainCommRule) (t : Token) (us v : List Token) → SpellsCommRule text a (t ∷ us) v → t.kind ≡ Identifier
+pub comm_rule_opens : {text : List ℕ} (a : PlainCommRule) (t : Token) (us v : List Token) → SpellsCommRule text a (t ∷ us) v → t.kind ≡ Identifier
 comm_rule_opens a t us v (communication h i c j k) = h
 
-sort_from : {text : List ℕ} {s : PlainSort} {ts us r : List Token} → ts ≡ us → SpellsSort text s us r → SpellsSort text s ts r
+pub sort_from : {text : List ℕ} {s : PlainSort} {ts us r : List Token} → ts ≡ us → SpellsSort text s us r → SpellsSort text s ts r
 sort_from {text = text} {s = s} {r = r} e d = subst (λ (x : List Token). SpellsSort text s x r) (sym e) d
 
 pub var_group_once : {text : List ℕ} {x y : PlainVarGroup} {ts q r : List Token} → SpellsVarGroup text x ts q → SpellsVarGroup text y ts r → (x ≡ y) × (q ≡ r)
@@ -160,10 +160,10 @@ vars_once a b m n = listed_once (λ x y us v w c d. var_group_once c d) a b m n
 abbrev Anything : List Token → Type 0
 Anything r = Unit {0}
 
-comma_bar : (t : Token) (ts : List Token) → t.kind ≡ Comma → NoBar (t ∷ ts)
+pub comma_bar : (t : Token) (ts : List Token) → t.kind ≡ Comma → NoBar (t ∷ ts)
 comma_bar t ts e = no_other Comma Bar t ts e (λ f. cc)
 
-brace_bar : (t : Token) (ts : List Token) → t.kind ≡ RightBrace → NoBar (t ∷ ts)
+pub brace_bar : (t : Token) (ts : List Token) → t.kind ≡ RightBrace → NoBar (t ∷ ts)
 brace_bar t ts e = no_other RightBrace Bar t ts e (λ f. cc)
 
 pub operation_once : {text : List ℕ} {o p : Operation} {ts q r : List Token} → SpellsOperation text o ts q → SpellsOperation text p ts r → (o ≡ p) × (q ≡ r)

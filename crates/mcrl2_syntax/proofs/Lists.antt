@@ -17,7 +17,7 @@ moved k e b = subst (Begins k) e b
 pub name_once : {text : List ℕ} {w v : PlainWord} {ts q r : List Token} → SpellsName text w ts q → SpellsName text v ts r → (w ≡ v) × (q ≡ r)
 name_once (a_name h) (a_name k) = (refl, refl)
 
-list_from : {Item : Type 0} {spells : Item → List Token → List Token → Type 0} {separator : Kind} {items : List Item} {ts us r : List Token} → ts ≡ us
+pub list_from : {Item : Type 0} {spells : Item → List Token → List Token → Type 0} {separator : Kind} {items : List Item} {ts us r : List Token} → ts ≡ us
     → SpellsList spells separator items us r → SpellsList spells separator items ts r
 list_from {spells = spells} {separator = separator} {items = items} {r = r} e d = subst (λ (x : List Token). SpellsList spells separator items x r) (sym e) d
 

@@ -21,44 +21,44 @@ use Rattle.mcrl2_syntax.proofs.Balance.{past_close, at_close, level_balanced, ch
 follows : (b : Token) (us : List Token) (k : Kind) → b.kind ≡ k → k ≢ Dot → k ≢ Arrow → k ≢ LeftParen → k ≢ Bar → Follows (b ∷ us)
 follows b us k e w x y z = record { dot = λ f. w (sym e ∙ f); arrow = λ f. x (sym e ∙ f); paren = λ f. y (sym e ∙ f); bar = λ f. z (sym e ∙ f) }
 
-at_parallel : (b : Token) (us : List Token) → b.kind ≡ BarBar → Follows (b ∷ us)
+pub at_parallel : (b : Token) (us : List Token) → b.kind ≡ BarBar → Follows (b ∷ us)
 at_parallel b us e = follows b us BarBar e (λ f. cc) (λ f. cc) (λ f. cc) (λ f. cc)
 
-at_else : (b : Token) (us : List Token) → b.kind ≡ Else → Follows (b ∷ us)
+pub at_else : (b : Token) (us : List Token) → b.kind ≡ Else → Follows (b ∷ us)
 at_else b us e = follows b us Else e (λ f. cc) (λ f. cc) (λ f. cc) (λ f. cc)
 
-at_plus : (b : Token) (us : List Token) → b.kind ≡ Plus → Follows (b ∷ us)
+pub at_plus : (b : Token) (us : List Token) → b.kind ≡ Plus → Follows (b ∷ us)
 at_plus b us e = follows b us Plus e (λ f. cc) (λ f. cc) (λ f. cc) (λ f. cc)
 
 at_shut : (b : Token) (us : List Token) → b.kind ≡ RightParen → Follows (b ∷ us)
 at_shut b us e = follows b us RightParen e (λ f. cc) (λ f. cc) (λ f. cc) (λ f. cc)
 
-stays_else : {s : Bool} (b : Token) (us : List Token) → b.kind ≡ Else → Stays s false (b ∷ us)
+pub stays_else : {s : Bool} (b : Token) (us : List Token) → b.kind ≡ Else → Stays s false (b ∷ us)
 stays_else b us e = record { sum_ends = λ n f. let g : BarBar ≡ Else = sym f ∙ e in cc; open_ends = λ n. absurd cc }
 
-stays_parallel : {o : Bool} (b : Token) (us : List Token) → b.kind ≡ BarBar → Stays false o (b ∷ us)
+pub stays_parallel : {o : Bool} (b : Token) (us : List Token) → b.kind ≡ BarBar → Stays false o (b ∷ us)
 stays_parallel b us e = record { sum_ends = λ n. absurd cc; open_ends = λ n f. let g : Else ≡ BarBar = sym f ∙ e in cc }
 
-stays_plus : {s o : Bool} (b : Token) (us : List Token) → b.kind ≡ Plus → Stays s o (b ∷ us)
+pub stays_plus : {s o : Bool} (b : Token) (us : List Token) → b.kind ≡ Plus → Stays s o (b ∷ us)
 stays_plus b us e = record { sum_ends = λ n f. let g : BarBar ≡ Plus = sym f ∙ e in cc; open_ends = λ n f. let g : Else ≡ Plus = sym f ∙ e in cc }
 
-stays_any : {s o : Bool} {r : List Token} → Stays true o r → Stays s o r
+pub stays_any : {s o : Bool} {r : List Token} → Stays true o r → Stays s o r
 stays_any t = record { sum_ends = λ n. t.sum_ends refl; open_ends = t.open_ends }
 
-then_stays : {s o : Bool} {r : List Token} → Stays s true r → Stays s o r
+pub then_stays : {s o : Bool} {r : List Token} → Stays s true r → Stays s o r
 then_stays t = record { sum_ends = t.sum_ends; open_ends = λ n. t.open_ends refl }
 
-ends_stay : {s o : Bool} (r : List Token) → Ends r → Stays s o r
+pub ends_stay : {s o : Bool} (r : List Token) → Ends r → Stays s o r
 ends_stay r e = record { sum_ends = λ n. e.parallel; open_ends = λ n. e.else }
 
-ends_shut : (b : Token) (us : List Token) → b.kind ≡ RightParen → Ends (b ∷ us)
+pub ends_shut : (b : Token) (us : List Token) → b.kind ≡ RightParen → Ends (b ∷ us)
 ends_shut b us e = record { follows = at_shut b us e; plus = no_other RightParen Plus b us e (λ f. cc); parallel = no_other RightParen BarBar b us e (λ f. cc); else = no_other RightParen Else b us e (λ f. cc) }
 
 pub ends_nowhere : Ends []
 ends_nowhere = record { follows = record { dot = λ b. b; arrow = λ b. b; paren = λ b. b; bar = λ b. b }; plus = λ b. b; parallel = λ b. b; else = λ b. b }
 
 -- What begins which part of a process term.
-data Class : Type 0 where
+pub data Class : Type 0 where
   is_delta : Class
   is_action : Class
   is_paren : Class
@@ -66,7 +66,7 @@ data Class : Type 0 where
   is_sum : Class
   is_other : Class
 
-abbrev class : Kind → Class
+abbrev pub class : Kind → Class
 class Delta = is_delta
 class Tau = is_action
 class Identifier = is_action
@@ -79,19 +79,19 @@ class Comm = is_operator
 class Sum = is_sum
 class _ = is_other
 
-apart : {x a b : Class} → x ≡ a → x ≡ b → a ≢ b → ⊥
+pub apart : {x a b : Class} → x ≡ a → x ≡ b → a ≢ b → ⊥
 apart e f n = n (sym e ∙ f)
 
-action_class : {text : List ℕ} {a : PlainAction} {t : Token} {ts r : List Token} → SpellsAction text a (t ∷ ts) r → class t.kind ≡ is_action
+pub action_class : {text : List ℕ} {a : PlainAction} {t : Token} {ts r : List Token} → SpellsAction text a (t ∷ ts) r → class t.kind ≡ is_action
 action_class (action_tau h) = ap class h
 action_class (action_name h) = ap class h
 action_class (action_applied h i a j) = ap class h
 
-call_class : {text : List ℕ} {p : PlainProcess} {t : Token} {ts r : List Token} → SpellsCall text p (t ∷ ts) r → class t.kind ≡ is_action
+pub call_class : {text : List ℕ} {p : PlainProcess} {t : Token} {ts r : List Token} → SpellsCall text p (t ∷ ts) r → class t.kind ≡ is_action
 call_class (call_empty h i j) = ap class h
 call_class (call_assigns h i a j) = ap class h
 
-operation_class : {text : List ℕ} {o : Operation} {t : Token} {ts r : List Token} → SpellsOperation text o (t ∷ ts) r → class t.kind ≡ is_operator
+pub operation_class : {text : List ℕ} {o : Operation} {t : Token} {ts r : List Token} → SpellsOperation text o (t ∷ ts) r → class t.kind ≡ is_operator
 operation_class (spells_allow h i a j) = ap class h
 operation_class (spells_block h i a j) = ap class h
 operation_class (spells_hide h i a j) = ap class h
@@ -123,7 +123,7 @@ unit_class (unit_apply h i a j) = inl (ap class h)
 unit_class (unit_brackets h a i) = inr (inl (ap class h))
 unit_class (unit_prefix {t = t} {sign = sign} h a) = inr (inr (prefix_class t.kind sign h))
 
-unit_apart : {text : List ℕ} {c : PlainData} {t : Token} {ts r : List Token} {k : Class} → SpellsUnit text c (t ∷ ts) r → class t.kind ≡ k → is_action ≢ k → is_paren ≢ k → is_other ≢ k → ⊥
+pub unit_apart : {text : List ℕ} {c : PlainData} {t : Token} {ts r : List Token} {k : Class} → SpellsUnit text c (t ∷ ts) r → class t.kind ≡ k → is_action ≢ k → is_paren ≢ k → is_other ≢ k → ⊥
 unit_apart a e x y z = elim (unit_class a) [ inl f ↦ apart f e x | inr g ↦ elim g [ inl f ↦ apart f e y | inr f ↦ apart f e z ] ]
 
 -- where brackets match, the rests are one
@@ -171,12 +171,12 @@ unit_within (unit_apply h i a j) b k c l x = cc
 unit_within (unit_prefix h a) b k c l x = not_prefix LeftParen refl k h
 
 -- What no atom can go on with.
-record Alone (r : List Token) : Type 0 where
+pub record Alone (r : List Token) : Type 0 where
   pub arrow : Begins Arrow r → ⊥
   pub paren : Begins LeftParen r → ⊥
   pub bar : Begins Bar r → ⊥
 
-unit_atom : {text : List ℕ} {c : PlainData} {p : PlainProcess} {ts q r : List Token} → SpellsUnit text c ts q → Begins Arrow q → SpellsAtom text p ts r → Alone r → ⊥
+pub unit_atom : {text : List ℕ} {c : PlainData} {p : PlainProcess} {ts q r : List Token} → SpellsUnit text c ts q → Begins Arrow q → SpellsAtom text p ts r → Alone r → ⊥
 unit_atom a b (atom_delta k) f = unit_apart a (ap class k) (λ e. cc) (λ e. cc) (λ e. cc)
 unit_atom a b (atom_action c) f = unit_action a b c f.arrow f.paren
 unit_atom a b (atom_multi {b = s} {us = us} c k d) f = unit_action a b c (no_other Bar Arrow s us k (λ e. cc)) (no_other Bar LeftParen s us k (λ e. cc))
@@ -184,7 +184,7 @@ unit_atom a b (atom_call c) f = unit_call a b c
 unit_atom a b (atom_brackets k c l) f = unit_within a b k c l f.arrow
 unit_atom a b (atom_operator c d l) f = unit_apart a (operation_class c) (λ e. cc) (λ e. cc) (λ e. cc)
 
-alone : {text : List ℕ} {s o : Bool} {ps : List PlainProcess} {us r : List Token} → SpellsDots text s o ps us r → Follows r → Alone us
+pub alone : {text : List ℕ} {s o : Bool} {ps : List PlainProcess} {us r : List Token} → SpellsDots text s o ps us r → Follows r → Alone us
 alone dots_end f = record { arrow = f.arrow; paren = f.paren; bar = f.bar }
 alone (dots_atom {t = t} {ts = ts} h a b) f = record { arrow = no_other Dot Arrow t ts h (λ e. cc); paren = no_other Dot LeftParen t ts h (λ e. cc); bar = no_other Dot Bar t ts h (λ e. cc) }
 alone (dots_sum {t = t} {ts = ts} h a) f = record { arrow = no_other Dot Arrow t ts h (λ e. cc); paren = no_other Dot LeftParen t ts h (λ e. cc); bar = no_other Dot Bar t ts h (λ e. cc) }
@@ -202,7 +202,7 @@ sum_atom (sum_over h a i b) (atom_call c) = apart (ap class h) (call_class c) (�
 sum_atom (sum_over h a i b) (atom_brackets k c l) = cc
 sum_atom (sum_over h a i b) (atom_operator c d l) = apart (ap class h) (operation_class c) (λ e. cc)
 
-sum_unit : {text : List ℕ} {o : Bool} {p : PlainProcess} {c : PlainData} {ts t r : List Token} → SpellsSum text o p ts t → SpellsUnit text c ts r → ⊥
+pub sum_unit : {text : List ℕ} {o : Bool} {p : PlainProcess} {c : PlainData} {ts t r : List Token} → SpellsSum text o p ts t → SpellsUnit text c ts r → ⊥
 sum_unit (sum_over h a i b) u = unit_apart u (ap class h) (λ e. cc) (λ e. cc) (λ e. cc)
 
 sum_cond : {text : List ℕ} {o s y : Bool} {p q : PlainProcess} {ts t r : List Token} → SpellsSum text o p ts t → SpellsCond text s y q ts r → ⊥
@@ -210,22 +210,22 @@ sum_cond a (cond_then b h c) = sum_unit a b
 sum_cond a (cond_else b h c k d) = sum_unit a b
 
 -- the same reading of an equal list
-dots_from : {text : List ℕ} {s o : Bool} {ps : List PlainProcess} {ts us r : List Token} → ts ≡ us → SpellsDots text s o ps us r → SpellsDots text s o ps ts r
+pub dots_from : {text : List ℕ} {s o : Bool} {ps : List PlainProcess} {ts us r : List Token} → ts ≡ us → SpellsDots text s o ps us r → SpellsDots text s o ps ts r
 dots_from {text = text} {s = s} {o = o} {ps = ps} {r = r} e d = subst (λ (x : List Token). SpellsDots text s o ps x r) (sym e) d
 
-operand_from : {text : List ℕ} {s o : Bool} {p : PlainProcess} {ts us r : List Token} → ts ≡ us → SpellsOperand text s o p us r → SpellsOperand text s o p ts r
+pub operand_from : {text : List ℕ} {s o : Bool} {p : PlainProcess} {ts us r : List Token} → ts ≡ us → SpellsOperand text s o p us r → SpellsOperand text s o p ts r
 operand_from {text = text} {s = s} {o = o} {p = p} {r = r} e d = subst (λ (x : List Token). SpellsOperand text s o p x r) (sym e) d
 
-merge_from : {text : List ℕ} {o : Bool} {ps : List PlainProcess} {ts us r : List Token} → ts ≡ us → SpellsMerge text o ps us r → SpellsMerge text o ps ts r
+pub merge_from : {text : List ℕ} {o : Bool} {ps : List PlainProcess} {ts us r : List Token} → ts ≡ us → SpellsMerge text o ps us r → SpellsMerge text o ps ts r
 merge_from {text = text} {o = o} {ps = ps} {r = r} e d = subst (λ (x : List Token). SpellsMerge text o ps x r) (sym e) d
 
-choices_from : {text : List ℕ} {ps : List PlainProcess} {ts us r : List Token} → ts ≡ us → SpellsChoices text ps us r → SpellsChoices text ps ts r
+pub choices_from : {text : List ℕ} {ps : List PlainProcess} {ts us r : List Token} → ts ≡ us → SpellsChoices text ps us r → SpellsChoices text ps ts r
 choices_from {text = text} {ps = ps} {r = r} e d = subst (λ (x : List Token). SpellsChoices text ps x r) (sym e) d
 
 actions_from : {text : List ℕ} {ps : List PlainAction} {ts us r : List Token} → ts ≡ us → SpellsActions text ps us r → SpellsActions text ps ts r
 actions_from {text = text} {ps = ps} {r = r} e d = subst (λ (x : List Token). SpellsActions text ps x r) (sym e) d
 
-guard_once : {text : List ℕ} {c d : PlainData} {a b : Token} {ts us vs : List Token} → SpellsUnit text c ts (a ∷ us) → a.kind ≡ Arrow → SpellsUnit text d ts (b ∷ vs) → b.kind ≡ Arrow → (c ≡ d) × (us ≡ vs)
+pub guard_once : {text : List ℕ} {c d : PlainData} {a b : Token} {ts us vs : List Token} → SpellsUnit text c ts (a ∷ us) → a.kind ≡ Arrow → SpellsUnit text d ts (b ∷ vs) → b.kind ≡ Arrow → (c ≡ d) × (us ≡ vs)
 guard_once {a = a} {b = b} {us = us} {vs = vs} u h v k =
     let e = unit_once u v (stops_at Arrow (λ f. cc) refl 0 a us h) (stops_at Arrow (λ f. cc) refl 0 b vs k) in (e.0, tails e.1)
 

@@ -2,7 +2,7 @@
 
 ghost use Rattle.std.specs.Prelude.{◌≡◌, IfOk};
 ghost use Rattle.mcrl2_syntax.specs.Words.{word_of};
-ghost use Rattle.mcrl2_syntax.specs.SortTrees.{bool_sort, pos_sort, nat_sort, int_sort, list_sort, named_sort, brackets_sort, plain_sort};
+ghost use Rattle.mcrl2_syntax.specs.SortTrees.{bool_sort, pos_sort, nat_sort, int_sort, list_sort, named_sort, brackets_sort, plain_sort, sort_span};
 
 use crate::word::{Span, Word};
 use std::alloc::{AllocFailed, Global};
@@ -82,5 +82,20 @@ impl SortTree {
         ensures { IfOk result (λ tree. plain_sort tree ≡ brackets_sort span (plain_sort inner)) }
     {
         Ok(SortTree::Brackets(span, Box::new(alloc, inner)?))
+    }
+
+    /// Where the sort expression stands.
+    pub fn span(&self) -> Span
+        ensures { result ≡ sort_span (plain_sort self.now) }
+    {
+        match self {
+            SortTree::Bool(span) => *span,
+            SortTree::Pos(span) => *span,
+            SortTree::Nat(span) => *span,
+            SortTree::Int(span) => *span,
+            SortTree::List(span, _) => *span,
+            SortTree::Name(name) => name.span,
+            SortTree::Brackets(span, _) => *span,
+        }
     }
 }

@@ -5,7 +5,7 @@ use Rattle.mcrl2_parser.proofs.declaring.declarations.Goals.{in-Some+in_ok-push_
 
 pub loop-at-preserved : goal.loop-at-preserved
 loop-at-preserved c =
-    elim c.match-section_of.branch [
+    elim c.match-section_of_kind.branch [
       | in-Some+in_ok-push_left_over w ↦ at_word w.in-Some.next _ c.loop-at.invariant c.loop-at-test.true w.in-Some.ensures (rw w.list-is w.in_ok-push_left_over.ensures) w.section-is w.start-is
       | in_default+then-is_some+then-is_semicolon+in_ok-push w ↦
           at_end _ c.loop-at.invariant c.loop-at-test.true w.in_default.ensures (sym w.is_some.ensures ∙ w.if-is_some.true) w.if-is_semicolon.ensures (rw w.list-is w.in_ok-push.ensures.items) w.section-is w.start-is

@@ -1,0 +1,128 @@
+-- The operands of an expression join to what its tokens spell.
+use Rattle.std.proofs.Common.{◌≡◌, ℕ, zero, suc, ◌+◌, ◌<◌, List, [], ◌∷◌, ◌++◌, Some, nat_eq, reverse, refl, ap, sym, ◌∙◌, subst, add-one, arith}
+use Rattle.std.proofs.lemmas.Bool.{cond_both, eqb-true, eqb-false}
+use Rattle.std.proofs.lemmas.List.{reverse-append}
+use Rattle.mcrl2_lexer.specs.declared.token.Token.{Token}
+use Rattle.mcrl2_syntax.specs.declared.data_tree.InfixSign.{InfixSign}
+use Rattle.mcrl2_syntax.specs.declared.data_tree.DataTree.{DataTree}
+use Rattle.mcrl2_syntax.specs.DataTrees.{PlainData, Operand, plain_data, plain_operands}
+use Rattle.mcrl2_syntax.specs.InfixSigns.{infix_of, level_of, grouped}
+use Rattle.mcrl2_syntax.specs.SpelledData.{SpellsUnit, SpellsData, SpellsLevel, level_unit, level_chain, SpellsTail, tail_end, tail_more}
+use Rattle.mcrl2_parser.specs.Operands.{a_sign, SpellsOperands, operands_end, operands_more, with_operand, parted, joined_at, joined_up_to}
+use Rattle.mcrl2_parser.proofs.Operands.{some_level, greatest_level, pushed_operands}
+
+-- Operands in front of some that are parted already.
+abbrev pub parted_onto : ℕ → List Operand → List Operand × List Operand → List Operand × List Operand
+parted_onto k [] behind = behind
+parted_onto k (o ∷ os) behind = with_operand k o (parted_onto k os behind)
+
+parted_last : (k : ℕ) (os : List Operand) (o : Operand) (behind : List Operand × List Operand) → parted_onto k (os ++ o ∷ []) behind ≡ parted_onto k os (with_operand k o behind)
+parted_last k [] o behind = refl
+parted_last k (p ∷ os) o behind = ap (λ (x : List Operand × List Operand). with_operand k p x) (parted_last k os o behind)
+
+parted_whole : (k : ℕ) (os : List Operand) → parted_onto k os ([], []) ≡ parted k os
+parted_whole k [] = refl
+parted_whole k (o ∷ os) = ap (λ (x : List Operand × List Operand). with_operand k o x) (parted_whole k os)
+
+with_same : (k : ℕ) (o : Operand) (behind : List Operand × List Operand) → level_of o.0 ≡ k → with_operand k o behind ≡ (o ∷ behind.0, behind.1)
+with_same k o behind e =
+    cond_both (nat_eq (level_of o.0) k) (o ∷ behind.0, behind.1) ([], (o.0, grouped k o.1 behind.0) ∷ behind.1) (λ (x : List Operand × List Operand). x ≡ (o ∷ behind.0, behind.1))
+    (λ is. refl) (λ not_so. absurd (eqb-false (level_of o.0) k not_so e))
+
+with_other : (k : ℕ) (o : Operand) (behind : List Operand × List Operand) → (level_of o.0 ≡ k → ⊥) → with_operand k o behind ≡ ([], (o.0, grouped k o.1 behind.0) ∷ behind.1)
+with_other k o behind differs =
+    cond_both (nat_eq (level_of o.0) k) (o ∷ behind.0, behind.1) ([], (o.0, grouped k o.1 behind.0) ∷ behind.1)
+    (λ (x : List Operand × List Operand). x ≡ ([], (o.0, grouped k o.1 behind.0) ∷ behind.1)) (λ is. absurd (differs (eqb-true (level_of o.0) k is))) (λ not_so. refl)
+
+-- The last operands are parted, and stand in two lists, from the last one on.
+abbrev pub PartedSoFar : ℕ → List (InfixSign × DataTree) → List (InfixSign × DataTree) → List (InfixSign × DataTree) → List (InfixSign × DataTree) → Type 0
+PartedSoFar k all left run others = parted_onto k (plain_operands left) (plain_operands (reverse run), plain_operands (reverse others)) ≡ parted k (plain_operands all)
+
+pub parted_begins : (k : ℕ) (all : List (InfixSign × DataTree)) → PartedSoFar k all all [] []
+parted_begins k all = parted_whole k (plain_operands all)
+
+reversed : (xs : List (InfixSign × DataTree)) (x : InfixSign × DataTree) → reverse (xs ++ x ∷ []) ≡ x ∷ reverse xs
+reversed xs x = reverse-append xs (x ∷ [])
+
+pub parted_joins : (k : ℕ) (all left rest run longer others : List (InfixSign × DataTree)) (sign : InfixSign) (tree : DataTree) → PartedSoFar k all left run others → left ≡ rest ++ (sign, tree) ∷ []
+    → level_of sign ≡ k → longer ≡ run ++ (sign, tree) ∷ [] → PartedSoFar k all rest longer others
+parted_joins k all left rest run longer others sign tree so e is pushed =
+    ap (λ (x : List (InfixSign × DataTree)). parted_onto k (plain_operands rest) (plain_operands x, plain_operands (reverse others))) (ap reverse pushed ∙ reversed run (sign, tree))
+    ∙ ap (λ (x : List Operand × List Operand). parted_onto k (plain_operands rest) x)
+    (sym (with_same k (sign, plain_data tree) (plain_operands (reverse run), plain_operands (reverse others)) is))
+    ∙ sym (parted_last k (plain_operands rest) (sign, plain_data tree) (plain_operands (reverse run), plain_operands (reverse others)))
+    ∙ ap (λ (x : List Operand). parted_onto k x (plain_operands (reverse run), plain_operands (reverse others))) (sym (ap plain_operands e ∙ pushed_operands rest sign tree))
+    ∙ so
+
+pub parted_ends : (k : ℕ) (all left rest run turned others longer : List (InfixSign × DataTree)) (sign : InfixSign) (tree whole : DataTree) → PartedSoFar k all left run others
+    → left ≡ rest ++ (sign, tree) ∷ [] → (level_of sign ≡ k → ⊥) → turned ≡ reverse run → plain_data whole ≡ grouped k (plain_data tree) (plain_operands turned)
+    → longer ≡ others ++ (sign, whole) ∷ [] → PartedSoFar k all rest [] longer
+parted_ends k all left rest run turned others longer sign tree whole so e differs turns is pushed =
+    ap (λ (x : List (InfixSign × DataTree)). parted_onto k (plain_operands rest) ([], plain_operands x)) (ap reverse pushed ∙ reversed others (sign, whole))
+    ∙ ap (λ (x : PlainData). parted_onto k (plain_operands rest) ([], (sign, x) ∷ plain_operands (reverse others))) (is ∙ ap (λ (x : List (InfixSign × DataTree)). grouped k (plain_data tree) (plain_operands x)) turns)
+    ∙ ap (λ (x : List Operand × List Operand). parted_onto k (plain_operands rest) x)
+    (sym (with_other k (sign, plain_data tree) (plain_operands (reverse run), plain_operands (reverse others)) differs))
+    ∙ sym (parted_last k (plain_operands rest) (sign, plain_data tree) (plain_operands (reverse run), plain_operands (reverse others)))
+    ∙ ap (λ (x : List Operand). parted_onto k x (plain_operands (reverse run), plain_operands (reverse others))) (sym (ap plain_operands e ∙ pushed_operands rest sign tree))
+    ∙ so
+
+-- One level more.
+pub joined_none : (x : PlainData × List Operand) → x ≡ joined_up_to 0 x
+unfolding joined_up_to
+joined_none x = refl
+
+pub joined_more : (k : ℕ) (x y z : PlainData × List Operand) → y ≡ joined_up_to k x → z ≡ joined_at (k + 1) y → z ≡ joined_up_to (k + 1) x
+unfolding joined_up_to
+joined_more k x y z e f = f ∙ rw add-one (ap (λ (w : PlainData × List Operand). joined_at (suc k) w) e)
+
+-- Operands of a level, each behind a looser sign.
+data SpellsAbove (text : List ℕ) (k : ℕ) : List Operand → List Token → List Token → Type 0 where
+  above_end : {r : List Token} → SpellsAbove text k [] r r
+  above_more : {sign : InfixSign} {d : PlainData} {os : List Operand} {t : Token} {ts us r : List Token} → infix_of t.kind ≡ Some sign → k < level_of sign → SpellsLevel text k d ts us
+      → SpellsAbove text k os us r → SpellsAbove text k ((sign, d) ∷ os) (t ∷ ts) r
+
+above_units : {text : List ℕ} {os : List Operand} {ts r : List Token} → SpellsOperands text os ts r → SpellsAbove text 0 os ts r
+above_units operands_end = above_end
+above_units (operands_more {sign = sign} (a_sign h) a b) = above_more h (some_level sign) (level_unit a) (above_units b)
+
+-- behind the greatest level stands no sign
+nothing_above : {text : List ℕ} {os : List Operand} {ts r : List Token} → SpellsAbove text 11 os ts r → ts ≡ r
+nothing_above above_end = refl
+nothing_above (above_more {sign = sign} h less a b) = absurd (omega (arith, less, greatest_level sign))
+
+record SpellsParted (text : List ℕ) (k : ℕ) (both : List Operand × List Operand) (ts r : List Token) : Type 0 where
+  pub between : List Token
+  pub run : SpellsTail text k both.0 ts between
+  pub others : SpellsAbove text (suc k) both.1 between r
+
+parted_more : {text : List ℕ} {k : ℕ} {sign : InfixSign} {d : PlainData} {both : List Operand × List Operand} {t : Token} {ts us r : List Token} → infix_of t.kind ≡ Some sign → k < level_of sign
+    → SpellsLevel text k d ts us → SpellsParted text k both us r → SpellsParted text k (with_operand (suc k) (sign, d) both) (t ∷ ts) r
+parted_more {text = text} {k = k} {sign = sign} {d = d} {both = both} {t = t} {ts = ts} {r = r} h less a b =
+    cond_both (nat_eq (level_of sign) (suc k)) ((sign, d) ∷ both.0, both.1) ([], (sign, grouped (suc k) d both.0) ∷ both.1) (λ (x : List Operand × List Operand). SpellsParted text k x (t ∷ ts) r)
+    (λ is. record { between = b.between; run = tail_more h (eqb-true (level_of sign) (suc k) is) a b.run; others = b.others })
+    (λ not_so.
+    let differs : level_of sign ≡ suc k → ⊥ = eqb-false (level_of sign) (suc k) not_so in
+    record { between = t ∷ ts; run = tail_end; others = above_more h (omega (arith, less, differs)) (level_chain a b.run) b.others })
+
+parted_spells : {text : List ℕ} {k : ℕ} {os : List Operand} {ts r : List Token} → SpellsAbove text k os ts r → SpellsParted text k (parted (suc k) os) ts r
+parted_spells (above_end {r = r}) = record { between = r; run = tail_end; others = above_end }
+parted_spells (above_more h less a b) = parted_more h less a (parted_spells b)
+
+record SpellsJoined (text : List ℕ) (k : ℕ) (x : PlainData × List Operand) (ts r : List Token) : Type 0 where
+  pub between : List Token
+  pub first : SpellsLevel text k x.0 ts between
+  pub others : SpellsAbove text k x.1 between r
+
+joined_spells_at : {text : List ℕ} {k : ℕ} {x : PlainData × List Operand} {ts r : List Token} → SpellsJoined text k x ts r → SpellsJoined text (suc k) (joined_at (suc k) x) ts r
+joined_spells_at b = let p = parted_spells b.others in record { between = p.between; first = level_chain b.first p.run; others = p.others }
+
+joined_spells : {text : List ℕ} {d : PlainData} {os : List Operand} {ts us r : List Token} (k : ℕ) → SpellsUnit text d ts us → SpellsOperands text os us r → SpellsJoined text k (joined_up_to k (d, os)) ts r
+unfolding joined_up_to
+joined_spells {us = us} zero a b = record { between = us; first = level_unit a; others = above_units b }
+joined_spells (suc k) a b = joined_spells_at (joined_spells k a b)
+
+-- a unit and its operands spell the expression that they join to
+pub data_found : {text : List ℕ} {x d : PlainData} {os : List Operand} {ts us r : List Token} → x ≡ (joined_up_to 11 (d, os)).0 → SpellsUnit text d ts us → SpellsOperands text os us r → SpellsData text x ts r
+data_found {text = text} {d = d} {os = os} {ts = ts} {r = r} is a b =
+    let whole = joined_spells 11 a b in
+    subst (λ (y : PlainData). SpellsData text y ts r) (sym is) (subst (λ (y : List Token). SpellsLevel text 11 (joined_up_to 11 (d, os)).0 ts y) (nothing_above whole.others) whole.first)

@@ -1,0 +1,161 @@
+use Rattle.std.proofs.Common.{arith, map, refl, sym, ◌∙◌}
+use Rattle.std.proofs.lemmas.Result.{IfOk-weaker, err_from_is_err_and}
+use Rattle.std.proofs.lemmas.Grind.{common_steps}
+use Rattle.mcrl2_lexer.specs.declared.kind.Kind.TheVariants.{Sum}
+use Rattle.mcrl2_syntax.specs.ProcessTrees.{plain_process}
+use Rattle.mcrl2_syntax.specs.SpelledProcesses.{SpellsMerge}
+use Rattle.mcrl2_parser.specs.ProcessReading.{finds_last, finds_atom}
+use Rattle.mcrl2_parser.proofs.ChainLeft.{chain_goes_on, shorter_behind}
+use Rattle.mcrl2_parser.proofs.ProcessChains.{IsChoices, EndsChoices, EndsMerge, IsParts, EndsParts, next_choice, choices_err, choices_found, choices_only, next_operand, merge_err, merge_found, merge_only, next_part, parts_err, parts_found, parts_only}
+use Rattle.mcrl2_parser.proofs.Conditions.{between, of_sum, dot_err, last_is_sum, last_is_cond, no_last, no_atom, no_sum, sum_found, sum_only, of_guard, then_err, then_only, then_found, else_err, else_only, else_found}
+use Rattle.mcrl2_parser.proofs.Atoms.{atom_step, by_delta, by_brackets, by_operator, of_brackets, of_operator, of_step, inner_err, close_err, brackets_only, around_err, shut_err, operator_only, is_operation}
+use Rattle.mcrl2_parser.proofs.ProcessGuards.{begun, unbegun}
+use Rattle.mcrl2_parser.proofs.processes.+process.Goals as goal
+
+pub process-returns-in_err-part-clause-only : goal.process-returns-in_err-part-clause-only
+process-returns-in_err-part-clause-only t c = λ p r a e. let x = err_from_is_err_and c.from_residual.result c.from_residual.ensures.1 in
+    rw x.1 (x.2 ∙ choices_err _ c.loop-parts.invariant c.in_err-part.ensures.only a e)
+
+pub process-returns-in_default-clause-found : goal.process-returns-in_default-clause-found
+process-returns-in_default-clause-found t c = choices_found {all = map plain_process c.push.new.self.items} c.loop-parts.invariant c.in_ok-part.ensures.found (grind (arith, common_steps)) c.in_choice.ensures
+
+pub process-returns-in_default-clause-only : goal.process-returns-in_default-clause-only
+process-returns-in_default-clause-only t c =
+    λ p r. choices_only {all = map plain_process c.push.new.self.items} c.loop-parts.invariant c.in_ok-part.ensures.only (c.in_default.ensures.none refl) (grind (arith, common_steps)) c.in_choice.ensures
+
+pub process-loop-parts-preserved : goal.process-loop-parts-preserved
+process-loop-parts-preserved t c =
+    chain_goes_on (IsChoices c.args.text.now) EndsChoices c.loop-parts.invariant (next_choice c.in_ok-part.ensures.found c.in_ok-part.ensures.only c.in-Ok.ensures.found.0 c.in-Ok.ensures.found.1)
+    (shorter_behind c.in_ok-part.ensures.shorter c.in-Ok.ensures.found.0) (grind (arith, common_steps))
+
+pub merge-returns-in_err-part-clause-only : goal.merge-returns-in_err-part-clause-only
+merge-returns-in_err-part-clause-only t c = λ o ps r a f s. let x = err_from_is_err_and c.from_residual.result c.from_residual.ensures.1 in
+    rw x.1 (x.2 ∙ merge_err _ c.loop-parts.invariant c.in_err-part.ensures.only a f s)
+
+pub merge-returns-in_default-clause-found : goal.merge-returns-in_default-clause-found
+merge-returns-in_default-clause-found t c = merge_found {all = map plain_process c.push.new.self.items} c.loop-parts.invariant c.in_ok-part.ensures.found (c.in_default.ensures.none refl) (grind (arith, common_steps)) c.in_parallel.ensures
+
+pub merge-returns-in_default-clause-only : goal.merge-returns-in_default-clause-only
+merge-returns-in_default-clause-only t c =
+    λ o ps r. merge_only {all = map plain_process c.push.new.self.items} c.loop-parts.invariant c.in_ok-part.ensures.only (c.in_default.ensures.none refl) (grind (arith, common_steps)) c.in_parallel.ensures
+
+pub merge-loop-parts-preserved : goal.merge-loop-parts-preserved
+merge-loop-parts-preserved t c =
+    chain_goes_on (SpellsMerge c.args.text.now) EndsMerge c.loop-parts.invariant (next_operand c.in_ok-part.ensures.found c.in_ok-part.ensures.only c.in-Ok.ensures.found.0 c.in-Ok.ensures.found.1)
+    (shorter_behind c.in_ok-part.ensures.shorter c.in-Ok.ensures.found.0) (grind (arith, common_steps))
+
+pub operand-returns-in_err-part-clause-only : goal.operand-returns-in_err-part-clause-only
+operand-returns-in_err-part-clause-only t c = λ s o p r a f k. let x = err_from_is_err_and c.from_residual.result c.from_residual.ensures.1 in
+    rw x.1 (x.2 ∙ parts_err _ c.loop-parts.invariant c.in_err-part.ensures.last c.in_err-part.ensures.atom a f k)
+
+pub operand-returns-in_default-clause-found : goal.operand-returns-in_default-clause-found
+operand-returns-in_default-clause-found t c = parts_found {all = map plain_process c.push.new.self.items} c.loop-parts.invariant c.in_ok-part.ensures.found (c.in_default.ensures.none refl) (grind (arith, common_steps)) c.in_sequence.ensures
+
+pub operand-returns-in_default-clause-only : goal.operand-returns-in_default-clause-only
+operand-returns-in_default-clause-only t c =
+    λ s o p r. parts_only {all = map plain_process c.push.new.self.items} c.loop-parts.invariant c.in_ok-part.ensures.last c.in_ok-part.ensures.atom (c.in_default.ensures.none refl) (grind (arith, common_steps)) c.in_sequence.ensures
+
+pub operand-loop-parts-preserved : goal.operand-loop-parts-preserved
+operand-loop-parts-preserved t c =
+    chain_goes_on (IsParts c.args.text.now) EndsParts c.loop-parts.invariant (next_part c.in_ok-part.ensures.found c.in_ok-part.ensures.last c.in_ok-part.ensures.atom c.in-Ok.ensures.found.0 c.in-Ok.ensures.found.1)
+    (shorter_behind c.in_ok-part.ensures.shorter c.in-Ok.ensures.found.0) (grind (arith, common_steps))
+
+pub part-returns-then-is_ok-clause-found : goal.part-returns-then-is_ok-clause-found
+part-returns-then-is_ok-clause-found t c = IfOk-weaker _ _ _ (λ x a. finds_last a) c.sum.ensures.found
+
+pub part-returns-then-is_ok-clause-last : goal.part-returns-then-is_ok-clause-last
+part-returns-then-is_ok-clause-last t c = λ s o p r a f k. let x = last_is_sum (begun Sum c.args.tokens.now c.expect.result c.expect.ensures.found (sym c.is_ok.ensures.value ∙ c.if-is_ok.true)) a k in c.sum.ensures.only o p r x.0 f x.1
+
+pub part-returns-then-is_ok-clause-atom : goal.part-returns-then-is_ok-clause-atom
+part-returns-then-is_ok-clause-atom t c = λ p r a n b. absurd (no_sum (begun Sum c.args.tokens.now c.expect.result c.expect.ensures.found (sym c.is_ok.ensures.value ∙ c.if-is_ok.true)) a)
+
+pub part-returns-in-Some-clause-found : goal.part-returns-in-Some-clause-found
+part-returns-in-Some-clause-found t c = let g = rw c.in-Some.is at c.in_ok-guard.ensures.found in IfOk-weaker _ _ _ (λ x a. finds_last (a c.args.tokens.now g)) c.condition.ensures.found
+
+pub part-returns-in-Some-clause-last : goal.part-returns-in-Some-clause-last
+part-returns-in-Some-clause-last t c = let g = rw c.in-Some.is at c.in_ok-guard.ensures.found in λ s o p r a f k. c.condition.ensures.only c.args.tokens.now s o p r g (last_is_cond g a) f k
+
+pub part-returns-in-Some-clause-atom : goal.part-returns-in-Some-clause-atom
+part-returns-in-Some-clause-atom t c = let g = rw c.in-Some.is at c.in_ok-guard.ensures.found in λ p r a n b. absurd (no_atom g a n b)
+
+pub part-returns-in-None-clause-found : goal.part-returns-in-None-clause-found
+part-returns-in-None-clause-found t c = IfOk-weaker _ _ _ (λ x a. finds_atom a) c.atom.ensures.found
+
+pub part-returns-in-None-clause-last : goal.part-returns-in-None-clause-last
+part-returns-in-None-clause-last t c = λ s o p r a f k. absurd (no_last (unbegun Sum c.args.tokens.now c.expect.result c.expect.ensures.none (sym c.is_ok.ensures.value ∙ c.if-is_ok.false))
+    (λ d us g. rw c.in-None.is at (c.in_ok-guard.ensures.only d us g)) a)
+
+pub sum-returns-in_err-rest-clause-only : goal.sum-returns-in_err-rest-clause-only
+sum-returns-in_err-rest-clause-only t c = λ o p r a f k. absurd (dot_err c.in_ok-variables.ensures.only (c.in_err-rest.ensures.none refl) (of_sum c.in_ok-word.ensures.found.0 a))
+
+pub sum-returns-clause-found : goal.sum-returns-clause-found
+sum-returns-clause-found t c = sum_found c.in_ok-tree.ensures (between c.joined_spans-span.ensures c.token_span.ensures c.span.ensures) c.in_ok-word.ensures.found.0 c.in_ok-word.ensures.found.1 c.in_ok-variables.ensures.found c.in_ok-rest.ensures.found.0 c.in_ok-rest.ensures.found.1 c.in_ok-inner.ensures.found
+
+pub sum-returns-clause-only : goal.sum-returns-clause-only
+sum-returns-clause-only t c = λ o p r a f k. sum_only c.in_ok-tree.ensures (between c.joined_spans-span.ensures c.token_span.ensures c.span.ensures) c.in_ok-variables.ensures.only c.in_ok-rest.ensures.found.0 c.in_ok-inner.ensures.only (of_sum c.in_ok-word.ensures.found.0 a) f k
+
+pub condition-returns-in_err-then-clause-only : goal.condition-returns-in_err-then-clause-only
+condition-returns-in_err-then-clause-only t c = λ ts s o p r g a f k. let x = err_from_is_err_and c.from_residual.result c.from_residual.ensures.1 in
+    rw x.1 (x.2 ∙ then_err _ c.in_err-then.ensures.only (of_guard g a) f k)
+
+pub condition-returns-in_err-other-in-Ok-clause-only : goal.condition-returns-in_err-other-in-Ok-clause-only
+condition-returns-in_err-other-in-Ok-clause-only t c = λ ts s o p r g a f k. let x = err_from_is_err_and c.from_residual-in_err-other-in-Ok.result c.from_residual-in_err-other-in-Ok.ensures.1 in
+    rw x.1 (x.2 ∙ else_err _ c.in_ok-then.ensures.only c.in-Ok.ensures.found.0 c.in-Ok.ensures.found.1 c.in_err-other-in-Ok.ensures.only (of_guard g a) f k)
+
+pub condition-returns-in_ok-tree-in-Ok-clause-found : goal.condition-returns-in_ok-tree-in-Ok-clause-found
+condition-returns-in_ok-tree-in-Ok-clause-found t c = λ ts g. else_found g c.in_ok-then.ensures.found c.in-Ok.ensures.found.0 c.in-Ok.ensures.found.1 c.in_ok-other-in-Ok.ensures.found c.in_ok-tree-in-Ok.ensures (between c.joined_spans-span.ensures c.span.ensures c.span-in-Ok.ensures)
+
+pub condition-returns-in_ok-tree-in-Ok-clause-only : goal.condition-returns-in_ok-tree-in-Ok-clause-only
+condition-returns-in_ok-tree-in-Ok-clause-only t c = λ ts s o p r g a f k. else_only c.in_ok-then.ensures.only c.in-Ok.ensures.found.0 c.in-Ok.ensures.found.1 c.in_ok-other-in-Ok.ensures.only c.in_ok-tree-in-Ok.ensures (between c.joined_spans-span.ensures c.span.ensures c.span-in-Ok.ensures) (of_guard g a) f k
+
+pub condition-returns-in_ok-tree-in-Err-clause-found : goal.condition-returns-in_ok-tree-in-Err-clause-found
+condition-returns-in_ok-tree-in-Err-clause-found t c = λ ts g. then_found g c.in_ok-then.ensures.found (c.in-Err.ensures.none refl) c.in_ok-tree-in-Err.ensures (between c.joined_spans-span-in-Err.ensures c.span-in-Err.ensures c.span-in-Err-2.ensures)
+
+pub condition-returns-in_ok-tree-in-Err-clause-only : goal.condition-returns-in_ok-tree-in-Err-clause-only
+condition-returns-in_ok-tree-in-Err-clause-only t c = λ ts s o p r g a f k. then_only c.in_ok-then.ensures.only (c.in-Err.ensures.none refl) c.in_ok-tree-in-Err.ensures (between c.joined_spans-span-in-Err.ensures c.span-in-Err.ensures c.span-in-Err-2.ensures) (of_guard g a) f k
+
+pub atom-returns-in-Delta-clause-found : goal.atom-returns-in-Delta-clause-found
+atom-returns-in-Delta-clause-found t c = by_delta c.delta_at.ensures c.token_span.ensures c.in_ok-first.ensures.found c.in-Delta.is
+
+pub atom-returns-in_err-inner-in-LeftParen-clause-only : goal.atom-returns-in_err-inner-in-LeftParen-clause-only
+atom-returns-in_err-inner-in-LeftParen-clause-only t c = λ p r a n. let x = err_from_is_err_and c.from_residual-in_err-inner-in-LeftParen.result c.from_residual-in_err-inner-in-LeftParen.ensures.1 in
+    rw x.1 (x.2 ∙ inner_err _ c.in_err-inner-in-LeftParen.ensures.only (of_brackets c.in_ok-first.ensures.found c.in-LeftParen.is a))
+
+pub atom-returns-in_err-close-in-LeftParen-clause-only : goal.atom-returns-in_err-close-in-LeftParen-clause-only
+atom-returns-in_err-close-in-LeftParen-clause-only t c = λ p r a n. absurd (close_err c.in_ok-inner-in-LeftParen.ensures.only (c.in_err-close-in-LeftParen.ensures.none refl) (of_brackets c.in_ok-first.ensures.found c.in-LeftParen.is a))
+
+pub atom-returns-in_ok-tree-in-LeftParen-clause-found : goal.atom-returns-in_ok-tree-in-LeftParen-clause-found
+atom-returns-in_ok-tree-in-LeftParen-clause-found t c =
+    by_brackets c.in_ok-tree-in-LeftParen.ensures c.token_span-in-LeftParen.ensures c.in_ok-first.ensures.found c.in-LeftParen.is c.in_ok-inner-in-LeftParen.ensures.found c.in_ok-close-in-LeftParen.ensures.found.0 c.in_ok-close-in-LeftParen.ensures.found.1
+
+pub atom-returns-in_ok-tree-in-LeftParen-clause-only : goal.atom-returns-in_ok-tree-in-LeftParen-clause-only
+atom-returns-in_ok-tree-in-LeftParen-clause-only t c = λ p r a n. brackets_only c.in_ok-tree-in-LeftParen.ensures c.token_span-in-LeftParen.ensures c.in_ok-inner-in-LeftParen.ensures.only c.in_ok-close-in-LeftParen.ensures.found.0
+    (of_brackets c.in_ok-first.ensures.found c.in-LeftParen.is a)
+
+pub atom-returns-in_err-operator-in-Allow-clause-only : goal.atom-returns-in_err-operator-in-Allow-clause-only
+atom-returns-in_err-operator-in-Allow-clause-only t c = λ p r a n. let x = err_from_is_err_and c.from_residual-in_err-operator-in-Allow.result c.from_residual-in_err-operator-in-Allow.ensures.1 in
+    let o = of_operator c.in_ok-first.ensures.found (is_operation c.in-Allow.is) a in
+    rw x.1 (x.2 ∙ c.in_err-operator-in-Allow.ensures.only o.operation o.behind o.operator)
+
+pub atom-returns-in_err-inner-in-Allow-clause-only : goal.atom-returns-in_err-inner-in-Allow-clause-only
+atom-returns-in_err-inner-in-Allow-clause-only t c = λ p r a n. let x = err_from_is_err_and c.from_residual-in_err-inner-in-Allow.result c.from_residual-in_err-inner-in-Allow.ensures.1 in
+    rw x.1 (x.2 ∙ around_err _ c.in_ok-operator-in-Allow.ensures.only c.in_err-inner-in-Allow.ensures.only (of_operator c.in_ok-first.ensures.found (is_operation c.in-Allow.is) a))
+
+pub atom-returns-in_err-close-in-Allow-clause-only : goal.atom-returns-in_err-close-in-Allow-clause-only
+atom-returns-in_err-close-in-Allow-clause-only t c = λ p r a n. absurd (shut_err c.in_ok-operator-in-Allow.ensures.only c.in_ok-inner-in-Allow.ensures.only (c.in_err-close-in-Allow.ensures.none refl)
+    (of_operator c.in_ok-first.ensures.found (is_operation c.in-Allow.is) a))
+
+pub atom-returns-in_ok-tree-in-Allow-clause-found : goal.atom-returns-in_ok-tree-in-Allow-clause-found
+atom-returns-in_ok-tree-in-Allow-clause-found t c =
+    by_operator c.in_ok-tree-in-Allow.ensures.around c.token_span-in-Allow.ensures c.in_ok-first.ensures.found c.in_ok-operator-in-Allow.ensures.found c.in_ok-inner-in-Allow.ensures.found c.in_ok-close-in-Allow.ensures.found.0 c.in_ok-close-in-Allow.ensures.found.1
+
+pub atom-returns-in_ok-tree-in-Allow-clause-only : goal.atom-returns-in_ok-tree-in-Allow-clause-only
+atom-returns-in_ok-tree-in-Allow-clause-only t c = λ p r a n. operator_only c.in_ok-tree-in-Allow.ensures.around c.token_span-in-Allow.ensures c.in_ok-operator-in-Allow.ensures.only c.in_ok-inner-in-Allow.ensures.only c.in_ok-close-in-Allow.ensures.found.0
+    (of_operator c.in_ok-first.ensures.found (is_operation c.in-Allow.is) a)
+
+pub atom-returns-in_default : goal.atom-returns-in_default
+atom-returns-in_default t c = record {
+  shorter = c.step.ensures.shorter;
+  found = IfOk-weaker _ _ _ (λ x a. atom_step a) c.step.ensures.found;
+  only = λ p r a n. c.step.ensures.only p r (of_step c.in_ok-first.ensures.found c.in_default.not-Delta c.in_default.not-LeftParen c.in_default.not-Allow c.in_default.not-Block c.in_default.not-Hide c.in_default.not-Rename c.in_default.not-Comm a) n;
+}

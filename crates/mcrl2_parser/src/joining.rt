@@ -1,0 +1,72 @@
+//! The operands of all levels in one tree.
+
+ghost use Rattle.std.specs.Prelude.{◌≡◌, IfErr, IfOk};
+ghost use Rattle.mcrl2_syntax.specs.DataTrees.{plain_data, plain_operands};
+ghost use Rattle.mcrl2_parser.specs.Operands.{parted, joined_at, joined_up_to};
+
+use crate::grouping::grouped;
+use crate::words::Fault;
+use mcrl2_syntax::{DataTree, InfixSign, sign_level};
+use std::alloc::Global;
+
+// The operands that signs of the level join to what stands in front of them all, and the others, each with those that such
+// signs join to it.
+fn parted(
+    alloc: Global,
+    level: u8,
+    operands: Vec<(InfixSign, DataTree)>,
+) -> Result<(Vec<(InfixSign, DataTree)>, Vec<(InfixSign, DataTree)>), Fault>
+    ensures parted { IfOk result (λ x. (plain_operands x.0.items, plain_operands x.1.items) ≡ parted level (plain_operands operands.items)) }
+    ensures no_memory { IfErr result (λ e. e ≡ Fault.NoMemory) }
+{
+    let mut operands = operands;
+    let mut run = Vec::new(alloc);
+    let mut others = Vec::new(alloc);
+    while let Some((sign, operand)) = operands.pop() {
+        if sign_level(sign) == level {
+            run.push((sign, operand))?;
+            continue;
+        }
+        run.reverse();
+        let tree = grouped(alloc, level, operand, run)?;
+        others.push((sign, tree))?;
+        run = Vec::new(alloc);
+    }
+    run.reverse();
+    others.reverse();
+    Ok((run, others))
+}
+
+// The first operand and the further ones, where the signs of the level have joined theirs.
+fn joined_at(
+    alloc: Global,
+    level: u8,
+    first: DataTree,
+    operands: Vec<(InfixSign, DataTree)>,
+) -> Result<(DataTree, Vec<(InfixSign, DataTree)>), Fault>
+    ensures joined { IfOk result (λ x. (plain_data x.0, plain_operands x.1.items) ≡ joined_at level (plain_data first, plain_operands operands.items)) }
+    ensures no_memory { IfErr result (λ e. e ≡ Fault.NoMemory) }
+{
+    let (run, others) = parted(alloc, level, operands)?;
+    let tree = grouped(alloc, level, first, run)?;
+    Ok((tree, others))
+}
+
+/// The first operand and the further ones in one tree, joined from the tightest level on.
+pub fn joined(
+    alloc: Global,
+    first: DataTree,
+    operands: Vec<(InfixSign, DataTree)>,
+) -> Result<DataTree, Fault>
+    ensures tree { IfOk result (λ tree. plain_data tree ≡ (joined_up_to 11 (plain_data first, plain_operands operands.items)).0) }
+    ensures no_memory { IfErr result (λ e. e ≡ Fault.NoMemory) }
+{
+    let mut tree = first;
+    let mut further = operands;
+    for below in 0..11 {
+        let (joined, others) = joined_at(alloc, below + 1, tree, further)?;
+        tree = joined;
+        further = others;
+    }
+    Ok(tree)
+}

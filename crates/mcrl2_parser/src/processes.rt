@@ -1,0 +1,225 @@
+//! The readers of process terms.
+//!
+//! Each reads as far as it can. So an operand in front of `||` never ends in a sum, nor one in front of `<>` in a condition
+//! without an else part: such a sum or condition would have read on.
+
+ghost use Rattle.std.specs.Prelude.{◌≡◌, ◌<◌, Bool, true, List, IfOk, MatchResult, length};
+ghost use Rattle.mcrl2_lexer.specs.declared.token.Token.{Token};
+ghost use Rattle.mcrl2_syntax.specs.Words.{Begins};
+ghost use Rattle.mcrl2_syntax.specs.DataTrees.{plain_data};
+ghost use Rattle.mcrl2_syntax.specs.ProcessTrees.{PlainProcess, plain_process};
+ghost use Rattle.mcrl2_syntax.specs.Follow.{NoAction, Follows, Stays, Ends};
+ghost use Rattle.mcrl2_syntax.specs.SpelledProcesses.{merged, SpellsAtom, SpellsOperand, SpellsSum, SpellsCond, SpellsMerge, SpellsProcess};
+ghost use Rattle.mcrl2_parser.specs.ProcessReading.{SpellsStep, SpellsGuard, SpellsLast, FindsLast, FindsPart, FindsOperand, FindsMerge};
+
+use crate::chains::{in_choice, in_parallel, in_sequence, in_step};
+use crate::guards::{begins_call, guard};
+use crate::operator_parts::operator;
+use crate::parts::{call, label, vars};
+use crate::words::{Fault, expect, next};
+use mcrl2_lexer::{Kind, Token};
+use mcrl2_syntax::{DataTree, ProcTree, joined_spans, token_span};
+use std::alloc::Global;
+
+/// The process term that a front of the tokens spells, and the rest.
+///
+/// The rules are those of the mCRL2 language reference: `+` binds least, then `sum`, then `||`, then `->` with its `<>`, and `.`
+/// most.
+///
+/// # Errors
+///
+/// `Syntax` only where no front of the tokens spells a term with none of `.`, `->`, `(`, `|`, `+`, `||` and `<>` behind it,
+/// `NoMemory` where no memory is left.
+#[cycle(process)]
+pub fn process<'a>(
+    alloc: Global,
+    text: &[u8],
+    tokens: &'a [Token],
+) -> Result<(ProcTree, &'a [Token]), Fault>
+    ensures shorter { IfOk result (λ x. length x.1.now < length tokens.now) }
+    ensures found { IfOk result (λ x. SpellsProcess text.now (plain_process x.0) tokens.now x.1.now) }
+    ensures only { (p : PlainProcess) (r : List Token) → SpellsProcess text.now p tokens.now r → Ends r
+        → MatchResult result (λ x. (plain_process x.0 ≡ p) × (x.1.now ≡ r)) (λ e. e ≡ Fault.NoMemory) }
+{
+    let mut parts = Vec::new(alloc);
+    let mut rest = tokens;
+    loop {
+        let (part, end) = merge(alloc, text, rest)?;
+        parts.push(part)?;
+        let Ok((_, after)) = expect(end, Kind::Plus) else {
+            return Ok((in_choice(parts), end));
+        };
+        rest = after;
+    }
+}
+
+// The operands with `||` between them that a front of the tokens spells, and the rest.
+#[cycle(process)]
+fn merge<'a>(
+    alloc: Global,
+    text: &[u8],
+    tokens: &'a [Token],
+) -> Result<(ProcTree, &'a [Token]), Fault>
+    ensures shorter { IfOk result (λ x. length x.1.now < length tokens.now) }
+    ensures found { IfOk result (λ x. FindsMerge text.now (plain_process x.0) tokens.now x.1.now) }
+    ensures only { (o : Bool) (ps : List PlainProcess) (r : List Token) → SpellsMerge text.now o ps tokens.now r → Follows r → Stays true o r
+        → MatchResult result (λ x. (plain_process x.0 ≡ merged ps) × (x.1.now ≡ r)) (λ e. e ≡ Fault.NoMemory) }
+{
+    let mut parts = Vec::new(alloc);
+    let mut rest = tokens;
+    loop {
+        let (part, end) = operand(alloc, text, rest)?;
+        parts.push(part)?;
+        let Ok((_, after)) = expect(end, Kind::BarBar) else {
+            return Ok((in_parallel(parts), end));
+        };
+        rest = after;
+    }
+}
+
+// The operand of `||` that a front of the tokens spells, and the rest.
+#[cycle(process)]
+fn operand<'a>(
+    alloc: Global,
+    text: &[u8],
+    tokens: &'a [Token],
+) -> Result<(ProcTree, &'a [Token]), Fault>
+    ensures shorter { IfOk result (λ x. length x.1.now < length tokens.now) }
+    ensures found { IfOk result (λ x. FindsOperand text.now (plain_process x.0) tokens.now x.1.now) }
+    ensures only { (s o : Bool) (p : PlainProcess) (r : List Token) → SpellsOperand text.now s o p tokens.now r → Follows r → Stays s o r
+        → MatchResult result (λ x. (plain_process x.0 ≡ p) × (x.1.now ≡ r)) (λ e. e ≡ Fault.NoMemory) }
+{
+    let mut parts = Vec::new(alloc);
+    let mut rest = tokens;
+    loop {
+        let (part, end) = part(alloc, text, rest)?;
+        parts.push(part)?;
+        let Ok((_, after)) = expect(end, Kind::Dot) else {
+            return Ok((in_sequence(parts), end));
+        };
+        rest = after;
+    }
+}
+
+// The part of a sequence that a front of the tokens spells, and the rest.
+#[cycle(process)]
+fn part<'a>(
+    alloc: Global,
+    text: &[u8],
+    tokens: &'a [Token],
+) -> Result<(ProcTree, &'a [Token]), Fault>
+    ensures shorter { IfOk result (λ x. length x.1.now < length tokens.now) }
+    ensures found { IfOk result (λ x. FindsPart text.now (plain_process x.0) tokens.now x.1.now) }
+    ensures last { (s o : Bool) (p : PlainProcess) (r : List Token) → SpellsLast text.now s o p tokens.now r → Follows r → Stays s o r
+        → MatchResult result (λ x. (plain_process x.0 ≡ p) × (x.1.now ≡ r)) (λ e. e ≡ Fault.NoMemory) }
+    ensures atom { (p : PlainProcess) (r : List Token) → SpellsAtom text.now p tokens.now r → NoAction r → (Begins Kind.Arrow r → ⊥)
+        → MatchResult result (λ x. (plain_process x.0 ≡ p) × (x.1.now ≡ r)) (λ e. e ≡ Fault.NoMemory) }
+{
+    if expect(tokens, Kind::Sum).is_ok() {
+        return sum(alloc, text, tokens);
+    }
+    match guard(alloc, text, tokens)? {
+        Some((guard, rest)) => condition(alloc, text, guard, rest),
+        None => atom(alloc, text, tokens),
+    }
+}
+
+// The call or the actions that a front of the tokens spells, and the rest.
+fn step<'a>(
+    alloc: Global,
+    text: &[u8],
+    tokens: &'a [Token],
+) -> Result<(ProcTree, &'a [Token]), Fault>
+    ensures shorter { IfOk result (λ x. length x.1.now < length tokens.now) }
+    ensures found { IfOk result (λ x. SpellsStep text.now (plain_process x.0) tokens.now x.1.now) }
+    ensures only { (p : PlainProcess) (r : List Token) → SpellsStep text.now p tokens.now r → NoAction r
+        → MatchResult result (λ x. (plain_process x.0 ≡ p) × (x.1.now ≡ r)) (λ e. e ≡ Fault.NoMemory) }
+{
+    if begins_call(tokens) {
+        return call(alloc, text, tokens);
+    }
+    let (label, rest) = label(alloc, text, tokens)?;
+    Ok((in_step(label), rest))
+}
+
+// The sum that a front of the tokens spells, and the rest.
+#[cycle(process)]
+fn sum<'a>(
+    alloc: Global,
+    text: &[u8],
+    tokens: &'a [Token],
+) -> Result<(ProcTree, &'a [Token]), Fault>
+    ensures shorter { IfOk result (λ x. length x.1.now < length tokens.now) }
+    ensures found { IfOk result (λ x. FindsLast text.now (plain_process x.0) tokens.now x.1.now) }
+    ensures only { (o : Bool) (p : PlainProcess) (r : List Token) → SpellsSum text.now o p tokens.now r → Follows r → Stays true o r
+        → MatchResult result (λ x. (plain_process x.0 ≡ p) × (x.1.now ≡ r)) (λ e. e ≡ Fault.NoMemory) }
+{
+    let (word, rest) = expect(tokens, Kind::Sum)?;
+    let (variables, rest) = vars(alloc, text, rest)?;
+    let (_, rest) = expect(rest, Kind::Dot)?;
+    let (inner, rest) = merge(alloc, text, rest)?;
+    let span = joined_spans(token_span(word, word), inner.span());
+    let tree = ProcTree::sum_at(alloc, span, variables, inner)?;
+    Ok((tree, rest))
+}
+
+// The condition with that guard in front of the tokens, and the rest.
+#[cycle(process)]
+fn condition<'a>(
+    alloc: Global,
+    text: &[u8],
+    guard: DataTree,
+    tokens: &'a [Token],
+) -> Result<(ProcTree, &'a [Token]), Fault>
+    ensures shorter { IfOk result (λ x. length x.1.now < length tokens.now) }
+    ensures found { IfOk result (λ x. (ts : List Token) → SpellsGuard text.now (plain_data guard) ts tokens.now → FindsLast text.now (plain_process x.0) ts x.1.now) }
+    ensures only { (ts : List Token) (s o : Bool) (p : PlainProcess) (r : List Token) → SpellsGuard text.now (plain_data guard) ts tokens.now → SpellsCond text.now s o p ts r → Follows r
+        → Stays s o r → MatchResult result (λ x. (plain_process x.0 ≡ p) × (x.1.now ≡ r)) (λ e. e ≡ Fault.NoMemory) }
+{
+    let (then, rest) = operand(alloc, text, tokens)?;
+    match expect(rest, Kind::Else) {
+        Ok((_, after)) => {
+            let (other, rest) = operand(alloc, text, after)?;
+            let span = joined_spans(guard.span(), other.span());
+            let tree = ProcTree::either_at(alloc, span, guard, then, other)?;
+            Ok((tree, rest))
+        }
+        Err(_) => {
+            let span = joined_spans(guard.span(), then.span());
+            let tree = ProcTree::when_at(alloc, span, guard, then)?;
+            Ok((tree, rest))
+        }
+    }
+}
+
+// The term without `+`, `||`, `.`, `sum` and `->` outside brackets that a front of the tokens spells, and the rest.
+#[cycle(process)]
+fn atom<'a>(
+    alloc: Global,
+    text: &[u8],
+    tokens: &'a [Token],
+) -> Result<(ProcTree, &'a [Token]), Fault>
+    ensures shorter { IfOk result (λ x. length x.1.now < length tokens.now) }
+    ensures found { IfOk result (λ x. SpellsAtom text.now (plain_process x.0) tokens.now x.1.now) }
+    ensures only { (p : PlainProcess) (r : List Token) → SpellsAtom text.now p tokens.now r → NoAction r
+        → MatchResult result (λ x. (plain_process x.0 ≡ p) × (x.1.now ≡ r)) (λ e. e ≡ Fault.NoMemory) }
+{
+    let (first, rest) = next(tokens)?;
+    match first.kind {
+        Kind::Delta => Ok((ProcTree::delta_at(token_span(first, first)), rest)),
+        Kind::LeftParen => {
+            let (inner, rest) = process(alloc, text, rest)?;
+            let (close, rest) = expect(rest, Kind::RightParen)?;
+            let tree = ProcTree::brackets_at(alloc, token_span(first, close), inner)?;
+            Ok((tree, rest))
+        }
+        Kind::Allow | Kind::Block | Kind::Hide | Kind::Rename | Kind::Comm => {
+            let (operator, rest) = operator(alloc, text, tokens)?;
+            let (inner, rest) = process(alloc, text, rest)?;
+            let (close, rest) = expect(rest, Kind::RightParen)?;
+            let tree = operator.around(alloc, token_span(first, close), inner)?;
+            Ok((tree, rest))
+        }
+        _ => step(alloc, text, tokens),
+    }
+}
