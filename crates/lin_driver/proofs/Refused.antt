@@ -1,5 +1,5 @@
 -- Why a text is refused.
-use Rattle.std.proofs.Common.{◌≡◌, ◌≢◌, ℕ, List, All, count_by, refl, ap, ◌∙◌, Result, Ok, Err}
+use Rattle.std.proofs.Common.{◌≡◌, ◌≢◌, ℕ, List, All, count_by, refl, ap, subst, ◌∙◌, Result, Ok, Err}
 use Rattle.std.specs.Prelude.{IfErr, IsErrAnd}
 use Rattle.mcrl2_lexer.specs.declared.token.LexFault.{LexFault}
 use Rattle.mcrl2_lexer.specs.declared.token.LexFault.TheVariants as lex
@@ -25,12 +25,12 @@ lex_no_first_form text fault (Err given) has is = λ no_want form.
     fault_no_tokens text fault form.1.tokens (has (λ none. no_want (is ∙ ap fault_of_lex none))) form.1.has_tokens
 
 -- a text with these tokens is refused for a fault of its declarations, or for want of the first form
-pub refused_with : (text : List ℕ) (tokens : List Token) (fault : LinFault) → HasTokens text tokens → (HasFirstForm text → ⊥)
-    → ((parse : ParseFault) → fault ≡ Parse parse → parsing.HasFault tokens parse)
-    → (fault ≡ NotBuilt → All (IsSound tokens) (declarations_of tokens)) → (fault ≡ NotBuilt → count_by is_init (declarations_of tokens) ≡ 1)
+pub refused_with : (text its_text : List ℕ) (tokens : List Token) (fault : LinFault) → its_text ≡ text → HasTokens text tokens → (HasFirstForm text → ⊥)
+    → ((parse : ParseFault) → fault ≡ Parse parse → parsing.HasFault its_text tokens parse)
+    → (fault ≡ NotBuilt → All (IsSound its_text tokens) (declarations_of tokens)) → (fault ≡ NotBuilt → count_by is_init (declarations_of tokens) ≡ 1)
     → ((lex : LexFault) → fault ≢ Lex lex) → fault ≢ NoMemory → IsRefusedWith text fault
-refused_with text tokens (Lex fault) has none parse sound one_init no_lex no_want = absurd (no_lex fault refl)
-refused_with text tokens (Parse fault) has none parse sound one_init no_lex no_want = record { tokens = tokens; has_tokens = has; has_fault = parse fault refl }
-refused_with text tokens NotBuilt has none parse sound one_init no_lex no_want =
-    record { tokens = tokens; has_tokens = has; sound = sound refl; one_init = one_init refl; no_first_form = none }
-refused_with text tokens NoMemory has none parse sound one_init no_lex no_want = absurd (no_want refl)
+refused_with text its_text tokens (Lex fault) same has none parse sound one_init no_lex no_want = absurd (no_lex fault refl)
+refused_with text its_text tokens (Parse fault) same has none parse sound one_init no_lex no_want = record { tokens = tokens; has_tokens = has; has_fault = subst (λ (x : List ℕ). parsing.HasFault x tokens fault) same (parse fault refl) }
+refused_with text its_text tokens NotBuilt same has none parse sound one_init no_lex no_want =
+    record { tokens = tokens; has_tokens = has; sound = subst (λ (x : List ℕ). All (IsSound x tokens) (declarations_of tokens)) same (sound refl); one_init = one_init refl; no_first_form = none }
+refused_with text its_text tokens NoMemory same has none parse sound one_init no_lex no_want = absurd (no_want refl)

@@ -15,13 +15,13 @@ use Rattle.lin_driver.specs.declared.fault.LinFault.TheVariants.{Lex, Parse, Not
 pub record HasParseFault (text : List ℕ) (fault : ParseFault) : Type 0 where
   pub tokens : List Token
   pub has_tokens : HasTokens text tokens
-  pub has_fault : parsing.HasFault tokens fault
+  pub has_fault : parsing.HasFault text tokens fault
 
 -- the text has tokens, their declarations are sound and one of them starts, and the text hasn't the first form
 pub record IsNotBuilt (text : List ℕ) : Type 0 where
   pub tokens : List Token
   pub has_tokens : HasTokens text tokens
-  pub sound : All (IsSound tokens) (declarations_of tokens)
+  pub sound : All (IsSound text tokens) (declarations_of tokens)
   pub one_init : count_by is_init (declarations_of tokens) ≡ 1
   pub no_first_form : ¬ (HasFirstForm text)
 

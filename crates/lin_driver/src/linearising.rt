@@ -30,9 +30,9 @@ use std::alloc::Global;
 ///
 /// # Errors
 ///
-/// `Lex` where the text has no tokens that are accepted, `Parse` where its declarations nest too deeply, aren't whole, or have
-/// no single `init`, and `NotBuilt` for every other text that hasn't the first form. So a text is refused exactly where it
-/// hasn't the first form.
+/// `Lex` where the text has no tokens that are accepted, `Parse` where one of its declarations nests too deeply or spells none,
+/// or where not exactly one is in an `init` section, and `NotBuilt` for every other text that hasn't the first form. So a text
+/// is refused exactly where it hasn't the first form.
 pub fn plain(alloc: Global, text: &[u8]) -> Result<Vec<u8>, LinFault>
     ensures linearised { IfOk result (λ printed. IsLinearisedTo text.now printed.items) }
     ensures headline { IfOk result (λ printed. (system : System) → IsFirstForm text.now system → StandsFor system printed.items) }
@@ -49,8 +49,8 @@ pub fn plain(alloc: Global, text: &[u8]) -> Result<Vec<u8>, LinFault>
 
 /// Why tokens that haven't the first form are refused: their declarations' fault, where they have one.
 fn why_not_built(alloc: Global, tokens: &Tokens) -> LinFault
-    ensures parse { (fault : ParseFault) → result ≡ LinFault.Parse fault → HasFault tokens.now.list fault }
-    ensures sound { result ≡ LinFault.NotBuilt → All (IsSound tokens.now.list) (declarations_of tokens.now.list) }
+    ensures parse { (fault : ParseFault) → result ≡ LinFault.Parse fault → HasFault tokens.now.text tokens.now.list fault }
+    ensures sound { result ≡ LinFault.NotBuilt → All (IsSound tokens.now.text tokens.now.list) (declarations_of tokens.now.list) }
     ensures one_init { result ≡ LinFault.NotBuilt → count_by is_init (declarations_of tokens.now.list) ≡ 1 }
     ensures no_lex { (fault : LexFault) → result ≢ LinFault.Lex fault }
 {

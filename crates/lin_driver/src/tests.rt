@@ -56,7 +56,7 @@ const LINEARISED: [(&[u8], &[u8]); 11] = [
 ];
 
 /// Texts with a fault of their tokens or of their declarations.
-const REFUSED: [(&[u8], LinFault); 20] = [
+const REFUSED: [(&[u8], LinFault); 36] = [
     (b"", LinFault::Parse(ParseFault::NoInit)),
     (b"%", LinFault::Parse(ParseFault::NoInit)),
     (b"0", LinFault::Parse(ParseFault::Syntax(1))),
@@ -75,7 +75,7 @@ const REFUSED: [(&[u8], LinFault); 20] = [
     ),
     (
         b"act a; proc X = a; init X;;",
-        LinFault::Parse(ParseFault::TwoInits(4)),
+        LinFault::Parse(ParseFault::Syntax(4)),
     ),
     (
         b"act a; proc X = a; init X; X",
@@ -107,36 +107,37 @@ const REFUSED: [(&[u8], LinFault); 20] = [
         b"init forall delta",
         LinFault::Lex(LexFault::OutOfProfile(5)),
     ),
+    (b"act a; proc X = a; init ;", LinFault::Parse(ParseFault::Syntax(3))),
+    (b"act a; proc X = a; init X, X;", LinFault::Parse(ParseFault::Syntax(3))),
+    (b"act ; proc X = a; init X;", LinFault::Parse(ParseFault::Syntax(1))),
+    (b"act , a; proc X = a; init X;", LinFault::Parse(ParseFault::Syntax(1))),
+    (b"act a, ; proc X = a; init X;", LinFault::Parse(ParseFault::Syntax(1))),
+    (b"act a b; proc X = a; init X;", LinFault::Parse(ParseFault::Syntax(1))),
+    (b"act a; proc X; init X;", LinFault::Parse(ParseFault::Syntax(2))),
+    (b"act a; proc X = ; init X;", LinFault::Parse(ParseFault::Syntax(2))),
+    (b"act a; proc X == a; init X;", LinFault::Parse(ParseFault::Syntax(2))),
+    (b"act a; proc X = a + ; init X;", LinFault::Parse(ParseFault::Syntax(2))),
+    (b"act a; proc X = + a; init X;", LinFault::Parse(ParseFault::Syntax(2))),
+    (b"act a; proc X = a ++ a; init X;", LinFault::Parse(ParseFault::Syntax(2))),
+    (b"act a; proc X = a . ; init X;", LinFault::Parse(ParseFault::Syntax(2))),
+    (b"act a; proc X = . X; init X;", LinFault::Parse(ParseFault::Syntax(2))),
+    (b"act a; proc X() = a; init X;", LinFault::Parse(ParseFault::Syntax(2))),
+    (b"init (;", LinFault::Parse(ParseFault::Syntax(1))),
 ];
 
 /// Texts of whole declarations that haven't the first form.
-const NOT_BUILT: [&[u8]; 35] = [
-    b"act a; proc X = a; init ;",
-    b"act a; proc X = a; init X, X;",
+const NOT_BUILT: [&[u8]; 20] = [
     b"proc X = a; init X;",
     b"act a; init a;",
     b"act a; proc init X;",
     b"proc X = a; act a; init X;",
     b"act a; act b; proc X = a; init X;",
     b"act a; proc X = a; proc Y = a; init X;",
-    b"act ; proc X = a; init X;",
-    b"act , a; proc X = a; init X;",
-    b"act a, ; proc X = a; init X;",
-    b"act a b; proc X = a; init X;",
     b"act a: Nat; proc X = a; init X;",
-    b"act a; proc X; init X;",
-    b"act a; proc X = ; init X;",
-    b"act a; proc X == a; init X;",
-    b"act a; proc X = a + ; init X;",
-    b"act a; proc X = + a; init X;",
-    b"act a; proc X = a ++ a; init X;",
-    b"act a; proc X = a . ; init X;",
-    b"act a; proc X = . X; init X;",
     b"act a; proc X = a . X . X; init X;",
     b"act a; proc X = (a); init X;",
     b"act a; proc X = a || a; init X;",
     b"act a; proc X = delta; init X;",
-    b"act a; proc X() = a; init X;",
     b"act a, a; proc X = a; init X;",
     b"act a; proc X = a; X = a; init X;",
     b"act a, X; proc X = a; init X;",

@@ -40,7 +40,7 @@ const TWO: Row = Row {
     err: b"",
 };
 
-const ROWS: [Row; 14] = [
+const ROWS: [Row; 15] = [
     TWO,
     Row {
         name: "the empty text",
@@ -80,6 +80,14 @@ const ROWS: [Row; 14] = [
         status: Status::Refused,
         out: b"",
         err: b"refused 4 Syntax 2\n",
+        ..TWO
+    },
+    Row {
+        name: "a text whose declaration spells nothing",
+        text: b"init (;",
+        status: Status::Refused,
+        out: b"",
+        err: b"refused 4 Syntax 1\n",
         ..TWO
     },
     Row {
