@@ -107,21 +107,66 @@ const REFUSED: [(&[u8], LinFault); 36] = [
         b"init forall delta",
         LinFault::Lex(LexFault::OutOfProfile(5)),
     ),
-    (b"act a; proc X = a; init ;", LinFault::Parse(ParseFault::Syntax(3))),
-    (b"act a; proc X = a; init X, X;", LinFault::Parse(ParseFault::Syntax(3))),
-    (b"act ; proc X = a; init X;", LinFault::Parse(ParseFault::Syntax(1))),
-    (b"act , a; proc X = a; init X;", LinFault::Parse(ParseFault::Syntax(1))),
-    (b"act a, ; proc X = a; init X;", LinFault::Parse(ParseFault::Syntax(1))),
-    (b"act a b; proc X = a; init X;", LinFault::Parse(ParseFault::Syntax(1))),
-    (b"act a; proc X; init X;", LinFault::Parse(ParseFault::Syntax(2))),
-    (b"act a; proc X = ; init X;", LinFault::Parse(ParseFault::Syntax(2))),
-    (b"act a; proc X == a; init X;", LinFault::Parse(ParseFault::Syntax(2))),
-    (b"act a; proc X = a + ; init X;", LinFault::Parse(ParseFault::Syntax(2))),
-    (b"act a; proc X = + a; init X;", LinFault::Parse(ParseFault::Syntax(2))),
-    (b"act a; proc X = a ++ a; init X;", LinFault::Parse(ParseFault::Syntax(2))),
-    (b"act a; proc X = a . ; init X;", LinFault::Parse(ParseFault::Syntax(2))),
-    (b"act a; proc X = . X; init X;", LinFault::Parse(ParseFault::Syntax(2))),
-    (b"act a; proc X() = a; init X;", LinFault::Parse(ParseFault::Syntax(2))),
+    (
+        b"act a; proc X = a; init ;",
+        LinFault::Parse(ParseFault::Syntax(3)),
+    ),
+    (
+        b"act a; proc X = a; init X, X;",
+        LinFault::Parse(ParseFault::Syntax(3)),
+    ),
+    (
+        b"act ; proc X = a; init X;",
+        LinFault::Parse(ParseFault::Syntax(1)),
+    ),
+    (
+        b"act , a; proc X = a; init X;",
+        LinFault::Parse(ParseFault::Syntax(1)),
+    ),
+    (
+        b"act a, ; proc X = a; init X;",
+        LinFault::Parse(ParseFault::Syntax(1)),
+    ),
+    (
+        b"act a b; proc X = a; init X;",
+        LinFault::Parse(ParseFault::Syntax(1)),
+    ),
+    (
+        b"act a; proc X; init X;",
+        LinFault::Parse(ParseFault::Syntax(2)),
+    ),
+    (
+        b"act a; proc X = ; init X;",
+        LinFault::Parse(ParseFault::Syntax(2)),
+    ),
+    (
+        b"act a; proc X == a; init X;",
+        LinFault::Parse(ParseFault::Syntax(2)),
+    ),
+    (
+        b"act a; proc X = a + ; init X;",
+        LinFault::Parse(ParseFault::Syntax(2)),
+    ),
+    (
+        b"act a; proc X = + a; init X;",
+        LinFault::Parse(ParseFault::Syntax(2)),
+    ),
+    (
+        b"act a; proc X = a ++ a; init X;",
+        LinFault::Parse(ParseFault::Syntax(2)),
+    ),
+    (
+        b"act a; proc X = a . ; init X;",
+        LinFault::Parse(ParseFault::Syntax(2)),
+    ),
+    (
+        b"act a; proc X = . X; init X;",
+        LinFault::Parse(ParseFault::Syntax(2)),
+    ),
+    (
+        b"act a; proc X() = a; init X;",
+        LinFault::Parse(ParseFault::Syntax(2)),
+    ),
     (b"init (;", LinFault::Parse(ParseFault::Syntax(1))),
 ];
 
