@@ -7,15 +7,11 @@ intern, and prints one line for each number of terms: seconds of the processor, 
 of the gate.
 """
 
-import os
-import pathlib
-import shutil
-import subprocess
 import tempfile
 
-TOP = pathlib.Path(__file__).resolve().parent.parent
-CRATES = ("data_theory", "term_pool")
-PROGRAM = """//! Interns as many terms as the program has words, times a thousand.
+from programs import build, run
+
+MAIN = """//! Interns as many terms as the program has words, times a thousand.
 #![tactic(auto)]
 
 use data_theory::{FunId, NoMemory, TermId};
@@ -49,31 +45,9 @@ fn main(rt: HostRuntime) -> ExitCode {
 """
 
 
-def build(folder):
-    """Builds the program in the folder, and gives its path."""
-    for crate in CRATES:
-        shutil.copytree(TOP / "crates" / crate, folder / "crates" / crate)
-    source = folder / "crates" / "interning" / "src"
-    source.mkdir(parents=True)
-    (source / "main.rt").write_text(PROGRAM)
-    (folder / "crates.txt").write_text("data_theory: indexmap\nterm_pool: data_theory indexmap\ninterning: data_theory term_pool\n")
-    (folder / "HANDLES").write_text((TOP / "HANDLES").read_text())
-    subprocess.run(["rt", "run"], cwd=source.parent, check=True, stdout=subprocess.DEVNULL)
-    return source.parent / "out" / "interning"
-
-
-def run(program, thousands):
-    """Interns the terms; gives the processor's seconds and the peak memory in KiB."""
-    child = subprocess.Popen([program] + ["-"] * (thousands - 1))
-    _, status, usage = os.wait4(child.pid, 0)
-    child.returncode = 0
-    assert status == 0, "out of memory"
-    return usage.ru_utime + usage.ru_stime, usage.ru_maxrss
-
-
 def main():
-    with tempfile.TemporaryDirectory() as name:
-        program = build(pathlib.Path(name))
+    with tempfile.TemporaryDirectory() as folder:
+        program = build(folder, "interning", ["data_theory", "term_pool"], {"src/main.rt": MAIN})
         for thousands in (1_000, 4_000, 16_000):
             seconds, memory = run(program, thousands)
             terms = thousands * 1_000
