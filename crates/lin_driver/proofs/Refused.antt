@@ -7,6 +7,8 @@ use Rattle.mcrl2_lexer.specs.declared.token.Token.{Token}
 use Rattle.mcrl2_lexer.specs.Lexing as lexing
 use Rattle.mcrl2_lexer.specs.Lexing.{HasTokens}
 use Rattle.mcrl2_lexer.proofs.Faulty.{fault_no_tokens}
+use Rattle.mcrl2_syntax.specs.Declarations.{PlainSpec}
+use Rattle.mcrl2_syntax.specs.SpelledDeclarations.{SpellsSpec}
 use Rattle.mcrl2_parser.specs.declared.faults.ParseFault.{ParseFault}
 use Rattle.mcrl2_parser.specs.Declarations.{declarations_of}
 use Rattle.mcrl2_parser.specs.Faults as parsing
@@ -27,10 +29,19 @@ lex_no_first_form text fault (Err given) has is = λ no_want form.
 -- a text with these tokens is refused for a fault of its declarations, or for want of the first form
 pub refused_with : (text its_text : List ℕ) (tokens : List Token) (fault : LinFault) → its_text ≡ text → HasTokens text tokens → (HasFirstForm text → ⊥)
     → ((parse : ParseFault) → fault ≡ Parse parse → parsing.HasFault its_text tokens parse)
+    → (fault ≡ NotBuilt → (spec : PlainSpec) × SpellsSpec its_text spec tokens)
     → (fault ≡ NotBuilt → All (IsSound its_text tokens) (declarations_of tokens)) → (fault ≡ NotBuilt → count_by is_init (declarations_of tokens) ≡ 1)
     → ((lex : LexFault) → fault ≢ Lex lex) → fault ≢ NoMemory → IsRefusedWith text fault
-refused_with text its_text tokens (Lex fault) same has none parse sound one_init no_lex no_want = absurd (no_lex fault refl)
-refused_with text its_text tokens (Parse fault) same has none parse sound one_init no_lex no_want = record { tokens = tokens; has_tokens = has; has_fault = subst (λ (x : List ℕ). parsing.HasFault x tokens fault) same (parse fault refl) }
-refused_with text its_text tokens NotBuilt same has none parse sound one_init no_lex no_want =
-    record { tokens = tokens; has_tokens = has; sound = subst (λ (x : List ℕ). All (IsSound x tokens) (declarations_of tokens)) same (sound refl); one_init = one_init refl; no_first_form = none }
-refused_with text its_text tokens NoMemory same has none parse sound one_init no_lex no_want = absurd (no_want refl)
+refused_with text its_text tokens (Lex fault) same has none parse spelled sound one_init no_lex no_want = absurd (no_lex fault refl)
+refused_with text its_text tokens (Parse fault) same has none parse spelled sound one_init no_lex no_want = record { tokens = tokens; has_tokens = has; has_fault = subst (λ (x : List ℕ). parsing.HasFault x tokens fault) same (parse fault refl) }
+refused_with text its_text tokens NotBuilt same has none parse spelled sound one_init no_lex no_want =
+    record {
+      tokens = tokens;
+      has_tokens = has;
+      spec = (spelled refl).0;
+      spelled = subst (λ (x : List ℕ). SpellsSpec x (spelled refl).0 tokens) same (spelled refl).1;
+      sound = subst (λ (x : List ℕ). All (IsSound x tokens) (declarations_of tokens)) same (sound refl);
+      one_init = one_init refl;
+      no_first_form = none;
+    }
+refused_with text its_text tokens NoMemory same has none parse spelled sound one_init no_lex no_want = absurd (no_want refl)

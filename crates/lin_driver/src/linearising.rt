@@ -3,6 +3,8 @@ ghost use Rattle.std.specs.Prelude.{◌≡◌, ◌≢◌, IfErr, IfOk, IsErrOf, 
 ghost use Rattle.mcrl2_lexer.specs.Lexing.{HasTokens, SpansRise};
 ghost use Rattle.mcrl2_lexer.specs.Tokens.{IsToken, slice_of};
 ghost use Rattle.mcrl2_lexer.specs.declared.token.LexFault.{LexFault};
+ghost use Rattle.mcrl2_syntax.specs.Declarations.{PlainSpec};
+ghost use Rattle.mcrl2_syntax.specs.SpelledDeclarations.{SpellsSpec};
 ghost use Rattle.mcrl2_parser.specs.Declarations.{declarations_of};
 ghost use Rattle.mcrl2_parser.specs.Faults.{HasFault, IsSound, is_init};
 ghost use Rattle.mcrl2_parser.specs.declared.faults.ParseFault.{ParseFault};
@@ -19,7 +21,7 @@ use crate::numbering::numbering;
 use crate::printing::print;
 use crate::reading::read_system;
 use mcrl2_lexer::{Token, Tokens, lex};
-use mcrl2_parser::cut;
+use mcrl2_parser::parse;
 use std::alloc::Global;
 
 /// The linear process of a text of the first form, printed.
@@ -50,11 +52,12 @@ pub fn plain(alloc: Global, text: &[u8]) -> Result<Vec<u8>, LinFault>
 /// Why tokens that haven't the first form are refused: their declarations' fault, where they have one.
 fn why_not_built(alloc: Global, tokens: &Tokens) -> LinFault
     ensures parse { (fault : ParseFault) → result ≡ LinFault.Parse fault → HasFault tokens.now.text tokens.now.list fault }
+    ensures spelled { result ≡ LinFault.NotBuilt → (spec : PlainSpec) × SpellsSpec tokens.now.text spec tokens.now.list }
     ensures sound { result ≡ LinFault.NotBuilt → All (IsSound tokens.now.text tokens.now.list) (declarations_of tokens.now.list) }
     ensures one_init { result ≡ LinFault.NotBuilt → count_by is_init (declarations_of tokens.now.list) ≡ 1 }
     ensures no_lex { (fault : LexFault) → result ≢ LinFault.Lex fault }
 {
-    match cut(alloc, tokens) {
+    match parse(alloc, tokens) {
         Ok(_) => LinFault::NotBuilt,
         Err(fault) => fault.into(),
     }

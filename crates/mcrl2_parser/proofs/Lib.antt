@@ -23,3 +23,4 @@ pub mod Exits
 pub mod ConstructorCases
 pub mod DeclarationCases
 pub mod SpelledByDeclarations
+pub mod BuiltSections

@@ -48,12 +48,12 @@ has_fault text tokens list i d NoInit e inside sound cause = absurd cause
 has_fault text tokens list i d (TwoInits n) e inside sound cause = absurd cause
 has_fault text tokens list i d NoMemory e inside sound cause = absurd cause
 
-pub has_init_fault : (text : List ℕ) (tokens : List Token) (list : List Declaration) (fault : ParseFault) → list ≡ declarations_of tokens → All (IsSound text tokens) list
+pub has_init_fault : (text : List ℕ) (tokens : List Token) (list : List Declaration) (fault : ParseFault) → list ≡ declarations_of tokens → All (IsSound text tokens) (declarations_of tokens)
     → HasInitFault list fault → HasFault text tokens fault
 has_init_fault text tokens list NoInit e sound cause =
-    (subst (λ (xs : List Declaration). All (IsSound text tokens) xs) e sound, subst (λ (xs : List Declaration). HasInitFault xs NoInit) e cause)
+    (sound, subst (λ (xs : List Declaration). HasInitFault xs NoInit) e cause)
 has_init_fault text tokens list (TwoInits n) e sound cause =
-    (subst (λ (xs : List Declaration). All (IsSound text tokens) xs) e sound, subst (λ (xs : List Declaration). HasInitFault xs (TwoInits n)) e cause)
+    (sound, subst (λ (xs : List Declaration). HasInitFault xs (TwoInits n)) e cause)
 has_init_fault text tokens list (TooDeep n) e sound cause = absurd cause
 has_init_fault text tokens list (Syntax n) e sound cause = absurd cause
 has_init_fault text tokens list NoMemory e sound cause = absurd cause
@@ -66,13 +66,15 @@ pub one_more : (text : List ℕ) (tokens : List Token) (list : List Declaration)
 one_more text tokens list i d inside sound here =
     rw (add-one, take-suc list i d inside) (All-push (IsSound text tokens) (take i list) (get_or list i d) sound here)
 
-pub all_sound : (text : List ℕ) (tokens : List Token) (list : List Declaration) (i : ℕ) → length list ≤ i → i ≤ length list → All (IsSound text tokens) (take i list) → All (IsSound text tokens) list
-all_sound text tokens list i over under sound =
+pub all_sound : {text : List ℕ} {tokens : List Token} {list : List Declaration} {i : ℕ} → list ≡ declarations_of tokens → length list ≤ i → i ≤ length list → All (IsSound text tokens) (take i list)
+    → All (IsSound text tokens) (declarations_of tokens)
+all_sound {text = text} {tokens = tokens} {list = list} {i = i} e over under sound =
     let last : i ≡ length list = omega arith in
-    subst (λ (xs : List Declaration). All (IsSound text tokens) xs) (ap (λ (n : ℕ). take n list) last ∙ take-length list) sound
+    subst (λ (xs : List Declaration). All (IsSound text tokens) xs) (ap (λ (n : ℕ). take n list) last ∙ take-length list ∙ e) sound
 
 pub moved_fault : {text others : List ℕ} {tokens us : List Token} (fault : ParseFault) → text ≡ others → tokens ≡ us → HasFault text tokens fault → HasFault others us fault
 moved_fault {text = text} {us = us} fault e f h = subst (λ (x : List ℕ). HasFault x us fault) e (subst (λ (x : List Token). HasFault text x fault) f h)
 
-pub moved_sound : {text others : List ℕ} {tokens us : List Token} (list : List Declaration) → text ≡ others → tokens ≡ us → All (IsSound text tokens) list → All (IsSound others us) list
-moved_sound {text = text} {us = us} list e f h = subst (λ (x : List ℕ). All (IsSound x us) list) e (subst (λ (x : List Token). All (IsSound text x) list) f h)
+pub moved_sound : {text others : List ℕ} {tokens us : List Token} → text ≡ others → tokens ≡ us → All (IsSound text tokens) (declarations_of tokens) → All (IsSound others us) (declarations_of us)
+moved_sound {text = text} {us = us} e f h =
+    subst (λ (x : List ℕ). All (IsSound x us) (declarations_of us)) e (subst (λ (x : List Token). All (IsSound text x) (declarations_of x)) f h)

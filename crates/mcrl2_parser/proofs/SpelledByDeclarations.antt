@@ -1,19 +1,22 @@
--- Tokens whose declarations are all whole spell a specification.
-use Rattle.std.proofs.Common.{◌≡◌, ℕ, suc, ◌+◌, Bool, true, false, Option, None, Some, List, [], ◌∷◌, ◌++◌, ◌-◌, All, if◌then◌else◌, nat_lt, length, take, drop, slice_range, refl, ap, sym, ◌∙◌, subst, append_assoc, arith}
-use Rattle.std.proofs.lemmas.Bool.{lt-ltb}
+-- Tokens whose declarations are all spelled spell a specification, and its declarations are their trees.
+use Rattle.std.proofs.Common.{◌≡◌, ℕ, suc, ◌+◌, Bool, true, false, Option, None, Some, List, [], ◌∷◌, ◌++◌, ◌-◌, All, if◌then◌else◌, nat_lt, length, take, drop, map, get_or, ◌<◌, ◌≤◌, add-one, slice_range, refl, ap, sym, ◌∙◌, subst, append_assoc, arith}
+use Rattle.std.proofs.Math.Seq.{take-suc, take-length}
+use Rattle.std.proofs.lemmas.List.{map-append}
+use Rattle.std.proofs.lemmas.Bool.{lt-ltb, le-ltb}
 use Rattle.std.proofs.lemmas.Grind.{common_steps}
 use Rattle.std.proofs.lemmas.List.Elements.{All-nil, All-cons, All-head, All-tail}
 use Rattle.mcrl2_lexer.specs.declared.kind.Kind.{Kind}
 use Rattle.mcrl2_lexer.specs.declared.kind.Kind.TheVariants as kind_
 use Rattle.mcrl2_lexer.specs.declared.token.Token.{Token}
+use Rattle.mcrl2_syntax.specs.declared.declaration.Decl.{Decl}
 use Rattle.mcrl2_syntax.specs.declared.declaration.SectionWord.{SectionWord}
 use Rattle.mcrl2_syntax.specs.Words.{span_of}
-use Rattle.mcrl2_syntax.specs.Declarations.{PlainDecl, PlainSection, PlainSpec}
+use Rattle.mcrl2_syntax.specs.Declarations.{PlainDecl, PlainSection, PlainSpec, plain_decl}
 use Rattle.mcrl2_syntax.specs.SpelledDeclarations.{SpellsDecl, section_word, IsInside, SpellsDecls, no_decls, more_decls, SpellsSections, no_sections, more_sections, SpellsSpec}
 use Rattle.mcrl2_parser.specs.declared.declaring.Declaration.{Declaration}
-use Rattle.mcrl2_parser.specs.Sections.{is_semicolon}
+use Rattle.mcrl2_parser.specs.Sections.{is_semicolon, declarations_in}
 use Rattle.mcrl2_parser.specs.Declarations.{SectionTokens, Parts, parts_of, with_first, with_piece_token, pieces_of, left_over, of_pieces, of_part, of_sections, declarations_of}
-use Rattle.mcrl2_parser.specs.Faults.{IsWhole}
+use Rattle.mcrl2_parser.specs.Faults.{IsSpelled, IsWhole, AreSpelled, none_spelled, more_spelled}
 use Rattle.mcrl2_parser.proofs.CutSoFar.{HasNoEnd, parts_plain, parts_word}
 
 semicolon_kind : (k : Kind) → is_semicolon k ≡ true → k ≡ kind_.Semicolon
@@ -155,6 +158,13 @@ parted (t ∷ ts) =
 no_semicolon : (k : Kind) → is_semicolon k ≡ false → k ≡ kind_.Semicolon → ⊥
 no_semicolon k e f = let g = ap is_semicolon f in cc
 
+pub outside_semicolon : (k : Kind) → (k ≡ kind_.Semicolon → ⊥) → is_semicolon k ≡ false
+outside_semicolon k h =
+    (elim (is_semicolon k) as (λ b. is_semicolon k ≡ b → b ≡ false) [
+      | true ↦ λ e. absurd (h (semicolon_kind k e))
+      | false ↦ λ e. refl
+    ]) refl
+
 inside : (ts : List Token) → HasNoEnd ts → HasNoWord ts → All IsInside ts
 inside [] h n = All-nil IsInside
 inside (t ∷ ts) h n = All-cons IsInside t ts (record { no_semicolon = no_semicolon t.kind h.0; no_section = n.0 }) (inside ts h.1 n.1)
@@ -181,32 +191,50 @@ tokens_at all before piece after at e h =
     let size : at + length piece - at ≡ length piece = omega arith in
     ap (λ (n : ℕ). take n (drop at all)) size ∙ ap (take (length piece)) (ap (drop at) e ∙ ap (λ (n : ℕ). drop n (before ++ (piece ++ after))) (sym h) ∙ drop_front before (piece ++ after)) ∙ take_front piece after
 
-all_front : {A : Type 0} (P : A → Type 0) (xs ys : List A) → All P (xs ++ ys) → All P xs
-all_front P [] ys h = All-nil P
-all_front P (x ∷ xs) ys h = All-cons P x xs (All-head P x (xs ++ ys) h) (all_front P xs ys (All-tail P x (xs ++ ys) h))
+-- the trees of the declarations in front, and of those behind
+record Halves (text : List ℕ) (all : List Token) (xs ys : List Declaration) (trees : List PlainDecl) : Type 0 where
+  pub first : List PlainDecl
+  pub behind : List PlainDecl
+  pub is : trees ≡ first ++ behind
+  pub first_spelled : AreSpelled text all xs first
+  pub behind_spelled : AreSpelled text all ys behind
 
-all_behind : {A : Type 0} (P : A → Type 0) (xs ys : List A) → All P (xs ++ ys) → All P ys
-all_behind P [] ys h = h
-all_behind P (x ∷ xs) ys h = all_behind P xs ys (All-tail P x (xs ++ ys) h)
+halves : {text : List ℕ} {all : List Token} (xs ys : List Declaration) {trees : List PlainDecl} → AreSpelled text all (xs ++ ys) trees → Halves text all xs ys trees
+halves [] ys {trees = trees} h = record { first = []; behind = trees; is = refl; first_spelled = none_spelled; behind_spelled = h }
+halves (x ∷ xs) ys (more_spelled {tree = tree} a h) =
+    let rest = halves xs ys h in
+    record { first = tree ∷ rest.first; behind = rest.behind; is = ap (λ (z : List PlainDecl). tree ∷ z) rest.is; first_spelled = more_spelled a rest.first_spelled; behind_spelled = rest.behind_spelled }
+
+no_tree : {text : List ℕ} {all : List Token} {trees : List PlainDecl} → AreSpelled text all [] trees → trees ≡ []
+no_tree none_spelled = refl
+
+-- what is left over isn't spelled
+never_left : {text : List ℕ} {all : List Token} {over : Declaration} {trees : List PlainDecl} → over.is_ended ≡ false → AreSpelled text all (over ∷ []) trees → ⊥
+never_left e (more_spelled a h) = let ended = sym e ∙ a.ended in cc
 
 more_is_more : (n m : ℕ) → nat_lt n (n + suc m) ≡ true
 more_is_more n m = lt-ltb n (n + suc m) (omega arith)
 
--- nothing is left over where all declarations are whole
-none_left : (text : List ℕ) (all left : List Token) (section : Option SectionWord) (at : ℕ) → All (IsWhole text all) (left_over section at (at + length left)) → left ≡ []
-none_left text all [] section at h = refl
-none_left text all (t ∷ left) section at h =
+nothing_more : (n : ℕ) → nat_lt n (n + 0) ≡ false
+nothing_more n = le-ltb n (n + 0) (omega arith)
+
+-- nothing is left over where all declarations are spelled
+none_left : (text : List ℕ) (all left : List Token) (section : Option SectionWord) (at : ℕ) {trees : List PlainDecl} → AreSpelled text all (left_over section at (at + length left)) trees
+    → (left ≡ []) × (trees ≡ [])
+none_left text all [] section at {trees = trees} h =
+    let over : Declaration = record { section = section; start = at; end = at + 0; is_ended = false } in
+    (refl, no_tree (subst (λ (b : Bool). AreSpelled text all (if b then over ∷ [] else []) trees) (nothing_more at) h))
+none_left text all (t ∷ left) section at {trees = trees} h =
     let over : Declaration = record { section = section; start = at; end = at + suc (length left); is_ended = false } in
-    let whole = All-head (IsWhole text all) over [] (subst (λ (b : Bool). All (IsWhole text all) (if b then over ∷ [] else [])) (more_is_more at (length left)) h) in
-    absurd (let ended = whole.ended in cc)
+    absurd (never_left {over = over} refl (subst (λ (b : Bool). AreSpelled text all (if b then over ∷ [] else []) trees) (more_is_more at (length left)) h))
 
 same_word : {a b : SectionWord} → Some a ≡ Some b → a ≡ b
 same_word e = cc
 
-its_decl : (text : List ℕ) (all piece : List Token) (s : SectionWord) (at : ℕ) (w : IsWhole text all (record { section = Some s; start = at; end = at + length piece; is_ended = true }))
-    → slice_range all at (at + length piece) ≡ piece → SpellsDecl text s w.spelled piece
-its_decl text all piece s at w e =
-    subst (λ (x : SectionWord). SpellsDecl text x w.spelled piece) (sym (same_word w.in_section)) (subst (λ (x : List Token). SpellsDecl text w.word w.spelled x) e w.spells)
+its_decl : {text : List ℕ} {all piece : List Token} {s : SectionWord} {at : ℕ} {tree : PlainDecl}
+    → IsSpelled text all (record { section = Some s; start = at; end = at + length piece; is_ended = true }) tree → slice_range all at (at + length piece) ≡ piece → SpellsDecl text s tree piece
+its_decl {text = text} {piece = piece} {tree = tree} w e =
+    subst (λ (x : SectionWord). SpellsDecl text x tree piece) (sym (same_word w.in_section)) (subst (λ (x : List Token). SpellsDecl text w.word tree x) e w.spells)
 
 regroup : (before piece : List Token) (t : Token) (ts rest : List Token) → before ++ ((piece ++ t ∷ ts) ++ rest) ≡ (before ++ (piece ++ t ∷ [])) ++ (ts ++ rest)
 regroup [] [] t ts rest = refl
@@ -216,60 +244,106 @@ regroup (b ∷ before) piece t ts rest = ap (λ (x : List Token). b ∷ x) (regr
 place_behind : (before piece : List Token) (t : Token) (at : ℕ) → length before ≡ at → length (before ++ (piece ++ t ∷ [])) ≡ at + length piece + 1
 place_behind before piece t at h = grind (arith, common_steps, h)
 
-record SpelledPieces (text : List ℕ) (s : SectionWord) (ts rest : List Token) : Type 0 where
-  pub decls : List PlainDecl
-  pub spelled : SpellsDecls text s decls (ts ++ rest) rest
+no_decls_left : {text : List ℕ} {s : SectionWord} (rest : List Token) {left : List Token} {trees : List PlainDecl} → left ≡ [] → trees ≡ [] → SpellsDecls text s trees (left ++ rest) rest
+no_decls_left {text = text} {s = s} rest {left = left} e f =
+    subst (λ (x : List PlainDecl). SpellsDecls text s x (left ++ rest) rest) (sym f) (subst (λ (x : List Token). SpellsDecls text s [] (x ++ rest) rest) (sym e) no_decls)
 
--- the pieces of a section, which begins at a place, spell its declarations
-pieces_spelled : (text : List ℕ) (all : List Token) (s : SectionWord) {ts : List Token} {pieces : List (List Token)} {left : List Token} (before rest : List Token) (at : ℕ)
-    → ArePieces ts pieces left → HasNoWord ts → all ≡ before ++ (ts ++ rest) → length before ≡ at → All (IsWhole text all) (of_pieces s at pieces left) → SpelledPieces text s ts rest
-pieces_spelled text all s before rest at (a_left {left = left} h) n e p w = record {
-  decls = [];
-  spelled = subst (λ (x : List Token). SpellsDecls text s [] (x ++ rest) rest) (sym (none_left text all left (Some s) at w)) no_decls;
-}
-pieces_spelled text all s before rest at (a_piece {piece = piece} {us = ts} {pieces = pieces} {left = left} t h k a is) n e p w =
-    let here : Declaration = record { section = Some s; start = at; end = at + length piece; is_ended = true } in
-    let behind : List Declaration = of_pieces s (at + length piece + 1) pieces left in
-    let first : IsWhole text all here = All-head (IsWhole text all) here behind w in
+-- the pieces of a section, which begins at a place, spell the trees of its declarations
+pieces_spelled : (text : List ℕ) (all : List Token) (s : SectionWord) {ts : List Token} {pieces : List (List Token)} {left : List Token} {trees : List PlainDecl} (before rest : List Token) (at : ℕ)
+    → ArePieces ts pieces left → HasNoWord ts → all ≡ before ++ (ts ++ rest) → length before ≡ at → AreSpelled text all (of_pieces s at pieces left) trees → SpellsDecls text s trees (ts ++ rest) rest
+pieces_spelled text all s before rest at (a_left {left = left} h) n e p w = let none = none_left text all left (Some s) at w in no_decls_left rest none.0 none.1
+pieces_spelled text all s before rest at (a_piece {piece = piece} {us = ts} {pieces = pieces} {left = left} t h k a is) n e p (more_spelled {tree = tree} {trees = trees} first w) =
     let free : HasNoWord (piece ++ t ∷ ts) = subst HasNoWord is n in
     let stands : all ≡ before ++ ((piece ++ t ∷ ts) ++ rest) = e ∙ ap (λ (x : List Token). before ++ (x ++ rest)) is in
-    let more : SpelledPieces text s ts rest =
-    pieces_spelled text all s (before ++ (piece ++ t ∷ [])) rest (at + length piece + 1) a (rest_free piece t ts free) (stands ∙ regroup before piece t ts rest) (place_behind before piece t at p)
-    (All-tail (IsWhole text all) here behind w) in
+    let more : SpellsDecls text s trees (ts ++ rest) rest =
+    pieces_spelled text all s (before ++ (piece ++ t ∷ [])) rest (at + length piece + 1) a (rest_free piece t ts free) (stands ∙ regroup before piece t ts rest) (place_behind before piece t at p) w in
     let there : slice_range all at (at + length piece) ≡ piece =
     tokens_at all before piece (t ∷ ts ++ rest) at (stands ∙ ap (λ (x : List Token). before ++ x) (append_assoc piece (t ∷ ts) rest)) p in
-    subst (λ (x : List Token). SpelledPieces text s x rest) (sym is) (record {
-      decls = first.spelled ∷ more.decls;
-      spelled = more_decls (record { sign = t; is = append_assoc piece (t ∷ ts) rest; semicolon = k; inside = inside piece h (front_free piece (t ∷ ts) free) }) (its_decl text all piece s at first there) more.spelled;
-    })
+    subst (λ (x : List Token). SpellsDecls text s (tree ∷ trees) (x ++ rest) rest) (sym is)
+    (more_decls (record { sign = t; is = append_assoc piece (t ∷ ts) rest; semicolon = k; inside = inside piece h (front_free piece (t ∷ ts) free) }) (its_decl first there) more)
 
-record SpelledSections (text : List ℕ) (ts : List Token) : Type 0 where
+-- sections that the tokens spell, with these trees as their declarations
+pub record SpelledAs (text : List ℕ) (tokens : List Token) (trees : List PlainDecl) : Type 0 where
   pub sections : List PlainSection
-  pub spelled : SpellsSections text sections ts
+  pub spelled : SpellsSections text sections tokens
+  pub trees_are : trees ≡ declarations_in sections
 
 -- the sections, the first of which begins at a place, spell sections
-sections_spelled : (text : List ℕ) (all : List Token) {us : List Token} {parts : List SectionTokens} (before : List Token) (at : ℕ) → AreSections us parts → all ≡ before ++ us → length before ≡ at
-    → All (IsWhole text all) (of_sections at parts) → SpelledSections text us
-sections_spelled text all before at no_more e p w = record { sections = []; spelled = no_sections }
+sections_spelled : (text : List ℕ) (all : List Token) {us : List Token} {parts : List SectionTokens} {trees : List PlainDecl} (before : List Token) (at : ℕ) → AreSections us parts → all ≡ before ++ us
+    → length before ≡ at → AreSpelled text all (of_sections at parts) trees → SpelledAs text us trees
+sections_spelled text all before at no_more e p w = record { sections = []; spelled = no_sections; trees_are = no_tree w }
 sections_spelled text all before at (a_section {t = t} {word = word} {ts = ts} {us = us} {parts = parts} h n a) e p w =
-    let here : List Declaration = of_part (Some word) (at + 1) ts in
-    let behind : List Declaration = of_sections (at + 1 + length ts) parts in
-    let first : SpelledPieces text word ts us =
-    pieces_spelled text all word (before ++ t ∷ []) us (at + 1) (are_pieces ts) n (e ∙ sym (append_assoc before (t ∷ []) (ts ++ us))) (grind (arith, common_steps, p)) (all_front (IsWhole text all) here behind w) in
-    let more : SpelledSections text us =
-    sections_spelled text all (before ++ t ∷ ts) (at + 1 + length ts) a (e ∙ sym (append_assoc before (t ∷ ts) us)) (grind (arith, common_steps, p)) (all_behind (IsWhole text all) here behind w) in
+    let two = halves (of_part (Some word) (at + 1) ts) (of_sections (at + 1 + length ts) parts) w in
+    let first : SpellsDecls text word two.first (ts ++ us) us =
+    pieces_spelled text all word (before ++ t ∷ []) us (at + 1) (are_pieces ts) n (e ∙ sym (append_assoc before (t ∷ []) (ts ++ us))) (grind (arith, common_steps, p)) two.first_spelled in
+    let more : SpelledAs text us two.behind =
+    sections_spelled text all (before ++ t ∷ ts) (at + 1 + length ts) a (e ∙ sym (append_assoc before (t ∷ ts) us)) (grind (arith, common_steps, p)) two.behind_spelled in
     record {
-      sections = record { span = span_of t t; word = word; declarations = first.decls } ∷ more.sections;
-      spelled = more_sections h first.spelled more.spelled;
+      sections = record { span = span_of t t; word = word; declarations = two.first } ∷ more.sections;
+      spelled = more_sections h first more.spelled;
+      trees_are = two.is ∙ ap (λ (x : List PlainDecl). two.first ++ x) more.trees_are;
     }
+
+pub spelled_as : (text : List ℕ) (tokens : List Token) (trees : List PlainDecl) → AreSpelled text tokens (declarations_of tokens) trees → SpelledAs text tokens trees
+spelled_as text tokens trees w =
+    let front : List Token = (parts_of tokens).front in
+    let sections : List SectionTokens = (parts_of tokens).sections in
+    let two = halves (of_part None 0 front) (of_sections (length front) sections) w in
+    let none = none_left text tokens front None 0 two.first_spelled in
+    let p : Parted tokens front sections = parted tokens in
+    let same : tokens ≡ p.rest = p.is ∙ ap (λ (x : List Token). x ++ p.rest) none.0 in
+    let found : SpelledAs text p.rest two.behind = sections_spelled text tokens [] (length front) p.sections_at same (sym (ap length none.0)) two.behind_spelled in
+    record {
+      sections = found.sections;
+      spelled = subst (λ (x : List Token). SpellsSections text found.sections x) (sym same) found.spelled;
+      trees_are = two.is ∙ ap (λ (x : List PlainDecl). x ++ two.behind) none.1 ∙ found.trees_are;
+    }
+
+-- whole declarations have trees
+trees_of_whole : (text : List ℕ) (all : List Token) (xs : List Declaration) → All (IsWhole text all) xs → (trees : List PlainDecl) × AreSpelled text all xs trees
+trees_of_whole text all [] w = ([], none_spelled)
+trees_of_whole text all (x ∷ xs) w =
+    let first = All-head (IsWhole text all) x xs w in
+    let more = trees_of_whole text all xs (All-tail (IsWhole text all) x xs w) in
+    (first.tree ∷ more.0, more_spelled first.spelled more.1)
 
 pub spelled : (text : List ℕ) (tokens : List Token) → All (IsWhole text tokens) (declarations_of tokens) → (spec : PlainSpec) × SpellsSpec text spec tokens
 spelled text tokens w =
-    let front : List Token = (parts_of tokens).front in
-    let sections : List SectionTokens = (parts_of tokens).sections in
-    let none : front ≡ [] = none_left text tokens front None 0 (all_front (IsWhole text tokens) (of_part None 0 front) (of_sections (length front) sections) w) in
-    let p : Parted tokens front sections = parted tokens in
-    let same : tokens ≡ p.rest = p.is ∙ ap (λ (x : List Token). x ++ p.rest) none in
-    let found : SpelledSections text p.rest =
-    sections_spelled text tokens [] (length front) p.sections_at same (sym (ap length none)) (all_behind (IsWhole text tokens) (of_part None 0 front) (of_sections (length front) sections) w) in
-    (record { sections = found.sections }, record { all_sections = subst (λ (x : List Token). SpellsSections text found.sections x) (sym same) found.spelled })
+    let trees = trees_of_whole text tokens (declarations_of tokens) w in
+    let found = spelled_as text tokens trees.0 trees.1 in
+    (record { sections = found.sections }, record { all_sections = found.spelled })
+
+-- one more declaration, and its tree
+pushed : {text : List ℕ} {all : List Token} {xs : List Declaration} {trees : List PlainDecl} {x : Declaration} {tree : PlainDecl} → AreSpelled text all xs trees → IsSpelled text all x tree
+    → AreSpelled text all (xs ++ x ∷ []) (trees ++ tree ∷ [])
+pushed none_spelled a = more_spelled a none_spelled
+pushed (more_spelled b h) a = more_spelled b (pushed h a)
+
+-- no declaration is read yet
+pub none_read : (text : List ℕ) (all : List Token) (list : List Declaration) (trees : List Decl) → trees ≡ [] → AreSpelled text all (take 0 list) (map plain_decl trees)
+none_read text all list trees e = subst (λ (x : List Decl). AreSpelled text all [] (map plain_decl x)) (sym e) none_spelled
+
+-- one more declaration is read, and its tree pushed
+pub one_read : {text : List ℕ} {all : List Token} (list : List Declaration) (i : ℕ) (d : Declaration) (trees longer : List Decl) (tree : Decl) → i < length list
+    → AreSpelled text all (take i list) (map plain_decl trees) → IsSpelled text all (get_or list i d) (plain_decl tree) → longer ≡ trees ++ tree ∷ []
+    → AreSpelled text all (take (i + 1) list) (map plain_decl longer)
+one_read {text = text} {all = all} list i d trees longer tree inside h a e =
+    let these : map plain_decl longer ≡ map plain_decl trees ++ plain_decl tree ∷ [] = ap (map plain_decl) e ∙ map-append plain_decl trees (tree ∷ []) in
+    subst (λ (x : List PlainDecl). AreSpelled text all (take (i + 1) list) x) (sym these)
+    (rw (add-one, take-suc list i d inside) (pushed h a))
+
+-- all declarations are read
+pub all_read : {text : List ℕ} {tokens : List Token} {list : List Declaration} {i : ℕ} {trees : List PlainDecl} → list ≡ declarations_of tokens → length list ≤ i → i ≤ length list
+    → AreSpelled text tokens (take i list) trees → AreSpelled text tokens (declarations_of tokens) trees
+all_read {text = text} {tokens = tokens} {list = list} {i = i} {trees = trees} e over under h =
+    let last : i ≡ length list = omega arith in
+    subst (λ (x : List Declaration). AreSpelled text tokens x trees) (ap (λ (n : ℕ). take n list) last ∙ take-length list ∙ e) h
+
+-- what is made of the trees is what the tokens spell
+pub made_spelled : {text others : List ℕ} {tokens us : List Token} {trees : List PlainDecl} {made : PlainSpec} → text ≡ others → tokens ≡ us → AreSpelled text tokens (declarations_of tokens) trees
+    → ((x : List ℕ) (spec : PlainSpec) → SpellsSpec x spec tokens → trees ≡ declarations_in spec.sections → made ≡ spec) → SpellsSpec others made us
+made_spelled {text = text} {tokens = tokens} {us = us} {trees = trees} {made = made} e f w h =
+    let found = spelled_as text tokens trees w in
+    let spec : PlainSpec = record { sections = found.sections } in
+    let spells : SpellsSpec text spec tokens = record { all_sections = found.spelled } in
+    subst (λ (x : List ℕ). SpellsSpec x made us) e (subst (λ (x : List Token). SpellsSpec text made x) f (subst (λ (x : PlainSpec). SpellsSpec text x tokens) (sym (h text spec spells found.trees_are)) spells))

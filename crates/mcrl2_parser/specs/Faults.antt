@@ -1,5 +1,5 @@
 -- What is accepted of a list of declarations, and why a list of tokens is refused.
-use Rattle.std.specs.Prelude.{◌≡◌, ◌≤◌, ◌<◌, ℕ, ◌+◌, Bool, true, false, Option, Some, List, ◌∷◌, ◌++◌, length, slice_range, All, count_by}
+use Rattle.std.specs.Prelude.{◌≡◌, ◌≤◌, ◌<◌, ℕ, ◌+◌, Bool, true, false, Option, Some, List, [], ◌∷◌, ◌++◌, length, slice_range, All, count_by}
 use Rattle.mcrl2_lexer.specs.declared.token.Token.{Token}
 use Rattle.mcrl2_syntax.specs.declared.declaration.SectionWord.{SectionWord}
 use Rattle.mcrl2_syntax.specs.declared.declaration.SectionWord.TheVariants.{Init}
@@ -18,13 +18,23 @@ tokens_of tokens declaration = slice_range tokens declaration.start declaration.
 abbrev pub level_at : List Token → Declaration → ℕ
 level_at tokens declaration = level_of (tokens_of tokens declaration)
 
--- it is in a section and ends at a `;`, and its tokens spell a declaration of that section
-pub record IsWhole (text : List ℕ) (tokens : List Token) (declaration : Declaration) : Type 0 where
+-- it is in a section and ends at a `;`, and its tokens spell that declaration of the section
+pub record IsSpelled (text : List ℕ) (tokens : List Token) (declaration : Declaration) (tree : PlainDecl) : Type 0 where
   pub word : SectionWord
   pub in_section : declaration.section ≡ Some word
   pub ended : declaration.is_ended ≡ true
-  pub spelled : PlainDecl
-  pub spells : SpellsDecl text word spelled (tokens_of tokens declaration)
+  pub spells : SpellsDecl text word tree (tokens_of tokens declaration)
+
+-- it is in a section and ends at a `;`, and its tokens spell a declaration of that section
+pub record IsWhole (text : List ℕ) (tokens : List Token) (declaration : Declaration) : Type 0 where
+  pub tree : PlainDecl
+  pub spelled : IsSpelled text tokens declaration tree
+
+-- each declaration is spelled as the tree that stands at its place in the other list
+pub data AreSpelled (text : List ℕ) (tokens : List Token) : List Declaration → List PlainDecl → Type 0 where
+  none_spelled : AreSpelled text tokens [] []
+  more_spelled : {declaration : Declaration} {tree : PlainDecl} {declarations : List Declaration} {trees : List PlainDecl} → IsSpelled text tokens declaration tree
+      → AreSpelled text tokens declarations trees → AreSpelled text tokens (declaration ∷ declarations) (tree ∷ trees)
 
 -- it is whole, and its level is 1,000 at most
 pub record IsSound (text : List ℕ) (tokens : List Token) (declaration : Declaration) : Type 0 where

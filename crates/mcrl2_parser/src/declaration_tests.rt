@@ -1,6 +1,6 @@
 //! Declarations of each section, and what is refused of them.
-use crate::cutting::cut;
 use crate::faults::ParseFault;
+use crate::parsing::parse;
 use mcrl2_lexer::lex;
 use std::test::Fail;
 
@@ -71,7 +71,7 @@ const REFUSED: [&[u8]; 34] = [
 fn what_spells_a_declaration_is_accepted(rt: HostRuntime) -> Result<(), Fail> {
     for text in SPELLED {
         let tokens = lex(rt.alloc(), text)?;
-        assert_eq!(rt; cut(rt.alloc(), &tokens).err(), None, "{text:?}");
+        assert_eq!(rt; parse(rt.alloc(), &tokens).err(), None, "{text:?}");
     }
     Ok(())
 }
@@ -81,7 +81,7 @@ fn what_spells_none_is_refused(rt: HostRuntime) -> Result<(), Fail> {
     for text in REFUSED {
         let tokens = lex(rt.alloc(), text)?;
         assert_eq!(rt;
-            cut(rt.alloc(), &tokens).err(),
+            parse(rt.alloc(), &tokens).err(),
             Some(ParseFault::Syntax(1)),
             "{text:?}"
         );

@@ -3,8 +3,9 @@
 use crate::datas::data;
 use crate::processes::process;
 use crate::shapes::{push_data, push_process};
+use crate::spec_shapes::{push_outline, push_spec};
 use crate::words::Fault;
-use crate::{ParseFault, cut};
+use crate::{ParseFault, parse};
 use mcrl2_lexer::lex;
 use std::alloc::Global;
 use std::test::Fail;
@@ -321,6 +322,27 @@ proc P(x: Nat) = (x > 0) -> a . P(x = Int2Nat(x - 1)) <> delta; init P(3);
 init sum x: S . sum y, z: T . a(x, y)|b(z) . delta;
 ";
 
+/// Whole texts with the first letter of each section's word and the number of its declarations.
+const OUTLINES: &[u8] = b"init delta;@i1
+sort init delta;@s0i1
+sort cons map var eqn act proc init delta; sort act@s0c0m0v0e0a0p0i1s0a0
+init init a;@i0i1
+act a; act b; init a; act c@
+act a; act b; init a; act c;@a1a1i1a1
+act a, b; c: S; proc P = a; Q = b; R = c; init P;@a2p3i1
+var x: A; y: A; eqn x = y; var z: A; eqn z = z; y = y; init a;@v2e1v1e2i1
+";
+
+/// Whole texts with the shapes of their trees.
+const WHOLE: &[u8] = b"sort A, B; C = List(A); act init delta;@sort A,B;C=List(A);act init delta;
+sort D = struct c(Nat, p: D)?is_c | d; init a;@sort D=c(Nat,p:D)?is_c|d();init a();
+cons c, d: S; map f: S # Nat -> List(S); init a;@cons c,d:->S;map f:S#Nat->List(S);init a();
+var x, y: S, z: T; u: S; eqn x = y; b -> x + 1 = !y; init a;@var x,y:S;z:T;;u:S;;eqn x=y;b->(x+1)=(!y);init a();
+act a, b; c: S # T; init a . b;@act a,b:;c:S#T;init (.a().b());
+proc P(x, y: S) = a(x) . P(x = y); Q = b; init P(z, z);@proc P(x,y:S;)=(.a(x).P<x=y;>);Q()=b();init P(z,z);
+act a; act b; init a + b; act c;@act a:;act b:;init (+a()+b());act c:;
+";
+
 /// Whole texts that are refused: for `Syntax`, `TooDeep`, `NoInit` or `TwoInits` its first letter, where `TwoInits` has a `2`,
 /// and the number of the declaration, or 0.
 const REFUSED: &[u8] = b" @N0
@@ -559,8 +581,56 @@ fn what_is_no_process_term_is_refused(rt: HostRuntime) -> Result<(), Fail> {
 fn a_specification_is_read(rt: HostRuntime) -> Result<(), Fail> {
     for row in &rows(rt.alloc(), SPECIFICATIONS)? {
         let tokens = lex(rt.alloc(), &row.left)?;
-        assert!(rt; cut(rt.alloc(), &tokens).is_ok());
+        assert!(rt; parse(rt.alloc(), &tokens).is_ok());
     }
+    Ok(())
+}
+
+/// The outline of a text's sections, or nothing where the text is refused.
+fn outline_of(alloc: Global, text: &[u8]) -> Result<Vec<u8>, Fail> {
+    let tokens = lex(alloc, text)?;
+    let mut outline = Vec::new(alloc);
+    if let Ok(spec) = parse(alloc, &tokens) {
+        push_outline(&mut outline, &spec)?;
+    }
+    Ok(outline)
+}
+
+#[test]
+fn sections_hold_the_declarations_that_end_in_them(rt: HostRuntime) -> Result<(), Fail> {
+    for row in &rows(rt.alloc(), OUTLINES)? {
+        assert_eq!(rt; outline_of(rt.alloc(), &row.left)?, row.right);
+    }
+    Ok(())
+}
+
+/// The shape of the specification that a text spells, or nothing where the text is refused.
+fn whole_shape(alloc: Global, text: &[u8]) -> Result<Vec<u8>, Fail> {
+    let tokens = lex(alloc, text)?;
+    let mut shape = Vec::new(alloc);
+    if let Ok(spec) = parse(alloc, &tokens) {
+        push_spec(&mut shape, &spec)?;
+    }
+    Ok(shape)
+}
+
+#[test]
+fn a_whole_text_has_its_tree(rt: HostRuntime) -> Result<(), Fail> {
+    for row in &rows(rt.alloc(), WHOLE)? {
+        assert_eq!(rt; whole_shape(rt.alloc(), &row.left)?, row.right);
+    }
+    Ok(())
+}
+
+#[test]
+fn a_section_stands_where_its_word_does(rt: HostRuntime) -> Result<(), Fail> {
+    let tokens = lex(rt.alloc(), b"sort  act a; init a;")?;
+    let mut places = Vec::new(rt.alloc());
+    for section in &parse(rt.alloc(), &tokens)?.sections {
+        places.push(section.span.start)?;
+        places.push(section.span.end)?;
+    }
+    assert_eq!(rt; places.as_slice(), [0, 4, 6, 9, 13, 17].as_slice());
     Ok(())
 }
 
@@ -580,7 +650,7 @@ fn letters_of(fault: ParseFault) -> [u8; 2] {
 fn what_is_no_specification_is_refused(rt: HostRuntime) -> Result<(), Fail> {
     for row in &rows(rt.alloc(), REFUSED)? {
         let tokens = lex(rt.alloc(), &row.left)?;
-        let letters = match cut(rt.alloc(), &tokens) {
+        let letters = match parse(rt.alloc(), &tokens) {
             Ok(_) => *b"ok",
             Err(fault) => letters_of(fault),
         };
@@ -591,9 +661,8 @@ fn what_is_no_specification_is_refused(rt: HostRuntime) -> Result<(), Fail> {
 
 #[test]
 fn the_alternating_bit_protocol_is_read(rt: HostRuntime) -> Result<(), Fail> {
-    let tokens = lex(rt.alloc(), ALTERNATING_BIT)?;
-    let declarations = cut(rt.alloc(), &tokens)?;
-    assert_eq!(rt; declarations.len(), 16);
+    let outline = outline_of(rt.alloc(), ALTERNATING_BIT)?;
+    assert_eq!(rt; outline.as_slice(), b"s2a8p5i1".as_slice());
     Ok(())
 }
 
@@ -614,8 +683,8 @@ fn nested(alloc: Global, depth: usize) -> Result<Vec<u8>, Fail> {
 #[test]
 fn brackets_are_read_up_to_the_greatest_level(rt: HostRuntime) -> Result<(), Fail> {
     let deepest = lex(rt.alloc(), &nested(rt.alloc(), 1000)?)?;
-    assert!(rt; cut(rt.alloc(), &deepest).is_ok());
+    assert!(rt; parse(rt.alloc(), &deepest).is_ok());
     let deeper = lex(rt.alloc(), &nested(rt.alloc(), 1001)?)?;
-    assert!(rt; matches!(cut(rt.alloc(), &deeper), Err(ParseFault::TooDeep(1))));
+    assert!(rt; matches!(parse(rt.alloc(), &deeper), Err(ParseFault::TooDeep(1))));
     Ok(())
 }

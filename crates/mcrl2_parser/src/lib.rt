@@ -1,14 +1,13 @@
-//! Tokens as declarations.
+//! Tokens as the tree of a specification.
 //!
-//! [`declarations`] cuts a list of tokens into its declarations, and [`level`] says how deep the tokens of one nest. [`cut`]
-//! gives the declarations of a text, or says which of them is refused, or that the text hasn't exactly one that starts it.
-//! [`parse_label`] reads the label that a line is.
+//! [`parse`] gives the only tree that the tokens of a text spell, or says which declaration is refused, or that the text hasn't
+//! exactly one that starts it. [`declarations`] cuts a list of tokens into its declarations, and [`level`] says how deep the
+//! tokens of one nest. [`parse_label`] reads the label that a line is.
 //! Sections and declarations are those of the mCRL2 language reference; the levels and their bound are this program's own.
 #![tactic(auto)]
 
 mod chains;
 mod constructor_readers;
-mod cutting;
 mod datas;
 mod declaration_readers;
 mod declaring;
@@ -22,16 +21,17 @@ mod levels;
 mod lists;
 mod operator_parts;
 mod operators;
+mod parsing;
 mod part_spans;
 mod parts;
 mod processes;
 mod reading;
+mod sectioning;
 mod sections;
 mod signature_readers;
 mod stack;
 mod words;
 
-pub use cutting::cut;
 pub use declaring::{Declaration, declarations};
 pub use faults::ParseFault;
 pub use label_line::{LabelFault, parse_label};
@@ -39,6 +39,7 @@ pub use laws::{
     parse_faults_are_single, sound_tokens_have_no_fault, whole_declarations_spell_a_specification,
 };
 pub use levels::{MAX_LEVEL, level};
+pub use parsing::parse;
 
 #[cfg(test)]
 mod data_tests;
@@ -54,5 +55,7 @@ mod process_tests;
 mod reader_tests;
 #[cfg(test)]
 mod shapes;
+#[cfg(test)]
+mod spec_shapes;
 #[cfg(test)]
 mod tests;

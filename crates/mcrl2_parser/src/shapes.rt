@@ -136,7 +136,7 @@ pub fn push_data(out: &mut Vec<u8>, tree: &DataTree) -> Result<(), AllocError> {
 }
 
 /// Names with a byte between them.
-fn push_names(out: &mut Vec<u8>, names: &[Word], separator: u8) -> Result<(), AllocError> {
+pub fn push_names(out: &mut Vec<u8>, names: &[Word], separator: u8) -> Result<(), AllocError> {
     let mut further = false;
     for name in names {
         if further {
@@ -149,7 +149,7 @@ fn push_names(out: &mut Vec<u8>, names: &[Word], separator: u8) -> Result<(), Al
 }
 
 /// A sort expression without brackets around it.
-fn push_sort(out: &mut Vec<u8>, tree: &SortTree) -> Result<(), AllocError> {
+pub fn push_sort(out: &mut Vec<u8>, tree: &SortTree) -> Result<(), AllocError> {
     match tree {
         SortTree::Bool(_) => out.extend_from_slice(b"Bool"),
         SortTree::Pos(_) => out.extend_from_slice(b"Pos"),
@@ -166,7 +166,7 @@ fn push_sort(out: &mut Vec<u8>, tree: &SortTree) -> Result<(), AllocError> {
 }
 
 /// Variables with their sorts.
-fn push_vars(out: &mut Vec<u8>, groups: &[VarGroup]) -> Result<(), AllocError> {
+pub fn push_vars(out: &mut Vec<u8>, groups: &[VarGroup]) -> Result<(), AllocError> {
     for group in groups {
         push_names(out, &group.names, b',')?;
         out.push(b':')?;

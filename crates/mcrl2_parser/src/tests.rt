@@ -257,7 +257,7 @@ fn a_text_has_the_level_of_its_row(rt: HostRuntime) -> Result<(), Fail> {
 fn a_text_is_refused_by_its_first_fault(rt: HostRuntime) -> Result<(), Fail> {
     for (text, fault) in FAULTS {
         let tokens = lex(rt.alloc(), text)?;
-        assert_eq!(rt; cut(rt.alloc(), &tokens).err(), fault, "{text:?}");
+        assert_eq!(rt; parse(rt.alloc(), &tokens).err(), fault, "{text:?}");
     }
     Ok(())
 }
@@ -282,7 +282,7 @@ fn a_deep_text_is_refused_past_the_greatest_level(rt: HostRuntime) -> Result<(),
     for (front, depth, behind, fault) in rows {
         let tokens = lex(rt.alloc(), &nested(rt.alloc(), front, depth, behind)?)?;
         assert_eq!(rt;
-            cut(rt.alloc(), &tokens).err(),
+            parse(rt.alloc(), &tokens).err(),
             fault,
             "{front:?} {depth} {behind:?}"
         );
@@ -320,7 +320,7 @@ fn what_nests_deeper_than_its_level_ends_for_want_of_stack(rt: HostRuntime) -> R
     ] {
         let text = repeated(rt.alloc(), front, piece, 20_000, behind)?;
         let tokens = lex(rt.alloc(), &text)?;
-        assert!(rt; matches!(cut(rt.alloc(), &tokens), Err(ParseFault::NoMemory)));
+        assert!(rt; matches!(parse(rt.alloc(), &tokens), Err(ParseFault::NoMemory)));
     }
     Ok(())
 }
@@ -339,7 +339,7 @@ fn what_is_only_long_has_room(rt: HostRuntime) -> Result<(), Fail> {
     ] {
         let text = repeated(rt.alloc(), front, piece, 3_000, behind)?;
         let tokens = lex(rt.alloc(), &text)?;
-        assert!(rt; cut(rt.alloc(), &tokens).is_ok());
+        assert!(rt; parse(rt.alloc(), &tokens).is_ok());
     }
     Ok(())
 }

@@ -1,6 +1,6 @@
 use Rattle.std.proofs.Common.{◌∙◌, ap, if◌then◌else◌}
 use Rattle.mcrl2_parser.proofs.Refused.{second_init}
-use Rattle.mcrl2_parser.proofs.cutting.check_inits.Goals as goal
+use Rattle.mcrl2_parser.proofs.parsing.check_inits.Goals as goal
 
 pub returns-then-found-clause-not_one : goal.returns-then-found-clause-not_one
 returns-then-found-clause-not_one c =

@@ -1,19 +1,22 @@
-//! The declarations of a text, where none is refused.
-ghost use Rattle.std.specs.Prelude.{◌≡◌, ◌≢◌, ◌<◌, ◌+◌, ◌^◌, All, IfOk, IfErr, OnOk, count_by, length};
+//! The tree of a text, where none of its declarations is refused.
+ghost use Rattle.std.specs.Prelude.{◌≡◌, ◌≢◌, ◌<◌, ◌+◌, ◌^◌, All, IfOk, IfErr, OnOk, count_by, length, map};
 ghost use Rattle.mcrl2_parser.specs.Declarations.{declarations_of, IsWithin};
-ghost use Rattle.mcrl2_parser.specs.Faults.{HasFault, IsRefused, HasInitFault, IsSound, is_init};
+ghost use Rattle.mcrl2_parser.specs.Faults.{HasFault, IsRefused, HasInitFault, IsSound, IsSpelled, AreSpelled, is_init};
+ghost use Rattle.mcrl2_syntax.specs.Declarations.{PlainSpec, plain_decl, spec_of};
+ghost use Rattle.mcrl2_syntax.specs.SpelledDeclarations.{SpellsSpec};
 
 use crate::declaration_readers::read_declaration;
 use crate::declaring::{Declaration, declarations};
 use crate::faults::ParseFault;
 use crate::levels::{MAX_LEVEL, level};
+use crate::sectioning::in_sections;
 use crate::stack::has_room;
 use crate::words::Fault;
 use mcrl2_lexer::{Token, Tokens};
-use mcrl2_syntax::SectionWord;
+use mcrl2_syntax::{Decl, SectionWord, Spec};
 use std::alloc::Global;
 
-/// Refuses a declaration of a text's tokens, which has that number, if it nests too deep or spells none.
+/// The tree of a declaration of a text's tokens, which has that number.
 ///
 /// # Errors
 ///
@@ -25,8 +28,9 @@ fn check(
     tokens: &[Token],
     number: usize,
     declaration: Declaration,
-) -> Result<(), ParseFault>
+) -> Result<Decl, ParseFault>
     requires { IsWithin (length tokens.now) declaration }
+    ensures spelled { IfOk result (λ tree. IsSpelled text.now tokens.now declaration (plain_decl tree)) }
     ensures sound { OnOk result (IsSound text.now tokens.now declaration) }
     ensures refused { IfErr result (λ fault. fault ≢ ParseFault.NoMemory → IsRefused text.now tokens.now number declaration fault) }
 {
@@ -44,10 +48,35 @@ fn check(
         return Err(ParseFault::NoMemory);
     }
     match read_declaration(alloc, text, section, own) {
-        Ok(_) => Ok(()),
+        Ok(tree) => Ok(tree),
         Err(Fault::Syntax) => Err(ParseFault::Syntax(number)),
         Err(Fault::NoMemory) => Err(ParseFault::NoMemory),
     }
+}
+
+/// The trees of all declarations of a text's tokens, in their order.
+///
+/// # Errors
+///
+/// The fault of the first declaration that is refused.
+fn trees_of(
+    alloc: Global,
+    text: &[u8],
+    tokens: &[Token],
+    list: &[Declaration],
+) -> Result<Vec<Decl>, ParseFault>
+    requires within { All (IsWithin (length tokens.now)) list.now }
+    requires all { list.now ≡ declarations_of tokens.now }
+    ensures spelled { IfOk result (λ trees. AreSpelled text.now tokens.now (declarations_of tokens.now) (map plain_decl trees.items)) }
+    ensures sound { OnOk result (All (IsSound text.now tokens.now) (declarations_of tokens.now)) }
+    ensures fault { IfErr result (λ fault. fault ≢ ParseFault.NoMemory → HasFault text.now tokens.now fault) }
+{
+    let mut trees = Vec::new(alloc);
+    for (index, declaration) in list.iter().enumerate() {
+        let tree = check(alloc, text, tokens, index + 1, *declaration)?;
+        trees.push(tree)?;
+    }
+    Ok(trees)
 }
 
 /// Whether a declaration is in an `init` section.
@@ -85,29 +114,29 @@ fn check_inits(list: &[Declaration]) -> Result<(), ParseFault>
     }
 }
 
-/// The declarations of a text, in its order, of which each one may be read by itself.
+/// The specification that the tokens of a text spell.
 ///
+/// The sections and the grammar of their declarations are those of the mCRL2 language reference, as far as they are read here.
 /// The declarations are taken in the order of the text, and the first one that nests too deep or spells none is refused: its
-/// level is looked at first. A declaration in no section spells none, and neither does one that no `;` ends.
+/// level is looked at first. A declaration in no section spells none, and neither does one that no `;` ends. The bound of
+/// levels is this program's own.
 ///
 /// # Errors
 ///
 /// `TooDeep` with the number of the first declaration that is refused, if its level passes [`MAX_LEVEL`], else `Syntax` with
 /// that number. If none is refused, `NoInit` where no declaration is in an `init` section, and `TwoInits` with the number of
-/// the second one that is. `NoMemory` comes where no memory is left.
-pub fn cut(alloc: Global, tokens: &Tokens) -> Result<Vec<Declaration>, ParseFault>
-    ensures declarations { IfOk result (λ list. list.items ≡ declarations_of tokens.now.list) }
-    ensures within { IfOk result (λ list. All (IsWithin (length tokens.now.list)) list.items) }
-    ensures sound { IfOk result (λ list. All (IsSound tokens.now.text tokens.now.list) list.items) }
-    ensures one_init { IfOk result (λ list. count_by is_init list.items ≡ 1) }
+/// the second one that is. `NoMemory` comes where no memory is left, or the stack has no room for a declaration.
+pub fn parse(alloc: Global, tokens: &Tokens) -> Result<Spec, ParseFault>
+    ensures spelled { IfOk result (λ spec. SpellsSpec tokens.now.text (spec_of spec) tokens.now.list) }
+    ensures single { IfOk result (λ spec. (other : PlainSpec) → SpellsSpec tokens.now.text other tokens.now.list → spec_of spec ≡ other) }
+    ensures sound { OnOk result (All (IsSound tokens.now.text tokens.now.list) (declarations_of tokens.now.list)) }
+    ensures one_init { OnOk result (count_by is_init (declarations_of tokens.now.list) ≡ 1) }
     ensures fault { IfErr result (λ fault. fault ≢ ParseFault.NoMemory → HasFault tokens.now.text tokens.now.list fault) }
 {
     let text = tokens.text();
     let all = tokens.list();
     let list = declarations(alloc, all)?;
-    for (index, declaration) in list.iter().enumerate() {
-        check(alloc, text, all, index + 1, *declaration)?;
-    }
+    let trees = trees_of(alloc, text, all, &list)?;
     check_inits(&list)?;
-    Ok(list)
+    Ok(in_sections(alloc, all, trees)?)
 }

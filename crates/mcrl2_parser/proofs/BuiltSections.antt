@@ -1,0 +1,123 @@
+-- What is built of tokens and trees from the left: a word begins a section, and at a `;` the next tree goes into the last one.
+use Rattle.std.proofs.Common.{◌≡◌, ℕ, Bool, true, false, Option, None, Some, List, [], ◌∷◌, ◌++◌, All, zero, suc, map, slice_index_or, slice_set, ◌≤◌, ◌+◌, length, drop, arith, refl, sym, ap, ◌∙◌, append_assoc, append-nil}
+use Rattle.std.proofs.Math.Seq.{drop-length}
+use Rattle.std.proofs.lemmas.List.{map-append}
+use Rattle.std.proofs.lemmas.List.Elements.{All-head, All-tail}
+use Rattle.mcrl2_lexer.specs.declared.token.Token.{Token}
+use Rattle.mcrl2_syntax.specs.declared.word.Span.{Span}
+use Rattle.mcrl2_syntax.specs.declared.declaration.Decl.{Decl}
+use Rattle.mcrl2_syntax.specs.declared.declaration.Section.{Section}
+use Rattle.mcrl2_syntax.specs.declared.declaration.SectionWord.{SectionWord}
+use Rattle.mcrl2_syntax.specs.Words.{span_of}
+use Rattle.mcrl2_syntax.specs.Declarations.{PlainDecl, PlainSection, PlainSpec, plain_decl, section_of}
+use Rattle.mcrl2_syntax.specs.SpelledDeclarations.{section_word, IsInside, SpellsDecls, no_decls, more_decls, SpellsSections, no_sections, more_sections, SpellsSpec}
+use Rattle.mcrl2_parser.specs.Sections.{is_semicolon, declarations_in, lengthened, with_last}
+use Rattle.mcrl2_parser.proofs.SpelledByDeclarations.{outside_semicolon}
+
+-- the sections so far, and the trees that are left
+pub record Built : Type 0 where
+  pub sections : List PlainSection
+  pub left : List PlainDecl
+
+-- the section of a token with these declarations
+abbrev pub having : Token → SectionWord → List PlainDecl → PlainSection
+having token word trees = record { span = span_of token token; word = word; declarations = trees }
+
+-- the next tree goes into the last section
+abbrev pub with_next : List PlainSection → List PlainDecl → Built
+with_next sections [] = record { sections = sections; left = [] }
+with_next sections (tree ∷ left) = record { sections = with_last tree sections; left = left }
+
+-- behind one more token, which begins that section, if any, or is a `;`
+abbrev pub past : Option SectionWord → Bool → Token → Built → Built
+past (Some word) ends token built = record { sections = built.sections ++ having token word [] ∷ []; left = built.left }
+past None true token built = with_next built.sections built.left
+past None false token built = built
+
+-- behind all tokens
+abbrev pub past_all : List Token → Built → Built
+past_all [] built = built
+past_all (token ∷ tokens) built = past_all tokens (past (section_word token.kind) (is_semicolon token.kind) token built)
+
+-- What is built of all tokens is built of those from a place on, with these sections in front.
+pub record IsPast (tokens : List Token) (at : ℕ) (sections : List PlainSection) (left trees : List PlainDecl) : Type 0 where
+  pub goes_on : past_all (drop at tokens) (record { sections = sections; left = left }) ≡ past_all tokens (record { sections = []; left = trees })
+
+past_inside : (front rest : List Token) (built : Built) → All IsInside front → past_all (front ++ rest) built ≡ past_all rest built
+past_inside [] rest built h = refl
+past_inside (t ∷ front) rest built h =
+    let here = All-head IsInside t front h in
+    ap (λ (b : Built). past_all (front ++ rest) b) (ap (λ (o : Option SectionWord). past o (is_semicolon t.kind) t built) here.no_section
+    ∙ ap (λ (b : Bool). past None b t built) (outside_semicolon t.kind here.no_semicolon))
+    ∙ past_inside front rest built (All-tail IsInside t front h)
+
+last_of_more : (tree : PlainDecl) (front : List PlainSection) (section : PlainSection) → with_last tree (front ++ section ∷ []) ≡ front ++ lengthened section tree ∷ []
+last_of_more tree [] section = refl
+last_of_more tree (x ∷ []) section = refl
+last_of_more tree (x ∷ y ∷ front) section = ap (λ (z : List PlainSection). x ∷ z) (last_of_more tree (y ∷ front) section)
+
+-- a `;` in a section
+past_end : (t s : Token) (word : SectionWord) (rest : List Token) (front : List PlainSection) (had : List PlainDecl) (tree : PlainDecl) (left : List PlainDecl) → section_word s.kind ≡ None
+    → is_semicolon s.kind ≡ true
+    → past_all (s ∷ rest) (record { sections = front ++ having t word had ∷ []; left = tree ∷ left }) ≡ past_all rest (record { sections = front ++ having t word (had ++ tree ∷ []) ∷ []; left = left })
+past_end t s word rest front had tree left e f =
+    let was : Built = record { sections = front ++ having t word had ∷ []; left = tree ∷ left } in
+    ap (λ (b : Built). past_all rest b) (ap (λ (o : Option SectionWord). past o (is_semicolon s.kind) s was) e ∙ ap (λ (b : Bool). past None b s was) f
+    ∙ ap (λ (x : List PlainSection). record { sections = x; left = left }) (last_of_more tree front (having t word had)))
+
+-- the declarations of a section go into it
+past_decls : {text : List ℕ} (t : Token) {word : SectionWord} {trees : List PlainDecl} {ts rest : List Token} (front : List PlainSection) (had left : List PlainDecl) → SpellsDecls text word trees ts rest
+    → past_all ts (record { sections = front ++ having t word had ∷ []; left = trees ++ left }) ≡ past_all rest (record { sections = front ++ having t word (had ++ trees) ∷ []; left = left })
+past_decls t {word = word} {rest = rest} front had left no_decls =
+    ap (λ (x : List PlainDecl). past_all rest (record { sections = front ++ having t word x ∷ []; left = left })) (sym (append-nil had))
+past_decls t {word = word} {rest = rest} front had left (more_decls {d = d} {ds = ds} {front = piece} {us = us} cut a more) =
+    let was : Built = record { sections = front ++ having t word had ∷ []; left = d ∷ ds ++ left } in
+    ap (λ (x : List Token). past_all x was) cut.is
+    ∙ past_inside piece (cut.sign ∷ us) was cut.inside
+    ∙ past_end t cut.sign word us front had d (ds ++ left) (ap section_word cut.semicolon) (ap is_semicolon cut.semicolon)
+    ∙ past_decls t front (had ++ d ∷ []) left more
+    ∙ ap (λ (x : List PlainDecl). past_all rest (record { sections = front ++ having t word x ∷ []; left = left })) (append_assoc had (d ∷ []) ds)
+
+past_word : (t : Token) (word : SectionWord) (rest : List Token) (front : List PlainSection) (left : List PlainDecl) → section_word t.kind ≡ Some word
+    → past_all (t ∷ rest) (record { sections = front; left = left }) ≡ past_all rest (record { sections = front ++ having t word [] ∷ []; left = left })
+past_word t word rest front left e = ap (λ (o : Option SectionWord). past_all rest (past o (is_semicolon t.kind) t (record { sections = front; left = left }))) e
+
+past_sections : {text : List ℕ} {sections : List PlainSection} {ts : List Token} (front : List PlainSection) → SpellsSections text sections ts
+    → past_all ts (record { sections = front; left = declarations_in sections }) ≡ record { sections = front ++ sections; left = [] }
+past_sections front no_sections = ap (λ (x : List PlainSection). record { sections = x; left = [] }) (sym (append-nil front))
+past_sections front (more_sections {t = t} {word = word} {ds = ds} {sections = sections} {ts = ts} {r = r} h a more) =
+    past_word t word ts front (ds ++ declarations_in sections) h
+    ∙ past_decls t front [] (declarations_in sections) a
+    ∙ past_sections (front ++ having t word ds ∷ []) more
+    ∙ ap (λ (x : List PlainSection). record { sections = x; left = [] }) (append_assoc front (having t word ds ∷ []) sections)
+
+-- what is built of tokens and of the declarations of what they spell is what they spell
+pub built_is : {text : List ℕ} {tokens : List Token} {at : ℕ} {sections : List PlainSection} {left trees : List PlainDecl} {spec : PlainSpec} → IsPast tokens at sections left trees → length tokens ≤ at
+    → at ≤ length tokens → SpellsSpec text spec tokens → trees ≡ declarations_in spec.sections → record { sections = sections } ≡ spec
+built_is {tokens = tokens} {at = at} {sections = sections} {left = left} so_far over under spelled f =
+    let last : at ≡ length tokens = omega arith in
+    let none : drop at tokens ≡ [] = ap (λ (n : ℕ). drop n tokens) last ∙ drop-length tokens in
+    ap (λ (b : Built). record { sections = b.sections })
+    (sym (ap (λ (x : List Token). past_all x (record { sections = sections; left = left })) none) ∙ so_far.goes_on
+    ∙ ap (λ (x : List PlainDecl). past_all tokens (record { sections = []; left = x })) f ∙ past_sections [] spelled.all_sections)
+
+-- a section that has the declarations of another one and one more
+one_longer : (section made : Section) (tree : Decl) → made.span ≡ section.span → made.word ≡ section.word → made.declarations.items ≡ section.declarations.items ++ tree ∷ []
+    → section_of made ≡ lengthened (section_of section) (plain_decl tree)
+one_longer section made tree e f g =
+    let trees : map plain_decl made.declarations.items ≡ map plain_decl section.declarations.items ++ plain_decl tree ∷ [] = ap (map plain_decl) g ∙ map-append plain_decl section.declarations.items (tree ∷ []) in
+    ap (λ (x : Span). record { span = x; word = made.word; declarations = map plain_decl made.declarations.items }) e
+    ∙ ap (λ (x : SectionWord). record { span = section.span; word = x; declarations = map plain_decl made.declarations.items }) f
+    ∙ ap (λ (x : List PlainDecl). record { span = section.span; word = section.word; declarations = x }) trees
+
+-- a section with one more declaration takes the place of the last one
+pub put_last : (sections : List Section) (at : ℕ) (tree : Decl) (last made : Section) → at + 1 ≡ length sections → last ≡ slice_index_or sections at last
+    → made.span ≡ last.span → made.word ≡ last.word → made.declarations.items ≡ last.declarations.items ++ tree ∷ []
+    → map section_of (slice_set sections at made) ≡ with_last (plain_decl tree) (map section_of sections)
+put_last [] at tree last made n i e f g = absurd (omega (arith, n))
+put_last (x ∷ []) zero tree last made n i e f g =
+    ap (λ (s : PlainSection). s ∷ []) (one_longer last made tree e f g ∙ ap (λ (s : Section). lengthened (section_of s) (plain_decl tree)) i)
+put_last (x ∷ []) (suc at) tree last made n i e f g = absurd (omega (arith, n))
+put_last (x ∷ y ∷ sections) zero tree last made n i e f g = absurd (omega (arith, n))
+put_last (x ∷ y ∷ sections) (suc at) tree last made n i e f g =
+    ap (λ (s : List PlainSection). section_of x ∷ s) (put_last (y ∷ sections) at tree last made (omega (arith, n)) i e f g)
