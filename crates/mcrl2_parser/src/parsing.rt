@@ -22,7 +22,7 @@ use std::alloc::Global;
 ///
 /// `TooDeep` where its level passes [`MAX_LEVEL`], else `Syntax` where it is in no section, no `;` ends it, or its tokens spell
 /// no declaration of its section. `NoMemory` where no memory is left, or the stack has no room.
-fn check(
+fn tree_of(
     alloc: Global,
     text: &[u8],
     tokens: &[Token],
@@ -73,7 +73,7 @@ fn trees_of(
 {
     let mut trees = Vec::new(alloc);
     for (index, declaration) in list.iter().enumerate() {
-        let tree = check(alloc, text, tokens, index + 1, *declaration)?;
+        let tree = tree_of(alloc, text, tokens, index + 1, *declaration)?;
         trees.push(tree)?;
     }
     Ok(trees)
