@@ -161,9 +161,6 @@ function_complete s n args to c a b d =
       };
     }
 
-pub complete_as : (s t : Sig) → IsComplete s → t ≡ s → IsComplete t
-complete_as s t c e = subst IsComplete (sym e) c
-
 -- ---- a text is taken
 pub still_has_words : (old new : List (List ℕ)) → Behind old new → ((w : Word) → Contains old (text_of w)) → (w : Word) → Contains new (text_of w)
 still_has_words old new b has w = still_contains old new (text_of w) b (has w)

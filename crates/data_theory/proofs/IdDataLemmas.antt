@@ -25,7 +25,7 @@ use Rattle.data_theory.specs.IdTables.{HasSortsIn, IsTable}
 use Rattle.data_theory.specs.IdData.{constructors_of, is_constructor, is_this, role_at_place, role_by, role_or, role_among, role_meant, function_at_meant, function_meant, data_meant}
 use Rattle.data_theory.specs.IdTerms.{sort_under, IsGrown}
 use Rattle.data_theory.specs.IdRoles.{declared_number, HasRole, constructs, projects, recognises, IsStructConstructor, AreRoles, RolesAreFound, MeantDataAreData, GrowthKeepsMeantData}
-use Rattle.data_theory.proofs.PlaceLemmas.{read_front, read_contained, contains_read, position_reads}
+use Rattle.data_theory.proofs.PlaceLemmas.{read_front, read_behind, read_contained, contains_read, position_reads}
 use Rattle.data_theory.proofs.IdSortLemmas.{read_within, growth_keeps_meant_sorts, declared_sorts_stand_in_the_data}
 use Rattle.data_theory.proofs.IdSymbolLemmas.{declared_both, holds_at, read_sort, boolean_is, sort_is, declared_functions_stand_in_the_data}
 
@@ -363,14 +363,6 @@ module _ (i : FunId) where
   among_none (f ∷ fs) n no_place no_test =
       ap (λ q. role_or q (role_among (n + length (if_declared 0 f.word)) fs i)) (by_none n f (λ k. no_place 0 k f refl) (no_test 0 f refl))
       ∙ among_none fs (n + length (if_declared 0 f.word)) (λ j k h at. no_place (suc j) k h at) (λ j h at. no_test (suc j) h at)
-
-read_behind : {A : Type 0} (xs ys : List A) (j : ℕ) (y : A) → slice_get ys j ≡ Some y → slice_get (xs ++ ys) (length xs + j) ≡ Some y
-read_behind {A = A} xs ys j y e = by_front xs (length xs + j) refl
-  where
-    by_front : (zs : List A) (n : ℕ) → n ≡ length zs + j → slice_get (zs ++ ys) n ≡ Some y
-    by_front [] n q = ap (slice_get ys) (let z : n ≡ j = omega (arith, q) in z) ∙ e
-    by_front (z ∷ zs) zero q = absurd (omega (arith, q))
-    by_front (z ∷ zs) (suc n) q = by_front zs n (omega (arith, q))
 
 module _ (g h : Sig) (table : IsTable g) (roles : AreRoles g) (new_roles : AreRoles h) (grown : IsGrown g h) where
   module _ (i : FunId) (f : Function) (at : slice_get g.functions i.0 ≡ Some f) where

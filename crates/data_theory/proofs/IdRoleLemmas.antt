@@ -26,6 +26,10 @@ use Rattle.data_theory.proofs.IdTableLemmas.{read_joined}
 use Rattle.std.proofs.lemmas.Bool.{cases_eq}
 use Rattle.data_theory.proofs.ListSortLemmas.{kind_here, kind_elsewhere}
 
+-- further functions don't change the number of a declared one
+pub same_declared_number : (fs new : List Function) (c : FunId) (h : Function) → slice_get fs c.0 ≡ Some h → declared_number (fs ++ new) c ≡ declared_number fs c
+same_declared_number fs new c h at = ap (λ l. length (declared_from 0 l)) (take-append-le c.0 fs new (omega (arith, slice_get_within fs c.0 h at)))
+
 -- where functions without projections and recogniser come behind, and no constructor comes
 module _ (ss ts : List SortInfo) (fs new : List Function) (roles : HaveRoles ss fs)
     (plain : (j : ℕ) (f : Function) → slice_get new j ≡ Some f → (f.projections ≡ []) × (f.test ≡ None))
@@ -54,7 +58,7 @@ module _ (ss ts : List SortInfo) (fs new : List Function) (roles : HaveRoles ss 
   with_test c h r at e = old_entry c h at (λ n. let z : None ≡ Some r = sym n.1 ∙ e in cc)
 
   same_number : (c : FunId) (h : Function) → slice_get fs c.0 ≡ Some h → declared_number all c ≡ declared_number fs c
-  same_number c h at = ap (λ l. length (declared_from 0 l)) (take-append-le c.0 fs new (omega (arith, slice_get_within fs c.0 h at)))
+  same_number c h at = same_declared_number fs new c h at
 
   old_role : (i : FunId) (r : Role) → HasRole ts all i r → HasRole ss fs i r
   old_role i r (constructs s t at c) = constructs s t (back s t i at c) c
@@ -140,6 +144,16 @@ pub list_sorts_keep_the_roles : ListSortsKeepTheRoles
 list_sorts_keep_the_roles g e roles = sort_kept g (list_sort e) (list_table e (record { 0 = length g.sorts })) roles refl
 
 -- ---- a declared sort gets its constructors
+-- a `struct` is another sort
+pub struct_stays : (ss : List SortInfo) (sort : SortId) (d : Kind) → IsBare ss sort → (c : FunId) (s : SortId) → IsStructConstructor ss c s → IsStructConstructor (with_kind ss sort.0 d) c s
+struct_stays ss sort d bare c s h = (h.0, h.1, kind_elsewhere ss sort.0 d s.0 other ∙ h.2, h.3, h.4)
+  where
+    other : s.0 ≡ sort.0 → ⊥
+    other e =
+        let same : h.0 ≡ bare.0 = (let z : Some h.0 ≡ Some bare.0 = sym h.2 ∙ ap (slice_get ss) e ∙ bare.1 in cc) in
+        let z : sorts.structured h.1 ≡ sorts.without_constructors = sym h.3 ∙ ap (λ (x : SortInfo). x.kind) same ∙ bare.2 in
+        cc
+
 module _ (g : Sig) (sort : SortId) (cons : List FunId) (roles : AreRoles g) (bare : IsBare g.sorts sort) (made : All (λ (c : FunId). IsDeclaredTo g.functions c sort) cons)
     (free : (c : FunId) (r : Role) → Contains cons c → HasRole g.sorts g.functions c r → ⊥) where
   abbrev after : List SortInfo
@@ -162,16 +176,6 @@ module _ (g : Sig) (sort : SortId) (cons : List FunId) (roles : AreRoles g) (bar
           (d.0, d.1, d.2, d.3 ∙ ap (λ (n : ℕ). record { 0 = n }) (sym h.0))
       by_cases (inr e) = roles.constructors s t c e in'
 
-  -- a `struct` is another sort
-  struct_after : (c : FunId) (s : SortId) → IsStructConstructor g.sorts c s → IsStructConstructor after c s
-  struct_after c s h = (h.0, h.1, kind_elsewhere g.sorts sort.0 (sorts.by_declarations cons) s.0 other ∙ h.2, h.3, h.4)
-    where
-      other : s.0 ≡ sort.0 → ⊥
-      other e =
-          let same : h.0 ≡ bare.0 = (let z : Some h.0 ≡ Some bare.0 = sym h.2 ∙ ap (slice_get g.sorts) e ∙ bare.1 in cc) in
-          let z : sorts.structured h.1 ≡ sorts.without_constructors = sym h.3 ∙ ap (λ (x : SortInfo). x.kind) same ∙ bare.2 in
-          cc
-
   role_after : (i : FunId) (r : Role) → HasRole after g.functions i r → (Contains cons i × (r ≡ constructor)) ⊎ HasRole g.sorts g.functions i r
   role_after i r (constructs s t at c) = elim (constructor_cases s t i at c) [ inl h ↦ inl (h.1, refl) | inr e ↦ inr (constructs s t e c) ]
   role_after i r (projects c h k at p) = inr (projects c h k at p)
@@ -189,8 +193,8 @@ module _ (g : Sig) (sort : SortId) (cons : List FunId) (roles : AreRoles g) (bar
   roles_after : HaveRoles after g.functions
   roles_after = record {
     constructors = declared_after;
-    projections = λ c p h k at e. let x = roles.projections c p h k at e in (struct_after c h.result x.0, x.1);
-    recognisers = λ c r h at e. let x = roles.recognisers c r h at e in (struct_after c h.result x.0, x.1);
+    projections = λ c p h k at e. let x = roles.projections c p h k at e in (struct_stays g.sorts sort (sorts.by_declarations cons) bare c h.result x.0, x.1);
+    recognisers = λ c r h at e. let x = roles.recognisers c r h at e in (struct_stays g.sorts sort (sorts.by_declarations cons) bare c h.result x.0, x.1);
     one_role = one_role_after;
   }
 

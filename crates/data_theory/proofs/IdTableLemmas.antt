@@ -37,7 +37,7 @@ different_with texts t d = by_test (list_any (bytes_eq t) texts) refl
     by_test true e = d
     by_test false e = one_place_pushed texts t d (λ c. let z : true ≡ false = sym (among_texts texts t c) ∙ e in cc)
 
-still_read : (old new : List (List ℕ)) → Behind old new → (i : ℕ) (u : List ℕ) → slice_get old i ≡ Some u → slice_get new i ≡ Some u
+pub still_read : (old new : List (List ℕ)) → Behind old new → (i : ℕ) (u : List ℕ) → slice_get old i ≡ Some u → slice_get new i ≡ Some u
 still_read old new h i u e = ap (λ l. slice_get l i) h.is ∙ read_front old h.more i u e
 
 entry_renamed : (old new : List (List ℕ)) (ss : List SortInfo) → ((i : ℕ) (u : List ℕ) → slice_get old i ≡ Some u → slice_get new i ≡ Some u) → (f : Function) → IsEntry old ss f → IsEntry new ss f
@@ -71,7 +71,7 @@ pub aliases_keep_the_tables : AliasesKeepTheTables
 aliases_keep_the_tables g n s table = table
 
 -- ---- functions behind the others
-first_stays : (fs new : List Function) → ((k : ℕ) (r : Row) → slice_get first_rows k ≡ Some r → (f : Function) × (slice_get fs k ≡ Some f) × (f ≡ row_function f.name r))
+pub first_stays : (fs new : List Function) → ((k : ℕ) (r : Row) → slice_get first_rows k ≡ Some r → (f : Function) × (slice_get fs k ≡ Some f) × (f ≡ row_function f.name r))
     → (k : ℕ) (r : Row) → slice_get first_rows k ≡ Some r → (f : Function) × (slice_get (fs ++ new) k ≡ Some f) × (f ≡ row_function f.name r)
 first_stays fs new first k r at = let h = first k r at in (h.0, read_front fs new k h.0 h.1, h.2)
 
@@ -276,7 +276,7 @@ read_joined [] ys i u e = inr (i, omega arith, e)
 read_joined (x ∷ xs) ys zero u e = inl e
 read_joined (x ∷ xs) ys (suc i) u e = elim (read_joined xs ys i u e) [ inl a ↦ inl a | inr b ↦ inr (b.0, omega (arith, b.1), b.2) ]
 
-one_place_joined : (old new : List Function) → HaveOnePlace (map key_of old) → AreNew old new → HaveOnePlace (map key_of (old ++ new))
+pub one_place_joined : (old new : List Function) → HaveOnePlace (map key_of old) → AreNew old new → HaveOnePlace (map key_of (old ++ new))
 one_place_joined old new once fresh = subst HaveOnePlace (sym (map-append key_of old new)) joined
   where
     absent : (j : ℕ) (k : Key) → slice_get (map key_of new) j ≡ Some k → Contains (map key_of old) k → ⊥

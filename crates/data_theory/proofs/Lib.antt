@@ -41,3 +41,6 @@ pub mod IdTableLemmas
 pub mod IdDataLemmas
 pub mod IdRoleLemmas
 pub mod IdGrowthLemmas
+pub mod IdStructLemmas
+pub mod IdStructRoleLemmas
+pub mod WholeSignatureLemmas

@@ -103,6 +103,11 @@ kind_here [] k d t e = cc
 kind_here (s ∷ ss) zero d t e = let same : record s { kind = d } ≡ t = cc in ap (λ (x : SortInfo). x.kind) (sym same)
 kind_here (s ∷ ss) (suc k) d t e = kind_here ss k d t e
 
+pub kind_there : (ss : List SortInfo) (k : ℕ) (d : Kind) (s : SortInfo) → slice_get ss k ≡ Some s → slice_get (with_kind ss k d) k ≡ Some (record s { kind = d })
+kind_there [] k d s e = cc
+kind_there (x ∷ ss) zero d s e = let same : x ≡ s = cc in ap (λ (y : SortInfo). Some (record y { kind = d })) same
+kind_there (x ∷ ss) (suc k) d s e = kind_there ss k d s e
+
 kind_step : (ss : List SortInfo) (sort : SortId) (d : Kind) (e : SortId) (r : Option SortId) → IsBare ss sort → (IsListKind d → ⊥) → IsTheListOver ss e r → IsTheListOver (with_kind ss sort.0 d) e r
 kind_step ss sort d e None bare none h = λ a. by_place a (decide a.0 sort.0)
   where

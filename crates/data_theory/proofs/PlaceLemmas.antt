@@ -1,5 +1,5 @@
 -- Entries by their places.
-use Rattle.std.proofs.Common.{◌≡◌, ℕ, zero, suc, ◌⊎◌, inl, inr, List, [], ◌∷◌, ◌++◌, ◌<◌, map, take, length, get_or, Bool, true, false, ◌||◌, cond, Option, Some, None, refl, sym, ap, ◌∙◌, subst, arith}
+use Rattle.std.proofs.Common.{◌≡◌, ℕ, zero, suc, ◌⊎◌, inl, inr, List, [], ◌∷◌, ◌++◌, ◌<◌, ◌+◌, map, take, length, get_or, Bool, true, false, ◌||◌, cond, Option, Some, None, refl, sym, ap, ◌∙◌, subst, arith}
 use Rattle.std.specs.Prelude.{slice_get, is_some, option_map, MatchOption}
 use Rattle.std.specs.List.{Contains, list_any, position}
 use Rattle.std.proofs.lemmas.Option.{slice_get-map, slice_get-get_or, slice_get_within, get_or_from_slice_get}
@@ -32,6 +32,14 @@ module _ {A : Type 0} where
   read_front [] ys i u e = cc
   read_front (y ∷ xs) ys zero u e = e
   read_front (y ∷ xs) ys (suc i) u e = read_front xs ys i u e
+
+  pub read_behind : (xs ys : List A) (j : ℕ) (y : A) → slice_get ys j ≡ Some y → slice_get (xs ++ ys) (length xs + j) ≡ Some y
+  read_behind xs ys j y e = by_front xs (length xs + j) refl
+    where
+      by_front : (zs : List A) (n : ℕ) → n ≡ length zs + j → slice_get (zs ++ ys) n ≡ Some y
+      by_front [] n q = ap (slice_get ys) (let z : n ≡ j = omega (arith, q) in z) ∙ e
+      by_front (z ∷ zs) zero q = absurd (omega (arith, q))
+      by_front (z ∷ zs) (suc n) q = by_front zs n (omega (arith, q))
 
   pub one_place_pushed : (xs : List A) (x : A) → HaveOnePlace xs → (Contains xs x → ⊥) → HaveOnePlace (xs ++ x ∷ [])
   one_place_pushed xs x d n i j u p q = by_places (pushed_by_place xs x u i p) (pushed_by_place xs x u j q)

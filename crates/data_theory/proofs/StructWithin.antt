@@ -75,7 +75,7 @@ module _ (t s f : ℕ) where
       })
       (constructors_within sort (p + named_fields c.fields) (q + count_of c.test) cs a (All-tail (IsConWithin t s) c cs all) (omega (arith, l, ps, np)) (omega (arith, m, ts, nt)))
 
-length-constructors : (sort : SortId) (p q : ℕ) (cs : List Con) → length (constructors_of sort p q cs) ≡ length cs
+pub length-constructors : (sort : SortId) (p q : ℕ) (cs : List Con) → length (constructors_of sort p q cs) ≡ length cs
 length-constructors sort p q [] = refl
 length-constructors sort p q (c ∷ cs) = ap suc (length-constructors sort (p + named_fields c.fields) (q + count_of c.test) cs)
 

@@ -10,7 +10,8 @@ use Rattle.data_theory.specs.EqualityLaws.{Grows}
 use Rattle.data_theory.specs.Sorts.{SortInfo, structured, IsBare}
 use Rattle.data_theory.specs.Functions.{Function, declared_function}
 use Rattle.data_theory.specs.Table.{bool_sort}
-use Rattle.data_theory.specs.Signature.{Sig, first_signature, with_taken, with_variable, with_function, with_alias, with_sort, with_list, with_constructors, with_action}
+use Rattle.data_theory.specs.Structs.{Con}
+use Rattle.data_theory.specs.Signature.{Sig, first_signature, with_taken, with_variable, with_function, with_alias, with_sort, with_list, with_constructors, with_struct, with_struct_sort, with_action}
 use Rattle.data_theory.specs.IdSymbols.{declared_from}
 use Rattle.data_theory.specs.IdTables.{IsTable}
 use Rattle.data_theory.specs.IdData.{constructors_of, role_meant, data_meant}
@@ -81,6 +82,13 @@ abbrev pub ConstructorsKeepTheRoles : Type 0
 ConstructorsKeepTheRoles =
     (g : Sig) (s : SortId) (cons : List FunId) → AreRoles g → IsBare g.sorts s → All (λ (c : FunId). IsDeclaredTo g.functions c s) cons
     → ((c : FunId) (r : Role) → Contains cons c → HasRole g.sorts g.functions c r → ⊥) → AreRoles (with_constructors g s cons)
+
+-- the constructors of a `struct`, with their projections and recognisers
+abbrev pub StructsKeepTheRoles : Type 0
+StructsKeepTheRoles = (g : Sig) (s : SortId) (cs : List Con) → AreRoles g → IsBare g.sorts s → AreRoles (with_struct g s cs)
+
+abbrev pub StructSortsKeepTheRoles : Type 0
+StructSortsKeepTheRoles = (g : Sig) (n : NameId) (cs : List Con) → AreRoles g → AreRoles (with_struct_sort g n cs)
 
 -- ---- the laws of the data that a signature means
 abbrev pub RolesAreFound : Type 0

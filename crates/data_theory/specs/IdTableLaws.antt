@@ -10,7 +10,8 @@ use Rattle.data_theory.specs.Keys.{key}
 use Rattle.data_theory.specs.Sorts.{Kind, SortInfo, lists_over, IsBare, with_kind, IsAnyListOver}
 use Rattle.data_theory.specs.Functions.{HasKey, AreNew, declared_function}
 use Rattle.data_theory.specs.Rows.{built_ins, AreNamed}
-use Rattle.data_theory.specs.Signature.{Sig, first_signature, with_taken, with_variable, with_function, with_alias, with_sort, with_list, with_action}
+use Rattle.data_theory.specs.Structs.{Con, IsConWithin, struct_functions}
+use Rattle.data_theory.specs.Signature.{Sig, first_signature, with_taken, with_variable, with_function, with_alias, with_sort, with_list, with_struct, with_action}
 use Rattle.data_theory.specs.Complete.{IsComplete}
 use Rattle.data_theory.specs.IdSorts.{IsDeclaredKind}
 use Rattle.data_theory.specs.IdTables.{IsRow, IsTable}
@@ -60,3 +61,9 @@ ListSortsKeepTheTables = (g : Sig) (e : SortId) → IsComplete g → IsTable g �
 -- a declared sort gets its constructors
 abbrev pub ConstructorsKeepTheTables : Type 0
 ConstructorsKeepTheTables = (g : Sig) (s : SortId) (k : Kind) → IsTable g → IsBare g.sorts s → IsDeclaredKind k → IsTable (record g { sorts = with_kind g.sorts s.0 k })
+
+-- a declared sort gets the constructors of a `struct`, with their projections and recognisers
+abbrev pub StructsKeepTheTables : Type 0
+StructsKeepTheTables =
+    (g : Sig) (s : SortId) (cs : List Con) → IsTable g → IsBare g.sorts s → All (IsConWithin (length g.texts) (length g.sorts)) cs
+    → AreNew g.functions (struct_functions s (length g.functions) cs) → IsTable (with_struct g s cs)

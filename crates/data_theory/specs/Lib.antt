@@ -41,3 +41,4 @@ pub mod IdLaws
 pub mod IdTableLaws
 pub mod IdRoles
 pub mod IdGrowth
+pub mod WholeSignatures

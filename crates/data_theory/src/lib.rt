@@ -44,4 +44,6 @@ pub use sort_table::SortKind;
 pub use structs::ConDecl;
 
 #[cfg(test)]
+mod signature_tests;
+#[cfg(test)]
 mod tests;

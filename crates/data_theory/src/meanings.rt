@@ -4,8 +4,8 @@
 //! the first to the second. The laws here say that it loses nothing, that it goes through substitution, and that it stays.
 
 ghost use Rattle.data_theory.specs.IdGrowth.{GrowthAfterGrowthIsGrowth, WithAFunctionItIsGrown, WithAListSortItIsGrown, WithASortItIsGrown, WithATextItIsGrown, WithAVariableItIsGrown, WithAnActionItIsGrown, WithAnAliasItIsGrown};
-ghost use Rattle.data_theory.specs.IdTableLaws.{ActionsKeepTheTables, AliasesKeepTheTables, ConstructorsKeepTheTables, DeclaredSortsKeepTheTables, FunctionsKeepTheTables, ListSortsKeepTheTables, SortsKeepTheTables, TextsKeepTheTables, TheFirstSignatureIsATable, VariablesKeepTheTables};
-ghost use Rattle.data_theory.specs.IdRoles.{ActionsKeepTheRoles, AliasesKeepTheRoles, ConstructorsKeepTheRoles, DeclaredSortsKeepTheRoles, FunctionsKeepTheRoles, GrowthKeepsMeantData, ListSortsKeepTheRoles, MeantDataAreData, RolesAreFound, TextsKeepTheRoles, TheFirstSignatureHasRoles, VariablesKeepTheRoles};
+ghost use Rattle.data_theory.specs.IdTableLaws.{ActionsKeepTheTables, AliasesKeepTheTables, ConstructorsKeepTheTables, DeclaredSortsKeepTheTables, FunctionsKeepTheTables, ListSortsKeepTheTables, SortsKeepTheTables, StructsKeepTheTables, TextsKeepTheTables, TheFirstSignatureIsATable, VariablesKeepTheTables};
+ghost use Rattle.data_theory.specs.IdRoles.{ActionsKeepTheRoles, AliasesKeepTheRoles, ConstructorsKeepTheRoles, DeclaredSortsKeepTheRoles, FunctionsKeepTheRoles, GrowthKeepsMeantData, ListSortsKeepTheRoles, MeantDataAreData, RolesAreFound, StructSortsKeepTheRoles, StructsKeepTheRoles, TextsKeepTheRoles, TheFirstSignatureHasRoles, VariablesKeepTheRoles};
 ghost use Rattle.data_theory.specs.IdLaws.{DeclaredFunctionsStandInTheData, DeclaredSortsStandInTheData, DifferentFunctionsMeanDifferentSymbols, DifferentSortsMeanDifferentSorts, DifferentTreesMeanDifferentTerms, GrowthKeepsMeantSorts, GrowthKeepsMeantSymbols, GrowthKeepsMeantTerms, ListedFunctionsMeanTheirPlaces, MergingTreesMergesTerms, PuttingInTreesPutsInTerms, SettingConstructorsKeepsMeantTerms, SortedTreesAreWithin, SortedTreesMeanSortedTerms, SortsMeanTheirKinds};
 
 /// A sort means what its kind says: a list sort the lists over what its element means, and a declared sort the one with its
@@ -63,7 +63,8 @@ pub fn sorted_trees_mean_sorted_terms()
 {}
 
 /// The tables hold from the start, and are kept by what is added: a text, an action, a variable, an alias, a declared function
-/// that isn't there, a sort with its built-in functions, or the constructors of a declared sort.
+/// that isn't there, a sort with its built-in functions, or the constructors of a declared sort, also those of a `struct` with
+/// their projections and recognisers.
 pub fn tables_are_kept()
     ensures first { TheFirstSignatureIsATable }
     ensures texts { TextsKeepTheTables }
@@ -75,6 +76,7 @@ pub fn tables_are_kept()
     ensures declared_sorts { DeclaredSortsKeepTheTables }
     ensures list_sorts { ListSortsKeepTheTables }
     ensures constructors { ConstructorsKeepTheTables }
+    ensures structs { StructsKeepTheTables }
 {}
 
 /// The data that a signature means are well formed, each function has the role that the entries give it, and the data grow with
@@ -86,7 +88,7 @@ pub fn meant_data_are_data()
 {}
 
 /// The roles hold from the start, and are kept by what is added: a text, an action, a variable, an alias, a declared function,
-/// a sort without constructors with its built-in functions, or the constructors of a declared sort.
+/// a sort without constructors with its built-in functions, the constructors of a declared sort, or what a `struct` declares.
 pub fn roles_are_kept()
     ensures first { TheFirstSignatureHasRoles }
     ensures texts { TextsKeepTheRoles }
@@ -97,4 +99,6 @@ pub fn roles_are_kept()
     ensures declared_sorts { DeclaredSortsKeepTheRoles }
     ensures list_sorts { ListSortsKeepTheRoles }
     ensures constructors { ConstructorsKeepTheRoles }
+    ensures structs { StructsKeepTheRoles }
+    ensures struct_sorts { StructSortsKeepTheRoles }
 {}

@@ -73,6 +73,13 @@ impl Names {
         Ok(NameId(place))
     }
 
+    /// Says what each table keeps: no text stands at two places.
+    pub(crate) fn differ(&self)
+        ensures { AreDifferent self.now }
+    {
+        let _texts = &self.texts;
+    }
+
     /// How many there are.
     pub(crate) fn len(&self) -> usize
         ensures { result ≡ length self.now }

@@ -43,11 +43,11 @@ impl Model for Signature {
     ghost Value = { Sig };
 
     ghost use Rattle.data_theory.specs.SignatureView.{sig_of};
-    ghost use Rattle.data_theory.specs.Complete.{IsComplete};
+    ghost use Rattle.data_theory.specs.WholeSignatures.{IsSignature};
 
     ghost view = { sig_of };
 
-    ghost invariant = { λ s. IsComplete (sig_of s) };
+    ghost invariant = { λ s. IsSignature (sig_of s) };
 }
 
 impl Signature {
@@ -62,6 +62,7 @@ impl Signature {
     ghost use Rattle.data_theory.specs.Actions.{actions_of};
     ghost use Rattle.data_theory.specs.Signature.{Sig, IsFun, IsTaken, first_signature, with_taken, with_variable, with_function, with_alias, with_sort, with_list, with_constructors, with_struct, with_struct_sort, IsNewStruct, IsAct, with_action};
     ghost use Rattle.data_theory.specs.Fresh.{IsFreshIn};
+    ghost use Rattle.data_theory.specs.WholeSignatures.{IsSignature};
 
     /// The sorts Bool, Pos, Nat and Int with their built-in functions, over the given names. The words that are no
     /// identifiers and the names of the built-in functions come behind these, and are taken.
@@ -71,6 +72,7 @@ impl Signature {
         let mut names = names;
         let mut taken = IndexSet::new(alloc);
         let mut functions = Functions::new(alloc);
+        names.differ();
         let rows = first_table(alloc)?;
         take_first_names(&mut names, &mut taken, &rows)?;
         add_rows(&mut functions, &names, alloc, &rows)?;
@@ -149,7 +151,8 @@ impl Signature {
     /// What a sort is.
     pub fn kind(&self, sort: SortId) -> &SortKind
         requires { sort.0 < length self.now.sorts }
-        ensures { IfSome (slice_get self.now.sorts sort.0) (λ s. s.kind ≡ kind_of result.now) }
+        ensures kind { IfSome (slice_get self.now.sorts sort.0) (λ s. s.kind ≡ kind_of result.now) }
+        ensures stands { IsSignature self.now }
     {
         &self.sorts.get(sort).kind
     }
@@ -180,7 +183,8 @@ impl Signature {
 
     /// The id that the next sort gets.
     pub fn next_sort(&self) -> SortId
-        ensures { result.0 ≡ length self.now.sorts }
+        ensures number { result.0 ≡ length self.now.sorts }
+        ensures stands { IsSignature self.now }
     {
         SortId(self.sorts.len())
     }
@@ -217,7 +221,8 @@ impl Signature {
 
     /// The table of texts.
     pub fn names(&self) -> &Names
-        ensures { result.now ≡ self.now.texts }
+        ensures texts { result.now ≡ self.now.texts }
+        ensures stands { IsSignature self.now }
     {
         &self.names
     }

@@ -2,15 +2,16 @@ use Rattle.std.proofs.Common.{◌≡◌, ◌∙◌, ap, sym, subst, rules}
 use Rattle.data_theory.specs.SortNames.{IsName}
 use Rattle.data_theory.specs.Taken.{with_name}
 use Rattle.data_theory.specs.SignatureView.{sig_of}
-use Rattle.data_theory.specs.Complete.{IsComplete}
+use Rattle.data_theory.specs.WholeSignatures.{IsSignature}
 use Rattle.data_theory.specs.Signature.{Sig, with_sort}
-use Rattle.data_theory.proofs.CompleteLemmas.{complete_as, sort_complete, sort_rows_fit, sort_added}
+use Rattle.data_theory.proofs.CompleteLemmas.{sort_rows_fit, sort_added}
+use Rattle.data_theory.proofs.WholeSignatureLemmas.{signature_as, sort_stands}
 use Rattle.data_theory.proofs.signature.Signature.add_sort.Goals as goal
 use Rattle.data_theory.proofs.signature.Signature.add_sort.Goals.{After-insert}
 
 pub add_rows-requires : goal.add_rows-requires
 add_rows-requires c =
-    let fit = sort_rows_fit (sig_of c.self.inside) c.self.invariant c.len.result c.len.ensures c.sort_rows-rows.result c.sort_rows-rows.ensures in
+    let fit = sort_rows_fit (sig_of c.self.inside) c.self.invariant.complete c.len.result c.len.ensures c.sort_rows-rows.result c.sort_rows-rows.ensures in
     record { named = fit.0; new = fit.1 }
 
 pub declare_sort-requires : goal.declare_sort-requires
@@ -25,7 +26,7 @@ added c =
     ∙ ap (λ s. with_sort s c.args.name) c.self.view_is
 
 pub invariant_of-self-2 : goal.invariant_of-self-2
-invariant_of-self-2 c = complete_as (with_sort c.args.self.now c.args.name) _ (sort_complete c.args.self.now c.args.name (subst IsComplete c.self.view_is c.self.invariant) c.requires.name) (added c)
+invariant_of-self-2 c = signature_as (with_sort c.args.self.now c.args.name) _ (sort_stands c.args.self.now c.args.name (subst IsSignature c.self.view_is c.self.invariant) c.requires.name) (added c)
 
 pub returns-clause-added : goal.returns-clause-added
 returns-clause-added c = added c

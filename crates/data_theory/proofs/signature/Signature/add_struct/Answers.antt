@@ -3,10 +3,10 @@ use Rattle.std.specs.Prelude.{slice_get}
 use Rattle.data_theory.specs.Sorts.{SortInfo, IsBare, IsListKind}
 use Rattle.data_theory.specs.Structs.{cons_of}
 use Rattle.data_theory.specs.SignatureView.{sig_of}
-use Rattle.data_theory.specs.Complete.{IsComplete}
+use Rattle.data_theory.specs.WholeSignatures.{IsSignature}
 use Rattle.data_theory.specs.Signature.{Sig, with_sort}
 use Rattle.data_theory.proofs.ListSortLemmas.{abstract_is_no_list, abstract_is_bare}
-use Rattle.data_theory.proofs.CompleteLemmas.{complete_as}
+use Rattle.data_theory.proofs.WholeSignatureLemmas.{signature_as}
 use Rattle.data_theory.proofs.StructWithin.{new_there, struct_sort_added, sort_forgotten, if_err, if_not_err}
 use Rattle.data_theory.proofs.signature.Signature.add_struct.Goals as goal
 use Rattle.data_theory.proofs.signature.Signature.add_struct.Goals.{After-truncate-then-is_err-3}
@@ -34,7 +34,7 @@ forgotten c =
     c.truncate.ensures c.truncate-then-is_err.ensures c.truncate-then-is_err-2.ensures c.truncate-then-is_err-3.ensures.keys
 
 pub invariant_of-self : goal.invariant_of-self
-invariant_of-self c = complete_as c.args.self.now _ (subst IsComplete c.self.view_is c.self.invariant) (forgotten c)
+invariant_of-self c = signature_as c.args.self.now _ (subst IsSignature c.self.view_is c.self.invariant) (forgotten c)
 
 pub returns-then-is_err-clause-unchanged : goal.returns-then-is_err-clause-unchanged
 returns-then-is_err-clause-unchanged c = forgotten c

@@ -1,11 +1,11 @@
 use Rattle.std.proofs.Common.{◌≡◌, ◌∙◌, ap, subst, rules}
 use Rattle.data_theory.specs.Taken.{with_name}
 use Rattle.data_theory.specs.SignatureView.{sig_of}
-use Rattle.data_theory.specs.Complete.{IsComplete}
+use Rattle.data_theory.specs.WholeSignatures.{IsSignature}
 use Rattle.data_theory.specs.Signature.{with_taken}
 use Rattle.data_theory.proofs.NameLemmas.{entered_is, place_is}
 use Rattle.data_theory.proofs.SignatureLemmas.{name_taken}
-use Rattle.data_theory.proofs.CompleteLemmas.{complete_as, text_complete}
+use Rattle.data_theory.proofs.WholeSignatureLemmas.{signature_as, text_stands}
 use Rattle.data_theory.proofs.signature.Signature.take_name.Goals as goal
 use Rattle.data_theory.proofs.signature.Signature.take_name.Goals.{After-insert}
 
@@ -18,7 +18,7 @@ taken c =
 
 pub invariant_of-self-2 : goal.invariant_of-self-2
 invariant_of-self-2 c =
-    complete_as (with_taken c.args.self.now c.args.text.now) _ (text_complete c.args.self.now c.args.text.now (subst IsComplete c.self.view_is c.self.invariant)) (taken c)
+    signature_as (with_taken c.args.self.now c.args.text.now) _ (text_stands c.args.self.now c.args.text.now (subst IsSignature c.self.view_is c.self.invariant)) (taken c)
 
 pub returns-clause-taken : goal.returns-clause-taken
 returns-clause-taken c = taken c
