@@ -136,12 +136,12 @@ module _ (s : SortId) where
   one_recognised p t (c ∷ cs) (suc i) (suc j) h g q d e a b = ap suc (one_recognised (p + named_fields c.fields) (t + count_of c.test) cs i j h g q d e a b)
 
 -- ---- the numbers of the constructors
-number_among : (n m : ℕ) (c : FunId) → Contains (numbers_from n m) c → (i : ℕ) × (i < m) × (c.0 ≡ n + i)
+pub number_among : (n m : ℕ) (c : FunId) → Contains (numbers_from n m) c → (i : ℕ) × (i < m) × (c.0 ≡ n + i)
 number_among n zero c h = absurd (omega (arith, h.1))
 number_among n (suc m) c (zero, l, e) = (0, omega arith, (let z : n ≡ c.0 = ap (λ (x : FunId). x.0) e in omega (arith, z)))
 number_among n (suc m) c (suc i, l, e) = let h = number_among (n + 1) m c (i, omega (arith, l), e) in (suc h.0, omega (arith, h.1), omega (arith, h.2))
 
-among_numbers : (n m i : ℕ) (c : FunId) → i < m → c.0 ≡ n + i → Contains (numbers_from n m) c
+pub among_numbers : (n m i : ℕ) (c : FunId) → i < m → c.0 ≡ n + i → Contains (numbers_from n m) c
 among_numbers n zero i c l e = absurd (omega (arith, l))
 among_numbers n (suc m) zero c l e = (zero, omega arith, ap (λ (k : ℕ). record { 0 = k }) (let z : n ≡ c.0 = omega (arith, e) in z))
 among_numbers n (suc m) (suc i) c l e = let h = among_numbers (n + 1) m i c (omega (arith, l)) (omega (arith, e)) in (suc h.0, omega (arith, h.1), h.2)

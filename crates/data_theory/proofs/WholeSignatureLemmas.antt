@@ -1,8 +1,8 @@
 -- Each signature keeps its tables, and its names stay taken.
-use Rattle.std.proofs.Common.{◌≡◌, ◌==◌, ℕ, zero, suc, ◌<◌, List, [], ◌∷◌, ◌++◌, length, map, get_or, Bool, true, false, cond, Some, refl, sym, subst, arith}
+use Rattle.std.proofs.Common.{◌≡◌, ◌==◌, ℕ, zero, suc, ◌+◌, ◌<◌, ◌≤◌, List, [], ◌∷◌, ◌++◌, length, map, get_or, Bool, true, false, cond, Some, refl, sym, ap, ◌∙◌, subst, arith, length-append}
 use Rattle.std.specs.Prelude.{slice_get}
 use Rattle.std.specs.List.{All, Contains, list_any}
-use Rattle.std.proofs.lemmas.List.Elements.{All-nil, All-push, All-append, All-map, All-weaker, All-contains, All-contains_itself, Contains-append_left, Contains-push}
+use Rattle.std.proofs.lemmas.List.Elements.{All-nil, All-cons, All-head, All-tail, All-push, All-append, All-map, All-weaker, All-contains, All-contains_itself, All-from_recursion, Contains-append_left, Contains-append_right, Contains-push}
 use Rattle.data_theory.specs.declared.ids.NameId.{NameId}
 use Rattle.data_theory.specs.declared.ids.SortId.{SortId}
 use Rattle.data_theory.specs.declared.ids.FunId.{FunId}
@@ -14,20 +14,24 @@ use Rattle.data_theory.specs.Names.{AreDifferent, with_text, with_texts, place_i
 use Rattle.data_theory.specs.Keys.{key}
 use Rattle.data_theory.specs.Functions.{Function, HasKey, AreNew, declared_function}
 use Rattle.data_theory.specs.Taken.{with_name, with_names}
-use Rattle.data_theory.specs.Sorts.{by_declarations, IsBare, IsAnyListOver}
-use Rattle.data_theory.specs.Structs.{Con, IsConWithin, struct_functions}
+use Rattle.data_theory.specs.Sorts.{Kind, SortInfo, without_constructors, by_declarations, structured, with_kind, IsBare, IsAnyListOver, first_sorts, abstract_sort, list_sort}
+use Rattle.data_theory.specs.Structs as structs
+use Rattle.data_theory.specs.Structs.{Con, IsConWithin, all_projections, all_recognisers, struct_functions, numbers_from}
 use Rattle.data_theory.specs.Rows.{row_word, built_in, built_ins}
 use Rattle.data_theory.specs.Table.{first_table, sort_rows, list_table}
 use Rattle.data_theory.specs.FirstNames.{first_names}
 use Rattle.data_theory.specs.Signature.{Sig, IsTaken, IsTakenAmong, first_signature, with_taken, with_variable, with_function, with_alias, with_sort, with_list, with_constructors, with_struct, with_action}
-use Rattle.data_theory.specs.WholeSignatures.{IsSignature}
+use Rattle.data_theory.specs.IdSorts.{construction_of}
+use Rattle.data_theory.specs.IdData.{constructors_of}
+use Rattle.data_theory.specs.WholeSignatures.{HasItsName, HasDeclaredConstructors, IsSignature}
 use Rattle.data_theory.proofs.NameLemmas.{place_is, place_reads, has_texts, text_behind}
 use Rattle.data_theory.proofs.SignatureLemmas.{name_among}
 use Rattle.data_theory.proofs.TableLemmas.{is_first_name}
 use Rattle.data_theory.proofs.CompleteLemmas.{first_complete, text_complete, action_complete, variable_complete, alias_complete, function_complete, sort_complete, list_complete, constructors_complete}
-use Rattle.data_theory.proofs.StructWithin.{struct_complete}
+use Rattle.data_theory.proofs.StructWithin.{length-constructors, struct_complete}
 use Rattle.data_theory.proofs.IdTableLemmas.{still_read, the_first_signature_is_a_table, texts_keep_the_tables, actions_keep_the_tables, functions_keep_the_tables, declared_sorts_keep_the_tables, list_sorts_keep_the_tables, constructors_keep_the_tables}
 use Rattle.data_theory.proofs.IdStructLemmas.{structs_keep_the_tables}
+use Rattle.data_theory.proofs.IdStructRoleLemmas.{number_among, among_numbers}
 
 pub signature_as : (s t : Sig) → IsSignature s → t ≡ s → IsSignature t
 signature_as s t h e = subst IsSignature (sym e) h
@@ -87,6 +91,50 @@ word_taken texts taken d all w =
 rows_taken : (texts : List (List ℕ)) (taken : List NameId) → AreDifferent texts → All (IsTakenAmong texts taken) first_names → (rows : List Row) → AreFunctionsTaken taken (built_ins texts rows)
 rows_taken texts taken d all rows = All-map (λ (f : Function). Contains taken f.name) (built_in texts) rows (λ k r l. word_taken texts taken d all (row_word (get_or rows k r)))
 
+-- ---- declared sorts have names
+no_kind : {P : Type 0} (none one : ℕ) → none ≡ 0 → one ≡ 1 → none ≡ one → P
+no_kind none one a b e = absurd (omega (arith, a, b, e))
+
+first_sorts_named : All HasItsName first_sorts
+first_sorts_named = All-from_recursion HasItsName first_sorts (no_kind 0 1 refl refl, (no_kind 0 1 refl refl, (no_kind 0 1 refl refl, (no_kind 0 1 refl refl, tt))))
+
+kinds_named : (ss : List SortInfo) (k : ℕ) (d : Kind) (x : SortInfo) → slice_get ss k ≡ Some x → x.kind ≡ without_constructors → All HasItsName ss → All HasItsName (with_kind ss k d)
+kinds_named [] k d x at e all = cc
+kinds_named (s ∷ ss) zero d x at e all =
+    let same : s ≡ x = cc in
+    let kind : s.kind ≡ without_constructors = ap (λ (y : SortInfo). y.kind) same ∙ e in
+    let named = All-head HasItsName s ss all in
+    All-cons HasItsName (record s { kind = d }) ss (λ _. named (ap (λ c. length (construction_of c)) kind)) (All-tail HasItsName s ss all)
+kinds_named (s ∷ ss) (suc k) d x at e all = All-cons HasItsName s (with_kind ss k d) (All-head HasItsName s ss all) (kinds_named ss k d x at e (All-tail HasItsName s ss all))
+
+-- ---- constructors are declared
+first_constructors : (ds : List FunId) → All (HasDeclaredConstructors ds) first_sorts
+first_constructors ds = let none = All-nil (Contains ds) in All-from_recursion (HasDeclaredConstructors ds) first_sorts (none, (none, (none, (none, tt))))
+
+kinds_declared : (ds : List FunId) (ss : List SortInfo) (k : ℕ) (d : Kind) → All (Contains ds) (constructors_of d) → All (HasDeclaredConstructors ds) ss → All (HasDeclaredConstructors ds) (with_kind ss k d)
+kinds_declared ds [] k d new all = all
+kinds_declared ds (s ∷ ss) zero d new all = All-cons (HasDeclaredConstructors ds) (record s { kind = d }) ss new (All-tail (HasDeclaredConstructors ds) s ss all)
+kinds_declared ds (s ∷ ss) (suc k) d new all =
+    All-cons (HasDeclaredConstructors ds) s (with_kind ss k d) (All-head (HasDeclaredConstructors ds) s ss all) (kinds_declared ds ss k d new (All-tail (HasDeclaredConstructors ds) s ss all))
+
+more_declared : (ds more : List FunId) (ss : List SortInfo) → All (HasDeclaredConstructors ds) ss → All (HasDeclaredConstructors (ds ++ more)) ss
+more_declared ds more ss all =
+    All-weaker (HasDeclaredConstructors ds) (HasDeclaredConstructors (ds ++ more))
+    (λ s h. All-weaker (Contains ds) (Contains (ds ++ more)) (λ f c. Contains-append_left ds more f c) (constructors_of s.kind) h)
+    ss all
+
+-- those of a `struct` are the first that it declares
+struct_constructors : (ds : List FunId) (sort : SortId) (n : ℕ) (cs : List Con) → All (Contains (ds ++ numbers_from n (length (struct_functions sort n cs)))) (numbers_from n (length cs))
+struct_constructors ds sort n cs =
+    let fs : List Function = struct_functions sort n cs in
+    let ps : List Function = all_projections sort cs in
+    let made : List Function = structs.constructors_of sort (n + length cs) (n + length cs + length ps) cs in
+    let long : length cs ≤ length fs = omega (arith, length-append (made ++ ps) (all_recognisers sort cs), length-append made ps, length-constructors sort (n + length cs) (n + length cs + length ps) cs) in
+    let numbers : List FunId = numbers_from n (length fs) in
+    All-weaker (Contains (numbers_from n (length cs))) (Contains (ds ++ numbers))
+    (λ f c. let i = number_among n (length cs) f c in let low = i.1 in Contains-append_right ds numbers f (among_numbers n (length fs) i.0 f (omega (arith, low, long)) i.2))
+    (numbers_from n (length cs)) (All-contains_itself (numbers_from n (length cs)))
+
 -- ---- how a signature begins
 first_words_taken : (given : List (List ℕ)) → All (IsTaken (first_signature given)) first_names
 unfolding first_signature
@@ -106,6 +154,14 @@ first_sorts_taken : (given : List (List ℕ)) → AreSortsTaken (first_signature
 unfolding first_signature
 first_sorts_taken given = All-nil (λ (e : NameId × SortId). Contains (with_names [] (places_in (with_texts given first_names) first_names)) e.0)
 
+first_names_of_sorts : (given : List (List ℕ)) → All HasItsName (first_signature given).sorts
+unfolding first_signature
+first_names_of_sorts given = first_sorts_named
+
+no_constructors : (given : List (List ℕ)) → All (HasDeclaredConstructors (first_signature given).declared) (first_signature given).sorts
+unfolding first_signature
+no_constructors given = first_constructors []
+
 pub first_stands : (given : List (List ℕ)) → AreDifferent given → IsSignature (first_signature given)
 first_stands given d =
     let table = the_first_signature_is_a_table given d in
@@ -115,6 +171,8 @@ first_stands given d =
       words_taken = first_words_taken given;
       functions_taken = first_functions_taken given table.different;
       sorts_taken = first_sorts_taken given;
+      sorts_named = first_names_of_sorts given;
+      constructors_declared = no_constructors given;
     }
 
 -- ---- what a call adds
@@ -128,6 +186,8 @@ text_stands g t s =
       words_taken = words_stay g s _ stay texts (still_read g.texts texts (text_behind g.texts t));
       functions_taken = functions_stay g s _ stay;
       sorts_taken = sorts_stay g s _ stay;
+      sorts_named = s.sorts_named;
+      constructors_declared = s.constructors_declared;
     }
 
 pub action_stands : (g : Sig) (t : List ℕ) (sorts : List SortId) → IsSignature g → All (λ i. i.0 < length g.sorts) sorts → IsSignature (with_action g t sorts)
@@ -139,6 +199,8 @@ action_stands g t sorts s within =
       words_taken = words_stay g s g.taken (λ n c. c) texts (still_read g.texts texts (text_behind g.texts t));
       functions_taken = s.functions_taken;
       sorts_taken = s.sorts_taken;
+      sorts_named = s.sorts_named;
+      constructors_declared = s.constructors_declared;
     }
 
 pub variable_stands : (g : Sig) (v : Variable) → IsSignature g → v.name.0 < length g.texts → v.sort.0 < length g.sorts → IsSignature (with_variable g v)
@@ -148,6 +210,8 @@ variable_stands g v s n o = record {
   words_taken = s.words_taken;
   functions_taken = s.functions_taken;
   sorts_taken = s.sorts_taken;
+  sorts_named = s.sorts_named;
+  constructors_declared = s.constructors_declared;
 }
 
 pub alias_stands : (g : Sig) (n : NameId) (sort : SortId) → IsSignature g → n.0 < length g.texts → sort.0 < length g.sorts → IsSignature (with_alias g n sort)
@@ -159,6 +223,8 @@ alias_stands g n sort s a b =
       words_taken = words_stay g s _ stay g.texts (λ i u e. e);
       functions_taken = functions_stay g s _ stay;
       sorts_taken = All-push (λ (e : NameId × SortId). Contains (with_name g.taken n) e.0) g.sort_names (n, sort) (sorts_stay g s _ stay) (name_added g.taken n);
+      sorts_named = s.sorts_named;
+      constructors_declared = s.constructors_declared;
     }
 
 pub function_stands : (g : Sig) (n : NameId) (args : List SortId) (to : SortId) → IsSignature g → n.0 < length g.texts → All (λ a. a.0 < length g.sorts) args → to.0 < length g.sorts → ((k : ℕ) → HasKey g.functions (key n args) k → ⊥)
@@ -171,6 +237,8 @@ function_stands g n args to s a b d none =
       words_taken = words_stay g s _ stay g.texts (λ i u e. e);
       functions_taken = All-push (λ (f : Function). Contains (with_name g.taken n) f.name) g.functions (declared_function n args to) (functions_stay g s _ stay) (name_added g.taken n);
       sorts_taken = sorts_stay g s _ stay;
+      sorts_named = s.sorts_named;
+      constructors_declared = more_declared g.declared (record { 0 = length g.functions } ∷ []) g.sorts s.constructors_declared;
     }
 
 pub sort_stands : (g : Sig) (n : NameId) → IsSignature g → n.0 < length g.texts → IsSignature (with_sort g n)
@@ -185,6 +253,8 @@ sort_stands g n s b =
       words_taken = words;
       functions_taken = All-append (λ (f : Function). Contains taken f.name) g.functions (built_ins g.texts (sort_rows sort)) (functions_stay g s taken stay) (rows_taken g.texts taken s.table.different words (sort_rows sort));
       sorts_taken = All-push (λ (e : NameId × SortId). Contains taken e.0) g.sort_names (n, sort) (sorts_stay g s taken stay) (name_added g.taken n);
+      sorts_named = All-push HasItsName g.sorts (abstract_sort n) s.sorts_named (λ _. refl);
+      constructors_declared = All-push (HasDeclaredConstructors g.declared) g.sorts (abstract_sort n) s.constructors_declared (All-nil (Contains g.declared));
     }
 
 pub list_stands : (g : Sig) (e : SortId) → IsSignature g → e.0 < length g.sorts → ¬ (IsAnyListOver g.sorts e) → IsSignature (with_list g e)
@@ -196,6 +266,8 @@ list_stands g e s b none =
       words_taken = s.words_taken;
       functions_taken = All-append (λ (f : Function). Contains g.taken f.name) g.functions (built_ins g.texts rows) s.functions_taken (rows_taken g.texts g.taken s.table.different s.words_taken rows);
       sorts_taken = s.sorts_taken;
+      sorts_named = All-push HasItsName g.sorts (list_sort e) s.sorts_named (no_kind 0 1 refl refl);
+      constructors_declared = All-push (HasDeclaredConstructors g.declared) g.sorts (list_sort e) s.constructors_declared (All-nil (Contains g.declared));
     }
 
 pub constructors_stand : (g : Sig) (sort : SortId) (fs : List FunId) → IsSignature g → IsBare g.sorts sort → All (Contains g.declared) fs → IsSignature (with_constructors g sort fs)
@@ -205,6 +277,8 @@ constructors_stand g sort fs s bare all = record {
   words_taken = s.words_taken;
   functions_taken = s.functions_taken;
   sorts_taken = s.sorts_taken;
+  sorts_named = kinds_named g.sorts sort.0 (by_declarations fs) bare.0 bare.1 bare.2 s.sorts_named;
+  constructors_declared = kinds_declared g.declared g.sorts sort.0 (by_declarations fs) all s.constructors_declared;
 }
 
 pub struct_stands : (g : Sig) (sort : SortId) (cs : List Con) → IsSignature g → IsBare g.sorts sort → All (IsConWithin (length g.texts) (length g.sorts)) cs → AreNew g.functions (struct_functions sort (length g.functions) cs) → IsSignature (with_struct g sort cs)
@@ -220,4 +294,8 @@ struct_stands g sort cs s bare within new =
       words_taken = words_stay g s taken stay g.texts (λ i u e. e);
       functions_taken = All-append (λ (f : Function). Contains taken f.name) g.functions fs (functions_stay g s taken stay) these;
       sorts_taken = sorts_stay g s taken stay;
+      sorts_named = kinds_named g.sorts sort.0 (structured (numbers_from (length g.functions) (length cs))) bare.0 bare.1 bare.2 s.sorts_named;
+      constructors_declared =
+          let numbers : List FunId = numbers_from (length g.functions) (length fs) in
+          kinds_declared (g.declared ++ numbers) g.sorts sort.0 (structured (numbers_from (length g.functions) (length cs))) (struct_constructors g.declared sort (length g.functions) cs) (more_declared g.declared numbers g.sorts s.constructors_declared);
     }

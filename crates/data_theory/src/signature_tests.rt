@@ -512,3 +512,153 @@ fn constructors_and_actions_are_found(rt: HostRuntime) -> Result<(), Fail> {
     let _names = signature.into_names();
     outcome
 }
+
+/// Whether the function with a name and sorts has argument sorts and a result sort, and tells its name.
+fn is_function(
+    signature: &Signature,
+    name: &str,
+    sorts: &[SortId],
+    arguments: &[SortId],
+    to: SortId,
+) -> bool {
+    let Some(fun) = signature.fun(name, sorts) else {
+        return false;
+    };
+    signature.args_of(fun) == arguments
+        && signature.sort_of(fun) == to
+        && signature.fun_name(fun) == name
+}
+
+/// A function takes the sorts by which it is found, but `[]` takes none.
+fn functions_have_sorts(rt: &impl Abort, signature: &mut Signature) -> Result<(), Fail> {
+    let truths = [SortId(0), SortId(0)];
+    let list = list_over(rt, signature, SortId(2))?;
+    assert!(rt; is_function(signature, "&&", &truths, &truths, SortId(0)));
+    assert!(rt; is_function(signature, "-", &[SortId(1)], &[SortId(1)], SortId(3)));
+    assert!(rt; is_function(signature, "[]", &[list], &[], list));
+    assert!(rt;
+        is_function(
+            signature,
+            "|>",
+            &[SortId(2), list],
+            &[SortId(2), list],
+            list
+        )
+    );
+    Ok(())
+}
+
+#[test]
+fn built_in_functions_have_sorts(rt: HostRuntime) -> Result<(), Fail> {
+    let mut signature = Signature::new(rt.alloc(), Names::new(rt.alloc()))?;
+    let outcome = functions_have_sorts(&rt, &mut signature);
+    let _names = signature.into_names();
+    outcome
+}
+
+/// The names of `sort D = struct d | c(D)`.
+#[derive(Clone, Copy)]
+struct RecursiveNames {
+    sort: NameId,
+    d: NameId,
+    c: NameId,
+}
+
+fn recursive_names(names: &mut Names) -> Result<RecursiveNames, Fail> {
+    Ok(RecursiveNames {
+        sort: names.enter("D")?,
+        d: names.enter("d")?,
+        c: names.enter("c")?,
+    })
+}
+
+/// Adds `sort D = struct d | c(D)`.
+fn add_recursive(
+    rt: &impl Abort,
+    alloc: Global,
+    signature: &mut Signature,
+    names: RecursiveNames,
+) -> Result<SortId, NoMemory> {
+    let RecursiveNames { sort: name, d, c } = names;
+    let sort = signature.next_sort();
+    let count = signature.names().len();
+    assert!(rt; name.0 < count && d.0 < count && c.0 < count);
+    assert!(rt; is_absent(rt, signature, d, &[]));
+    assert!(rt; is_absent(rt, signature, c, &[sort]));
+    let None = signature.sort(name) else {
+        panic!(rt; "a sort has this name");
+    };
+    let fields = Vec::from_array(alloc, [(None, sort)])?;
+    let first = ConDecl {
+        name: d,
+        fields: Vec::new(alloc),
+        test: None,
+    };
+    let second = ConDecl {
+        name: c,
+        fields,
+        test: None,
+    };
+    signature.add_struct(name, Vec::from_array(alloc, [first, second])?)
+}
+
+/// Nothing of that `struct` is in a signature of built-in functions over so many texts.
+fn nothing_is_added(rt: &impl Abort, signature: &Signature, name: NameId, texts: usize) {
+    assert_eq!(rt; signature.next_sort(), SortId(4));
+    assert_eq!(rt; signature.names().len(), texts);
+    assert_eq!(rt; signature.funs().len(), 0);
+    assert_eq!(rt; signature.sort(name), None);
+    assert_eq!(rt; signature.fun("==", &[SortId(4), SortId(4)]), None);
+    assert_eq!(rt; signature.fun("d", &[]), None);
+    for text in ["D", "d", "c"] {
+        assert!(rt; !signature.is_taken(text));
+    }
+}
+
+/// That `struct` is the fifth sort, and its constructors come behind the functions over it.
+fn recursive_stands(rt: &impl Abort, signature: &Signature, name: NameId, sort: SortId) {
+    assert_eq!(rt; sort, SortId(4));
+    assert_eq!(rt; signature.next_sort(), SortId(5));
+    assert_eq!(rt; signature.sort(name), Some(sort));
+    assert!(rt; sort.0 < signature.next_sort().0);
+    let SortKind::Struct(constructors) = signature.kind(sort) else {
+        panic!(rt; "no struct");
+    };
+    assert_eq!(rt; constructors.as_slice(), [FunId(73), FunId(74)].as_slice());
+    assert_eq!(rt; signature.funs(), [FunId(73), FunId(74)].as_slice());
+    assert_eq!(rt; signature.fun("==", &[sort, sort]), Some(FunId(70)));
+    assert_eq!(rt; signature.fun("d", &[]), Some(FunId(73)));
+    assert_eq!(rt; signature.fun("c", &[sort]), Some(FunId(74)));
+    assert!(rt; is_function(signature, "d", &[], &[], sort));
+    assert!(rt; is_function(signature, "c", &[sort], &[sort], sort));
+    for text in ["D", "d", "c"] {
+        assert!(rt; signature.is_taken(text));
+    }
+}
+
+/// A `struct` with its own sort in a field is added whole, or not at all where no memory is left.
+fn recursive_is_added(
+    rt: &impl Abort,
+    alloc: Global,
+    signature: &mut Signature,
+    names: RecursiveNames,
+) -> Result<(), Fail> {
+    let texts = signature.names().len();
+    nothing_is_added(rt, signature, names.sort, texts);
+    let added = add_recursive(rt, alloc, signature, names);
+    if added.is_err() {
+        nothing_is_added(rt, signature, names.sort, texts);
+    }
+    recursive_stands(rt, signature, names.sort, added?);
+    Ok(())
+}
+
+#[test]
+fn a_recursive_struct_is_added(rt: HostRuntime) -> Result<(), Fail> {
+    let mut texts = Names::new(rt.alloc());
+    let names = recursive_names(&mut texts)?;
+    let mut signature = Signature::new(rt.alloc(), texts)?;
+    let outcome = recursive_is_added(&rt, rt.alloc(), &mut signature, names);
+    let _names = signature.into_names();
+    outcome
+}

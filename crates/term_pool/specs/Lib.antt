@@ -4,3 +4,9 @@ pub mod Pools
 pub mod Bindings
 pub mod Subterms
 pub mod TermSorts
+pub mod ConstructorValues
+pub mod FirstValueLaws
+pub mod Weights
+pub mod FirstValues
+pub mod Constants
+pub mod FirstTerms

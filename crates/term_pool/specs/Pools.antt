@@ -1,10 +1,17 @@
 -- The trees of a pool.
 use Rattle.std.specs.Prelude.{◌≡◌, ◌⊎◌, ℕ, ◌<◌, List, [], ◌∷◌, ◌++◌, length, get_or, slice_get, Some}
 use Rattle.std.specs.List.{All, Contains}
+use Rattle.data_theory.specs.declared.ids.SortId.{SortId}
+use Rattle.data_theory.specs.declared.ids.FunId.{FunId}
 use Rattle.data_theory.specs.declared.ids.TermId.{TermId}
 use Rattle.data_theory.specs.IdTrees.{Tree}
 use Rattle.term_pool.specs.declared.terms.Node.{Node}
 use Rattle.term_pool.specs.HeadTrees.{written_tree, head_tree, Stands, no_tree, trees_at}
+
+-- what a pool holds: its trees by their numbers, and the constants that it declared, each with its sort
+pub record Terms : Type 0 where
+  pub trees : List Tree
+  pub constants : List (SortId × FunId)
 
 -- the tree of a node over the trees of its arguments
 abbrev pub node_tree : List Tree → Node → Tree

@@ -1,12 +1,13 @@
--- The code of a tree, by which the logic tells two of them apart.
-use Rattle.std.proofs.Common.{◌≡◌, ℕ, ap}
+-- The codes of trees and pools, by which the logic tells two of them apart.
+use Rattle.std.proofs.Common.{◌≡◌, ℕ, List, ap, refl}
 use Rattle.std.specs.Prelude.{ℤ}
-use Rattle.std.specs.Coded.{Coded, coded_ℤ}
+use Rattle.std.specs.Coded.{Coded, code_by, coded_ℕ, coded_ℤ, coded_list, coded×}
 use base.Stored.{Gv, gnil, gnum, gcons}
 use Rattle.data_theory.specs.declared.ids.VarId.{VarId}
 use Rattle.data_theory.specs.declared.ids.SortId.{SortId}
 use Rattle.data_theory.specs.declared.ids.FunId.{FunId}
 use Rattle.data_theory.specs.IdTrees.{Tree, Trees, variable, numeral, function, none, more}
+use Rattle.term_pool.specs.Pools.{Terms}
 
 mutual
   pub code_tree : Tree → Gv
@@ -58,3 +59,13 @@ mutual
 
 abbrev pub coded_tree : Coded Tree
 coded_tree = record { code = code_tree; inj = code_tree-inj }
+
+abbrev pub coded_sort : Coded SortId
+coded_sort = code_by ℕ coded_ℕ (λ s. s.0) (λ n. record { 0 = n }) (λ _. refl)
+
+abbrev pub coded_fun : Coded FunId
+coded_fun = code_by ℕ coded_ℕ (λ f. f.0) (λ n. record { 0 = n }) (λ _. refl)
+
+abbrev pub coded_terms : Coded Terms
+coded_terms =
+    code_by (List Tree × List (SortId × FunId)) (coded× (coded_list coded_tree) (coded_list (coded× coded_sort coded_fun))) (λ t. (t.trees, t.constants)) (λ p. record { trees = p.0; constants = p.1 }) (λ _. refl)

@@ -6,10 +6,13 @@
 #![tactic(auto)]
 
 mod bindings;
+pub mod first_value_laws;
+mod first_values;
 pub mod laws;
 mod merging;
 mod pool;
 mod terms;
+mod weight;
 
 pub use pool::Pool;
 pub use terms::{Equation, Head, Node, Theory};

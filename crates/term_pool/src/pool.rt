@@ -1,34 +1,35 @@
 //! A pool of terms.
 
+mod closed_term;
 mod subst;
 
 use crate::merging::merged_numeral;
 use crate::terms::{Head, Node};
-use data_theory::{NoMemory, TermId};
-use indexmap::IndexSet;
+use data_theory::{FunId, NoMemory, SortId, TermId};
+use indexmap::{IndexMap, IndexSet};
 use std::alloc::Global;
 use std::marker::Model;
 
-/// A list of trees, by their ids. No two ids have one tree.
+/// A list of trees, by their ids, and the constants that were declared for sorts without constructors. No two ids have one
+/// tree.
 #[derive(Drop)]
 pub struct Pool {
     nodes: IndexSet<Node>,
+    constants: IndexMap<SortId, FunId>,
     alloc: Global,
 }
 
 impl Model for Pool {
-    ghost use Rattle.std.specs.Prelude.{List};
-    ghost use Rattle.std.specs.Coded.{coded_list};
-    ghost use Rattle.data_theory.specs.IdTrees.{Tree};
-    ghost use Rattle.term_pool.specs.TreeCodes.{coded_tree};
+    ghost use Rattle.term_pool.specs.Pools.{Terms};
+    ghost use Rattle.term_pool.specs.TreeCodes.{coded_terms};
 
-    ghost Value = { List Tree };
+    ghost Value = { Terms };
 
-    ghost coded = { coded_list coded_tree };
+    ghost coded = { coded_terms };
 
     ghost use Rattle.term_pool.specs.Pools.{trees_of_nodes, IsPool};
 
-    ghost view = { λ pool. trees_of_nodes pool.nodes.keys };
+    ghost view = { λ pool. record { trees = trees_of_nodes pool.nodes.keys; constants = pool.constants.entries } };
 
     ghost invariant = { λ pool. IsPool pool.nodes.keys };
 }
@@ -42,43 +43,46 @@ impl Pool {
 
     /// The empty pool.
     pub fn new(alloc: Global) -> Result<Pool, NoMemory>
-        ensures { IfOk result (λ pool. pool ≡ []) }
+        ensures empty { IfOk result (λ pool. pool.trees ≡ []) }
+        ensures constants { IfOk result (λ pool. pool.constants ≡ []) }
     {
         Ok(Pool {
             nodes: IndexSet::new(alloc),
+            constants: IndexMap::new(alloc),
             alloc,
         })
     }
 
     /// The number of terms. The ids of the pool are those below it.
     pub fn len(&self) -> usize
-        ensures count { result ≡ length self.now }
-        ensures distinct { AreDistinct self.now }
+        ensures count { result ≡ length self.now.trees }
+        ensures distinct { AreDistinct self.now.trees }
     {
         self.nodes.len()
     }
 
     /// The head and the arguments of a term. The ids of the arguments are below its own.
     pub fn node(&self, id: TermId) -> &Node
-        requires { IsIn self.now id }
-        ensures tree { tree_at self.now id ≡ written_tree result.now.head (trees_at self.now result.now.args.items) }
-        ensures unmerged { tree_at self.now id ≡ head_tree result.now.head (trees_at self.now result.now.args.items) }
+        requires { IsIn self.now.trees id }
+        ensures tree { tree_at self.now.trees id ≡ written_tree result.now.head (trees_at self.now.trees result.now.args.items) }
+        ensures unmerged { tree_at self.now.trees id ≡ head_tree result.now.head (trees_at self.now.trees result.now.args.items) }
         ensures below { All (λ (arg : TermId). arg.0 < id.0) result.now.args.items }
         ensures stands { Stands result.now.head result.now.args.items }
-        ensures distinct { AreDistinct self.now }
+        ensures distinct { AreDistinct self.now.trees }
     {
         &self.nodes[id.0]
     }
 
     /// The id of a node in which nothing merges.
     fn enter(&mut self, head: Head, args: &[TermId]) -> Result<TermId, NoMemory>
-        requires within { AreIn self.old args.now }
+        requires within { AreIn self.old.trees args.now }
         requires stands { Stands head args.now }
-        requires unmerged { head_tree head (trees_at self.old args.now) ≡ written_tree head (trees_at self.old args.now) }
-        ensures kept { Extends self.old self.new }
-        ensures added { OnOk result (Adds self.old (head_tree head (trees_at self.old args.now)) self.new) }
-        ensures tree { IfOk result (λ id. tree_at self.new id ≡ head_tree head (trees_at self.old args.now)) }
-        ensures within { IfOk result (λ id. IsIn self.new id) }
+        requires unmerged { head_tree head (trees_at self.old.trees args.now) ≡ written_tree head (trees_at self.old.trees args.now) }
+        ensures kept { Extends self.old.trees self.new.trees }
+        ensures added { OnOk result (Adds self.old.trees (head_tree head (trees_at self.old.trees args.now)) self.new.trees) }
+        ensures tree { IfOk result (λ id. tree_at self.new.trees id ≡ head_tree head (trees_at self.old.trees args.now)) }
+        ensures within { IfOk result (λ id. IsIn self.new.trees id) }
+        ensures constants { self.new.constants ≡ self.old.constants }
         ensures unchanged { OnErr result (self.new ≡ self.old) }
     {
         let args = args.to_vec(self.alloc)?;
@@ -88,8 +92,8 @@ impl Pool {
 
     /// The numeral that a head makes of its one argument, where the two merge.
     fn merged(&self, head: Head, args: &[TermId]) -> Option<Head>
-        requires { AreIn self.now args.now }
-        ensures merges { MatchOption result (head_tree head (trees_at self.now args.now) ≡ written_tree head (trees_at self.now args.now)) (λ numeral. head_tree head (trees_at self.now args.now) ≡ head_tree numeral []) }
+        requires { AreIn self.now.trees args.now }
+        ensures merges { MatchOption result (head_tree head (trees_at self.now.trees args.now) ≡ written_tree head (trees_at self.now.trees args.now)) (λ numeral. head_tree head (trees_at self.now.trees args.now) ≡ head_tree numeral []) }
         ensures stands { IfSome result (λ numeral. Stands numeral []) }
     {
         let Head::Fun(fun) = head else {
@@ -108,12 +112,13 @@ impl Pool {
     /// `Pos2Int` over a numeral is the numeral of the wider sort, and a prefix `-` over a numeral above zero is the negative
     /// numeral.
     pub fn intern(&mut self, head: Head, args: &[TermId]) -> Result<TermId, NoMemory>
-        requires within { AreIn self.old args.now }
+        requires within { AreIn self.old.trees args.now }
         requires stands { Stands head args.now }
-        ensures kept { Extends self.old self.new }
-        ensures added { OnOk result (Adds self.old (head_tree head (trees_at self.old args.now)) self.new) }
-        ensures tree { IfOk result (λ id. tree_at self.new id ≡ head_tree head (trees_at self.old args.now)) }
-        ensures within { IfOk result (λ id. IsIn self.new id) }
+        ensures kept { Extends self.old.trees self.new.trees }
+        ensures added { OnOk result (Adds self.old.trees (head_tree head (trees_at self.old.trees args.now)) self.new.trees) }
+        ensures tree { IfOk result (λ id. tree_at self.new.trees id ≡ head_tree head (trees_at self.old.trees args.now)) }
+        ensures within { IfOk result (λ id. IsIn self.new.trees id) }
+        ensures constants { self.new.constants ≡ self.old.constants }
         ensures unchanged { OnErr result (self.new ≡ self.old) }
     {
         match self.merged(head, args) {

@@ -29,8 +29,8 @@ fn insert_all(set: &mut BTreeSet<TermId>, terms: &[TermId]) -> Result<(), NoMemo
 impl Pool {
     /// A term and the terms under it, each once, from the greatest id down.
     fn terms_under(&self, id: TermId) -> Result<Vec<TermId>, NoMemory>
-        requires { IsIn self.now id }
-        ensures { IfOk result (λ under. AreUnder self.now id under.items) }
+        requires { IsIn self.now.trees id }
+        ensures { IfOk result (λ under. AreUnder self.now.trees id under.items) }
     {
         let mut under = Vec::new(self.alloc);
         let mut waiting = BTreeSet::new(self.alloc);
@@ -49,12 +49,13 @@ impl Pool {
         by: &[(VarId, TermId)],
         results: &HashMap<TermId, TermId>,
     ) -> Result<TermId, NoMemory>
-        requires within { IsIn self.old id }
-        requires terms { AreIn self.old (listed_terms by.now) }
-        requires arguments { (arg : TermId) → IsArgument self.old arg id → IsDone self.old (listed self.old by.now) results.now arg }
-        ensures added { AddsAtMost self.old (put_tree (listed self.old by.now) (tree_at self.old id)) self.new }
-        ensures tree { IfOk result (λ made. tree_at self.new made ≡ put_tree (listed self.old by.now) (tree_at self.old id)) }
-        ensures within { IfOk result (λ made. IsIn self.new made) }
+        requires within { IsIn self.old.trees id }
+        requires terms { AreIn self.old.trees (listed_terms by.now) }
+        requires arguments { (arg : TermId) → IsArgument self.old.trees arg id → IsDone self.old.trees (listed self.old.trees by.now) results.now arg }
+        ensures added { AddsAtMost self.old.trees (put_tree (listed self.old.trees by.now) (tree_at self.old.trees id)) self.new.trees }
+        ensures tree { IfOk result (λ made. tree_at self.new.trees made ≡ put_tree (listed self.old.trees by.now) (tree_at self.old.trees id)) }
+        ensures within { IfOk result (λ made. IsIn self.new.trees made) }
+        ensures constants { self.new.constants ≡ self.old.constants }
     {
         let node = self.node(id);
         let head = node.head;
@@ -73,12 +74,13 @@ impl Pool {
     ///
     /// Each term under the given one is read once, in however many places it stands, and no call stack grows with the term.
     pub fn subst(&mut self, id: TermId, by: &[(VarId, TermId)]) -> Result<TermId, NoMemory>
-        requires within { IsIn self.old id }
-        requires terms { AreIn self.old (listed_terms by.now) }
-        ensures kept { Extends self.old self.new }
-        ensures added { AddsOnly self.old (IsMadeUnder (listed self.old by.now) (tree_at self.old id)) self.new }
-        ensures tree { IfOk result (λ made. tree_at self.new made ≡ put_tree (listed self.old by.now) (tree_at self.old id)) }
-        ensures within { IfOk result (λ made. IsIn self.new made) }
+        requires within { IsIn self.old.trees id }
+        requires terms { AreIn self.old.trees (listed_terms by.now) }
+        ensures kept { Extends self.old.trees self.new.trees }
+        ensures added { AddsOnly self.old.trees (IsMadeUnder (listed self.old.trees by.now) (tree_at self.old.trees id)) self.new.trees }
+        ensures tree { IfOk result (λ made. tree_at self.new.trees made ≡ put_tree (listed self.old.trees by.now) (tree_at self.old.trees id)) }
+        ensures within { IfOk result (λ made. IsIn self.new.trees made) }
+        ensures constants { self.new.constants ≡ self.old.constants }
     {
         let mut left = self.terms_under(id)?;
         let mut results = HashMap::new(self.alloc);

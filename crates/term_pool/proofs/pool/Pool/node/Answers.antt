@@ -1,13 +1,13 @@
-use Rattle.std.proofs.Common.{arith, sym, ◌∙◌}
+use Rattle.std.proofs.Common.{arith, ap, sym, ◌∙◌}
 use Rattle.term_pool.proofs.NodeTrees.{IsNodeAt, same_length, node_at}
 use Rattle.term_pool.proofs.pool.Pool.node.Goals as goal
 use Rattle.term_pool.proofs.pool.Pool.node.Goals.{After-index}
 
 pub index-requires : goal.index-requires
-index-requires c = omega (arith, c.requires, same_length c.self.inside.nodes.keys _ c.self.view_is)
+index-requires c = omega (arith, c.requires, same_length c.self.inside.nodes.keys _ (ap (λ t. t.trees) c.self.view_is))
 
-here : (c : After-index) → IsNodeAt c.args.self.now c.args.id.0 c.index.result.now
-here c = node_at c.self.inside.nodes.keys _ _ _ c.self.invariant c.self.view_is c.index.ensures
+here : (c : After-index) → IsNodeAt c.args.self.now.trees c.args.id.0 c.index.result.now
+here c = node_at c.self.inside.nodes.keys _ _ _ c.self.invariant (ap (λ t. t.trees) c.self.view_is) c.index.ensures
 
 pub returns-clause-tree : goal.returns-clause-tree
 returns-clause-tree c = (here c).tree

@@ -15,22 +15,23 @@ pub results_of-requires : goal.results_of-requires
 results_of-requires c =
     let n = c.node-node.ensures in
     subst (All (λ arg. IsSome (result_of c.args.results.now arg))) (sym c.as_slice.ensures.value)
-    (have_results c.args.self.now _ c.args.results.now c.args.id _ _ n.tree n.below n.stands c.requires.arguments)
+    (have_results c.args.self.now.trees _ c.args.results.now c.args.id _ _ n.tree n.below n.stands c.requires.arguments)
 
-made : (c : In_ok-args) → IsMade c.args.self.now (listed c.args.self.now c.args.by.now) c.args.id c.node-node.result.now.head c.in_ok-args.args.items
+made : (c : In_ok-args) → IsMade c.args.self.now.trees (listed c.args.self.now.trees c.args.by.now) c.args.id c.node-node.result.now.head c.in_ok-args.args.items
 made c =
     let n = c.node-node.ensures in
-    is_made c.args.self.now _ c.args.results.now c.args.id _ _ n.tree n.below n.stands c.requires.arguments c.in_ok-args.args.items (c.in_ok-args.ensures ∙ ap (map (result_of c.args.results.now)) c.as_slice.ensures.value)
+    is_made c.args.self.now.trees _ c.args.results.now c.args.id _ _ n.tree n.below n.stands c.requires.arguments c.in_ok-args.args.items (c.in_ok-args.ensures ∙ ap (map (result_of c.args.results.now)) c.as_slice.ensures.value)
 
 pub intern-requires : goal.intern-requires
-intern-requires c = let items = sym c.as_slice-2.ensures.value in record { within = subst (AreIn c.args.self.now) items (made (goal.at.intern-requires c).In_ok-args).within; stands = subst (Stands c.node-node.result.now.head) items (made (goal.at.intern-requires c).In_ok-args).stands }
+intern-requires c = let items = sym c.as_slice-2.ensures.value in record { within = subst (AreIn c.args.self.now.trees) items (made (goal.at.intern-requires c).In_ok-args).within; stands = subst (Stands c.node-node.result.now.head) items (made (goal.at.intern-requires c).In_ok-args).stands }
 
 pub returns : goal.returns
 returns c =
-    let tree : head_tree c.node-node.result.now.head (trees_at c.args.self.now c.as_slice-2.result.now) ≡ put_tree (listed c.args.self.now c.args.by.now) (tree_at c.args.self.now c.args.id) =
-    ap (λ ids. head_tree c.node-node.result.now.head (trees_at c.args.self.now ids)) c.as_slice-2.ensures.value ∙ (made (goal.at.returns c).In_ok-args).tree c.in_default.not-Var in
+    let tree : head_tree c.node-node.result.now.head (trees_at c.args.self.now.trees c.as_slice-2.result.now) ≡ put_tree (listed c.args.self.now.trees c.args.by.now) (tree_at c.args.self.now.trees c.args.id) =
+    ap (λ ids. head_tree c.node-node.result.now.head (trees_at c.args.self.now.trees ids)) c.as_slice-2.ensures.value ∙ (made (goal.at.returns c).In_ok-args).tree c.in_default.not-Var in
     record {
-      added = subst (λ t. AddsAtMost c.args.self.now t c.intern.new.self) tree (at_most c.intern.result _ _ _ c.intern.ensures.added c.intern.ensures.unchanged);
+      added = subst (λ t. AddsAtMost c.args.self.now.trees t c.intern.new.self.trees) tree (at_most c.intern.result c.args.self.now c.intern.new.self _ c.intern.ensures.added c.intern.ensures.unchanged);
       tree = IfOk-weaker c.intern.result _ _ (λ id e. e ∙ tree) c.intern.ensures.tree;
       within = c.intern.ensures.within;
+      constants = c.intern.ensures.constants;
     }

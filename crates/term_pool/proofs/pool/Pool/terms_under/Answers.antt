@@ -12,14 +12,14 @@ use Rattle.term_pool.proofs.pool.Pool.terms_under.Goals.{In_ok-push}
 pub loop-next-init : goal.loop-next-init
 loop-next-init c =
     let keys : c.insert.new.self.keys ≡ c.args.id ∷ [] = c.in_ok-insert.ensures.keys ∙ ap (λ ids. insert_key compare_ids ids c.args.id) c.new-waiting.ensures.empty in
-    rw (c.new-under.ensures.items, keys) (opened c.args.self.now c.args.id (c.args.id ∷ []) c.requires (has_inserted compare_ids same_number c.args.id []))
+    rw (c.new-under.ensures.items, keys) (opened c.args.self.now.trees c.args.id (c.args.id ∷ []) c.requires (has_inserted compare_ids same_number c.args.id []))
 
 pub node-requires : goal.node-requires
-node-requires c = next_within _ _ _ _ _ (subst (AreOpen c.args.self.now c.args.id c.loop-next.under.items) c.in-Some.ensures.removal c.loop-next.invariant)
+node-requires c = next_within _ _ _ _ _ (subst (AreOpen c.args.self.now.trees c.args.id c.loop-next.under.items) c.in-Some.ensures.removal c.loop-next.invariant)
 
 -- the greatest was taken out
-taken : (c : In_ok-push) → AreOpen c.args.self.now c.args.id c.loop-next.under.items (c.pop_last.new.self.keys ++ c.in-Some.next ∷ [])
-taken c = subst (AreOpen c.args.self.now c.args.id c.loop-next.under.items) c.in-Some.ensures.removal c.loop-next.invariant
+taken : (c : In_ok-push) → AreOpen c.args.self.now.trees c.args.id c.loop-next.under.items (c.pop_last.new.self.keys ++ c.in-Some.next ∷ [])
+taken c = subst (AreOpen c.args.self.now.trees c.args.id c.loop-next.under.items) c.in-Some.ensures.removal c.loop-next.invariant
 
 greatest : (c : In_ok-push) → All (λ (id : TermId). id.0 < c.in-Some.next.0) c.pop_last.new.self.keys
 greatest c = All-weaker (λ id. compare_ids id c.in-Some.next ≡ _) (λ (id : TermId). id.0 < c.in-Some.next.0) (λ id l. lower_number id c.in-Some.next l) c.pop_last.new.self.keys c.in-Some.ensures.all_below
@@ -43,4 +43,4 @@ loop-next-preserved c =
 pub returns : goal.returns
 returns c =
     let none : c.loop-next.waiting.keys ≡ [] = none_left c.loop-next.waiting.keys (λ some. let wrong = c.in_default.ensures.variant.1 some in cc) in
-    all_read _ _ _ (subst (AreOpen c.args.self.now c.args.id c.loop-next.under.items) none c.loop-next.invariant)
+    all_read _ _ _ (subst (AreOpen c.args.self.now.trees c.args.id c.loop-next.under.items) none c.loop-next.invariant)
