@@ -23,3 +23,5 @@ mod MadeTerms
 mod ConstructorTrees
 mod NeededConstants
 pub mod FirstValueGrowth
+mod EmptyPools
+mod EntryValues

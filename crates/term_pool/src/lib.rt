@@ -18,4 +18,6 @@ pub use pool::Pool;
 pub use terms::{Equation, Head, Node, Theory};
 
 #[cfg(test)]
+mod closed_term_tests;
+#[cfg(test)]
 mod tests;
