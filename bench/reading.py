@@ -36,6 +36,7 @@ KINDS = {
     "constructors": (b"sort S = struct c", b" | c(p: S)?r", b"; init a;"),
     "declarations": (b"", b"act a, b: S # T;", b" init a;"),
     "sections of equations": (b"", b"var x: S; eqn f(x) = x;\n", b" init a;"),
+    "short sections": (b"", b"var x:S;", b" init a;"),
 }
 
 

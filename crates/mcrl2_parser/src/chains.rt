@@ -9,13 +9,14 @@ ghost use Rattle.mcrl2_parser.specs.ProcessReading.{acted};
 
 use mcrl2_syntax::{LabelTree, ProcTree, Span, joined_spans};
 
-// The only item, or the items where there isn't just one.
+// The only item, or the items where there isn't just one, in a list without spare room.
 fn single<T: Drop>(items: Vec<T>) -> Result<T, Vec<T>>
     ensures one { IfOk result (λ item. items.items ≡ item ∷ []) }
     ensures others { IfErr result (λ same. (same.items ≡ items.items) × (length items.items ≢ 1)) }
 {
     let mut items = items;
     if items.len() != 1 {
+        items.shrink_to_fit();
         return Err(items);
     }
     match items.pop() {

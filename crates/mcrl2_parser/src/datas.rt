@@ -156,6 +156,7 @@ pub fn items<'a>(
         let (item, behind) = data(alloc, text, rest)?;
         list.push(item)?;
         let Ok((_, after)) = expect(behind, Kind::Comma) else {
+            list.shrink_to_fit();
             return Ok((list, behind));
         };
         rest = after;

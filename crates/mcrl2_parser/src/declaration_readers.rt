@@ -135,13 +135,15 @@ fn eqn_declaration(alloc: Global, text: &[u8], tokens: &[Token]) -> Result<Decl,
         let (_, rest) = expect(rest, Kind::Equals)?;
         let right = whole_data(alloc, text, rest)?;
         let span = joined_spans(first.span(), right.span());
-        return Ok(Decl::equation_at(span, None, first, right));
+        let tree = Decl::equation_at(alloc, span, None, first, right)?;
+        return Ok(tree);
     };
     let (left, rest) = data(alloc, text, rest)?;
     let (_, rest) = expect(rest, Kind::Equals)?;
     let right = whole_data(alloc, text, rest)?;
     let span = joined_spans(first.span(), right.span());
-    Ok(Decl::equation_at(span, Some(first), left, right))
+    let tree = Decl::equation_at(alloc, span, Some(first), left, right)?;
+    Ok(tree)
 }
 
 // The declaration of an `act` section.
@@ -173,7 +175,8 @@ fn proc_declaration(alloc: Global, text: &[u8], tokens: &[Token]) -> Result<Decl
     let (_, rest) = expect(rest, Kind::Equals)?;
     let body = whole_process(alloc, text, rest)?;
     let span = joined_spans(name.span, body.span());
-    Ok(Decl::proc_at(span, name, parameters, body))
+    let tree = Decl::proc_at(alloc, span, name, parameters, body)?;
+    Ok(tree)
 }
 
 // The declaration of an `init` section.
@@ -183,7 +186,8 @@ fn init_declaration(alloc: Global, text: &[u8], tokens: &[Token]) -> Result<Decl
         → MatchResult result (λ x. plain_decl x ≡ d) (λ e. e ≡ Fault.NoMemory) }
 {
     let body = whole_process(alloc, text, tokens)?;
-    Ok(Decl::init_at(body.span(), body))
+    let tree = Decl::init_at(alloc, body.span(), body)?;
+    Ok(tree)
 }
 
 /// The declaration that all the tokens spell in a section of that word.

@@ -108,6 +108,7 @@ fn operand_trees(
     for (_, operand) in operands {
         trees.push(operand)?;
     }
+    trees.shrink_to_fit();
     Ok(trees)
 }
 
@@ -123,6 +124,8 @@ fn sum_of(
     if operands.is_empty() {
         return Ok(first);
     }
+    let mut operands = operands;
+    operands.shrink_to_fit();
     let span = operands_span(&first, &operands);
     let tree = DataTree::sum_at(alloc, span, first, operands)?;
     Ok(tree)
@@ -140,6 +143,8 @@ fn product_of(
     if operands.is_empty() {
         return Ok(first);
     }
+    let mut operands = operands;
+    operands.shrink_to_fit();
     let span = operands_span(&first, &operands);
     let tree = DataTree::product_at(alloc, span, first, operands)?;
     Ok(tree)

@@ -63,6 +63,7 @@ pub fn list<'a, T: Part>(
         let (part, behind) = T::read(alloc, text, rest)?;
         parts.push(part)?;
         let Ok((_, next)) = expect(behind, separator) else {
+            parts.shrink_to_fit();
             return Ok((parts, behind));
         };
         rest = next;

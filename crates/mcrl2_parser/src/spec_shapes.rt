@@ -98,14 +98,14 @@ fn push_decl(out: &mut Vec<u8>, tree: &Decl) -> Result<(), AllocError> {
         Decl::Cons(_, names, domain, sort) => push_signature(out, names, domain, sort),
         Decl::Map(_, names, domain, sort) => push_signature(out, names, domain, sort),
         Decl::Vars(_, groups) => push_vars(out, groups),
-        Decl::Equation(_, condition, left, right) => {
-            if let Some(condition) = condition {
+        Decl::Equation(_, equation) => {
+            if let Some(condition) = &equation.condition {
                 push_data(out, condition)?;
                 out.extend_from_slice(b"->")?;
             }
-            push_data(out, left)?;
+            push_data(out, &equation.left)?;
             out.push(b'=')?;
-            push_data(out, right)
+            push_data(out, &equation.right)
         }
         Decl::Act(_, names, domain) => {
             push_names(out, names, b',')?;

@@ -63,10 +63,10 @@ plain_decl (decl.Struct span name constructors) = struct_decl span (word_of name
 plain_decl (decl.Cons span names domain sort) = cons_decl span (map word_of names.items) (map plain_sort domain.items) (plain_sort sort)
 plain_decl (decl.Map span names domain sort) = map_decl span (map word_of names.items) (map plain_sort domain.items) (plain_sort sort)
 plain_decl (decl.Vars span groups) = vars_decl span (map var_group_of groups.items)
-plain_decl (decl.Equation span condition left right) = equation_decl span (some_data condition) (plain_data left) (plain_data right)
+plain_decl (decl.Equation span equation) = equation_decl span (some_data equation.value.condition) (plain_data equation.value.left) (plain_data equation.value.right)
 plain_decl (decl.Act span names domain) = act_decl span (map word_of names.items) (map plain_sort domain.items)
-plain_decl (decl.Proc span name parameters body) = proc_decl span (word_of name) (map var_group_of parameters.items) (plain_process body)
-plain_decl (decl.Init span body) = init_decl span (plain_process body)
+plain_decl (decl.Proc span name parameters body) = proc_decl span (word_of name) (map var_group_of parameters.items) (plain_process body.value)
+plain_decl (decl.Init span body) = init_decl span (plain_process body.value)
 
 -- where the declaration stands
 abbrev pub decl_span : PlainDecl → Span

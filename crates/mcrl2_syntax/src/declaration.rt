@@ -1,6 +1,6 @@
 //! Declarations, sections and specifications.
 
-ghost use Rattle.std.specs.Prelude.{◌≡◌, Some, None, map};
+ghost use Rattle.std.specs.Prelude.{◌≡◌, Some, None, IfOk, map};
 ghost use Rattle.mcrl2_syntax.specs.Words.{word_of};
 ghost use Rattle.mcrl2_syntax.specs.SortTrees.{plain_sort};
 ghost use Rattle.mcrl2_syntax.specs.DataTrees.{plain_data};
@@ -12,6 +12,7 @@ use crate::data_tree::DataTree;
 use crate::process_tree::{ProcTree, VarGroup};
 use crate::sort_tree::SortTree;
 use crate::word::{Span, Word};
+use std::alloc::{AllocFailed, Global};
 
 /// The word that begins a section.
 #[derive(Clone, Copy, Debug, PartialEq, Eq)]
@@ -73,7 +74,20 @@ impl Constructor {
     }
 }
 
+/// An equation, as `c -> d = e` or `d = e`.
+#[derive(Debug, Drop)]
+pub struct EquationTree {
+    /// Under which condition it holds.
+    pub condition: Option<DataTree>,
+    /// Its left side.
+    pub left: DataTree,
+    /// Its right side.
+    pub right: DataTree,
+}
+
 /// A declaration, without the semicolon behind it.
+///
+/// What has room for a whole expression or process term stands in a box, so that each declaration of a long list takes little.
 #[derive(Debug, Drop)]
 pub enum Decl {
     /// `sort S, T;`
@@ -89,13 +103,13 @@ pub enum Decl {
     /// `var x, y: S, z: T;`
     Vars(Span, Vec<VarGroup>),
     /// `eqn c -> d = e;` or `eqn d = e;`
-    Equation(Span, Option<DataTree>, DataTree, DataTree),
+    Equation(Span, Box<EquationTree>),
     /// `act a, b: S # T;`; without a colon the domain is empty.
     Act(Span, Vec<Word>, Vec<SortTree>),
     /// `proc P(x: S) = p;`
-    Proc(Span, Word, Vec<VarGroup>, ProcTree),
+    Proc(Span, Word, Vec<VarGroup>, Box<ProcTree>),
     /// `init p;`
-    Init(Span, ProcTree),
+    Init(Span, Box<ProcTree>),
 }
 
 impl Decl {
@@ -142,15 +156,26 @@ impl Decl {
     }
 
     /// An equation, with its condition.
+    ///
+    /// # Errors
+    ///
+    /// The equation again, where no memory is left.
     pub fn equation_at(
+        alloc: Global,
         span: Span,
         condition: Option<DataTree>,
         left: DataTree,
         right: DataTree,
-    ) -> Decl
-        ensures { plain_decl result ≡ equation_decl span (some_data condition) (plain_data left) (plain_data right) }
+    ) -> Result<Decl, AllocFailed<EquationTree>>
+        ensures { IfOk result (λ tree. plain_decl tree ≡ equation_decl span (some_data condition) (plain_data left) (plain_data right)) }
     {
-        Decl::Equation(span, condition, left, right)
+        let equation = EquationTree {
+            condition,
+            left,
+            right,
+        };
+        let equation = Box::new(alloc, equation)?;
+        Ok(Decl::Equation(span, equation))
     }
 
     /// Actions.
@@ -161,17 +186,33 @@ impl Decl {
     }
 
     /// A process definition.
-    pub fn proc_at(span: Span, name: Word, parameters: Vec<VarGroup>, body: ProcTree) -> Decl
-        ensures { plain_decl result ≡ proc_decl span (word_of name) (map var_group_of parameters.items) (plain_process body) }
+    ///
+    /// # Errors
+    ///
+    /// The body again, where no memory is left.
+    pub fn proc_at(
+        alloc: Global,
+        span: Span,
+        name: Word,
+        parameters: Vec<VarGroup>,
+        body: ProcTree,
+    ) -> Result<Decl, AllocFailed<ProcTree>>
+        ensures { IfOk result (λ tree. plain_decl tree ≡ proc_decl span (word_of name) (map var_group_of parameters.items) (plain_process body)) }
     {
-        Decl::Proc(span, name, parameters, body)
+        let body = Box::new(alloc, body)?;
+        Ok(Decl::Proc(span, name, parameters, body))
     }
 
     /// The initial process.
-    pub fn init_at(span: Span, body: ProcTree) -> Decl
-        ensures { plain_decl result ≡ init_decl span (plain_process body) }
+    ///
+    /// # Errors
+    ///
+    /// The process again, where no memory is left.
+    pub fn init_at(alloc: Global, span: Span, body: ProcTree) -> Result<Decl, AllocFailed<ProcTree>>
+        ensures { IfOk result (λ tree. plain_decl tree ≡ init_decl span (plain_process body)) }
     {
-        Decl::Init(span, body)
+        let body = Box::new(alloc, body)?;
+        Ok(Decl::Init(span, body))
     }
 
     /// Where the declaration stands.
@@ -185,7 +226,7 @@ impl Decl {
             Decl::Cons(span, _, _, _) => *span,
             Decl::Map(span, _, _, _) => *span,
             Decl::Vars(span, _) => *span,
-            Decl::Equation(span, _, _, _) => *span,
+            Decl::Equation(span, _) => *span,
             Decl::Act(span, _, _) => *span,
             Decl::Proc(span, _, _, _) => *span,
             Decl::Init(span, _) => *span,

@@ -19,7 +19,7 @@ pub returns-in_err-body-clause-only : goal.returns-in_err-body-clause-only
 returns-in_err-body-clause-only c = λ d s. proc_case c.in_ok-first.ensures.found.0 s (λ gs p e vs a equals b. let same = c.in_ok-parameters.ensures.only gs (e ∷ vs) a (no_other Equals LeftParen e vs equals (λ x. cc)) in passes _ _ c.from_residual-in_err-body.ensures.1 (c.in_err-body.ensures.only p (process_from (same_tail (sym c.in_ok-rest.ensures.found.0 ∙ same.1)) b)))
 
 pub returns-clause-found : goal.returns-clause-found
-returns-clause-found c = by_proc c.proc_at.ensures c.joined_spans-span.ensures c.span.ensures c.in_ok-name.ensures.found c.in_ok-first.ensures.found.0 c.in_ok-first.ensures.found.1 c.in_ok-parameters.ensures.found c.in_ok-rest.ensures.found.0 c.in_ok-rest.ensures.found.1 c.in_ok-body.ensures.found
+returns-clause-found c = by_proc c.in_ok-tree.ensures c.joined_spans-span.ensures c.span.ensures c.in_ok-name.ensures.found c.in_ok-first.ensures.found.0 c.in_ok-first.ensures.found.1 c.in_ok-parameters.ensures.found c.in_ok-rest.ensures.found.0 c.in_ok-rest.ensures.found.1 c.in_ok-body.ensures.found
 
 pub returns-clause-only : goal.returns-clause-only
-returns-clause-only c = λ d s. decl_once (by_proc c.proc_at.ensures c.joined_spans-span.ensures c.span.ensures c.in_ok-name.ensures.found c.in_ok-first.ensures.found.0 c.in_ok-first.ensures.found.1 c.in_ok-parameters.ensures.found c.in_ok-rest.ensures.found.0 c.in_ok-rest.ensures.found.1 c.in_ok-body.ensures.found) s
+returns-clause-only c = λ d s. decl_once (by_proc c.in_ok-tree.ensures c.joined_spans-span.ensures c.span.ensures c.in_ok-name.ensures.found c.in_ok-first.ensures.found.0 c.in_ok-first.ensures.found.1 c.in_ok-parameters.ensures.found c.in_ok-rest.ensures.found.0 c.in_ok-rest.ensures.found.1 c.in_ok-body.ensures.found) s
