@@ -4,7 +4,8 @@ use Rattle.std.specs.Option.{SomeIff}
 use Rattle.std.proofs.lemmas.List.Folds.{list_any-append}
 use Rattle.std.proofs.lemmas.Fmt.{decimal_injective}
 use Rattle.process_terms.specs.Systems.{Name}
-use Rattle.process_terms.specs.Fresh.{candidate, IsFresh}
+use Rattle.data_theory.specs.Fresh.{candidate}
+use Rattle.process_terms.specs.Fresh.{IsFresh}
 use Rattle.process_terms.proofs.Lists.{In, here, there, in_contains}
 use Rattle.lin_driver.specs.Naming.{is_among}
 use Rattle.lin_driver.proofs.Mapped.{is_among-Contains}

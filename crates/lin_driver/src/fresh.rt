@@ -2,7 +2,9 @@
 ghost use Rattle.std.specs.Prelude.{◌≡◌, ◌++◌, ◌∷◌, map, codes, bytes_eq, IfOk, IfErr};
 ghost use Rattle.std.specs.List.{list_any};
 ghost use Rattle.std.specs.String.{string_bytes};
-ghost use Rattle.process_terms.specs.Fresh.{IsFresh, candidate, reserved_words, built_in_names, taken_at_start};
+ghost use Rattle.data_theory.specs.FirstNames.{reserved_words};
+ghost use Rattle.data_theory.specs.Fresh.{candidate};
+ghost use Rattle.process_terms.specs.Fresh.{IsFresh, built_in_names, taken_at_start};
 ghost use Rattle.lin_driver.specs.Naming.{is_among};
 
 use crate::fault::PlainFault;
@@ -80,6 +82,7 @@ fn is_taken_at_start(acts: &NameSet<'_>, name: &str) -> bool
 }
 
 /// Whether a name is a reserved word, or that of a built-in function.
+#[tactic(auto, unfolding(data_theory::specs::FirstNames::reserved_words))]
 fn is_built_in(name: &str) -> bool
     ensures { result ≡ is_among (reserved_words ++ built_in_names) name.now }
 {

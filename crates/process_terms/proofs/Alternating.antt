@@ -8,6 +8,7 @@ use Rattle.mcrl2_lexer.specs.Words.{is_name_byte}
 use Rattle.mcrl2_lexer.specs.Tokens.{name_or_word}
 use Rattle.process_terms.specs.Systems.{Name, Summand, Equation, equation_names, IsWellNamed, EachHasSummand}
 use Rattle.process_terms.specs.Numbering.{calls_of, IsNumbering}
+use Rattle.data_theory.specs.FirstNames.{reserved_words}
 use Rattle.process_terms.specs.Fresh.{taken_at_start}
 use Rattle.process_terms.specs.Printed.{printed}
 use Rattle.process_terms.specs.Headline.{StandsFor, AreIdentifiers, AreFresh}
@@ -74,6 +75,7 @@ numbering : IsNumbering alternating order
 numbering = record { met = refl; called = called }
 
 fresh : AreFresh alternating order (codes "P") (codes "s")
+unfolding reserved_words
 fresh = record {
   for_process = record { number = 0; named = refl; free = unlisted (taken_at_start alternating.acts) (codes "P") refl; first = λ k lt. absurd (omega arith) };
   for_control = λ many. record { number = 0; named = refl; free = unlisted (codes "P" ∷ taken_at_start alternating.acts) (codes "s") refl; first = λ k lt. absurd (omega arith) };

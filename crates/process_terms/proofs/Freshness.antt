@@ -8,7 +8,9 @@ use Rattle.mcrl2_lexer.specs.declared.kind.Kind.TheVariants.{Identifier}
 use Rattle.mcrl2_lexer.specs.Words.{word_kind, is_name_byte}
 use Rattle.mcrl2_lexer.specs.Tokens.{AreNameBytes, IsToken, name_or_word}
 use Rattle.process_terms.specs.Systems.{Name}
-use Rattle.process_terms.specs.Fresh.{reserved_words, built_in_names, taken_at_start, candidate, IsFresh}
+use Rattle.data_theory.specs.FirstNames.{reserved_words}
+use Rattle.data_theory.specs.Fresh.{candidate}
+use Rattle.process_terms.specs.Fresh.{built_in_names, taken_at_start, IsFresh}
 use Rattle.process_terms.proofs.Lists.{In, in_back, contains_in}
 
 glyph_name : (d : ℕ) → d < 10 → is_name_byte (digit_glyph false d) ≡ true
