@@ -1,7 +1,8 @@
 //! Tests of the first constructor value of a sort, by values that were put down by hand.
 //!
-//! A test gives the names of its signature up at its end: to prove that a whole signature is dropped takes half a minute.
-ghost use Rattle.std.specs.Prelude.{◌<◌, ℕ, length, IsTrue, IfOk};
+//! A test lends its pool and its signature to its body, and gives the names of the signature up at its end: to prove that a whole
+//! signature is dropped takes half a minute.
+ghost use Rattle.std.specs.Prelude.{◌≡◌, ◌<◌, [], ℕ, length, IsTrue, IfOk};
 ghost use Rattle.data_theory.specs.Keys.{key};
 ghost use Rattle.data_theory.specs.Functions.{HasKey};
 ghost use Rattle.data_theory.specs.Sorts.{IsBare};
@@ -78,30 +79,33 @@ fn built_in_sorts_have_values(
     rt: &impl Abort,
     alloc: Global,
     signature: &mut Signature,
-) -> Result<(), Fail> {
+    pool: &mut Pool,
+) -> Result<(), Fail>
+    requires { pool.old.constants ≡ [] }
+{
     let list = list_over(rt, signature, SortId(0))?;
     let nested = list_over(rt, signature, list)?;
-    let mut pool = Pool::new(alloc)?;
-    let truth = closed(rt, alloc, signature, &mut pool, SortId(0))?;
-    let positive = closed(rt, alloc, signature, &mut pool, SortId(1))?;
-    let natural = closed(rt, alloc, signature, &mut pool, SortId(2))?;
-    let integer = closed(rt, alloc, signature, &mut pool, SortId(3))?;
-    let empty = closed(rt, alloc, signature, &mut pool, list)?;
-    let empty_nested = closed(rt, alloc, signature, &mut pool, nested)?;
-    assert!(rt; is_constant(rt, signature, &pool, truth, "true", &[]));
-    assert!(rt; is_numeral(rt, &pool, positive, SortId(1), 1));
-    assert!(rt; is_numeral(rt, &pool, natural, SortId(2), 0));
-    assert!(rt; is_numeral(rt, &pool, integer, SortId(3), 0));
-    assert!(rt; is_constant(rt, signature, &pool, empty, "[]", &[list]));
-    assert!(rt; is_constant(rt, signature, &pool, empty_nested, "[]", &[nested]));
+    let truth = closed(rt, alloc, signature, pool, SortId(0))?;
+    let positive = closed(rt, alloc, signature, pool, SortId(1))?;
+    let natural = closed(rt, alloc, signature, pool, SortId(2))?;
+    let integer = closed(rt, alloc, signature, pool, SortId(3))?;
+    let empty = closed(rt, alloc, signature, pool, list)?;
+    let empty_nested = closed(rt, alloc, signature, pool, nested)?;
+    assert!(rt; is_constant(rt, signature, pool, truth, "true", &[]));
+    assert!(rt; is_numeral(rt, pool, positive, SortId(1), 1));
+    assert!(rt; is_numeral(rt, pool, natural, SortId(2), 0));
+    assert!(rt; is_numeral(rt, pool, integer, SortId(3), 0));
+    assert!(rt; is_constant(rt, signature, pool, empty, "[]", &[list]));
+    assert!(rt; is_constant(rt, signature, pool, empty_nested, "[]", &[nested]));
     assert_eq!(rt; signature.funs().len(), 0);
     Ok(())
 }
 
 #[test]
 fn built_in_sorts_have_first_values(rt: HostRuntime) -> Result<(), Fail> {
+    let mut pool = Pool::new(rt.alloc())?;
     let mut signature = Signature::new(rt.alloc(), Names::new(rt.alloc()))?;
-    let outcome = built_in_sorts_have_values(&rt, rt.alloc(), &mut signature);
+    let outcome = built_in_sorts_have_values(&rt, rt.alloc(), &mut signature, &mut pool);
     let _names = signature.into_names();
     outcome
 }
@@ -171,32 +175,35 @@ fn declared_sorts_have_values(
     rt: &impl Abort,
     alloc: Global,
     signature: &mut Signature,
-) -> Result<(), Fail> {
+    pool: &mut Pool,
+) -> Result<(), Fail>
+    requires { pool.old.constants ≡ [] }
+{
     let bare = declared(rt, signature, "D")?;
     let other = declared(rt, signature, "E")?;
     let built = declared(rt, signature, "F")?;
     signature.take_name("dc_E")?;
     set_constructor(rt, alloc, signature, built, "f")?;
-    let mut pool = Pool::new(alloc)?;
-    let constructor = closed(rt, alloc, signature, &mut pool, built)?;
-    assert!(rt; is_constant(rt, signature, &pool, constructor, "f", &[]));
+    let constructor = closed(rt, alloc, signature, pool, built)?;
+    assert!(rt; is_constant(rt, signature, pool, constructor, "f", &[]));
     assert_eq!(rt; signature.funs().len(), 1);
-    let first = closed(rt, alloc, signature, &mut pool, bare)?;
-    assert!(rt; is_constant(rt, signature, &pool, first, "dc_D", &[]));
+    let first = closed(rt, alloc, signature, pool, bare)?;
+    assert!(rt; is_constant(rt, signature, pool, first, "dc_D", &[]));
     assert_eq!(rt; signature.funs().len(), 2);
-    let again = closed(rt, alloc, signature, &mut pool, bare)?;
+    let again = closed(rt, alloc, signature, pool, bare)?;
     assert_eq!(rt; again, first);
     assert_eq!(rt; signature.funs().len(), 2);
-    let second = closed(rt, alloc, signature, &mut pool, other)?;
-    assert!(rt; is_constant(rt, signature, &pool, second, "dc_E_1", &[]));
+    let second = closed(rt, alloc, signature, pool, other)?;
+    assert!(rt; is_constant(rt, signature, pool, second, "dc_E_1", &[]));
     assert_eq!(rt; signature.funs().len(), 3);
     Ok(())
 }
 
 #[test]
 fn declared_sorts_have_first_values(rt: HostRuntime) -> Result<(), Fail> {
+    let mut pool = Pool::new(rt.alloc())?;
     let mut signature = Signature::new(rt.alloc(), Names::new(rt.alloc()))?;
-    let outcome = declared_sorts_have_values(&rt, rt.alloc(), &mut signature);
+    let outcome = declared_sorts_have_values(&rt, rt.alloc(), &mut signature, &mut pool);
     let _names = signature.into_names();
     outcome
 }
@@ -236,20 +243,23 @@ fn trees_have_a_value(
     rt: &impl Abort,
     alloc: Global,
     signature: &mut Signature,
-) -> Result<(), Fail> {
+    pool: &mut Pool,
+) -> Result<(), Fail>
+    requires { pool.old.constants ≡ [] }
+{
     let trees = declared(rt, signature, "T")?;
     set_trees(rt, alloc, signature, trees)?;
-    let mut pool = Pool::new(alloc)?;
-    let term = closed(rt, alloc, signature, &mut pool, trees)?;
-    assert!(rt; is_constant(rt, signature, &pool, term, "leaf", &[]));
+    let term = closed(rt, alloc, signature, pool, trees)?;
+    assert!(rt; is_constant(rt, signature, pool, term, "leaf", &[]));
     assert_eq!(rt; signature.funs().len(), 2);
     Ok(())
 }
 
 #[test]
 fn trees_have_a_first_value(rt: HostRuntime) -> Result<(), Fail> {
+    let mut pool = Pool::new(rt.alloc())?;
     let mut signature = Signature::new(rt.alloc(), Names::new(rt.alloc()))?;
-    let outcome = trees_have_a_value(&rt, rt.alloc(), &mut signature);
+    let outcome = trees_have_a_value(&rt, rt.alloc(), &mut signature, &mut pool);
     let _names = signature.into_names();
     outcome
 }

@@ -1,3 +1,5 @@
+//! Tests of the pool. Each lends its pool to its body: to prove that a pool is dropped at each of many ends takes minutes.
+
 use super::*;
 use data_theory::{FunId, Num, SortId, TermId, VarId};
 use std::alloc::Global;
@@ -110,18 +112,16 @@ fn deeper(
     Ok(all)
 }
 
-#[test]
-fn equal_trees_have_one_id(rt: HostRuntime) -> Result<(), Fail> {
-    let mut pool = Pool::new(rt.alloc())?;
-    let first = deeper(&rt, rt.alloc(), &mut pool, &[])?;
-    let second = deeper(&rt, rt.alloc(), &mut pool, first.as_slice())?;
-    let third = deeper(&rt, rt.alloc(), &mut pool, second.as_slice())?;
+fn trees_have_one_id(rt: &impl Abort, alloc: Global, pool: &mut Pool) -> Result<(), Fail> {
+    let first = deeper(rt, alloc, pool, &[])?;
+    let second = deeper(rt, alloc, pool, first.as_slice())?;
+    let third = deeper(rt, alloc, pool, second.as_slice())?;
     assert_eq!(rt; third.len(), 13);
     assert_eq!(rt; pool.len(), 13);
-    let again = deeper(&rt, rt.alloc(), &mut pool, second.as_slice())?;
+    let again = deeper(rt, alloc, pool, second.as_slice())?;
     assert_eq!(rt; pool.len(), 13);
     assert!(rt; third.as_slice() == again.as_slice());
-    let mut seen = Vec::new(rt.alloc());
+    let mut seen = Vec::new(alloc);
     for term in &third {
         assert!(rt; !seen.as_slice().contains(term));
         seen.push(*term)?;
@@ -130,95 +130,122 @@ fn equal_trees_have_one_id(rt: HostRuntime) -> Result<(), Fail> {
 }
 
 #[test]
-fn a_shared_subterm_is_read_once(rt: HostRuntime) -> Result<(), Fail> {
+fn equal_trees_have_one_id(rt: HostRuntime) -> Result<(), Fail> {
     let mut pool = Pool::new(rt.alloc())?;
-    let x = variable(&mut pool, X)?;
+    trees_have_one_id(&rt, rt.alloc(), &mut pool)
+}
+
+fn shared_subterm_is_read(rt: &impl Abort, pool: &mut Pool) -> Result<(), Fail> {
+    let x = variable(pool, X)?;
     let mut doubled = x;
     for _ in 0..60 {
-        doubled = two(&rt, &mut pool, doubled, doubled)?;
+        doubled = two(rt, pool, doubled, doubled)?;
     }
-    let mut wanted = leaf(&mut pool)?;
+    let mut wanted = leaf(pool)?;
     let put_in = wanted;
     for _ in 0..60 {
-        wanted = two(&rt, &mut pool, wanted, wanted)?;
+        wanted = two(rt, pool, wanted, wanted)?;
     }
     let count = pool.len();
-    let made = put(&rt, &mut pool, doubled, put_in, put_in)?;
+    let made = put(rt, pool, doubled, put_in, put_in)?;
     assert_eq!(rt; made.0, wanted.0);
     assert_eq!(rt; pool.len(), count);
     Ok(())
 }
 
 #[test]
-fn a_deep_term_is_put_into(rt: HostRuntime) -> Result<(), Fail> {
+fn a_shared_subterm_is_read_once(rt: HostRuntime) -> Result<(), Fail> {
     let mut pool = Pool::new(rt.alloc())?;
-    let x = variable(&mut pool, X)?;
+    shared_subterm_is_read(&rt, &mut pool)
+}
+
+fn deep_term_takes(rt: &impl Abort, pool: &mut Pool) -> Result<(), Fail> {
+    let x = variable(pool, X)?;
     let mut deep = x;
     for _ in 0..1_000 {
-        deep = one(&rt, &mut pool, ONE, deep)?;
+        deep = one(rt, pool, ONE, deep)?;
     }
-    let put_in = leaf(&mut pool)?;
-    let made = put(&rt, &mut pool, deep, put_in, put_in)?;
+    let put_in = leaf(pool)?;
+    let made = put(rt, pool, deep, put_in, put_in)?;
     assert_eq!(rt; made.0, 2 * 1_000 + 1);
+    Ok(())
+}
+
+#[test]
+fn a_deep_term_is_put_into(rt: HostRuntime) -> Result<(), Fail> {
+    let mut pool = Pool::new(rt.alloc())?;
+    deep_term_takes(&rt, &mut pool)
+}
+
+fn variables_change_places(rt: &impl Abort, pool: &mut Pool) -> Result<(), Fail> {
+    let x = variable(pool, X)?;
+    let y = variable(pool, Y)?;
+    let term = two(rt, pool, x, y)?;
+    let swapped = two(rt, pool, y, x)?;
+    assert_eq!(rt; put(rt, pool, term, y, x)?.0, swapped.0);
+    let over_x = one(rt, pool, ONE, x)?;
+    let wanted = two(rt, pool, over_x, x)?;
+    assert_eq!(rt; put(rt, pool, term, over_x, x)?.0, wanted.0);
+    assert_eq!(rt; put(rt, pool, term, x, y)?.0, term.0);
     Ok(())
 }
 
 #[test]
 fn variables_are_replaced_at_once(rt: HostRuntime) -> Result<(), Fail> {
     let mut pool = Pool::new(rt.alloc())?;
-    let x = variable(&mut pool, X)?;
-    let y = variable(&mut pool, Y)?;
-    let term = two(&rt, &mut pool, x, y)?;
-    let swapped = two(&rt, &mut pool, y, x)?;
-    assert_eq!(rt; put(&rt, &mut pool, term, y, x)?.0, swapped.0);
-    let over_x = one(&rt, &mut pool, ONE, x)?;
-    let wanted = two(&rt, &mut pool, over_x, x)?;
-    assert_eq!(rt; put(&rt, &mut pool, term, over_x, x)?.0, wanted.0);
-    assert_eq!(rt; put(&rt, &mut pool, term, x, y)?.0, term.0);
+    variables_change_places(&rt, &mut pool)
+}
+
+fn casts_merge(rt: &impl Abort, pool: &mut Pool) -> Result<(), Fail> {
+    let three = positive(rt, pool, 3)?;
+    let as_natural = natural(pool, 3)?;
+    let as_integer = integer(rt, pool, false, 3)?;
+    assert_eq!(rt; one(rt, pool, POS_TO_NAT, three)?.0, as_natural.0);
+    assert_eq!(rt; one(rt, pool, POS_TO_INT, three)?.0, as_integer.0);
+    assert_eq!(rt; one(rt, pool, NAT_TO_INT, as_natural)?.0, as_integer.0);
+    assert_eq!(rt; pool.len(), 3);
     Ok(())
 }
 
 #[test]
 fn casts_merge_with_numerals(rt: HostRuntime) -> Result<(), Fail> {
     let mut pool = Pool::new(rt.alloc())?;
-    let three = positive(&rt, &mut pool, 3)?;
-    let as_natural = natural(&mut pool, 3)?;
-    let as_integer = integer(&rt, &mut pool, false, 3)?;
-    assert_eq!(rt; one(&rt, &mut pool, POS_TO_NAT, three)?.0, as_natural.0);
-    assert_eq!(rt; one(&rt, &mut pool, POS_TO_INT, three)?.0, as_integer.0);
-    assert_eq!(rt;
-        one(&rt, &mut pool, NAT_TO_INT, as_natural)?.0,
-        as_integer.0
-    );
+    casts_merge(&rt, &mut pool)
+}
+
+fn minus_signs_merge(rt: &impl Abort, pool: &mut Pool) -> Result<(), Fail> {
+    let three = positive(rt, pool, 3)?;
+    let zero = natural(pool, 0)?;
+    let minus_three = integer(rt, pool, true, 3)?;
+    assert_eq!(rt; one(rt, pool, MINUS_POS, three)?.0, minus_three.0);
     assert_eq!(rt; pool.len(), 3);
+    assert_eq!(rt; one(rt, pool, MINUS_NAT, zero)?.0, 3);
+    assert_eq!(rt; one(rt, pool, ONE, three)?.0, 4);
     Ok(())
 }
 
 #[test]
 fn minus_signs_merge_above_zero(rt: HostRuntime) -> Result<(), Fail> {
     let mut pool = Pool::new(rt.alloc())?;
-    let three = positive(&rt, &mut pool, 3)?;
-    let zero = natural(&mut pool, 0)?;
-    let minus_three = integer(&rt, &mut pool, true, 3)?;
-    assert_eq!(rt; one(&rt, &mut pool, MINUS_POS, three)?.0, minus_three.0);
-    assert_eq!(rt; pool.len(), 3);
-    assert_eq!(rt; one(&rt, &mut pool, MINUS_NAT, zero)?.0, 3);
-    assert_eq!(rt; one(&rt, &mut pool, ONE, three)?.0, 4);
+    minus_signs_merge(&rt, &mut pool)
+}
+
+fn numerals_merge(rt: &impl Abort, pool: &mut Pool) -> Result<(), Fail> {
+    let x = variable(pool, X)?;
+    let raised = one(rt, pool, POS_TO_NAT, x)?;
+    let raised_again = one(rt, pool, NAT_TO_INT, raised)?;
+    let negated = one(rt, pool, MINUS_POS, x)?;
+    let term = two(rt, pool, raised_again, negated)?;
+    let five = positive(rt, pool, 5)?;
+    let integer_five = integer(rt, pool, false, 5)?;
+    let minus_five = integer(rt, pool, true, 5)?;
+    let wanted = two(rt, pool, integer_five, minus_five)?;
+    assert_eq!(rt; put(rt, pool, term, five, five)?.0, wanted.0);
     Ok(())
 }
 
 #[test]
 fn numerals_merge_when_put_in(rt: HostRuntime) -> Result<(), Fail> {
     let mut pool = Pool::new(rt.alloc())?;
-    let x = variable(&mut pool, X)?;
-    let raised = one(&rt, &mut pool, POS_TO_NAT, x)?;
-    let raised_again = one(&rt, &mut pool, NAT_TO_INT, raised)?;
-    let negated = one(&rt, &mut pool, MINUS_POS, x)?;
-    let term = two(&rt, &mut pool, raised_again, negated)?;
-    let five = positive(&rt, &mut pool, 5)?;
-    let integer_five = integer(&rt, &mut pool, false, 5)?;
-    let minus_five = integer(&rt, &mut pool, true, 5)?;
-    let wanted = two(&rt, &mut pool, integer_five, minus_five)?;
-    assert_eq!(rt; put(&rt, &mut pool, term, five, five)?.0, wanted.0);
-    Ok(())
+    numerals_merge(&rt, &mut pool)
 }

@@ -2,4 +2,4 @@ use Rattle.term_pool.proofs.EmptyPools.{none_listed}
 use Rattle.term_pool.proofs.closed_term_tests.declared_sorts_have_values.Goals as goal
 
 pub closed-requires : goal.closed-requires
-closed-requires g c = none_listed c.set_constructor.new.signature c.in_ok-pool.pool.constants c.in_ok-pool.ensures.constants
+closed-requires g c = none_listed c.set_constructor.new.signature c.args.pool.now.constants c.requires
