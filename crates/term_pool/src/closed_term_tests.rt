@@ -263,3 +263,80 @@ fn trees_have_a_first_value(rt: HostRuntime) -> Result<(), Fail> {
     let _names = signature.into_names();
     outcome
 }
+
+/// Makes a declared sort P `struct pair(L, R)`.
+fn set_pair(
+    rt: &impl Abort,
+    alloc: Global,
+    signature: &mut Signature,
+    sort: SortId,
+    left: SortId,
+    right: SortId,
+) -> Result<(), Fail> {
+    signature.take_name("pair")?;
+    let pair = name_of(rt, signature, "pair");
+    assert!(rt; sort.0 < signature.next_sort().0);
+    assert!(rt; left.0 < signature.next_sort().0);
+    assert!(rt; right.0 < signature.next_sort().0);
+    assert!(rt; is_bare(rt, signature, sort));
+    assert!(rt; is_absent(signature, pair, &[left, right]));
+    let fields = Vec::from_array(alloc, [(None, left), (None, right)])?;
+    let constructor = ConDecl {
+        name: pair,
+        fields,
+        test: None,
+    };
+    signature.set_struct(sort, Vec::from_array(alloc, [constructor])?)?;
+    Ok(())
+}
+
+/// Whether a term is `pair` of two terms.
+fn is_pair(
+    rt: &impl Abort,
+    signature: &Signature,
+    pool: &Pool,
+    term: TermId,
+    sorts: &[SortId],
+    args: &[TermId],
+) -> bool {
+    assert!(rt; term.0 < pool.len());
+    let node = pool.node(term);
+    match (node.head, signature.fun("pair", sorts)) {
+        (Head::Fun(head), Some(fun)) => head == fun && node.args.as_slice() == args,
+        _ => false,
+    }
+}
+
+/// `pair(leaf, dc_D)`, whose parts are the first values of a struct and of a sort without constructors.
+fn nested_structs_have_values(
+    rt: &impl Abort,
+    alloc: Global,
+    signature: &mut Signature,
+    pool: &mut Pool,
+) -> Result<(), Fail>
+    requires { pool.old.constants ≡ [] }
+{
+    let bare = declared(rt, signature, "D")?;
+    let trees = declared(rt, signature, "T")?;
+    let pairs = declared(rt, signature, "P")?;
+    set_trees(rt, alloc, signature, trees)?;
+    set_pair(rt, alloc, signature, pairs, trees, bare)?;
+    let term = closed(rt, alloc, signature, pool, pairs)?;
+    assert_eq!(rt; signature.funs().len(), 4);
+    let leaf = closed(rt, alloc, signature, pool, trees)?;
+    let constant = closed(rt, alloc, signature, pool, bare)?;
+    assert_eq!(rt; signature.funs().len(), 4);
+    assert!(rt; is_constant(rt, signature, pool, leaf, "leaf", &[]));
+    assert!(rt; is_constant(rt, signature, pool, constant, "dc_D", &[]));
+    assert!(rt; is_pair(rt, signature, pool, term, &[trees, bare], &[leaf, constant]));
+    Ok(())
+}
+
+#[test]
+fn nested_structs_have_a_first_value(rt: HostRuntime) -> Result<(), Fail> {
+    let mut pool = Pool::new(rt.alloc())?;
+    let mut signature = Signature::new(rt.alloc(), Names::new(rt.alloc()))?;
+    let outcome = nested_structs_have_values(&rt, rt.alloc(), &mut signature, &mut pool);
+    let _names = signature.into_names();
+    outcome
+}
