@@ -56,7 +56,7 @@ const LINEARISED: [(&[u8], &[u8]); 11] = [
 ];
 
 /// Texts with a fault of their tokens or of their declarations.
-const REFUSED: [(&[u8], LinFault); 36] = [
+const REFUSED: [(&[u8], LinFault); 42] = [
     (b"", LinFault::Parse(ParseFault::NoInit)),
     (b"%", LinFault::Parse(ParseFault::NoInit)),
     (b"0", LinFault::Parse(ParseFault::Syntax(1))),
@@ -168,6 +168,15 @@ const REFUSED: [(&[u8], LinFault); 36] = [
         LinFault::Parse(ParseFault::Syntax(2)),
     ),
     (b"init (;", LinFault::Parse(ParseFault::Syntax(1))),
+    (b"cons c: S init a;", LinFault::Parse(ParseFault::Syntax(1))),
+    (b"map f: S init a;", LinFault::Parse(ParseFault::Syntax(1))),
+    (b"var x: S init a;", LinFault::Parse(ParseFault::Syntax(1))),
+    (b"eqn f = g init a;", LinFault::Parse(ParseFault::Syntax(1))),
+    (b"act a init a;", LinFault::Parse(ParseFault::Syntax(1))),
+    (
+        b"proc P = a init P;",
+        LinFault::Parse(ParseFault::Syntax(1)),
+    ),
 ];
 
 /// Texts of whole declarations that haven't the first form.
