@@ -124,10 +124,10 @@ def first_start(place):
     same((ran.returncode, ran.stdout, ran.stderr, place.calls()), (0, "act a;\n", "", []))
 
 
-def terminal(place):
+def terminal(place, columns=40, longest=39):
     """One line, written over, of which nothing is left but that the build is done."""
     main, side = pty.openpty()
-    fcntl.ioctl(side, termios.TIOCSWINSZ, struct.pack("HHHH", 24, 40, 0, 0))
+    fcntl.ioctl(side, termios.TIOCSWINSZ, struct.pack("HHHH", 24, columns, 0, 0))
     child = place.start("ask", "0", env={"RT_SLOW": "2.5"}, stdin=side, stdout=side, stderr=side)
     os.close(side)
     os.write(main, b"words\n")
@@ -145,9 +145,13 @@ def terminal(place):
     rows = said.split("\r\n")
     shown = [it for it in rows[0].split("\r\x1b[K") if it]
     assert sum("crate 2 of 3, high" in it for it in shown) >= 3, shown
-    assert max(map(len, shown[:-1])) < 40, shown
+    same(max(map(len, shown[:-1])), longest)
     assert shown[-1].startswith("mcrl2lin: proved and built, 3 crates in "), shown
     same(sorted(rows[1:]), ["", "got words", "heard"])
+
+
+def terminal_without_width(place):
+    terminal(place, 0, len("mcrl2lin: proving crate 3 of 3, mcrl2lin (0 min 2 s)"))
 
 
 def streams(place):
@@ -447,7 +451,7 @@ def unreadable(place):
     same((ran.returncode, ran.stderr), (0, ""))
 
 
-TRIES = [first_start, terminal, streams, process, stack, links, sources, changed_meanwhile, broken, no_toolchain, not_the_example, no_room, interrupted, interrupted_on_terminal, lost_reader, killed, killed_on_terminal, two_at_once, waits_for_a_failure, answers, unreadable]
+TRIES = [first_start, terminal, terminal_without_width, streams, process, stack, links, sources, changed_meanwhile, broken, no_toolchain, not_the_example, no_room, interrupted, interrupted_on_terminal, lost_reader, killed, killed_on_terminal, two_at_once, waits_for_a_failure, answers, unreadable]
 
 
 def main(names):
