@@ -116,7 +116,8 @@ def first_start(place):
     ran = place.example()
     same((ran.returncode, ran.stdout), (0, "act a;\n"))
     lines = ran.stderr.splitlines()
-    same([re.sub(r"\d+ min \d+ s", "T", it) for it in lines[:3]], [f"mcrl2lin: proving crate {n + 1} of 3, {it} (T)" for n, it in enumerate(CRATES)])
+    said = [re.sub(r"\d+ min \d+ s", "T", it) for it in lines[:3]]
+    same(said, [f"mcrl2lin: proving crate {n + 1} of 3, {it} (T)" for n, it in enumerate(CRATES)])
     same(len(lines), 4)
     assert "\r" not in ran.stderr and "\x1b" not in ran.stderr, "control signs off the terminal"
     same(place.calls(), BUILT)
@@ -304,7 +305,8 @@ def no_room(place):
 
 def interrupted(place):
     for number in (signal.SIGINT, signal.SIGTERM, signal.SIGHUP, signal.SIGQUIT):
-        child = place.start("linearise", "x", env={"RT_SLOW": "5"}, preexec_fn=lambda: resource.setrlimit(resource.RLIMIT_CORE, (0, 0)))
+        no_core = lambda: resource.setrlimit(resource.RLIMIT_CORE, (0, 0))
+        child = place.start("linearise", "x", env={"RT_SLOW": "5"}, preexec_fn=no_core)
         place.await_call("lib high")
         begun = time.monotonic()
         child.send_signal(number)
@@ -321,7 +323,8 @@ def interrupted(place):
 def interrupted_on_terminal(place):
     main, side = pty.openpty()
     take = lambda: fcntl.ioctl(0, termios.TIOCSCTTY, 0)
-    child = place.start("linearise", "x", env={"RT_SLOW": "30"}, stdin=side, stdout=side, stderr=side, start_new_session=True, preexec_fn=take)
+    how = {"stdin": side, "stdout": side, "stderr": side, "start_new_session": True, "preexec_fn": take}
+    child = place.start("linearise", "x", env={"RT_SLOW": "30"}, **how)
     os.close(side)
     place.await_call("lib high")
     os.write(main, b"\x03")
@@ -443,7 +446,8 @@ def unreadable(place):
         ran = place.run("linearise", str(shut), user=65534)
         same((ran.returncode, ran.stderr.splitlines()), (3, ["read fault", f"mcrl2lin: can't read {shut}"]))
     # What can be read but by no second reader.
-    ran = subprocess.run(["bash", "-c", f'"$1" linearise <(echo piped); echo given | "$1" linearise /dev/stdin', "", place.launcher], env=place.env, capture_output=True, text=True)
+    both = '"$1" linearise <(echo piped); echo given | "$1" linearise /dev/stdin'
+    ran = subprocess.run(["bash", "-c", both, "", place.launcher], env=place.env, capture_output=True, text=True)
     same((ran.stdout, ran.stderr), ("piped\ngiven\n", ""))
     empty = place.folder / "empty"
     empty.touch()
@@ -451,7 +455,30 @@ def unreadable(place):
     same((ran.returncode, ran.stderr), (0, ""))
 
 
-TRIES = [first_start, terminal, terminal_without_width, streams, process, stack, links, sources, changed_meanwhile, broken, no_toolchain, not_the_example, no_room, interrupted, interrupted_on_terminal, lost_reader, killed, killed_on_terminal, two_at_once, waits_for_a_failure, answers, unreadable]
+TRIES = [
+    first_start,
+    terminal,
+    terminal_without_width,
+    streams,
+    process,
+    stack,
+    links,
+    sources,
+    changed_meanwhile,
+    broken,
+    no_toolchain,
+    not_the_example,
+    no_room,
+    interrupted,
+    interrupted_on_terminal,
+    lost_reader,
+    killed,
+    killed_on_terminal,
+    two_at_once,
+    waits_for_a_failure,
+    answers,
+    unreadable,
+]
 
 
 def main(names):
