@@ -25,20 +25,20 @@ use Rattle.bisim_laws.proofs.EqualFiring.{does_equal}
 use Rattle.bisim_laws.proofs.SortedFiring.{firings_keep}
 
 -- readings that are provably equal
-equal_at : (th : Theory) (xs : List ℕ) (d e : Environment) → Equals th (reading d xs) (reading e xs) → (v : ℕ) → Contains xs v → Equal th (term_in d v) (term_in e v)
+pub equal_at : (th : Theory) (xs : List ℕ) (d e : Environment) → Equals th (reading d xs) (reading e xs) → (v : ℕ) → Contains xs v → Equal th (term_in d v) (term_in e v)
 equal_at th [] d e h v i = absurd (contains_nothing v i)
 equal_at th (x ∷ xs) d e (more_terms h k) v i = ⊎_elim (λ q. subst (λ z. Equal th (term_in d z) (term_in e z)) q h) (λ j. equal_at th xs d e k v j) (number_cases x v xs i)
 
 -- the terms of e for xs, before the parameters ys that are bound to us
-abbrev with_parameters : Environment → List ℕ → List ℕ → List Term → Environment
+abbrev pub with_parameters : Environment → List ℕ → List ℕ → List Term → Environment
 with_parameters e xs ys us = bound xs (reading e xs) ++ bound ys us
 
-front_agrees : (e : Environment) (xs ys : List ℕ) (us : List Term) → AreDistinct xs → Agree xs (term_in (with_parameters e xs ys us)) (term_in e)
+pub front_agrees : (e : Environment) (xs ys : List ℕ) (us : List Term) → AreDistinct xs → Agree xs (term_in (with_parameters e xs ys us)) (term_in e)
 front_agrees e xs ys us n = reading_agrees xs (with_parameters e xs ys us) e
     (reading_same xs (with_parameters e xs ys us) (bound xs (reading e xs)) (λ v i. front_is_read (bound xs (reading e xs)) (bound ys us) v (subst (λ l. Contains l v) (sym (bound_are_the_parameters xs (reading e xs) (reading_long e xs))) i))
     ∙ bound_reads xs (reading e xs) (reading_long e xs) n)
 
-back_reads : (e : Environment) (xs ys : List ℕ) (us : List Term) → Apart xs ys → AreDistinct ys → length us ≡ length ys → reading (with_parameters e xs ys us) ys ≡ us
+pub back_reads : (e : Environment) (xs ys : List ℕ) (us : List Term) → Apart xs ys → AreDistinct ys → length us ≡ length ys → reading (with_parameters e xs ys us) ys ≡ us
 back_reads e xs ys us a n l =
     reading_same ys (with_parameters e xs ys us) (bound ys us) (λ v i. front_is_skipped (bound xs (reading e xs)) (bound ys us) v (λ j. a v (subst (λ l. Contains l v) (bound_are_the_parameters xs (reading e xs) (reading_long e xs)) j) i))
     ∙ bound_reads ys us l n

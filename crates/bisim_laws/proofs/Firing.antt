@@ -40,16 +40,16 @@ variable_among (y ∷ xs) x h = ⊎_elim
     (contains_cases y x xs h)
 
 -- ---- what environments have for variables
-read_now : (v : ℕ) (t : Term) (e : Environment) → term_in (record { var = v; term = t } ∷ e) v ≡ t
+pub read_now : (v : ℕ) (t : Term) (e : Environment) → term_in (record { var = v; term = t } ∷ e) v ≡ t
 read_now v t e = ⊎_elim (λ k. ap (λ c. by_test c t (term_in e v)) k.0) (λ k. absurd (k.1 refl)) (eqb_tells v v)
 
-read_later : (x : ℕ) (t : Term) (e : Environment) (v : ℕ) → (x ≡ v → ⊥) → term_in (record { var = x; term = t } ∷ e) v ≡ term_in e v
+pub read_later : (x : ℕ) (t : Term) (e : Environment) (v : ℕ) → (x ≡ v → ⊥) → term_in (record { var = x; term = t } ∷ e) v ≡ term_in e v
 read_later x t e v n = ⊎_elim (λ k. absurd (n k.1)) (λ k. ap (λ c. by_test c t (term_in e v)) k.0) (eqb_tells x v)
 
-head_same : {t u : Term} {ts us : List Term} → t ∷ ts ≡ u ∷ us → t ≡ u
+pub head_same : {t u : Term} {ts us : List Term} → t ∷ ts ≡ u ∷ us → t ≡ u
 head_same e = cc
 
-tail_same : {t u : Term} {ts us : List Term} → t ∷ ts ≡ u ∷ us → ts ≡ us
+pub tail_same : {t u : Term} {ts us : List Term} → t ∷ ts ≡ u ∷ us → ts ≡ us
 tail_same e = cc
 
 -- equal readings are agreement
@@ -61,7 +61,7 @@ pub reading_agrees : (xs : List ℕ) (d e : Environment) → reading d xs ≡ re
 reading_agrees [] d e h v i = absurd (contains_nothing v i)
 reading_agrees (x ∷ xs) d e h v i = ⊎_elim (λ q. subst (λ z. term_in d z ≡ term_in e z) q (head_same h)) (λ j. reading_agrees xs d e (tail_same h) v j) (number_cases x v xs i)
 
-reading_put : (e : Environment) (xs : List ℕ) → map (put (term_in e)) (map variable xs) ≡ reading e xs
+pub reading_put : (e : Environment) (xs : List ℕ) → map (put (term_in e)) (map variable xs) ≡ reading e xs
 reading_put e [] = refl
 reading_put e (x ∷ xs) = ap (λ ts. term_in e x ∷ ts) (reading_put e xs)
 
@@ -76,12 +76,12 @@ pub agree_on_both : (xs ys : List ℕ) (d e : ℕ → Term) → Agree xs d e →
 agree_on_both xs ys d e g h v i = ⊎_elim (λ j. g v j) (λ j. h v j) (Contains-append_cases xs ys v i)
 
 -- ---- one summand in another environment
-label_along : (xs : List ℕ) (d e : Environment) → Agree xs (term_in d) (term_in e) → (m : Label) → LabelIsOver xs m → put_label d m ≡ put_label e m
+pub label_along : (xs : List ℕ) (d e : Environment) → Agree xs (term_in d) (term_in e) → (m : Label) → LabelIsOver xs m → put_label d m ≡ put_label e m
 label_along xs d e g _ no_action_left = refl
 label_along xs d e g _ (action_over {a = a} {m = m} h k) =
     ap₂ (λ ts n. record { name = a.name; sorts = a.sorts; args = ts } ∷ n) (agreeing_give_the_same_terms xs (term_in d) (term_in e) g a.args h) (label_along xs d e g m k)
 
-next_along : (xs : List ℕ) (params : List Bound) (d e : Environment) → Agree xs (term_in d) (term_in e) → (next : Option (List Term)) → NextIsOver xs params next → put_next d next ≡ put_next e next
+pub next_along : (xs : List ℕ) (params : List Bound) (d e : Environment) → Agree xs (term_in d) (term_in e) → (next : Option (List Term)) → NextIsOver xs params next → put_next d next ≡ put_next e next
 next_along xs params d e g _ no_next = refl
 next_along xs params d e g _ (next_over {ts = ts} h l) = ap (λ us. Some us) (agreeing_give_the_same_terms xs (term_in d) (term_in e) g ts h)
 
@@ -94,32 +94,32 @@ does_along th params s d e m next is g k = record {
 
 -- ---- sums
 -- closed terms for sum variables, one after another in front of an environment
-data SumsBound (th : Theory) : List Bound → Environment → Environment → Type 0 where
+pub data SumsBound (th : Theory) : List Bound → Environment → Environment → Type 0 where
   no_sum : {e : Environment} → SumsBound th [] e e
   one_sum : {x : Bound} {xs : List Bound} {e e' : Environment} (t : Term) → IsOfSort th x.sort t → SumsBound th xs (record { var = x.var; term = t } ∷ e) e' → SumsBound th (x ∷ xs) e e'
 
-record StepInside (th : Theory) (d : Table) (xs : List Bound) (e : Environment) (p : Body) (m : Label) (r : Outcome) : Type 0 where
-  environment : Environment
-  sums : SumsBound th xs e environment
-  step : Step th (close d environment p) m r
+pub record StepInside (th : Theory) (d : Table) (xs : List Bound) (e : Environment) (p : Body) (m : Label) (r : Outcome) : Type 0 where
+  pub environment : Environment
+  pub sums : SumsBound th xs e environment
+  pub step : Step th (close d environment p) m r
 
-step_inside : (th : Theory) (d : Table) (xs : List Bound) (p : Body) (e : Environment) {m : Label} {r : Outcome} → Step th (close d e (sums_around xs p)) m r → StepInside th d xs e p m r
+pub step_inside : (th : Theory) (d : Table) (xs : List Bound) (p : Body) (e : Environment) {m : Label} {r : Outcome} → Step th (close d e (sums_around xs p)) m r → StepInside th d xs e p m r
 step_inside th d [] p e s = record { environment = e; sums = no_sum; step = s }
 step_inside th d (x ∷ xs) p e (by_sum t h s) =
     let k = step_inside th d xs p (record { var = x.var; term = t } ∷ e) s in
     record { environment = k.environment; sums = one_sum t h k.sums; step = k.step }
 
-step_outside : (th : Theory) (d : Table) (p : Body) {xs : List Bound} {e e' : Environment} {m : Label} {r : Outcome} → SumsBound th xs e e' → Step th (close d e' p) m r → Step th (close d e (sums_around xs p)) m r
+pub step_outside : (th : Theory) (d : Table) (p : Body) {xs : List Bound} {e e' : Environment} {m : Label} {r : Outcome} → SumsBound th xs e e' → Step th (close d e' p) m r → Step th (close d e (sums_around xs p)) m r
 step_outside th d p no_sum s = s
 step_outside th d p (one_sum t h k) s = by_sum t h (step_outside th d p k s)
 
-sums_keep : {th : Theory} {xs : List Bound} {e e' : Environment} → SumsBound th xs e e' → (v : ℕ) → (Contains (variables xs) v → ⊥) → term_in e' v ≡ term_in e v
+pub sums_keep : {th : Theory} {xs : List Bound} {e e' : Environment} → SumsBound th xs e e' → (v : ℕ) → (Contains (variables xs) v → ⊥) → term_in e' v ≡ term_in e v
 sums_keep no_sum v n = refl
 sums_keep (one_sum {x = x} {xs = xs} {e = e} t h k) v n =
     sums_keep k v (λ i. n (number_later x.var v (variables xs) i))
     ∙ read_later x.var t e v (λ q. n (subst (λ z. Contains (x.var ∷ variables xs) z) q (number_first x.var (variables xs))))
 
-sums_of_sorts : {th : Theory} {xs : List Bound} {e e' : Environment} → SumsBound th xs e e' → AreDistinct (variables xs) → AreBound th xs e'
+pub sums_of_sorts : {th : Theory} {xs : List Bound} {e e' : Environment} → SumsBound th xs e e' → AreDistinct (variables xs) → AreBound th xs e'
 sums_of_sorts no_sum n y i = absurd (contains_none y i)
 sums_of_sorts {th} (one_sum {x = x} {xs = xs} {e = e} {e' = e'} t h k) n y i = ⊎_elim
     (λ q. subst (λ z. IsOfSort th z.sort (term_in e' z.var)) q (subst (λ u. IsOfSort th x.sort u) (sym (sums_keep k x.var n.0 ∙ read_now x.var t e)) h))
@@ -127,12 +127,12 @@ sums_of_sorts {th} (one_sum {x = x} {xs = xs} {e = e} {e' = e'} t h k) n y i = �
     (contains_cases x y xs i)
 
 -- bindings that give the terms of e again
-record Restored (th : Theory) (xs : List Bound) (base e : Environment) : Type 0 where
-  environment : Environment
-  sums : SumsBound th xs base environment
-  same : (v : ℕ) → Contains (variables xs) v ⊎ (term_in base v ≡ term_in e v) → term_in environment v ≡ term_in e v
+pub record Restored (th : Theory) (xs : List Bound) (base e : Environment) : Type 0 where
+  pub environment : Environment
+  pub sums : SumsBound th xs base environment
+  pub same : (v : ℕ) → Contains (variables xs) v ⊎ (term_in base v ≡ term_in e v) → term_in environment v ≡ term_in e v
 
-restored : (th : Theory) (xs : List Bound) (base e : Environment) → AreBound th xs e → Restored th xs base e
+pub restored : (th : Theory) (xs : List Bound) (base e : Environment) → AreBound th xs e → Restored th xs base e
 restored th [] base e h = record { environment = base; sums = no_sum; same = λ v c. ⊎_elim (λ i. absurd (contains_nothing v i)) (λ q. q) c }
 restored th (x ∷ xs) base e h =
     let r = restored th xs (record { var = x.var; term = term_in e x.var } ∷ base) e (λ y i. h y (contains_later x y xs i)) in
@@ -158,17 +158,17 @@ restored th (x ∷ xs) base e h =
 tests_differ : false ≡ true → ⊥
 tests_differ e = cc
 
-true_alone : (c : Term) → is_true c ≡ true → c ≡ trueᵗ
+pub true_alone : (c : Term) → is_true c ≡ true → c ≡ trueᵗ
 true_alone (application truth none) e = refl
 true_alone _ e = absurd (tests_differ e)
 
-step_under : (th : Theory) (d : Table) (e : Environment) (c : Term) (p : Body) (b : Bool) → is_true c ≡ b → {m : Label} {r : Outcome}
+pub step_under : (th : Theory) (d : Table) (e : Environment) (c : Term) (p : Body) (b : Bool) → is_true c ≡ b → {m : Label} {r : Outcome}
     → Step th (close d e (if b then p else written_cond c p written_delta)) m r → IsTrue th (put (term_in e) c) × Step th (close d e p) m r
 step_under th d e c p true q s = (subst (λ t. IsTrue th (put (term_in e) t)) (sym (true_alone c q)) reflexive, s)
 step_under th d e c p false q (by_true h s) = (h, s)
 step_under th d e c p false q (by_false h s) = elim s [ ]
 
-step_over : (th : Theory) (d : Table) (e : Environment) (c : Term) (p : Body) (b : Bool) {m : Label} {r : Outcome} → IsTrue th (put (term_in e) c) → Step th (close d e p) m r
+pub step_over : (th : Theory) (d : Table) (e : Environment) (c : Term) (p : Body) (b : Bool) {m : Label} {r : Outcome} → IsTrue th (put (term_in e) c) → Step th (close d e p) m r
     → Step th (close d e (if b then p else written_cond c p written_delta)) m r
 step_over th d e c p true h s = s
 step_over th d e c p false h s = by_true h s
