@@ -1,7 +1,7 @@
 -- Linear processes, and their firings.
 use Rattle.std.specs.Prelude.{◌≡◌, ℕ, Bool, true, false, List, [], ◌∷◌, ◌++◌, map, length, Option, Some, None, Contains, if◌then◌else◌}
 use Rattle.data_theory.specs.Terms.{Sort, boolean, truth, Term, application, none, put}
-use Rattle.data_theory.specs.Declarations.{Data, Declares, HasSort, HaveSorts}
+use Rattle.data_theory.specs.Declarations.{Data, IsSort, Declares, HasSort, HaveSorts}
 use Rattle.data_theory.specs.Environments.{Environment, term_in, terms_of, IsOver, AreOver, Apart, AreDistinct}
 use Rattle.process_terms.specs.Theories.{Theory, Equals, IsTrue, IsOfSort, AreOfSorts}
 use Rattle.process_terms.specs.Labels.{Action, Label, put_label}
@@ -84,14 +84,20 @@ pub data NextIsSorted (g : Data) (vs ss : List Sort) : Option (List Term) → Ty
 abbrev pub AreDeclared : List Sort → List Bound → Type 0
 AreDeclared vs xs = (x : Bound) → Contains xs x → Declares vs x.var x.sort
 
+-- each of these variables has a sort of the data
+abbrev pub HaveDataSorts : Data → List Bound → Type 0
+HaveDataSorts g xs = (x : Bound) → Contains xs x → IsSort g x.sort
+
 pub record SummandIsSorted (g : Data) (vs : List Sort) (params : List Bound) (s : Summand) : Type 0 where
   pub sums : AreDeclared vs s.sums
+  pub sum_sorts : HaveDataSorts g s.sums
   pub condition : HasSort g vs s.condition boolean
   pub label : LabelIsSorted g vs s.label
   pub next : NextIsSorted g vs (sorts params) s.next
 
 pub record IsWellSorted (g : Data) (vs : List Sort) (l : Linear) : Type 0 where
   pub params : AreDeclared vs l.params
+  pub param_sorts : HaveDataSorts g l.params
   pub summands : (s : Summand) → Contains l.summands s → SummandIsSorted g vs l.params s
 
 -- The process of a linear text: one call, with closed terms of the parameters' sorts, of a definition of that shape.
