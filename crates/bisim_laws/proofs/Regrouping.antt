@@ -1,6 +1,6 @@
 -- `Same` doesn't look at brackets.
 use Rattle.std.proofs.Common.{List, [], ◌∷◌, refl}
-use Rattle.process_terms.specs.Systems.{Name}
+use Rattle.process_terms.specs.Names.{Name}
 use Rattle.process_terms.specs.Theories.{Theory}
 use Rattle.process_terms.specs.Processes.{Table, seq, call, the_body}
 use Rattle.process_terms.specs.Steps.{by_act, by_left, by_seq, by_call}

@@ -1,7 +1,7 @@
 -- What no good link can pair, and what `Same` pairs, as checks of the definitions.
 use Rattle.std.specs.Prelude.{◌≡◌, ℕ, List, [], ◌∷◌}
 use Rattle.data_theory.specs.Terms.{Sort, Term, variable}
-use Rattle.process_terms.specs.Systems.{Name}
+use Rattle.process_terms.specs.Names.{Name}
 use Rattle.process_terms.specs.Theories.{Theory, AreOfSorts}
 use Rattle.process_terms.specs.Labels.{Action, Label}
 use Rattle.process_terms.specs.Processes.{Bound, Body, written_act, written_choice, written_seq, written_sum, written_call, Table, Process, delta, act, seq, call, merge, close}
