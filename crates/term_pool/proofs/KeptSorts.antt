@@ -37,7 +37,7 @@ either : (b c : Bool) → (b || c) ≡ true → (b ≡ true) ⊎ (c ≡ true)
 either true c e = inl refl
 either false c e = inr e
 
-positive_is_natural : (z : ℤ) → pos 1 ≤ℤ z → pos 0 ≤ℤ z
+pub positive_is_natural : (z : ℤ) → pos 1 ≤ℤ z → pos 0 ≤ℤ z
 positive_is_natural z h = omega (arith, ints, h)
 
 abbrev from_to : SortId → SortId → List SortId × SortId
@@ -101,7 +101,7 @@ module _ (g : Sig) (first : HasFirstFunctions g) where
     keeps_over_numeral : HasTreeSort g (apply_to_numeral f s z) e.result
     keeps_over_numeral = keeps_by (is_over 3 pos_sort f s) (is_over 4 nat_sort f s || is_over 5 pos_sort f s) (is_minus f s && lt_z (pos 0) z) refl refl refl
 
-  keeps_merging : (f : FunId) (e : Function) (ts : Trees) → slice_get g.functions f.0 ≡ Some e → HaveTreeSorts g ts (arguments_of e) → HasTreeSort g (apply_tree f ts) e.result
+  pub keeps_merging : (f : FunId) (e : Function) (ts : Trees) → slice_get g.functions f.0 ≡ Some e → HaveTreeSorts g ts (arguments_of e) → HasTreeSort g (apply_tree f ts) e.result
   keeps_merging f e none at fits = (e, at, refl, fits, refl)
   keeps_merging f e (more (numeral s z) none) at fits = keeps_over_numeral f s z e at fits
   keeps_merging f e (more (variable v) none) at fits = (e, at, refl, fits, refl)
@@ -110,25 +110,25 @@ module _ (g : Sig) (first : HasFirstFunctions g) where
   keeps_merging f e (more (variable v) (more t ts)) at fits = (e, at, refl, fits, refl)
   keeps_merging f e (more (function h us) (more t ts)) at fits = (e, at, refl, fits, refl)
 
-  keeps_head : (ts : List Tree) (h : Head) (ids : List TermId) (s : SortId) → HasHeadSort g ts h ids s → HasTreeSort g (head_tree h (trees_at ts ids)) s
+  pub keeps_head : (ts : List Tree) (h : Head) (ids : List TermId) (s : SortId) → HasHeadSort g ts h ids s → HasTreeSort g (head_tree h (trees_at ts ids)) s
   keeps_head ts (Var v) ids s has = has
   keeps_head ts (Num a n) ids s has = has
   keeps_head ts (Fun f) ids s has = subst (HasTreeSort g (apply_tree f (trees_of (trees_at ts ids)))) has.2 (keeps_merging f has.0 (trees_of (trees_at ts ids)) has.1 has.3)
 
   module _ (put : VarId → Tree) (sorted : (v : VarId) (s : SortId) → IsVariableOf g v s → HasTreeSort g (put v) s) where
     mutual
-      keeps_put : (t : Tree) (s : SortId) → HasTreeSort g t s → HasTreeSort g (put_tree put t) s
+      pub keeps_put : (t : Tree) (s : SortId) → HasTreeSort g t s → HasTreeSort g (put_tree put t) s
       keeps_put (variable v) s has = sorted v s has
       keeps_put (numeral a z) s has = has
       keeps_put (function f ts) s has = subst (HasTreeSort g (apply_tree f (put_trees put ts))) has.2 (keeps_merging f has.0 (put_trees put ts) has.1 (keep_put ts (arguments_of has.0) has.3))
 
-      keep_put : (ts : Trees) (ss : List SortId) → HaveTreeSorts g ts ss → HaveTreeSorts g (put_trees put ts) ss
+      pub keep_put : (ts : Trees) (ss : List SortId) → HaveTreeSorts g ts ss → HaveTreeSorts g (put_trees put ts) ss
       keep_put none [] have = have
       keep_put none (s ∷ ss) have = absurd have
       keep_put (more t ts) [] have = absurd have
       keep_put (more t ts) (s ∷ ss) have = (keeps_put t s have.0, keep_put ts ss have.1)
 
-  listed_sorted : (ts : List Tree) (by : List (VarId × TermId)) → HaveVariableSorts g ts by → (v : VarId) (s : SortId) → IsVariableOf g v s → HasTreeSort g (listed ts by v) s
+  pub listed_sorted : (ts : List Tree) (by : List (VarId × TermId)) → HaveVariableSorts g ts by → (v : VarId) (s : SortId) → IsVariableOf g v s → HasTreeSort g (listed ts by v) s
   listed_sorted ts [] have v s is = is
   listed_sorted ts (p ∷ ps) have v s is = sorted_by (p.0.0 == v.0) refl
       (All-head (λ q. (a : SortId) → IsVariableOf g q.0 a → HasTreeSort g (tree_at ts q.1) a) p ps have)
