@@ -15,6 +15,7 @@ pub mod DigitLemmas
 pub mod DeclaredConstants
 pub mod SortSearch
 pub mod FirstTermLemmas
+pub mod SortedFirstTerms
 pub mod Candidates
 pub mod FirstTables
 pub mod FirstLoops
@@ -25,3 +26,4 @@ pub mod NeededConstants
 pub mod FirstValueGrowth
 pub mod EmptyPools
 pub mod EntryValues
+pub mod GrownSignatures
