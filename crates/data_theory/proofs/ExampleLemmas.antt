@@ -2,9 +2,10 @@
 use Rattle.std.proofs.Common.{ℕ, zero, suc, ◌<◌, List, [], ◌∷◌, length, refl, subst, arith}
 use Rattle.std.specs.Prelude.{pos}
 use Rattle.std.proofs.lemmas.Int.{ints}
+use Rattle.std.specs.List.{All}
 use Rattle.std.proofs.lemmas.List.Elements.{All-cons, All-nil}
 use Rattle.data_theory.specs.Terms.{Symbol, truth, falsity, negation, boolean, positive, natural, list, named, head, membership, function, Term, Terms, variable, numeral, unknown, application, none, more}
-use Rattle.data_theory.specs.Declarations.{Data, FitsRole, IsSort, HasSort, NoSortIsEmpty, function_at}
+use Rattle.data_theory.specs.Declarations.{Data, FitsRole, IsSort, Declares, HasSort, NoSortIsEmpty, function_at}
 use Rattle.data_theory.specs.Equations.{not_true, trueᵗ, falseᵗ, one, two, equals, emptyᵗ, consᵗ, in_cons, equal_numerals, equal_itself, head_cons, ◌∨ᵗ◌}
 use Rattle.data_theory.specs.Provable.{Equation, ProvablyEqual, PlacesEqual, reflexive, transitive, built_in, written, reflected, place, ProvablyTrue, IsClosedInstance, IsEmptyList}
 use Rattle.data_theory.specs.Rewriting.{Applies, a_line, an_equation, LooksFirst, FirstDecides, GoesTo, by_all, no_arguments, an_argument, tries, used, without_condition}
@@ -76,11 +77,12 @@ mappings_are_equal t h =
     equals_of_equal two_mappings (first_is_second ∷ []) natural (one (function 0) t) (one (function 1) t) tt sort same
   where
     fits : IsClosedInstance two_mappings first_is_second (λ v. t)
-    fits zero s o d = subst (HasSort two_mappings [] t) d h
-    fits (suc v) s o d = absurd d
+    fits v (zero, l, e) = (natural, subst (λ w. Declares (natural ∷ []) w natural) e refl, h)
+    fits v (suc zero, l, e) = (natural, subst (λ w. Declares (natural ∷ []) w natural) e refl, h)
+    fits v (suc (suc k), l, e) = absurd (omega (arith, l))
 
 pub true_is_false_is_inconsistent : TrueIsFalseIsInconsistent
-true_is_false_is_inconsistent g ok = ok (written true_is_false (λ v. variable v) (0, omega arith, refl) (λ v s o d. absurd d) reflexive)
+true_is_false_is_inconsistent g ok = ok (written true_is_false (λ v. variable v) (0, omega arith, refl) (λ v o. absurd (omega (arith, o.1))) reflexive)
 
 small_roles : (k : ℕ) → k < length small_data.functions → FitsRole small_data (function_at small_data k) (function_at small_data k).role
 small_roles zero l = (0, refl)

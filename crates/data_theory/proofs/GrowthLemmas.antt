@@ -163,7 +163,7 @@ module _ (g h : Data) (grows : Grows g h) where
       equal_in_grown (transitive e f) = transitive (equal_in_grown e) (equal_in_grown f)
       equal_in_grown (congruent f es) = congruent f (places_in_grown es)
       equal_in_grown (built_in {l = l} s a i c) = built_in s (line_in_grown a) (has_sort_in_grown [] l s i) (equal_in_grown c)
-      equal_in_grown (written q e a f c) = written q e (among q a) (λ v s o d. has_sort_in_grown [] (e v) s (f v s o d)) (equal_in_grown c)
+      equal_in_grown (written q e a f c) = written q e (among q a) (λ v o. let h = f v o in (h.0, h.1, has_sort_in_grown [] (e v) h.0 h.2)) (equal_in_grown c)
       equal_in_grown (reflected e) = reflected (equal_in_grown e)
 
       places_in_grown : {ts us : Terms} → PlacesEqual g own ts us → PlacesEqual h more' ts us
