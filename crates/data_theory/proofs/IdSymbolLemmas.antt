@@ -161,7 +161,7 @@ module _ (g : Sig) (table : IsTable g) where
   symbol_read : (i : FunId) (f : Function) → slice_get g.functions i.0 ≡ Some f → symbol_under g i ≡ symbol_of (sort_under g) (length (declared_from 0 (take i.0 g.functions))) f f.word
   symbol_read i f at = ap (symbol_at (sort_under g) (length (declared_from 0 (take i.0 g.functions)))) at
 
-  built_in_is : (i : FunId) (f : Function) (r : Row) → slice_get g.functions i.0 ≡ Some f → f ≡ row_function f.name r
+  pub built_in_is : (i : FunId) (f : Function) (r : Row) → slice_get g.functions i.0 ≡ Some f → f ≡ row_function f.name r
       → symbol_under g i ≡ word_symbol (row_word r) (map (sort_under g) (row_sorts r)) (sort_under g (row_result r))
   built_in_is i f r at e = symbol_read i f at ∙ ap (λ (h : Function). symbol_of (sort_under g) (length (declared_from 0 (take i.0 g.functions))) h h.word) e
 

@@ -43,4 +43,6 @@ pub mod IdRoleLemmas
 pub mod IdGrowthLemmas
 pub mod IdStructLemmas
 pub mod IdStructRoleLemmas
+pub mod KeptEntries
 pub mod WholeSignatureLemmas
+pub mod StandingLemmas

@@ -1,5 +1,6 @@
 -- The sorts and functions of a text, and which terms are well sorted over them.
 use Rattle.std.specs.Prelude.{◌≡◌, ℕ, zero, suc, ◌<◌, List, [], ◌∷◌, length, get_or, ℤ, pos, ◌≤ℤ◌}
+use Rattle.std.specs.List.{All}
 use Rattle.data_theory.specs.Terms.{Sort, boolean, positive, natural, integer, list, named, Operation, add, subtract, multiply, divide, modulo, power, minimum, maximum, absolute, successor, predecessor, to_positive, to_natural, Symbol, truth, falsity, negation, conjunction, disjunction, implication, equality, inequality, conditional, comparison, arithmetic, minus, upcast, empty, cons, snoc, concatenation, size, element_at, head, rhead, tail, rtail, membership, function, Term, Terms, variable, numeral, unknown, application, none, more, apply}
 
 -- what a declared function is: a constructor, the projection of a constructor's place, the recogniser of a constructor, or
@@ -202,10 +203,11 @@ FitsRole g f (projection c i) = (d : ℕ) × (f.arguments ≡ named d ∷ []) ×
 FitsRole g f (recogniser c) = (d : ℕ) × (f.arguments ≡ named d ∷ []) × ((function_at g c).role ≡ constructor) × ((function_at g c).result ≡ named d) × (f.result ≡ boolean) × (sort_at g d ≡ structured)
 FitsRole g f mapping = Unit {0}
 
--- each function's role fits its sorts, and its result is a sort of the data
+-- each function's role fits its sorts, and its result and its arguments have sorts of the data
 pub record IsData (g : Data) : Type 0 where
   pub roles : (k : ℕ) → k < length g.functions → FitsRole g (function_at g k) (function_at g k).role
   pub results : (k : ℕ) → k < length g.functions → IsSort g (function_at g k).result
+  pub arguments : (k : ℕ) → k < length g.functions → All (IsSort g) (function_at g k).arguments
 
 -- a term of constructors, numerals and unknown elements, where `true`, `false`, `[]` and `|>` count as constructors
 abbrev mutual

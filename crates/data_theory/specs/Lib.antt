@@ -42,3 +42,4 @@ pub mod IdTableLaws
 pub mod IdRoles
 pub mod IdGrowth
 pub mod WholeSignatures
+pub mod SignatureLaws
