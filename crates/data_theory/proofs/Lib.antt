@@ -44,4 +44,6 @@ pub mod IdGrowthLemmas
 pub mod StructGrowthLemmas
 pub mod IdStructLemmas
 pub mod IdStructRoleLemmas
+pub mod KeptEntries
 pub mod WholeSignatureLemmas
+pub mod StandingLemmas

@@ -43,3 +43,4 @@ pub mod IdRoles
 pub mod IdGrowth
 pub mod StructGrowth
 pub mod WholeSignatures
+pub mod SignatureLaws
