@@ -62,6 +62,7 @@ impl Signature {
     ghost use Rattle.data_theory.specs.Actions.{actions_of};
     ghost use Rattle.data_theory.specs.Signature.{Sig, IsFun, IsTaken, first_signature, with_taken, with_variable, with_function, with_alias, with_sort, with_list, with_constructors, with_struct, with_struct_sort, IsNewStruct, IsAct, with_action};
     ghost use Rattle.data_theory.specs.Fresh.{IsFreshIn};
+    ghost use Rattle.data_theory.specs.IdRoles.{HasNoRole};
     ghost use Rattle.data_theory.specs.WholeSignatures.{IsSignature};
 
     /// The sorts Bool, Pos, Nat and Int with their built-in functions, over the given names. The words that are no
@@ -286,12 +287,13 @@ impl Signature {
         Ok(list)
     }
 
-    /// Gives a declared sort without constructors its constructors, which are declared functions into it.
+    /// Gives a declared sort without constructors its constructors, which are declared functions into it that are mappings.
     pub fn set_cons(&mut self, sort: SortId, cons: Vec<FunId>)
         requires bare { IsBare self.old.sorts sort }
         requires declared { All (Contains self.old.declared) cons.items }
         requires results { All (λ fun. IfSome (slice_get self.old.functions fun.0) (λ f. f.result ≡ sort)) cons.items }
         requires different { HaveOnePlace cons.items }
+        requires free { All (HasNoRole self.old) cons.items }
         ensures { self.new ≡ with_constructors self.old sort cons.items }
     {
         self.sorts.set_kind(sort, SortKind::Cons(cons));

@@ -10,3 +10,5 @@ pub mod Weights
 pub mod FirstValues
 pub mod Constants
 pub mod FirstTerms
+pub mod GrowthLaws
+pub mod InhabitedData
