@@ -16,3 +16,4 @@ pub mod PutWithin
 pub mod TreeParts
 pub mod MeantParts
 pub mod MeantTrees
+pub mod NamedSums
