@@ -1,20 +1,19 @@
 -- Consistency by values, and what consistent data tell apart.
 use Rattle.std.proofs.Common.{◌≡◌, ◌≢◌, ℕ, ◌<◌, List, [], ◌∷◌, length, Bool, true, false, ◌==◌, refl, sym, ap, ◌∙◌, subst}
-use Rattle.std.specs.Prelude.{ℤ}
 use Rattle.std.proofs.lemmas.Bool.Decides.{Decides-eqb}
-use Rattle.data_theory.specs.Terms.{Sort, boolean, positive, natural, integer, list, named, function, Term, Terms, numeral, application, none, more}
-use Rattle.data_theory.specs.Declarations.{Data, function_at, projection, recogniser, IsSort, HasNumeral, HasSort, HaveSorts, FitsRole, IsData}
+use Rattle.data_theory.specs.Terms.{Sort, boolean, named, function, Term, Terms, numeral, application, none, more}
+use Rattle.data_theory.specs.Declarations.{Data, function_at, projection, recogniser, IsSort, HasSort, HaveSorts, FitsRole, IsData}
 use Rattle.data_theory.specs.Arithmetic.{equal_numbers}
 use Rattle.data_theory.specs.Equations.{trueᵗ, truth_of, one, equals, all_equal, equal_numerals, different_constructors, same_constructor, projected, recognised, not_recognised}
 use Rattle.data_theory.specs.Provable.{Equation, ProvablyEqual, PlacesEqual, ProvablyTrue, reflexive, symmetric, transitive, congruent, built_in, reflected, no_places, place}
-use Rattle.data_theory.specs.Values.{truth_in}
-use Rattle.data_theory.specs.ConsistencyLaws.{QuotientAndRemainder, SymbolsKeepSorts, TermsHaveValues, BuiltInEquationsHold, ProvablyEqualTermsHaveOneValue, ThereAreFirstValues, EquationsOfValuesAreConsistent, BuiltInEquationsAreConsistent, EqualNumeralsAreTheSame, EqualConstructorsAreTheSame, ConstructorsAreInjective, ProjectionsCompute, RecognisersAccept, RecognisersReject}
+use Rattle.data_theory.specs.Values.{truth_in, by_defaults}
+use Rattle.data_theory.specs.ConsistencyLaws.{QuotientAndRemainder, SymbolsKeepSorts, TermsHaveValues, BuiltInEquationsHold, ProvablyEqualTermsHaveOneValue, ThereAreInterpretations, EquationsOfValuesAreConsistent, BuiltInEquationsAreConsistent, EqualNumeralsAreTheSame, DifferentNumeralsAreNotEqual, EqualConstructorsAreTheSame, ConstructorsAreInjective, ProjectionsCompute, RecognisersAccept, RecognisersReject}
 use Rattle.data_theory.proofs.Numbers.{quotient_remainder, remainder_below}
 use Rattle.data_theory.proofs.SameValues.{equal_numbers_tells}
 use Rattle.data_theory.proofs.SortedValues.{symbol_is, value_is}
-use Rattle.data_theory.proofs.ConstructedTerms.{first_value, first_values_are}
+use Rattle.data_theory.proofs.ConstructedTerms.{some_value, some_values_keep}
 use Rattle.data_theory.proofs.Soundness.{built_in_holds, provable_holds, empty_lists_hold}
-use Rattle.data_theory.proofs.WellSorted.{function_within, sort_within, sort_of_term}
+use Rattle.data_theory.proofs.WellSorted.{function_within, sort_within, numeral_sort, sort_of_term}
 use Rattle.data_theory.proofs.EqualityLemmas.{equals_has_sort, equals_of_equal}
 use Rattle.data_theory.proofs.BooleanLemmas.{and_has_sort, true_has_sort, conjunction_true}
 
@@ -23,44 +22,35 @@ quotient_and_remainder x y h = (quotient_remainder x y h, remainder_below x y h)
 
 -- ---- values
 pub symbols_keep_sorts : SymbolsKeepSorts
-symbols_keep_sorts g first ok some f vs k h = symbol_is g first ok some f vs k h
+symbols_keep_sorts g m ok keeps f vs k h = symbol_is g m ok keeps f vs k h
 
 pub terms_have_values : TermsHaveValues
-terms_have_values g first ok some t s h = value_is g first ok some t s h
+terms_have_values g m ok keeps t s h = value_is g m ok keeps t s h
 
 pub built_in_equations_hold : BuiltInEquationsHold
-built_in_equations_hold g first ok some c l r line s h e = built_in_holds g first ok some line s h e
+built_in_equations_hold g m ok keeps c l r line s h e = built_in_holds g m ok keeps line s h e
 
 pub equal_terms_have_one_value : ProvablyEqualTermsHaveOneValue
-equal_terms_have_one_value g first ok some own m t u e = provable_holds g first ok some own m e
+equal_terms_have_one_value g m ok keeps own hold t u e = provable_holds g m ok keeps own hold e
 
-pub there_are_first_values : ThereAreFirstValues
-there_are_first_values g ok some = (first_value g ok some, first_values_are g ok some)
+pub there_are_interpretations : ThereAreInterpretations
+there_are_interpretations g ok some = (some_value g ok some, some_values_keep g ok some)
 
 pub equations_of_values_are_consistent : EquationsOfValuesAreConsistent
-equations_of_values_are_consistent g first ok some own m e =
-    let same : true ≡ false = ap truth_in (provable_holds g first ok some own m e) in cc
+equations_of_values_are_consistent g m ok keeps own hold e =
+    let same : true ≡ false = ap truth_in (provable_holds g m ok keeps own hold e) in cc
 
 pub built_in_equations_are_consistent : BuiltInEquationsAreConsistent
 built_in_equations_are_consistent g ok some own all =
-    let first = first_value g ok some in
-    let are = first_values_are g ok some in
-    equations_of_values_are_consistent g first ok are own (empty_lists_hold g first ok are own all)
+    let value = some_value g ok some in
+    equations_of_values_are_consistent g (by_defaults g value) ok (some_values_keep g ok some) own (empty_lists_hold g value own all)
 
 -- ---- numerals
-numeral_sort_is : (g : Data) (s : Sort) (z : ℤ) → HasNumeral s z → IsSort g s
-numeral_sort_is g positive z h = tt
-numeral_sort_is g natural z h = tt
-numeral_sort_is g integer z h = tt
-numeral_sort_is g boolean z h = absurd h
-numeral_sort_is g (list s) z h = absurd h
-numeral_sort_is g (named d) z h = absurd h
-
 pub equal_numerals_are_the_same : EqualNumeralsAreTheSame
 equal_numerals_are_the_same g own ok s x y h k e = by_test (equal_numbers x y) refl
   where
     sort_is : IsSort g s
-    sort_is = numeral_sort_is g s x h.1
+    sort_is = numeral_sort g s x h.1
 
     compares_so : ProvablyEqual g own trueᵗ (truth_of (equal_numbers x y))
     compares_so = transitive (symmetric (equals_of_equal g own s (numeral s x) (numeral s y) sort_is h e)) (built_in boolean equal_numerals (equals_has_sort g s (numeral s x) (numeral s y) sort_is h k) reflexive)
@@ -68,6 +58,9 @@ equal_numerals_are_the_same g own ok s x y h k e = by_test (equal_numbers x y) r
     by_test : (b : Bool) → equal_numbers x y ≡ b → x ≡ y
     by_test true q = equal_numbers_tells x y q
     by_test false q = absurd (ok (subst (λ b. ProvablyEqual g own trueᵗ (truth_of b)) q compares_so))
+
+pub different_numerals_are_not_equal : DifferentNumeralsAreNotEqual
+different_numerals_are_not_equal g own ok s x y h k differ e = differ (equal_numerals_are_the_same g own ok s x y (refl, h) (refl, k) e)
 
 -- ---- constructors
 pub equal_constructors_are_the_same : EqualConstructorsAreTheSame

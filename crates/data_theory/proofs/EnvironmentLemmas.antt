@@ -1,6 +1,6 @@
 -- Environments, and putting in.
 use Rattle.std.proofs.Common.{◌≡◌, ℕ, zero, suc, ◌<◌, ◌⊎◌, inl, inr, ⊎_elim, List, [], ◌∷◌, ◌++◌, map, length, Bool, true, false, cond, ◌==◌, refl, sym, ap, ap₂, ◌∙◌, subst, append_assoc, arith, append-nil}
-use Rattle.std.specs.Prelude.{Contains, slice_index_or, ℤ, pos}
+use Rattle.std.specs.Prelude.{◌^◌, Contains, slice_index_or, ℤ, pos}
 use Rattle.std.proofs.lemmas.Bool.Decides.{eqb_tells}
 use Rattle.std.proofs.lemmas.List.{map-append}
 use Rattle.std.proofs.lemmas.List.Elements.{Contains-append_cases}
@@ -11,7 +11,8 @@ use Rattle.data_theory.specs.Terms.{Sort, positive, natural, integer, negated, S
 use Rattle.data_theory.specs.Declarations.{Data, Declares, IsSymbol, IsUpcast, pos2nat, nat2int, pos2int, HasNumeral, argument_sorts, HasSort, HaveSorts}
 use Rattle.data_theory.specs.Provable.{Equation, ProvablyEqual, PlacesEqual, reflexive, congruent, no_places, place}
 use Rattle.data_theory.specs.Environments.{Environment, term_in, bound, bound_variables, terms_of, IsOver, AreOver, Agree, Apart}
-use Rattle.data_theory.specs.EnvironmentLaws.{EqualOnTheVariablesGiveEqualTerms, EqualOnTheVariablesGiveEqualLists, TheFrontIsRead, TheFrontIsSkipped, TheMiddleIsSkipped, TheUnboundStay, BoundTogether, BoundAreTheParameters, ParametersReadBack, AgreeingGiveTheSameTerm, AgreeingGiveTheSameTerms, PuttingInTwice, ArgumentsPutInFirst, ArgumentsPutInBehindSums, EqualArgumentsGiveEqualEnvironments, EqualEnvironmentsGiveEqualLists, ListsOfTerms, TermsOfLists, PuttingInGoesThroughLists, ApplicationsHaveSorts, PuttingInKeepsSorts, WellSortedOverNothingIsClosed, ClosedTermsStay, ClosedTermsFitAnywhere}
+use Rattle.data_theory.proofs.Numbers.{magnitude-neg}
+use Rattle.data_theory.specs.EnvironmentLaws.{EqualOnTheVariablesGiveEqualTerms, EqualOnTheVariablesGiveEqualLists, TheFrontIsRead, TheFrontIsSkipped, TheMiddleIsSkipped, TheUnboundStay, BoundTogether, BoundAreTheParameters, ParametersReadBack, AgreeingGiveTheSameTerm, AgreeingGiveTheSameTerms, PuttingInTwice, ArgumentsPutInFirst, ArgumentsPutInBehindSums, EqualArgumentsGiveEqualEnvironments, EqualEnvironmentsGiveEqualLists, ListsOfTerms, TermsOfLists, PuttingInGoesThroughLists, ApplicationsHaveSorts, PuttingInKeepsSorts, WellSortedOverNothingIsClosed, ClosedTermsNeedNoVariables, ClosedTermsStay, ClosedTermsFitAnywhere}
 use Rattle.data_theory.proofs.EqualityLemmas.{put_equal}
 
 -- ---- elements of lists
@@ -234,18 +235,18 @@ putting_in_goes_through_lists e (t ∷ ts) = ap (more (put e t)) (putting_in_goe
 
 -- ---- sorts
 wider_numeral : (s to : Sort) (z : ℤ) → IsUpcast s to → HasNumeral s z → HasNumeral to z
-wider_numeral s to z pos2nat h = omega (arith, ints)
-wider_numeral s to z nat2int h = tt
-wider_numeral s to z pos2int h = tt
+wider_numeral s to z pos2nat h = let a = h.0 in (omega (arith, ints, a), h.1)
+wider_numeral s to z nat2int h = (tt, h.1)
+wider_numeral s to z pos2int h = (tt, h.1)
 
 minus_has_sort : (g : Data) (vs : List Sort) (s : Sort) (z : ℤ) (b : Bool) → lt_z (pos 0) z ≡ b → apply (minus s) (more (numeral s z) none) ≡ negated s z → IsSymbol g (minus s) → HaveSorts g vs (more (numeral s z) none) (argument_sorts g (minus s)) → HasSort g vs (cond b (numeral integer (neg_ℤ z)) (application (minus s) (more (numeral s z) none))) integer
-minus_has_sort g vs s z true q is k h = (refl, tt)
+minus_has_sort g vs s z true q is k h = (refl, (tt, subst (λ n. n < 2 ^ 128) (sym (magnitude-neg z)) h.0.1.1))
 minus_has_sort g vs s z false q is k h = (k, h, refl, is ∙ ap (λ b. cond b (numeral integer (neg_ℤ z)) (application (minus s) (more (numeral s z) none))) q)
 
 pub applications_have_sorts : ApplicationsHaveSorts
 applications_have_sorts g vs (upcast positive natural) (more (numeral positive z) none) k h = (refl, wider_numeral positive natural z k h.0.1)
-applications_have_sorts g vs (upcast natural integer) (more (numeral natural z) none) k h = (refl, tt)
-applications_have_sorts g vs (upcast positive integer) (more (numeral positive z) none) k h = (refl, tt)
+applications_have_sorts g vs (upcast natural integer) (more (numeral natural z) none) k h = (refl, wider_numeral natural integer z k h.0.1)
+applications_have_sorts g vs (upcast positive integer) (more (numeral positive z) none) k h = (refl, wider_numeral positive integer z k h.0.1)
 applications_have_sorts g vs (minus positive) (more (numeral positive z) none) k h = minus_has_sort g vs positive z (lt_z (pos 0) z) refl refl k h
 applications_have_sorts g vs (minus natural) (more (numeral natural z) none) k h = minus_has_sort g vs natural z (lt_z (pos 0) z) refl refl k h
 applications_have_sorts g vs (minus integer) (more (numeral integer z) none) k h = minus_has_sort g vs integer z (lt_z (pos 0) z) refl refl k h
@@ -275,6 +276,20 @@ mutual
   closed_are_closed g none ss h = tt
   closed_are_closed g (more t ts) [] h = absurd h
   closed_are_closed g (more t ts) (s ∷ ss) h = (closed_is_closed g t s h.0, closed_are_closed g ts ss h.1)
+
+-- a term of a sort over some variables that has none of them
+mutual
+  pub closed_terms_need_no_variables : ClosedTermsNeedNoVariables
+  closed_terms_need_no_variables g vs (variable v) s c h = absurd c
+  closed_terms_need_no_variables g vs (numeral a z) s c h = h
+  closed_terms_need_no_variables g vs (unknown d k) s c h = h
+  closed_terms_need_no_variables g vs (application f ts) s c h = (h.0, closed_lists_need_no_variables g vs ts (argument_sorts g f) c h.1, h.2, h.3)
+
+  pub closed_lists_need_no_variables : (g : Data) (vs : List Sort) (ts : Terms) (ss : List Sort) → AreClosed ts → HaveSorts g vs ts ss → HaveSorts g [] ts ss
+  closed_lists_need_no_variables g vs none [] c h = tt
+  closed_lists_need_no_variables g vs none (s ∷ ss) c h = absurd h
+  closed_lists_need_no_variables g vs (more t ts) [] c h = absurd h
+  closed_lists_need_no_variables g vs (more t ts) (s ∷ ss) c h = (closed_terms_need_no_variables g vs t s c.0 h.0, closed_lists_need_no_variables g vs ts ss c.1 h.1)
 
 mutual
   pub closed_terms_stay : ClosedTermsStay

@@ -1,6 +1,6 @@
 -- The worked derivations.
 use Rattle.std.proofs.Common.{ℕ, zero, suc, ◌<◌, List, [], ◌∷◌, length, refl, subst, arith}
-use Rattle.std.specs.Prelude.{pos}
+use Rattle.std.specs.Prelude.{◌^◌, pos}
 use Rattle.std.proofs.lemmas.Int.{ints}
 use Rattle.std.proofs.lemmas.List.Elements.{All-cons, All-nil}
 use Rattle.data_theory.specs.Terms.{Symbol, truth, falsity, negation, boolean, positive, natural, list, named, head, membership, function, Term, Terms, variable, numeral, unknown, application, none, more}
@@ -9,14 +9,14 @@ use Rattle.data_theory.specs.Equations.{not_true, trueᵗ, falseᵗ, one, two, e
 use Rattle.data_theory.specs.Provable.{Equation, ProvablyEqual, PlacesEqual, reflexive, transitive, built_in, written, reflected, place, ProvablyTrue, IsClosedInstance, IsEmptyList}
 use Rattle.data_theory.specs.Rewriting.{Applies, a_line, an_equation, LooksFirst, FirstDecides, GoesTo, by_all, no_arguments, an_argument, tries, used, without_condition}
 use Rattle.data_theory.proofs.GoesToIsEqual.{unmatched_roots_stay}
-use Rattle.data_theory.specs.Examples.{NotTrueGoesToFalse, FalseIsNormal, one_pos, two_pos, three_pos, TwoIsInOneTwo, HeadOfThree, OneIsNotTwo, wrapped_numbers, WrappedNumbersTell, two_mappings, first_is_second, MappingsAreEqual, true_is_false, TrueIsFalseIsInconsistent, small_data, small_equations, SmallDataMeetThePremises, SmallDataAreConsistent}
+use Rattle.data_theory.specs.Examples.{TheLastNumeral, NoNumeralBehindTheLast, NotTrueGoesToFalse, FalseIsNormal, one_pos, two_pos, three_pos, TwoIsInOneTwo, HeadOfThree, OneIsNotTwo, wrapped_numbers, WrappedNumbersTell, two_mappings, first_is_second, MappingsAreEqual, true_is_false, TrueIsFalseIsInconsistent, small_data, small_equations, SmallDataMeetThePremises, SmallDataAreConsistent}
 use Rattle.data_theory.proofs.EqualityLemmas.{equals_has_sort, equals_of_equal}
 use Rattle.data_theory.proofs.BooleanLemmas.{disjunction_with_false, disjunction_with_true}
 use Rattle.data_theory.proofs.ConsistencyLemmas.{constructors_are_injective, built_in_equations_are_consistent}
 
 -- ---- sorts of what stands in the derivations
-numeral_is : (g : Data) (n : ℕ) → HasSort g [] (numeral positive (pos (suc n))) positive
-numeral_is g n = (refl, omega (arith, ints))
+numeral_is : (g : Data) (n : ℕ) → suc n < 2 ^ 128 → HasSort g [] (numeral positive (pos (suc n))) positive
+numeral_is g n small = (refl, (omega (arith, ints), small))
 
 abbrev list_has_sort : (g : Data) (x l : Term) → HasSort g [] x positive → HasSort g [] l (list positive) → HasSort g [] (consᵗ positive x l) (list positive)
 list_has_sort g x l h k = (tt, (h, (k, tt)), refl, refl)
@@ -32,25 +32,25 @@ in_has_sort g x l h k = (tt, (h, (k, tt)), refl, refl)
 pub two_is_in_one_two : TwoIsInOneTwo
 two_is_in_one_two g own =
     let two_list = consᵗ positive two_pos (emptyᵗ positive) in
-    let two_list_is = list_has_sort g two_pos (emptyᵗ positive) (numeral_is g 1) (nothing_has_sort g) in
+    let two_list_is = list_has_sort g two_pos (emptyᵗ positive) (numeral_is g 1 (omega arith)) (nothing_has_sort g) in
     let rest = two (membership positive) two_pos (emptyᵗ positive) in
     let later = two (membership positive) two_pos two_list in
     let unfolded : ProvablyEqual g own (two (membership positive) two_pos (consᵗ positive one_pos two_list)) (equals positive two_pos one_pos ∨ᵗ later) =
-    built_in boolean in_cons (in_has_sort g two_pos (consᵗ positive one_pos two_list) (numeral_is g 1) (list_has_sort g one_pos two_list (numeral_is g 0) two_list_is)) reflexive in
-    let differs : ProvablyEqual g own (equals positive two_pos one_pos) falseᵗ = built_in boolean equal_numerals (equals_has_sort g positive two_pos one_pos tt (numeral_is g 1) (numeral_is g 0)) reflexive in
-    let later_unfolded : ProvablyEqual g own later (equals positive two_pos two_pos ∨ᵗ rest) = built_in boolean in_cons (in_has_sort g two_pos two_list (numeral_is g 1) two_list_is) reflexive in
-    let itself : ProvablyTrue g own (equals positive two_pos two_pos) = built_in boolean equal_itself (equals_has_sort g positive two_pos two_pos tt (numeral_is g 1) (numeral_is g 1)) reflexive in
-    let later_true : ProvablyTrue g own later = transitive later_unfolded (disjunction_with_true g own (equals positive two_pos two_pos) rest (in_has_sort g two_pos (emptyᵗ positive) (numeral_is g 1) (nothing_has_sort g)) itself) in
-    transitive unfolded (transitive (disjunction_with_false g own (equals positive two_pos one_pos) later (in_has_sort g two_pos two_list (numeral_is g 1) two_list_is) differs) later_true)
+    built_in boolean in_cons (in_has_sort g two_pos (consᵗ positive one_pos two_list) (numeral_is g 1 (omega arith)) (list_has_sort g one_pos two_list (numeral_is g 0 (omega arith)) two_list_is)) reflexive in
+    let differs : ProvablyEqual g own (equals positive two_pos one_pos) falseᵗ = built_in boolean equal_numerals (equals_has_sort g positive two_pos one_pos tt (numeral_is g 1 (omega arith)) (numeral_is g 0 (omega arith))) reflexive in
+    let later_unfolded : ProvablyEqual g own later (equals positive two_pos two_pos ∨ᵗ rest) = built_in boolean in_cons (in_has_sort g two_pos two_list (numeral_is g 1 (omega arith)) two_list_is) reflexive in
+    let itself : ProvablyTrue g own (equals positive two_pos two_pos) = built_in boolean equal_itself (equals_has_sort g positive two_pos two_pos tt (numeral_is g 1 (omega arith)) (numeral_is g 1 (omega arith))) reflexive in
+    let later_true : ProvablyTrue g own later = transitive later_unfolded (disjunction_with_true g own (equals positive two_pos two_pos) rest (in_has_sort g two_pos (emptyᵗ positive) (numeral_is g 1 (omega arith)) (nothing_has_sort g)) itself) in
+    transitive unfolded (transitive (disjunction_with_false g own (equals positive two_pos one_pos) later (in_has_sort g two_pos two_list (numeral_is g 1 (omega arith)) two_list_is) differs) later_true)
 
 pub head_of_three : HeadOfThree
 head_of_three g own =
     let l = consᵗ positive three_pos (emptyᵗ positive) in
-    let h : HasSort g [] (one (head positive) l) positive = (tt, (list_has_sort g three_pos (emptyᵗ positive) (numeral_is g 2) (nothing_has_sort g), tt), refl, refl) in
+    let h : HasSort g [] (one (head positive) l) positive = (tt, (list_has_sort g three_pos (emptyᵗ positive) (numeral_is g 2 (omega arith)) (nothing_has_sort g), tt), refl, refl) in
     equals_of_equal g own positive (one (head positive) l) three_pos tt h (built_in positive head_cons h reflexive)
 
 pub one_is_not_two : OneIsNotTwo
-one_is_not_two g own = built_in boolean equal_numerals (equals_has_sort g positive one_pos two_pos tt (numeral_is g 0) (numeral_is g 1)) reflexive
+one_is_not_two g own = built_in boolean equal_numerals (equals_has_sort g positive one_pos two_pos tt (numeral_is g 0 (omega arith)) (numeral_is g 1 (omega arith))) reflexive
 
 wrapped_roles : (k : ℕ) → k < length wrapped_numbers.functions → FitsRole wrapped_numbers (function_at wrapped_numbers k) (function_at wrapped_numbers k).role
 wrapped_roles zero l = (0, refl)
@@ -142,3 +142,9 @@ not_true_goes_to_false g = by_all (an_argument (true_stays g) no_arguments) (λ 
 
 pub false_is_normal : FalseIsNormal
 false_is_normal g = (0, false_stays g)
+
+pub the_last_numeral : TheLastNumeral
+the_last_numeral g = (refl, (omega (arith, ints), omega arith))
+
+pub no_numeral_behind_the_last : NoNumeralBehindTheLast
+no_numeral_behind_the_last g vs s t z l h = let small = h.1.1 in omega (arith, l, small)

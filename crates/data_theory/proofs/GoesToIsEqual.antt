@@ -16,13 +16,13 @@ use Rattle.data_theory.proofs.LinesOnTerms.{condition_sort, right_sort, line_put
 -- ---- variables
 -- a variable of a term over xs is among xs
 mutual
-  over_contains : (xs : List ℕ) (t : Term) (v : ℕ) → IsOver xs t → Contains (variables_of t) v → Contains xs v
+  pub over_contains : (xs : List ℕ) (t : Term) (v : ℕ) → IsOver xs t → Contains (variables_of t) v → Contains xs v
   over_contains xs (variable w) v o i = ⊎_elim (λ e. subst (Contains xs) e o) (λ n. absurd (contains_nothing v n)) (contains_cases w v [] i)
   over_contains xs (numeral a z) v o i = absurd (contains_nothing v i)
   over_contains xs (unknown d k) v o i = absurd (contains_nothing v i)
   over_contains xs (application f ts) v o i = over_all_contain xs ts v o i
 
-  over_all_contain : (xs : List ℕ) (ts : Terms) (v : ℕ) → AreOver xs ts → Contains (variables_of_all ts) v → Contains xs v
+  pub over_all_contain : (xs : List ℕ) (ts : Terms) (v : ℕ) → AreOver xs ts → Contains (variables_of_all ts) v → Contains xs v
   over_all_contain xs none v o i = absurd (contains_nothing v i)
   over_all_contain xs (more t ts) v o i = ⊎_elim (λ j. over_contains xs t v o.0 j) (λ j. over_all_contain xs ts v o.1 j) (Contains-append_cases (variables_of t) (variables_of_all ts) v i)
 
@@ -41,7 +41,7 @@ mutual
   put_all_sorts g xs vs us e h (more t ts) (s ∷ ss) o i = (put_sort g xs vs us e h t s o.0 i.0, put_all_sorts g xs vs us e h ts ss o.1 i.1)
 
 -- a variable has one sort
-one_sort : (vs : List Sort) (v : ℕ) (a b : Sort) → Declares vs v a → Declares vs v b → a ≡ b
+pub one_sort : (vs : List Sort) (v : ℕ) (a b : Sort) → Declares vs v a → Declares vs v b → a ≡ b
 one_sort [] v a b h k = absurd h
 one_sort (s ∷ vs) zero a b h k = sym h ∙ k
 one_sort (s ∷ vs) (suc v) a b h k = one_sort vs v a b h k
@@ -50,7 +50,7 @@ one_sort (s ∷ vs) (suc v) a b h k = one_sort vs v a b h k
 module _ (g : Data) (ws vs : List Sort) (d : ℕ → Term) where
   mutual
     -- its variables stand for terms of their sorts
-    laid_fits : (l : Term) (s : Sort) → HasSort g ws l s → HasSort g vs (laid d l) s → (v : ℕ) (b : Sort) → Contains (variables_of l) v → Declares ws v b → HasSort g vs (d v) b
+    pub laid_fits : (l : Term) (s : Sort) → HasSort g ws l s → HasSort g vs (laid d l) s → (v : ℕ) (b : Sort) → Contains (variables_of l) v → Declares ws v b → HasSort g vs (d v) b
     laid_fits (variable w) s h k v b i j =
         let same : w ≡ v = ⊎_elim (λ e. e) (λ n. absurd (contains_nothing v n)) (contains_cases w v [] i) in
         let sort : s ≡ b = one_sort ws v s b (subst (λ x. Declares ws x s) same h) j in
@@ -59,26 +59,26 @@ module _ (g : Data) (ws vs : List Sort) (d : ℕ → Term) where
     laid_fits (unknown a z) s h k v b i j = absurd (contains_nothing v i)
     laid_fits (application f ts) s h k v b i j = laid_all_fit ts (argument_sorts g f) h.1 k.1 v b i j
 
-    laid_all_fit : (ts : Terms) (ss : List Sort) → HaveSorts g ws ts ss → HaveSorts g vs (laid_all d ts) ss → (v : ℕ) (b : Sort) → Contains (variables_of_all ts) v → Declares ws v b → HasSort g vs (d v) b
+    pub laid_all_fit : (ts : Terms) (ss : List Sort) → HaveSorts g ws ts ss → HaveSorts g vs (laid_all d ts) ss → (v : ℕ) (b : Sort) → Contains (variables_of_all ts) v → Declares ws v b → HasSort g vs (d v) b
     laid_all_fit none ss h k v b i j = absurd (contains_nothing v i)
     laid_all_fit (more t ts) [] h k v b i j = absurd h
     laid_all_fit (more t ts) (s ∷ ss) h k v b i j = ⊎_elim (λ c. laid_fits t s h.0 k.0 v b c j) (λ c. laid_all_fit ts ss h.1 k.1 v b c j) (Contains-append_cases (variables_of t) (variables_of_all ts) v i)
 
   mutual
     -- and nothing in it merges
-    put_laid : (l : Term) (s : Sort) → HasSort g vs (laid d l) s → put d l ≡ laid d l
+    pub put_laid : (l : Term) (s : Sort) → HasSort g vs (laid d l) s → put d l ≡ laid d l
     put_laid (variable w) s k = refl
     put_laid (numeral a z) s k = refl
     put_laid (unknown a z) s k = refl
     put_laid (application f ts) s k = ap (apply f) (put_all_laid ts (argument_sorts g f) k.1) ∙ k.3
 
-    put_all_laid : (ts : Terms) (ss : List Sort) → HaveSorts g vs (laid_all d ts) ss → put_all d ts ≡ laid_all d ts
+    pub put_all_laid : (ts : Terms) (ss : List Sort) → HaveSorts g vs (laid_all d ts) ss → put_all d ts ≡ laid_all d ts
     put_all_laid none ss k = refl
     put_all_laid (more t ts) [] k = absurd k
     put_all_laid (more t ts) (s ∷ ss) k = ap₂ (λ u us. more u us) (put_laid t s k.0) (put_all_laid ts ss k.1)
 
   -- a pattern that isn't a variable has the term's sort
-  laid_sort : (l : Term) (a s : Sort) → IsNoVariable l → HasSort g ws l a → HasSort g vs (laid d l) s → a ≡ s
+  pub laid_sort : (l : Term) (a s : Sort) → IsNoVariable l → HasSort g ws l a → HasSort g vs (laid d l) s → a ≡ s
   laid_sort (variable w) a s n h k = absurd n
   laid_sort (numeral b z) a s n h k = sym h.0 ∙ k.0
   laid_sort (unknown b z) a s n h k = h.0 ∙ sym k.0
@@ -100,12 +100,12 @@ module _ (g : Data) (own : List Equation) (ok : IsData g) (all : (q : Equation) 
     sorts' : HaveSorts g vs us ss
     equal : (e : ℕ → Term) → Closes g vs e → PlacesEqual g own (put_all e ts) (put_all e us)
 
-  record Applied (t c r : Term) (s : Sort) : Type 0 where
-    condition : HasSort g vs c boolean
-    sort : HasSort g vs r s
-    equal : (e : ℕ → Term) → Closes g vs e → ProvablyEqual g own (put e c) trueᵗ → ProvablyEqual g own (put e t) (put e r)
+  pub record Applied (t c r : Term) (s : Sort) : Type 0 where
+    pub condition : HasSort g vs c boolean
+    pub sort : HasSort g vs r s
+    pub equal : (e : ℕ → Term) → Closes g vs e → ProvablyEqual g own (put e c) trueᵗ → ProvablyEqual g own (put e t) (put e r)
 
-  equation_applied : (q : Equation) → Contains own q → (d : ℕ → Term) (s : Sort) → HasSort g vs (laid d q.left) s → Applied (laid d q.left) (put d q.condition) (put d q.right) s
+  pub equation_applied : (q : Equation) → Contains own q → (d : ℕ → Term) (s : Sort) → HasSort g vs (laid d q.left) s → Applied (laid d q.left) (put d q.condition) (put d q.right) s
   equation_applied q i d s h =
       let w = all q i in
       let same : w.sort ≡ s = laid_sort g q.sorts vs d q.left w.sort s w.no_variable w.left h in
@@ -127,7 +127,7 @@ module _ (g : Data) (own : List Equation) (ok : IsData g) (all : (q : Equation) 
             subst (λ x. ProvablyEqual g own x (put e (put d q.right))) left_is (subst (ProvablyEqual g own (put f q.left)) (sym (putting_in_twice d e q.right)) (written q f i closed (subst (λ x. ProvablyEqual g own x trueᵗ) (putting_in_twice d e q.condition) c)));
       }
 
-  applied : {k : ℕ} {t c r : Term} {x : ℕ} (s : Sort) → HasSort g vs t s → Applies g own k t c r x → Applied t c r s
+  pub applied : {k : ℕ} {t c r : Term} {x : ℕ} (s : Sort) → HasSort g vs t s → Applies g own k t c r x → Applied t c r s
   applied {t = t} s h (a_line b p) = record {
     condition = condition_sort g vs ok sorts b s h;
     sort = right_sort g vs ok sorts b s h;

@@ -12,12 +12,12 @@ use Rattle.data_theory.specs.declared.ids.VarId.{VarId}
 use Rattle.data_theory.specs.declared.signature.Variable.{Variable}
 use Rattle.data_theory.specs.Terms as terms
 use Rattle.data_theory.specs.Terms.{Sort, boolean, positive, natural, integer, Symbol, truth, minus, upcast, Term, Terms, apply, put, put_all}
-use Rattle.data_theory.specs.Declarations.{Declares, HasNumeral, HasSort, HaveSorts}
+use Rattle.data_theory.specs.Declarations.{Declares, IsNumberOf, HasNumeral, HasSort, HaveSorts}
 use Rattle.data_theory.specs.Functions.{arguments_of}
 use Rattle.data_theory.specs.Table.{pos_sort, nat_sort, int_sort, first_rows}
 use Rattle.data_theory.specs.Signature.{Sig}
 use Rattle.data_theory.specs.IdTrees.{Tree, Trees, variable, numeral, function, none, more, is_over, apply_to_numeral, apply_tree, put_tree, put_trees}
-use Rattle.data_theory.specs.IdTreeSorts.{HasNumber, HasTreeSort, HaveTreeSorts}
+use Rattle.data_theory.specs.IdTreeSorts.{IsNumberIn, HasTreeSort, HaveTreeSorts}
 use Rattle.data_theory.specs.IdSorts.{construction_of, IsDeclaredKind, meant_by}
 use Rattle.data_theory.specs.IdSymbols.{symbol_meant}
 use Rattle.data_theory.specs.IdTables.{IsTable}
@@ -251,12 +251,12 @@ putting_in_trees_puts_in_terms g table e t = put_goes g table e t
 
 -- ---- sorts
 module _ (g : Sig) (table : IsTable g) where
-  number_is : (a : SortId) (z : ℤ) → HasNumber a z → HasNumeral (sort_under g a) z
-  number_is a z (inl h) = subst (λ s. HasNumeral s z) (sym (ap (sort_under g) h.0 ∙ positive_is g table)) h.1
-  number_is a z (inr (inl h)) = subst (λ s. HasNumeral s z) (sym (ap (sort_under g) h.0 ∙ natural_is g table)) h.1
-  number_is a z (inr (inr h)) = subst (λ s. HasNumeral s z) (sym (ap (sort_under g) h ∙ integer_is g table)) tt
+  number_is : (a : SortId) (z : ℤ) → IsNumberIn a z → IsNumberOf (sort_under g a) z
+  number_is a z (inl h) = subst (λ s. IsNumberOf s z) (sym (ap (sort_under g) h.0 ∙ positive_is g table)) h.1
+  number_is a z (inr (inl h)) = subst (λ s. IsNumberOf s z) (sym (ap (sort_under g) h.0 ∙ natural_is g table)) h.1
+  number_is a z (inr (inr h)) = subst (λ s. IsNumberOf s z) (sym (ap (sort_under g) h ∙ integer_is g table)) tt
 
-  number_within : (a : SortId) (z : ℤ) → HasNumber a z → a.0 < length g.sorts
+  number_within : (a : SortId) (z : ℤ) → IsNumberIn a z → a.0 < length g.sorts
   number_within a z (inl h) = rw h.0 (positive_within g table)
   number_within a z (inr (inl h)) = rw h.0 (natural_within g table)
   number_within a z (inr (inr h)) = rw h (integer_within g table)
@@ -272,7 +272,7 @@ module _ (g : Sig) (table : IsTable g) where
   mutual
     sorted : (t : Tree) (s : SortId) → HasTreeSort g t s → HasSort (data_meant g) (variable_sorts g) (term_under g t) (sort_under g s)
     sorted (variable v) s h = variable_declared g.variables v.0 h.0 s h.1 h.2
-    sorted (numeral a z) s h = (ap (sort_under g) h.0, subst (λ b. HasNumeral b z) (ap (sort_under g) h.0) (number_is a z h.1))
+    sorted (numeral a z) s h = (ap (sort_under g) h.0, subst (λ b. HasNumeral b z) (ap (sort_under g) h.0) (number_is a z h.1.0, h.1.1))
     sorted (function f ts) s h =
         let fits = symbol_fits g table f h.0 h.1 in
         (fits.0, subst (HaveSorts (data_meant g) (variable_sorts g) (terms_under g ts)) (sym fits.1) (all_sorted ts (arguments_of h.0) h.3), fits.2 ∙ ap (sort_under g) h.2, stands_unmerged f ts h.4)
@@ -286,7 +286,7 @@ module _ (g : Sig) (table : IsTable g) where
   mutual
     within : (t : Tree) (s : SortId) → HasTreeSort g t s → IsTreeWithin g t
     within (variable v) s h = tt
-    within (numeral a z) s h = number_within a z h.1
+    within (numeral a z) s h = number_within a z h.1.0
     within (function f ts) s h = (slice_get_within g.functions f.0 h.0 h.1, all_within ts (arguments_of h.0) h.3)
 
     all_within : (ts : Trees) (ss : List SortId) → HaveTreeSorts g ts ss → AreTreesWithin g ts

@@ -41,6 +41,7 @@ pub mod IdTableLemmas
 pub mod IdDataLemmas
 pub mod IdRoleLemmas
 pub mod IdGrowthLemmas
+pub mod StructGrowthLemmas
 pub mod IdStructLemmas
 pub mod IdStructRoleLemmas
 pub mod WholeSignatureLemmas

@@ -1,25 +1,26 @@
 -- The lines of the table keep sorts, and hold of what is put into them.
 use Rattle.std.proofs.Common.{◌≡◌, ℕ, zero, suc, ◌<◌, List, [], ◌∷◌, length, get_or, Bool, true, false, refl, sym, ap, ◌∙◌, subst, arith}
-use Rattle.std.specs.Prelude.{Some, ℤ}
+use Rattle.std.specs.Prelude.{◌^◌, Some, ℤ}
 use lib.Signed.{le_z_yes}
 use lib.IntN.{neg_ℤ}
 use Rattle.data_theory.specs.Terms.{Sort, boolean, positive, natural, integer, list, named, Operation, subtract, successor, to_natural, comparison, arithmetic, upcast, concatenation, snoc, size, element_at, rhead, rtail, membership, function, Term, Terms, variable, numeral, unknown, application, none, more, put, put_all}
-use Rattle.data_theory.specs.Declarations.{Data, function_at, FitsRole, IsData, IsSort, HasNumeral, IsOperation, naturals, pos2nat, succ_nat, subtract_nat, int2nat, HasSort, HaveSorts}
-use Rattle.data_theory.specs.Arithmetic.{value_of, compares, equal_numbers}
+use Rattle.data_theory.specs.Declarations.{Data, function_at, FitsRole, IsData, IsSort, IsNumberOf, HasNumeral, IsOperation, naturals, pos2nat, succ_nat, subtract_nat, int2nat, HasSort, HaveSorts}
+use Rattle.data_theory.specs.Arithmetic.{value_of, compares, equal_numbers, magnitude}
 use Rattle.data_theory.specs.Equations.{BuiltIn, one, two, trueᵗ, falseᵗ, !ᵗ◌, ◌∧ᵗ◌, ◌∨ᵗ◌, equals, emptyᵗ, consᵗ, number, truth_of, all_equal, term_at, not_true, not_false, not_not, true_and, and_true, false_and, and_false, and_same, true_or, or_true, false_or, or_false, or_same, true_implies, false_implies, implies, equal_itself, not_equal, if_true, if_false, if_same, equal_true, true_equal, equal_false, false_equal, operation_of_one, operation_of_two, minus_of, compared, equal_numerals, empty_equal_cons, cons_equal_empty, cons_equal_cons, empty_concat, concat_empty, cons_concat, empty_snoc, cons_snoc, size_empty, size_cons, head_cons, tail_cons, rhead_one, rhead_more, rtail_one, rtail_more, at_zero, at_later, in_empty, in_cons, different_constructors, same_constructor, projected, recognised, not_recognised, and_commutes, or_commutes, and_associates, or_associates, and_distributes, or_distributes, and_absorbs, or_absorbs, not_and, not_or, and_not, or_not, equal_commutes}
 use Rattle.data_theory.specs.Values.{Value, Values, a_truth, a_number, no_value, value_then, value_at, number_in, number_or, default_value, IsValue, AreValues}
 use Rattle.data_theory.specs.Rewriting.{AreSorts}
+use Rattle.data_theory.proofs.Numbers.{magnitude-neg}
 use Rattle.data_theory.proofs.WellSorted.{symbol_sort, numeral_sort}
 use Rattle.data_theory.proofs.SortedValues.{numeral_is, operation_is}
 
--- a number among the values of a sort has a numeral of that sort
-numeral_of_value : (g : Data) (s : Sort) (z : ℤ) → IsValue g s (a_number z) → HasNumeral s z
-numeral_of_value g positive z h = h
-numeral_of_value g natural z h = h
-numeral_of_value g integer z h = tt
-numeral_of_value g boolean z h = absurd h
-numeral_of_value g (list s) z h = absurd h
-numeral_of_value g (named d) z h = absurd h
+-- a number among the values of a sort is one of its numbers
+number_of_value : (g : Data) (s : Sort) (z : ℤ) → IsValue g s (a_number z) → IsNumberOf s z
+number_of_value g positive z h = h
+number_of_value g natural z h = h
+number_of_value g integer z h = tt
+number_of_value g boolean z h = absurd h
+number_of_value g (list s) z h = absurd h
+number_of_value g (named d) z h = absurd h
 
 module _ (g : Data) (vs : List Sort) (ok : IsData g) (sorts : AreSorts g vs) where
   -- the sort of a term is a sort of the data
@@ -42,10 +43,10 @@ module _ (g : Data) (vs : List Sort) (ok : IsData g) (sorts : AreSorts g vs) whe
   truth_of_sort true = the_true
   truth_of_sort false = the_false
 
-  operation_numeral : (op : Operation) (ss : List Sort) (to : Sort) (z : ℤ) (ws : Values) → IsOperation op ss to → AreValues g ss ws → value_of op (number_in (value_at ws 0)) (number_in (value_at ws 1)) ≡ Some z → HasNumeral to z
-  operation_numeral op ss to z ws k h p =
-      let first : ℕ → Value = λ d. a_truth true in
-      numeral_of_value g to z (subst (λ o. IsValue g to (number_or (default_value first to) o)) p (operation_is g ws first op ss to k h))
+  operation_numeral : (op : Operation) (ss : List Sort) (to : Sort) (z : ℤ) (ws : Values) → IsOperation op ss to → AreValues g ss ws → value_of op (number_in (value_at ws 0)) (number_in (value_at ws 1)) ≡ Some z → magnitude z < 2 ^ 128 → HasNumeral to z
+  operation_numeral op ss to z ws k h p small =
+      let some : ℕ → Value = λ d. a_truth true in
+      (number_of_value g to z (subst (λ o. IsValue g to (number_or (default_value some to) o)) p (operation_is g ws some op ss to k h)), small)
 
   all_equal_sort : (ss : List Sort) (xs ys : Terms) → HaveSorts g vs xs ss → HaveSorts g vs ys ss → HasSort g vs (all_equal ss xs ys) boolean
   all_equal_sort [] none none h k = the_true
@@ -68,7 +69,7 @@ module _ (g : Data) (vs : List Sort) (ok : IsData g) (sorts : AreSorts g vs) whe
   term_at_sort (s ∷ ss) (more t ts) (suc i) h l = term_at_sort ss ts i h.1 (omega arith)
 
   pub condition_sort : {c l r : Term} → BuiltIn g c l r → (s : Sort) → HasSort g vs l s → HasSort g vs c boolean
-  condition_sort (at_later {n = n}) s h = (naturals, ((refl, le_z_yes tt), (h.1.1.0, tt)), refl, refl)
+  condition_sort (at_later {n = n}) s h = (naturals, ((refl, (le_z_yes tt, omega arith)), (h.1.1.0, tt)), refl, refl)
   condition_sort _ s h = the_true
 
   pub right_sort : {c l r : Term} → BuiltIn g c l r → (s : Sort) → HasSort g vs l s → HasSort g vs r s
@@ -110,9 +111,9 @@ module _ (g : Data) (vs : List Sort) (ok : IsData g) (sorts : AreSorts g vs) whe
   right_sort (true_equal {x}) s h = at_sort x _ s h.2 h.1.1.0
   right_sort (equal_false {x}) s h = at_sort (!ᵗ x) _ s h.2 (tt, (h.1.0, tt), refl, refl)
   right_sort (false_equal {x}) s h = at_sort (!ᵗ x) _ s h.2 (tt, (h.1.1.0, tt), refl, refl)
-  right_sort (operation_of_one {op = op} {a = a} {to = to} {x = x} {z = z} p f) s h = at_sort (numeral to z) _ s h.2 (refl, operation_numeral op (a ∷ []) to z (value_then (a_number x) no_value) h.0 (numeral_is g a x h.1.0.1, tt) p)
-  right_sort (operation_of_two {op = op} {a = a} {b = b} {to = to} {x = x} {y = y} {z = z} p f) s h = at_sort (numeral to z) _ s h.2 (refl, operation_numeral op (a ∷ b ∷ []) to z (value_then (a_number x) (value_then (a_number y) no_value)) h.0 (numeral_is g a x h.1.0.1, (numeral_is g b y h.1.1.0.1, tt)) p)
-  right_sort (minus_of {a = a} {x = x} f) s h = at_sort (numeral integer (neg_ℤ x)) _ s h.2 (refl, tt)
+  right_sort (operation_of_one {op = op} {a = a} {to = to} {x = x} {z = z} p f) s h = at_sort (numeral to z) _ s h.2 (refl, operation_numeral op (a ∷ []) to z (value_then (a_number x) no_value) h.0 (numeral_is g a x h.1.0.1, tt) p f)
+  right_sort (operation_of_two {op = op} {a = a} {b = b} {to = to} {x = x} {y = y} {z = z} p f) s h = at_sort (numeral to z) _ s h.2 (refl, operation_numeral op (a ∷ b ∷ []) to z (value_then (a_number x) (value_then (a_number y) no_value)) h.0 (numeral_is g a x h.1.0.1, (numeral_is g b y h.1.1.0.1, tt)) p f)
+  right_sort (minus_of {a = a} {x = x} f) s h = at_sort (numeral integer (neg_ℤ x)) _ s h.2 (refl, (tt, subst (λ n. n < 2 ^ 128) (sym (magnitude-neg x)) f))
   right_sort (compared {c = c} {x = x} {y = y}) s h = at_sort (truth_of (compares c x y)) _ s h.2 (truth_of_sort (compares c x y))
   right_sort (equal_numerals {x = x} {y = y}) s h = at_sort (truth_of (equal_numbers x y)) _ s h.2 (truth_of_sort (equal_numbers x y))
   right_sort empty_equal_cons s h = at_sort falseᵗ _ s h.2 the_false
@@ -123,7 +124,7 @@ module _ (g : Data) (vs : List Sort) (ok : IsData g) (sorts : AreSorts g vs) whe
   right_sort (cons_concat {s = a} {x = x} {l = l} {m = m}) s h = at_sort (consᵗ a x (two (concatenation a) l m)) _ s h.2 (h.0, (h.1.0.1.0, ((h.0, (h.1.0.1.1.0, (h.1.1.0, tt)), refl, refl), tt)), refl, refl)
   right_sort (empty_snoc {s = a} {x = x}) s h = at_sort (consᵗ a x (emptyᵗ a)) _ s h.2 (h.0, (h.1.1.0, ((h.0, tt, refl, refl), tt)), refl, refl)
   right_sort (cons_snoc {s = a} {x = x} {y = y} {l = l}) s h = at_sort (consᵗ a y (two (snoc a) l x)) _ s h.2 (h.0, (h.1.0.1.0, ((h.0, (h.1.0.1.1.0, (h.1.1.0, tt)), refl, refl), tt)), refl, refl)
-  right_sort size_empty s h = at_sort (number 0) _ s h.2 (refl, le_z_yes tt)
+  right_sort size_empty s h = at_sort (number 0) _ s h.2 (refl, (le_z_yes tt, omega arith))
   right_sort (size_cons {s = a} {x = x} {l = l}) s h = at_sort (one (upcast positive natural) (one (arithmetic successor (natural ∷ []) positive) (one (size a) l))) _ s h.2 (pos2nat, ((succ_nat, ((h.0, (h.1.0.1.1.0, tt), refl, refl), tt), refl, refl), tt), refl, refl)
   right_sort (head_cons {s = a} {x = x} {l = l}) s h = at_sort x _ s h.2 h.1.0.1.0
   right_sort (tail_cons {s = a} {x = x} {l = l}) s h = at_sort l _ s h.2 h.1.0.1.1.0
@@ -132,7 +133,7 @@ module _ (g : Data) (vs : List Sort) (ok : IsData g) (sorts : AreSorts g vs) whe
   right_sort (rtail_one {s = a} {x = x}) s h = at_sort (emptyᵗ a) _ s h.2 (h.0, tt, refl, refl)
   right_sort (rtail_more {s = a} {x = x} {y = y} {l = l}) s h = at_sort (consᵗ a x (one (rtail a) (consᵗ a y l))) _ s h.2 (h.0, (h.1.0.1.0, ((h.0, (h.1.0.1.1.0, tt), refl, refl), tt)), refl, refl)
   right_sort (at_zero {s = a} {x = x} {l = l}) s h = at_sort x _ s h.2 h.1.0.1.0
-  right_sort (at_later {s = a} {x = x} {l = l} {n = n}) s h = at_sort (two (element_at a) l (one (arithmetic to_natural (integer ∷ []) natural) (two (arithmetic subtract (natural ∷ natural ∷ []) integer) n (number 1)))) _ s h.2 (h.0, (h.1.0.1.1.0, ((int2nat, ((subtract_nat, (h.1.1.0, ((refl, le_z_yes tt), tt)), refl, refl), tt), refl, refl), tt)), refl, refl)
+  right_sort (at_later {s = a} {x = x} {l = l} {n = n}) s h = at_sort (two (element_at a) l (one (arithmetic to_natural (integer ∷ []) natural) (two (arithmetic subtract (natural ∷ natural ∷ []) integer) n (number 1)))) _ s h.2 (h.0, (h.1.0.1.1.0, ((int2nat, ((subtract_nat, (h.1.1.0, ((refl, (le_z_yes tt, omega arith)), tt)), refl, refl), tt), refl, refl), tt)), refl, refl)
   right_sort in_empty s h = at_sort falseᵗ _ s h.2 the_false
   right_sort (in_cons {s = a} {x = x} {y = y} {l = l}) s h = at_sort (equals a x y ∨ᵗ two (membership a) x l) _ s h.2 (tt, ((h.0, (h.1.0, (h.1.1.0.1.0, tt)), refl, refl), ((h.0, (h.1.0, (h.1.1.0.1.1.0, tt)), refl, refl), tt)), refl, refl)
   right_sort (different_constructors k p q n) s h = at_sort falseᵗ _ s h.2 the_false

@@ -10,14 +10,14 @@ use Rattle.data_theory.specs.Rewriting.{LooksFirst, if_looks, and_looks, or_look
 use Rattle.data_theory.proofs.GoesToIsEqual.{looks_first_unmerged}
 
 -- an application merges to a numeral, or not at all
-abbrev MergesOrNot : Symbol → Terms → Type 0
+abbrev pub MergesOrNot : Symbol → Terms → Type 0
 MergesOrNot f ts = (apply f ts ≡ application f ts) ⊎ ((a : Sort) × (z : ℤ) × (apply f ts ≡ numeral a z))
 
 minus_merges : (s : Sort) (z : ℤ) (b : Bool) → ((cond b (numeral integer (neg_ℤ z)) (application (minus s) (more (numeral s z) none))) ≡ application (minus s) (more (numeral s z) none)) ⊎ ((a : Sort) × (w : ℤ) × ((cond b (numeral integer (neg_ℤ z)) (application (minus s) (more (numeral s z) none))) ≡ numeral a w))
 minus_merges s z true = inr (integer, neg_ℤ z, refl)
 minus_merges s z false = inl refl
 
-merges_or_not : (f : Symbol) (ts : Terms) → MergesOrNot f ts
+pub merges_or_not : (f : Symbol) (ts : Terms) → MergesOrNot f ts
 merges_or_not (upcast positive natural) (more (numeral positive z) none) = inr (natural, z, refl)
 merges_or_not (upcast natural integer) (more (numeral natural z) none) = inr (integer, z, refl)
 merges_or_not (upcast positive integer) (more (numeral positive z) none) = inr (integer, z, refl)
@@ -26,7 +26,7 @@ merges_or_not (minus natural) (more (numeral natural z) none) = minus_merges nat
 merges_or_not (minus integer) (more (numeral integer z) none) = minus_merges integer z (lt_z (pos 0) z)
 merges_or_not f ts = inl refl
 
-looks_first_or_not : (f : Symbol) → LooksFirst f ⊎ (LooksFirst f → ⊥)
+pub looks_first_or_not : (f : Symbol) → LooksFirst f ⊎ (LooksFirst f → ⊥)
 looks_first_or_not (conditional s) = inl if_looks
 looks_first_or_not conjunction = inl and_looks
 looks_first_or_not disjunction = inl or_looks

@@ -1,10 +1,17 @@
 -- Quotient, remainder and power are as they should be, and stay within their sorts.
-use Rattle.std.proofs.Common.{◌≡◌, ℕ, zero, suc, ◌+◌, ◌*◌, ◌/◌, ◌%◌, ◌<◌, ◌≤◌, ap, arith}
+use Rattle.std.proofs.Common.{◌≡◌, ℕ, zero, suc, ◌+◌, ◌*◌, ◌/◌, ◌%◌, ◌<◌, ◌≤◌, refl, ap, arith}
 use Rattle.std.specs.Prelude.{ℤ, pos, negsuc, ◌≤ℤ◌, ◌+ℤ◌, ◌*ℤ◌}
 use Rattle.std.proofs.lemmas.Int.{ints}
 use Rattle.std.proofs.Math.Nat.{div-add-mod', mul-le-mul, mod-lt}
 use lib.Signed.{le_z_yes}
-use Rattle.data_theory.specs.Arithmetic.{quotient, remainder, raised}
+use lib.IntN.{neg_ℤ}
+use Rattle.data_theory.specs.Arithmetic.{quotient, remainder, raised, magnitude}
+
+-- a sign doesn't change the magnitude
+pub magnitude-neg : (z : ℤ) → magnitude (neg_ℤ z) ≡ magnitude z
+magnitude-neg (pos zero) = refl
+magnitude-neg (pos (suc n)) = refl
+magnitude-neg (negsuc n) = refl
 
 pub remainder_below : (x : ℤ) (y : ℕ) → 0 < y → remainder x y < y
 remainder_below (pos a) y h = mod-lt a h

@@ -1,16 +1,18 @@
 -- Provably equal terms have the same sorts.
-use Rattle.std.proofs.Common.{◌≡◌, ℕ, zero, suc, ◌⊎◌, inl, inr, List, [], ◌∷◌, ◌++◌, Bool, true, false, cond, refl, sym, ap, ◌∙◌, subst, arith}
-use Rattle.std.specs.Prelude.{ℤ, pos, negsuc, ◌≤ℤ◌, Contains}
+use Rattle.std.proofs.Common.{◌≡◌, ℕ, zero, suc, ◌<◌, ◌⊎◌, inl, inr, List, [], ◌∷◌, ◌++◌, Bool, true, false, cond, refl, sym, ap, ◌∙◌, subst, arith}
+use Rattle.std.specs.Prelude.{◌^◌, ℤ, pos, negsuc, ◌≤ℤ◌, Contains}
 use Rattle.std.proofs.lemmas.Int.{ints}
 use Rattle.std.proofs.lemmas.List.Elements.{Contains-append_left, Contains-append_right}
 use lib.Signed.{lt_z, le_z_yes}
 use lib.IntN.{neg_ℤ}
 use Rattle.data_theory.specs.Terms.{Sort, boolean, positive, natural, integer, Symbol, minus, upcast, Term, Terms, variable, numeral, unknown, application, none, more, apply, put, variables_of, variables_of_all}
-use Rattle.data_theory.specs.Declarations.{Data, IsData, IsSymbol, positives, naturals, integers, pos2nat, nat2int, pos2int, HasNumeral, argument_sorts, result_sort, HasSort, HaveSorts}
+use Rattle.data_theory.specs.Declarations.{Data, IsData, IsSymbol, positives, naturals, integers, pos2nat, nat2int, pos2int, IsNumberOf, argument_sorts, result_sort, HasSort, HaveSorts}
+use Rattle.data_theory.specs.Arithmetic.{magnitude}
 use Rattle.data_theory.specs.Provable.{Equation, variables_of_equation, ProvablyEqual, PlacesEqual, reflexive, symmetric, transitive, congruent, built_in, written, reflected, no_places, place}
 use Rattle.data_theory.specs.Environments.{IsOver, AreOver}
 use Rattle.data_theory.specs.Rewriting.{IsWellFormed, AreSorts}
 use Rattle.data_theory.specs.SortLaws.{ProvablyEqualTermsHaveTheSameSort}
+use Rattle.data_theory.proofs.Numbers.{magnitude-neg}
 use Rattle.data_theory.proofs.BooleanLemmas.{true_has_sort}
 use Rattle.data_theory.proofs.EnvironmentLemmas.{contains_first, applications_have_sorts}
 use Rattle.data_theory.proofs.LinesOnTerms.{right_sort}
@@ -27,19 +29,19 @@ abbrev IsOneMisplaced : Terms → Type 0
 IsOneMisplaced (more t none) = IsMisplaced t
 IsOneMisplaced _ = ⊥
 
-placed_or_misplaced : (g : Data) (a : Sort) (z : ℤ) → (a ≡ positive) ⊎ ((a ≡ natural) ⊎ (a ≡ integer)) → HasSort g [] (numeral a z) a ⊎ IsMisplaced (numeral a z)
-placed_or_misplaced g a z (inl e) = rw e (by_sign z)
+placed_or_misplaced : (g : Data) (a : Sort) (z : ℤ) → magnitude z < 2 ^ 128 → (a ≡ positive) ⊎ ((a ≡ natural) ⊎ (a ≡ integer)) → HasSort g [] (numeral a z) a ⊎ IsMisplaced (numeral a z)
+placed_or_misplaced g a z small (inl e) = rw e (by_sign z small)
   where
-    by_sign : (z : ℤ) → HasSort g [] (numeral positive z) positive ⊎ IsMisplaced (numeral positive z)
-    by_sign (pos zero) = inr (le_z_yes tt)
-    by_sign (pos (suc n)) = inl (refl, omega (arith, ints))
-    by_sign (negsuc n) = inr (le_z_yes tt)
-placed_or_misplaced g a z (inr (inl e)) = rw e (by_sign z)
+    by_sign : (z : ℤ) → magnitude z < 2 ^ 128 → HasSort g [] (numeral positive z) positive ⊎ IsMisplaced (numeral positive z)
+    by_sign (pos zero) l = inr (le_z_yes tt)
+    by_sign (pos (suc n)) l = inl (refl, (omega (arith, ints), l))
+    by_sign (negsuc n) l = inr (le_z_yes tt)
+placed_or_misplaced g a z small (inr (inl e)) = rw e (by_sign z small)
   where
-    by_sign : (z : ℤ) → HasSort g [] (numeral natural z) natural ⊎ IsMisplaced (numeral natural z)
-    by_sign (pos n) = inl (refl, omega (arith, ints))
-    by_sign (negsuc n) = inr (omega (arith, ints))
-placed_or_misplaced g a z (inr (inr e)) = rw e (inl (refl, tt))
+    by_sign : (z : ℤ) → magnitude z < 2 ^ 128 → HasSort g [] (numeral natural z) natural ⊎ IsMisplaced (numeral natural z)
+    by_sign (pos n) l = inl (refl, (omega (arith, ints), l))
+    by_sign (negsuc n) l = inr (omega (arith, ints))
+placed_or_misplaced g a z small (inr (inr e)) = rw e (inl (refl, (tt, small)))
 
 module _ (g : Data) where
   -- a closed term has one sort
@@ -50,8 +52,8 @@ module _ (g : Data) where
   closed_sort (application f ts) a b h k = sym h.2 ∙ k.2
 
   not_misplaced : (t : Term) (s : Sort) → HasSort g [] t s → IsMisplaced t → ⊥
-  not_misplaced (numeral positive z) s h i = let k : HasNumeral positive z = subst (λ a. HasNumeral a z) (sym h.0) h.1 in omega (arith, ints, k, i)
-  not_misplaced (numeral natural z) s h i = let k : HasNumeral natural z = subst (λ a. HasNumeral a z) (sym h.0) h.1 in omega (arith, ints, k, i)
+  not_misplaced (numeral positive z) s h i = let k : IsNumberOf positive z = subst (λ a. IsNumberOf a z) (sym h.0) h.1.0 in omega (arith, ints, k, i)
+  not_misplaced (numeral natural z) s h i = let k : IsNumberOf natural z = subst (λ a. IsNumberOf a z) (sym h.0) h.1.0 in omega (arith, ints, k, i)
   not_misplaced _ s h i = i
 
   -- the two terms have the same sorts, and are one where one of them is misplaced
@@ -101,13 +103,17 @@ module _ (g : Data) where
   negated_sort a s z true h = h.0
   negated_sort a s z false h = h.2
 
+  negated_small : (a s : Sort) (z : ℤ) (b : Bool) → HasSort g [] (cond b (numeral integer (neg_ℤ z)) (application (minus a) (more (numeral a z) none))) s → magnitude z < 2 ^ 128
+  negated_small a s z true h = subst (λ n. n < 2 ^ 128) (magnitude-neg z) h.1.1
+  negated_small a s z false h = h.1.0.1.1
+
   apply_there : (f : Symbol) (ts us : Terms) → AllAlike ts us → (s : Sort) → HasSort g [] (apply f ts) s → HasSort g [] (apply f us) s
-  apply_there (upcast positive natural) (more (numeral positive z) none) us all s h = merged_there (upcast positive natural) positive z us s pos2nat refl h.0 all (placed_or_misplaced g positive z (inl refl)) h
-  apply_there (upcast natural integer) (more (numeral natural z) none) us all s h = merged_there (upcast natural integer) natural z us s nat2int refl h.0 all (placed_or_misplaced g natural z (inr (inl refl))) h
-  apply_there (upcast positive integer) (more (numeral positive z) none) us all s h = merged_there (upcast positive integer) positive z us s pos2int refl h.0 all (placed_or_misplaced g positive z (inl refl)) h
-  apply_there (minus positive) (more (numeral positive z) none) us all s h = merged_there (minus positive) positive z us s positives refl (negated_sort positive s z (lt_z (pos 0) z) h) all (placed_or_misplaced g positive z (inl refl)) h
-  apply_there (minus natural) (more (numeral natural z) none) us all s h = merged_there (minus natural) natural z us s naturals refl (negated_sort natural s z (lt_z (pos 0) z) h) all (placed_or_misplaced g natural z (inr (inl refl))) h
-  apply_there (minus integer) (more (numeral integer z) none) us all s h = merged_there (minus integer) integer z us s integers refl (negated_sort integer s z (lt_z (pos 0) z) h) all (placed_or_misplaced g integer z (inr (inr refl))) h
+  apply_there (upcast positive natural) (more (numeral positive z) none) us all s h = merged_there (upcast positive natural) positive z us s pos2nat refl h.0 all (placed_or_misplaced g positive z h.1.1 (inl refl)) h
+  apply_there (upcast natural integer) (more (numeral natural z) none) us all s h = merged_there (upcast natural integer) natural z us s nat2int refl h.0 all (placed_or_misplaced g natural z h.1.1 (inr (inl refl))) h
+  apply_there (upcast positive integer) (more (numeral positive z) none) us all s h = merged_there (upcast positive integer) positive z us s pos2int refl h.0 all (placed_or_misplaced g positive z h.1.1 (inl refl)) h
+  apply_there (minus positive) (more (numeral positive z) none) us all s h = merged_there (minus positive) positive z us s positives refl (negated_sort positive s z (lt_z (pos 0) z) h) all (placed_or_misplaced g positive z (negated_small positive s z (lt_z (pos 0) z) h) (inl refl)) h
+  apply_there (minus natural) (more (numeral natural z) none) us all s h = merged_there (minus natural) natural z us s naturals refl (negated_sort natural s z (lt_z (pos 0) z) h) all (placed_or_misplaced g natural z (negated_small natural s z (lt_z (pos 0) z) h) (inr (inl refl))) h
+  apply_there (minus integer) (more (numeral integer z) none) us all s h = merged_there (minus integer) integer z us s integers refl (negated_sort integer s z (lt_z (pos 0) z) h) all (placed_or_misplaced g integer z (negated_small integer s z (lt_z (pos 0) z) h) (inr (inr refl))) h
   apply_there f ts us all s h = subst (HasSort g [] (apply f us)) h.2 (applications_have_sorts g [] f us h.0 (all.there (argument_sorts g f) h.1))
 
   negated_not_misplaced : (a : Sort) (z : ℤ) (b : Bool) → IsMisplaced (cond b (numeral integer (neg_ℤ z)) (application (minus a) (more (numeral a z) none))) → ⊥

@@ -8,7 +8,7 @@ use lib.IntN.{neg_ℤ}
 use Rattle.data_theory.specs.Terms.{Sort, boolean, positive, natural, integer, list, named, Operation, Symbol, truth, falsity, negation, conjunction, disjunction, implication, equality, inequality, conditional, comparison, arithmetic, minus, upcast, empty, cons, snoc, concatenation, size, element_at, head, rhead, tail, rtail, membership, function, Term, Terms, variable, numeral, unknown, application, none, more}
 use Rattle.data_theory.specs.Declarations.{Data, function_at, Role, constructor, projection, recogniser, mapping, IsSort, IsUpcast, pos2nat, nat2int, pos2int, IsOperation, add_pos_pos, add_pos_nat, add_nat_pos, add_nat_nat, add_int_int, subtract_pos, subtract_nat, subtract_int, multiply_pos, multiply_nat, multiply_int, div_nat, div_int, mod_nat, mod_int, exp_pos, exp_nat, exp_int, min_pos, min_nat, min_int, max_pos, max_nat, max_int, abs_int, succ_pos, succ_nat, succ_int, pred_pos, pred_nat, pred_int, nat2pos, int2nat, int2pos, argument_sorts, result_sort, IsSymbol, HasNumeral, HasSort, HaveSorts, FitsRole, IsData}
 use Rattle.data_theory.specs.Arithmetic.{value_of, quotient_if, remainder_if, raised_if}
-use Rattle.data_theory.specs.Values.{Value, Values, a_truth, a_number, a_list, constructed, an_unknown, no_value, value_then, value_at, truth_in, number_in, list_in, place_in, joined, item_at, first_item, after_first_item, last_item, before_last_item, before_last_from, number_or, part_of, default_value, function_value, symbol_value, value, values, IsValue, AllAreValues, AreValues, AreFirstValues}
+use Rattle.data_theory.specs.Values.{Value, Values, a_truth, a_number, a_list, constructed, an_unknown, no_value, value_then, value_at, truth_in, number_in, list_in, place_in, joined, item_at, first_item, after_first_item, last_item, before_last_item, before_last_from, number_or, part_of, default_value, Interpretation, function_value, symbol_value, value, values, IsValue, AllAreValues, AreValues, KeepsSorts}
 use Rattle.data_theory.proofs.Numbers.{product_at_least_one, product_not_negative, raised_at_least_one, raised_not_negative}
 
 -- ---- what a value of a sort looks like
@@ -117,13 +117,13 @@ raised_integer_is : (g : Data) (x y : ℤ) → IsValue g integer (number_or (a_n
 raised_integer_is g x (pos n) = tt
 raised_integer_is g x (negsuc n) = tt
 
-pub default_is : (g : Data) (first : ℕ → Value) → AreFirstValues g first → (s : Sort) → IsSort g s → IsValue g s (default_value first s)
-default_is g first h boolean k = tt
-default_is g first h positive k = le_z_yes tt
-default_is g first h natural k = le_z_yes tt
-default_is g first h integer k = tt
-default_is g first h (list s) k = tt
-default_is g first h (named d) k = h d k
+pub default_is : (g : Data) (some : ℕ → Value) → ((d : ℕ) → d < length g.sorts → IsValue g (named d) (some d)) → (s : Sort) → IsSort g s → IsValue g s (default_value some s)
+default_is g some h boolean k = tt
+default_is g some h positive k = le_z_yes tt
+default_is g some h natural k = le_z_yes tt
+default_is g some h integer k = tt
+default_is g some h (list s) k = tt
+default_is g some h (named d) k = h d k
 
 -- the numbers among the arguments of an operation
 module _ (g : Data) (vs : Values) where
@@ -140,41 +140,41 @@ module _ (g : Data) (vs : Values) where
   nat_second s h = number_not_negative g _ (value_at_is g (s ∷ natural ∷ []) vs 1 h (omega arith))
 
   -- the result of an operation is a number of its sort
-  pub operation_is : (first : ℕ → Value) (op : Operation) (ss : List Sort) (to : Sort) → IsOperation op ss to → AreValues g ss vs → IsValue g to (number_or (default_value first to) (value_of op (number_in (value_at vs 0)) (number_in (value_at vs 1))))
-  operation_is first op ss to add_pos_pos h = let a = pos_first _ h in let b = pos_second _ h in omega (arith, ints, a, b)
-  operation_is first op ss to add_pos_nat h = let a = pos_first _ h in let b = nat_second _ h in omega (arith, ints, a, b)
-  operation_is first op ss to add_nat_pos h = let a = nat_first _ h in let b = pos_second _ h in omega (arith, ints, a, b)
-  operation_is first op ss to add_nat_nat h = let a = nat_first _ h in let b = nat_second _ h in omega (arith, ints, a, b)
-  operation_is first op ss to add_int_int h = tt
-  operation_is first op ss to subtract_pos h = tt
-  operation_is first op ss to subtract_nat h = tt
-  operation_is first op ss to subtract_int h = tt
-  operation_is first op ss to multiply_pos h = product_at_least_one _ _ (pos_first _ h) (pos_second _ h)
-  operation_is first op ss to multiply_nat h = product_not_negative _ _ (nat_first _ h) (nat_second _ h)
-  operation_is first op ss to multiply_int h = tt
-  operation_is first op ss to div_nat h = quotient_is g _ _ (nat_first _ h)
-  operation_is first op ss to div_int h = quotient_integer_is g _ _
-  operation_is first op ss to mod_nat h = remainder_is g _ _
-  operation_is first op ss to mod_int h = remainder_is g _ _
-  operation_is first op ss to exp_pos h = raised_positive_is g _ _ (pos_first _ h)
-  operation_is first op ss to exp_nat h = raised_natural_is g _ _ (nat_first _ h)
-  operation_is first op ss to exp_int h = raised_integer_is g _ _
-  operation_is first op ss to min_pos h = either_above (pos 1) _ _ (lt_z (number_in (value_at vs 0)) (number_in (value_at vs 1))) (pos_first _ h) (pos_second _ h)
-  operation_is first op ss to min_nat h = either_above (pos 0) _ _ (lt_z (number_in (value_at vs 0)) (number_in (value_at vs 1))) (nat_first _ h) (nat_second _ h)
-  operation_is first op ss to min_int h = tt
-  operation_is first op ss to max_pos h = either_above (pos 1) _ _ (lt_z (number_in (value_at vs 0)) (number_in (value_at vs 1))) (pos_second _ h) (pos_first _ h)
-  operation_is first op ss to max_nat h = either_above (pos 0) _ _ (lt_z (number_in (value_at vs 0)) (number_in (value_at vs 1))) (nat_second _ h) (nat_first _ h)
-  operation_is first op ss to max_int h = tt
-  operation_is first op ss to abs_int h = absolute_is (number_in (value_at vs 0))
-  operation_is first op ss to succ_pos h = let a = pos_first _ h in omega (arith, ints, a)
-  operation_is first op ss to succ_nat h = let a = nat_first _ h in omega (arith, ints, a)
-  operation_is first op ss to succ_int h = tt
-  operation_is first op ss to pred_pos h = let a = pos_first _ h in omega (arith, ints, a)
-  operation_is first op ss to pred_nat h = tt
-  operation_is first op ss to pred_int h = tt
-  operation_is first op ss to nat2pos h = to_positive_is g (number_in (value_at vs 0))
-  operation_is first op ss to int2nat h = to_natural_is g (number_in (value_at vs 0))
-  operation_is first op ss to int2pos h = to_positive_is g (number_in (value_at vs 0))
+  pub operation_is : (some : ℕ → Value) (op : Operation) (ss : List Sort) (to : Sort) → IsOperation op ss to → AreValues g ss vs → IsValue g to (number_or (default_value some to) (value_of op (number_in (value_at vs 0)) (number_in (value_at vs 1))))
+  operation_is some op ss to add_pos_pos h = let a = pos_first _ h in let b = pos_second _ h in omega (arith, ints, a, b)
+  operation_is some op ss to add_pos_nat h = let a = pos_first _ h in let b = nat_second _ h in omega (arith, ints, a, b)
+  operation_is some op ss to add_nat_pos h = let a = nat_first _ h in let b = pos_second _ h in omega (arith, ints, a, b)
+  operation_is some op ss to add_nat_nat h = let a = nat_first _ h in let b = nat_second _ h in omega (arith, ints, a, b)
+  operation_is some op ss to add_int_int h = tt
+  operation_is some op ss to subtract_pos h = tt
+  operation_is some op ss to subtract_nat h = tt
+  operation_is some op ss to subtract_int h = tt
+  operation_is some op ss to multiply_pos h = product_at_least_one _ _ (pos_first _ h) (pos_second _ h)
+  operation_is some op ss to multiply_nat h = product_not_negative _ _ (nat_first _ h) (nat_second _ h)
+  operation_is some op ss to multiply_int h = tt
+  operation_is some op ss to div_nat h = quotient_is g _ _ (nat_first _ h)
+  operation_is some op ss to div_int h = quotient_integer_is g _ _
+  operation_is some op ss to mod_nat h = remainder_is g _ _
+  operation_is some op ss to mod_int h = remainder_is g _ _
+  operation_is some op ss to exp_pos h = raised_positive_is g _ _ (pos_first _ h)
+  operation_is some op ss to exp_nat h = raised_natural_is g _ _ (nat_first _ h)
+  operation_is some op ss to exp_int h = raised_integer_is g _ _
+  operation_is some op ss to min_pos h = either_above (pos 1) _ _ (lt_z (number_in (value_at vs 0)) (number_in (value_at vs 1))) (pos_first _ h) (pos_second _ h)
+  operation_is some op ss to min_nat h = either_above (pos 0) _ _ (lt_z (number_in (value_at vs 0)) (number_in (value_at vs 1))) (nat_first _ h) (nat_second _ h)
+  operation_is some op ss to min_int h = tt
+  operation_is some op ss to max_pos h = either_above (pos 1) _ _ (lt_z (number_in (value_at vs 0)) (number_in (value_at vs 1))) (pos_second _ h) (pos_first _ h)
+  operation_is some op ss to max_nat h = either_above (pos 0) _ _ (lt_z (number_in (value_at vs 0)) (number_in (value_at vs 1))) (nat_second _ h) (nat_first _ h)
+  operation_is some op ss to max_int h = tt
+  operation_is some op ss to abs_int h = absolute_is (number_in (value_at vs 0))
+  operation_is some op ss to succ_pos h = let a = pos_first _ h in omega (arith, ints, a)
+  operation_is some op ss to succ_nat h = let a = nat_first _ h in omega (arith, ints, a)
+  operation_is some op ss to succ_int h = tt
+  operation_is some op ss to pred_pos h = let a = pos_first _ h in omega (arith, ints, a)
+  operation_is some op ss to pred_nat h = tt
+  operation_is some op ss to pred_int h = tt
+  operation_is some op ss to nat2pos h = to_positive_is g (number_in (value_at vs 0))
+  operation_is some op ss to int2nat h = to_natural_is g (number_in (value_at vs 0))
+  operation_is some op ss to int2pos h = to_positive_is g (number_in (value_at vs 0))
 
 upcast_is : (g : Data) (s to : Sort) (v : Value) → IsUpcast s to → IsValue g s v → IsValue g to (a_number (number_in v))
 upcast_is g s to v pos2nat h = let a = number_at_least_one g v h in omega (arith, ints)
@@ -195,25 +195,25 @@ part_is g s d c i (constructed b vs) n h k e l = part_by (b == c) refl
         let same : b ≡ c = (Decides-eqb b c).0 q in
         rw e (subst (λ a. IsValue g (get_or (function_at g a).arguments i boolean) (value_at vs i)) same (value_at_is g (function_at g b).arguments vs i k.2 (rw same l)))
 
-function_is : (g : Data) (first : ℕ → Value) → IsData g → AreFirstValues g first → (k : ℕ) (vs : Values) → k < length g.functions → AreValues g (function_at g k).arguments vs → (r : Role) → (function_at g k).role ≡ r → FitsRole g (function_at g k) r → IsValue g (function_at g k).result (function_value first (function_at g k).result r k vs)
-function_is g first ok some k vs l h constructor e q = rw q.1 (e, q.1, h)
-function_is g first ok some k vs l h (projection c i) e q =
-    part_is g _ _ c i (value_at vs 0) q.0 (default_is g first some (function_at g k).result (ok.results k l))
+function_is : (g : Data) (m : Interpretation) → IsData g → KeepsSorts g m → (k : ℕ) (vs : Values) → k < length g.functions → AreValues g (function_at g k).arguments vs → (r : Role) → (function_at g k).role ≡ r → FitsRole g (function_at g k) r → IsValue g (function_at g k).result (function_value m (function_at g k).result r k vs)
+function_is g m ok keeps k vs l h constructor e q = rw q.1 (e, q.1, h)
+function_is g m ok keeps k vs l h (projection c i) e q =
+    part_is g _ _ c i (value_at vs 0) q.0 (default_is g m.of_sort keeps.sorts (function_at g k).result (ok.results k l))
     (value_at_is g (named q.0 ∷ []) vs 0 (subst (λ a. AreValues g a vs) q.1 h) (omega arith)) q.5 q.4
-function_is g first ok some k vs l h (recogniser c) e q = rw q.4 tt
-function_is g first ok some k vs l h mapping e q = default_is g first some (function_at g k).result (ok.results k l)
+function_is g m ok keeps k vs l h (recogniser c) e q = rw q.4 tt
+function_is g m ok keeps k vs l h mapping e q = keeps.mappings k vs l e h
 
 pub numeral_is : (g : Data) (a : Sort) (z : ℤ) → HasNumeral a z → IsValue g a (a_number z)
-numeral_is g positive z h = h
-numeral_is g natural z h = h
+numeral_is g positive z h = h.0
+numeral_is g natural z h = h.0
 numeral_is g integer z h = tt
-numeral_is g boolean z h = absurd h
-numeral_is g (list s) z h = absurd h
-numeral_is g (named d) z h = absurd h
+numeral_is g boolean z h = absurd h.0
+numeral_is g (list s) z h = absurd h.0
+numeral_is g (named d) z h = absurd h.0
 
-module _ (g : Data) (first : ℕ → Value) (ok : IsData g) (some : AreFirstValues g first) where
+module _ (g : Data) (m : Interpretation) (ok : IsData g) (keeps : KeepsSorts g m) where
   -- a symbol gives a value of its result's sort for values of its arguments' sorts
-  pub symbol_is : (f : Symbol) (vs : Values) → IsSymbol g f → AreValues g (argument_sorts g f) vs → IsValue g (result_sort g f) (symbol_value g first f vs)
+  pub symbol_is : (f : Symbol) (vs : Values) → IsSymbol g f → AreValues g (argument_sorts g f) vs → IsValue g (result_sort g f) (symbol_value g m f vs)
   symbol_is truth vs k h = tt
   symbol_is falsity vs k h = tt
   symbol_is negation vs k h = tt
@@ -224,7 +224,7 @@ module _ (g : Data) (first : ℕ → Value) (ok : IsData g) (some : AreFirstValu
   symbol_is (inequality s) vs k h = tt
   symbol_is (conditional s) vs k h = chosen_is g s (truth_in (value_at vs 0)) _ _ (value_at_is g (boolean ∷ s ∷ s ∷ []) vs 1 h (omega arith)) (value_at_is g (boolean ∷ s ∷ s ∷ []) vs 2 h (omega arith))
   symbol_is (comparison c s) vs k h = tt
-  symbol_is (arithmetic op ss to) vs k h = operation_is g vs first op ss to k h
+  symbol_is (arithmetic op ss to) vs k h = operation_is g vs m.of_sort op ss to k h
   symbol_is (minus s) vs k h = tt
   symbol_is (upcast s to) vs k h = upcast_is g s to _ k (value_at_is g (s ∷ []) vs 0 h (omega arith))
   symbol_is (empty s) vs k h = tt
@@ -232,22 +232,22 @@ module _ (g : Data) (first : ℕ → Value) (ok : IsData g) (some : AreFirstValu
   symbol_is (snoc s) vs k h = joined_are g s _ _ (list_in_is g s _ (value_at_is g (list s ∷ s ∷ []) vs 0 h (omega arith))).1 (value_at_is g (list s ∷ s ∷ []) vs 1 h (omega arith), tt)
   symbol_is (concatenation s) vs k h = joined_are g s _ _ (list_in_is g s _ (value_at_is g (list s ∷ list s ∷ []) vs 0 h (omega arith))).1 (list_in_is g s _ (value_at_is g (list s ∷ list s ∷ []) vs 1 h (omega arith))).1
   symbol_is (size s) vs k h = omega (arith, ints)
-  symbol_is (element_at s) vs k h = item_at_is g s _ _ (place_in (number_in (value_at vs 1))) (default_is g first some s k) (list_in_is g s _ (value_at_is g (list s ∷ natural ∷ []) vs 0 h (omega arith))).1
-  symbol_is (head s) vs k h = first_item_is g s _ _ (default_is g first some s k) (list_in_is g s _ (value_at_is g (list s ∷ []) vs 0 h (omega arith))).1
-  symbol_is (rhead s) vs k h = last_item_is g s _ _ (default_is g first some s k) (list_in_is g s _ (value_at_is g (list s ∷ []) vs 0 h (omega arith))).1
+  symbol_is (element_at s) vs k h = item_at_is g s _ _ (place_in (number_in (value_at vs 1))) (default_is g m.of_sort keeps.sorts s k) (list_in_is g s _ (value_at_is g (list s ∷ natural ∷ []) vs 0 h (omega arith))).1
+  symbol_is (head s) vs k h = first_item_is g s _ _ (default_is g m.of_sort keeps.sorts s k) (list_in_is g s _ (value_at_is g (list s ∷ []) vs 0 h (omega arith))).1
+  symbol_is (rhead s) vs k h = last_item_is g s _ _ (default_is g m.of_sort keeps.sorts s k) (list_in_is g s _ (value_at_is g (list s ∷ []) vs 0 h (omega arith))).1
   symbol_is (tail s) vs k h = after_first_are g s _ (list_in_is g s _ (value_at_is g (list s ∷ []) vs 0 h (omega arith))).1
   symbol_is (rtail s) vs k h = before_last_are g s _ (list_in_is g s _ (value_at_is g (list s ∷ []) vs 0 h (omega arith))).1
   symbol_is (membership s) vs k h = tt
-  symbol_is (function j) vs k h = function_is g first ok some j vs k h (function_at g j).role refl (ok.roles j k)
+  symbol_is (function j) vs k h = function_is g m ok keeps j vs k h (function_at g j).role refl (ok.roles j k)
 
   mutual
-    pub value_is : (t : Term) (s : Sort) → HasSort g [] t s → IsValue g s (value g first t)
+    pub value_is : (t : Term) (s : Sort) → HasSort g [] t s → IsValue g s (value g m t)
     value_is (variable v) s h = absurd h
     value_is (numeral a z) s h = subst (λ a. IsValue g a (a_number z)) h.0 (numeral_is g a z (rw h.0 h.1))
     value_is (unknown d i) s h = rw h.0 (refl, h.2)
-    value_is (application f ts) s h = subst (λ a. IsValue g a (symbol_value g first f (values g first ts))) h.2 (symbol_is f (values g first ts) h.0 (values_are ts (argument_sorts g f) h.1))
+    value_is (application f ts) s h = subst (λ a. IsValue g a (symbol_value g m f (values g m ts))) h.2 (symbol_is f (values g m ts) h.0 (values_are ts (argument_sorts g f) h.1))
 
-    pub values_are : (ts : Terms) (ss : List Sort) → HaveSorts g [] ts ss → AreValues g ss (values g first ts)
+    pub values_are : (ts : Terms) (ss : List Sort) → HaveSorts g [] ts ss → AreValues g ss (values g m ts)
     values_are none [] h = tt
     values_are none (s ∷ ss) h = absurd h
     values_are (more t ts) [] h = absurd h

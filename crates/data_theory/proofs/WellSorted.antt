@@ -66,9 +66,9 @@ pub numeral_sort : (g : Data) (s : Sort) (z : ℤ) → HasNumeral s z → IsSort
 numeral_sort g positive z h = tt
 numeral_sort g natural z h = tt
 numeral_sort g integer z h = tt
-numeral_sort g boolean z h = absurd h
-numeral_sort g (list s) z h = absurd h
-numeral_sort g (named d) z h = absurd h
+numeral_sort g boolean z h = absurd h.0
+numeral_sort g (list s) z h = absurd h.0
+numeral_sort g (named d) z h = absurd h.0
 
 module _ (g : Data) (ok : IsData g) where
   pub symbol_sort : (f : Symbol) → IsSymbol g f → IsSort g (result_sort g f)

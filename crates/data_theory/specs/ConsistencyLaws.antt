@@ -2,11 +2,11 @@
 use Rattle.std.specs.Prelude.{◌≡◌, ◌≢◌, ℕ, ◌<◌, List, [], true, ℤ, pos, ◌+ℤ◌, ◌*ℤ◌}
 use Rattle.std.specs.List.{All}
 use Rattle.data_theory.specs.Terms.{Sort, named, Symbol, function, Term, Terms, numeral, application}
-use Rattle.data_theory.specs.Declarations.{Data, function_at, sort_at, structured, constructor, projection, recogniser, argument_sorts, result_sort, IsSymbol, HasSort, IsData, NoSortIsEmpty}
+use Rattle.data_theory.specs.Declarations.{Data, function_at, sort_at, structured, constructor, projection, recogniser, argument_sorts, result_sort, IsSymbol, HasNumeral, HasSort, IsData, NoSortIsEmpty}
 use Rattle.data_theory.specs.Arithmetic.{quotient, remainder}
 use Rattle.data_theory.specs.Equations.{BuiltIn, one, term_at}
 use Rattle.data_theory.specs.Provable.{Equation, ProvablyEqual, PlacesEqual, ProvablyTrue, ProvablyFalse, Consistent, IsEmptyList}
-use Rattle.data_theory.specs.Values.{Value, Values, a_truth, value, symbol_value, IsValue, AreValues, AreFirstValues, HoldOfValues}
+use Rattle.data_theory.specs.Values.{Value, Values, a_truth, Interpretation, by_defaults, value, symbol_value, IsValue, AreValues, KeepsSorts, HoldOfValues}
 
 -- ---- numbers
 abbrev pub QuotientAndRemainder : Type 0
@@ -14,23 +14,23 @@ QuotientAndRemainder = (x : ℤ) (y : ℕ) → 0 < y → ((quotient x y *ℤ pos
 
 -- ---- values
 abbrev pub SymbolsKeepSorts : Type 0
-SymbolsKeepSorts = (g : Data) (first : ℕ → Value) → IsData g → AreFirstValues g first → (f : Symbol) (vs : Values) → IsSymbol g f → AreValues g (argument_sorts g f) vs → IsValue g (result_sort g f) (symbol_value g first f vs)
+SymbolsKeepSorts = (g : Data) (m : Interpretation) → IsData g → KeepsSorts g m → (f : Symbol) (vs : Values) → IsSymbol g f → AreValues g (argument_sorts g f) vs → IsValue g (result_sort g f) (symbol_value g m f vs)
 
 abbrev pub TermsHaveValues : Type 0
-TermsHaveValues = (g : Data) (first : ℕ → Value) → IsData g → AreFirstValues g first → (t : Term) (s : Sort) → HasSort g [] t s → IsValue g s (value g first t)
+TermsHaveValues = (g : Data) (m : Interpretation) → IsData g → KeepsSorts g m → (t : Term) (s : Sort) → HasSort g [] t s → IsValue g s (value g m t)
 
 abbrev pub BuiltInEquationsHold : Type 0
-BuiltInEquationsHold = (g : Data) (first : ℕ → Value) → IsData g → AreFirstValues g first → (c l r : Term) → BuiltIn g c l r → (s : Sort) → HasSort g [] l s → value g first c ≡ a_truth true → value g first l ≡ value g first r
+BuiltInEquationsHold = (g : Data) (m : Interpretation) → IsData g → KeepsSorts g m → (c l r : Term) → BuiltIn g c l r → (s : Sort) → HasSort g [] l s → value g m c ≡ a_truth true → value g m l ≡ value g m r
 
 abbrev pub ProvablyEqualTermsHaveOneValue : Type 0
-ProvablyEqualTermsHaveOneValue = (g : Data) (first : ℕ → Value) → IsData g → AreFirstValues g first → (own : List Equation) → HoldOfValues g first own → (t u : Term) → ProvablyEqual g own t u → value g first t ≡ value g first u
+ProvablyEqualTermsHaveOneValue = (g : Data) (m : Interpretation) → IsData g → KeepsSorts g m → (own : List Equation) → HoldOfValues g m own → (t u : Term) → ProvablyEqual g own t u → value g m t ≡ value g m u
 
-abbrev pub ThereAreFirstValues : Type 0
-ThereAreFirstValues = (g : Data) → IsData g → NoSortIsEmpty g → (first : ℕ → Value) × AreFirstValues g first
+abbrev pub ThereAreInterpretations : Type 0
+ThereAreInterpretations = (g : Data) → IsData g → NoSortIsEmpty g → (some : ℕ → Value) × KeepsSorts g (by_defaults g some)
 
 -- ---- consistency
 abbrev pub EquationsOfValuesAreConsistent : Type 0
-EquationsOfValuesAreConsistent = (g : Data) (first : ℕ → Value) → IsData g → AreFirstValues g first → (own : List Equation) → HoldOfValues g first own → Consistent g own
+EquationsOfValuesAreConsistent = (g : Data) (m : Interpretation) → IsData g → KeepsSorts g m → (own : List Equation) → HoldOfValues g m own → Consistent g own
 
 abbrev pub BuiltInEquationsAreConsistent : Type 0
 BuiltInEquationsAreConsistent = (g : Data) → IsData g → NoSortIsEmpty g → (own : List Equation) → All (IsEmptyList g) own → Consistent g own
@@ -38,6 +38,9 @@ BuiltInEquationsAreConsistent = (g : Data) → IsData g → NoSortIsEmpty g → 
 -- ---- over consistent data
 abbrev pub EqualNumeralsAreTheSame : Type 0
 EqualNumeralsAreTheSame = (g : Data) (own : List Equation) → Consistent g own → (s : Sort) (x y : ℤ) → HasSort g [] (numeral s x) s → HasSort g [] (numeral s y) s → ProvablyEqual g own (numeral s x) (numeral s y) → x ≡ y
+
+abbrev pub DifferentNumeralsAreNotEqual : Type 0
+DifferentNumeralsAreNotEqual = (g : Data) (own : List Equation) → Consistent g own → (s : Sort) (x y : ℤ) → HasNumeral s x → HasNumeral s y → x ≢ y → ProvablyEqual g own (numeral s x) (numeral s y) → ⊥
 
 abbrev pub EqualConstructorsAreTheSame : Type 0
 EqualConstructorsAreTheSame =

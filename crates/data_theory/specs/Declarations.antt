@@ -1,6 +1,7 @@
 -- The sorts and functions of a text, and which terms are well sorted over them.
-use Rattle.std.specs.Prelude.{◌≡◌, ℕ, zero, suc, ◌<◌, List, [], ◌∷◌, length, get_or, ℤ, pos, ◌≤ℤ◌}
+use Rattle.std.specs.Prelude.{◌≡◌, ℕ, zero, suc, ◌<◌, ◌^◌, List, [], ◌∷◌, length, get_or, ℤ, pos, ◌≤ℤ◌}
 use Rattle.data_theory.specs.Terms.{Sort, boolean, positive, natural, integer, list, named, Operation, add, subtract, multiply, divide, modulo, power, minimum, maximum, absolute, successor, predecessor, to_positive, to_natural, Symbol, truth, falsity, negation, conjunction, disjunction, implication, equality, inequality, conditional, comparison, arithmetic, minus, upcast, empty, cons, snoc, concatenation, size, element_at, head, rhead, tail, rtail, membership, function, Term, Terms, variable, numeral, unknown, application, none, more, apply}
+use Rattle.data_theory.specs.Arithmetic.{magnitude}
 
 -- what a declared function is: a constructor, the projection of a constructor's place, the recogniser of a constructor, or
 -- a mapping; constructors go by their numbers as functions, and places count from 0
@@ -164,12 +165,16 @@ IsSymbol g (rtail s) = IsSort g s
 IsSymbol g (membership s) = IsSort g s
 IsSymbol g (function k) = k < length g.functions
 
--- which numbers have a numeral of the sort
+-- the numbers of Pos, Nat and Int
+abbrev pub IsNumberOf : Sort → ℤ → Type 0
+IsNumberOf positive z = pos 1 ≤ℤ z
+IsNumberOf natural z = pos 0 ≤ℤ z
+IsNumberOf integer z = Unit {0}
+IsNumberOf _ z = ⊥
+
+-- which numbers have a numeral of the sort: those of the sort whose magnitude is at most 2^128 - 1
 abbrev pub HasNumeral : Sort → ℤ → Type 0
-HasNumeral positive z = pos 1 ≤ℤ z
-HasNumeral natural z = pos 0 ≤ℤ z
-HasNumeral integer z = Unit {0}
-HasNumeral _ z = ⊥
+HasNumeral s z = IsNumberOf s z × (magnitude z < 2 ^ 128)
 
 -- the variable with this number has the sort, by a list of the variables' sorts
 abbrev pub Declares : List Sort → ℕ → Sort → Type 0

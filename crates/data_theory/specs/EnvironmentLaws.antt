@@ -99,6 +99,10 @@ PuttingInKeepsSorts =
 abbrev pub WellSortedOverNothingIsClosed : Type 0
 WellSortedOverNothingIsClosed = (g : Data) (t : Term) (s : Sort) → HasSort g [] t s → IsClosed t
 
+-- a term of a sort over some variables that has none of them has the sort over no variables
+abbrev pub ClosedTermsNeedNoVariables : Type 0
+ClosedTermsNeedNoVariables = (g : Data) (vs : List Sort) (t : Term) (s : Sort) → IsClosed t → HasSort g vs t s → HasSort g [] t s
+
 abbrev pub ClosedTermsStay : Type 0
 ClosedTermsStay = (g : Data) (e : ℕ → Term) (t : Term) (s : Sort) → HasSort g [] t s → put e t ≡ t
 

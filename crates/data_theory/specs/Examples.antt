@@ -1,8 +1,9 @@
 -- Worked derivations, as checks of the definitions.
-use Rattle.std.specs.Prelude.{List, [], ◌∷◌, pos}
+use Rattle.std.specs.Prelude.{◌-◌, ◌≤◌, ◌^◌, List, [], ◌∷◌, ℤ, pos}
 use Rattle.std.specs.List.{All}
-use Rattle.data_theory.specs.Terms.{boolean, positive, natural, list, named, head, membership, function, Term, variable, numeral, application, none}
+use Rattle.data_theory.specs.Terms.{Sort, boolean, positive, natural, list, named, head, membership, function, Term, variable, numeral, application, none}
 use Rattle.data_theory.specs.Declarations.{Data, constructor, projection, recogniser, mapping, without_constructors, structured, HasSort, IsData, NoSortIsEmpty}
+use Rattle.data_theory.specs.Arithmetic.{magnitude}
 use Rattle.data_theory.specs.Equations.{ !ᵗ◌, trueᵗ, falseᵗ, one, two, equals, emptyᵗ, consᵗ}
 use Rattle.data_theory.specs.Rewriting.{GoesTo, IsNormal}
 use Rattle.data_theory.specs.Provable.{Equation, ProvablyEqual, ProvablyTrue, ProvablyFalse, Consistent, IsEmptyList}
@@ -100,3 +101,10 @@ NotTrueGoesToFalse = (g : Data) → GoesTo g [] (!ᵗ trueᵗ) falseᵗ 1
 
 abbrev pub FalseIsNormal : Type 0
 FalseIsNormal = (g : Data) → IsNormal g [] falseᵗ
+
+-- 2^128 - 1 has a numeral of Nat, and nothing greater has one: a `sum` over Nat has no instance for 2^128
+abbrev pub TheLastNumeral : Type 0
+TheLastNumeral = (g : Data) → HasSort g [] (numeral natural (pos (2 ^ 128 - 1))) natural
+
+abbrev pub NoNumeralBehindTheLast : Type 0
+NoNumeralBehindTheLast = (g : Data) (vs : List Sort) (s t : Sort) (z : ℤ) → 2 ^ 128 ≤ magnitude z → HasSort g vs (numeral s z) t → ⊥

@@ -1,5 +1,6 @@
 -- The sorts of trees over the numbers of a signature.
-use Rattle.std.specs.Prelude.{◌≡◌, ◌⊎◌, List, [], ◌∷◌, Some, slice_get, ℤ, pos, ◌≤ℤ◌}
+use Rattle.std.specs.Prelude.{◌≡◌, ◌⊎◌, ◌<◌, ◌^◌, List, [], ◌∷◌, Some, slice_get, ℤ, pos, ◌≤ℤ◌}
+use Rattle.data_theory.specs.Arithmetic.{magnitude}
 use Rattle.data_theory.specs.declared.ids.SortId.{SortId}
 use Rattle.data_theory.specs.declared.ids.VarId.{VarId}
 use Rattle.data_theory.specs.declared.signature.Variable.{Variable}
@@ -9,8 +10,12 @@ use Rattle.data_theory.specs.Signature.{Sig}
 use Rattle.data_theory.specs.IdTrees.{Tree, Trees, variable, numeral, function, none, more, apply_tree}
 
 -- the sort is Pos, Nat or Int and has this number
+abbrev pub IsNumberIn : SortId → ℤ → Type 0
+IsNumberIn s z = ((s ≡ pos_sort) × (pos 1 ≤ℤ z)) ⊎ (((s ≡ nat_sort) × (pos 0 ≤ℤ z)) ⊎ (s ≡ int_sort))
+
+-- the sort has this number, and the number a numeral: its magnitude is at most 2^128 - 1
 abbrev pub HasNumber : SortId → ℤ → Type 0
-HasNumber s z = ((s ≡ pos_sort) × (pos 1 ≤ℤ z)) ⊎ (((s ≡ nat_sort) × (pos 0 ≤ℤ z)) ⊎ (s ≡ int_sort))
+HasNumber s z = IsNumberIn s z × (magnitude z < 2 ^ 128)
 
 -- the sort of a variable in a signature
 abbrev pub IsVariableOf : Sig → VarId → SortId → Type 0

@@ -41,4 +41,5 @@ pub mod IdLaws
 pub mod IdTableLaws
 pub mod IdRoles
 pub mod IdGrowth
+pub mod StructGrowth
 pub mod WholeSignatures

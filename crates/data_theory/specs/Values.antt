@@ -113,60 +113,70 @@ is_made_by c _ = false
 
 -- a value of each sort, given one of each declared sort
 abbrev pub default_value : (ℕ → Value) → Sort → Value
-default_value first boolean = a_truth true
-default_value first positive = a_number (pos 1)
-default_value first natural = a_number (pos 0)
-default_value first integer = a_number (pos 0)
-default_value first (list s) = a_list no_value
-default_value first (named d) = first d
+default_value some boolean = a_truth true
+default_value some positive = a_number (pos 1)
+default_value some natural = a_number (pos 0)
+default_value some integer = a_number (pos 0)
+default_value some (list s) = a_list no_value
+default_value some (named d) = some d
+
+-- An interpretation of what the table leaves open: a value of each declared sort, for the head of the empty list and the like, and
+-- what each mapping gives for the values of its arguments.
+pub record Interpretation : Type 0 where
+  pub of_sort : ℕ → Value
+  pub of_mapping : ℕ → Values → Value
+
+-- the interpretation in which each mapping gives the default value of its result's sort
+abbrev pub by_defaults : Data → (ℕ → Value) → Interpretation
+by_defaults g some = record { of_sort = some; of_mapping = λ k vs. default_value some (function_at g k).result }
 
 -- the value of the declared function k of this result sort and role
-abbrev pub function_value : (ℕ → Value) → Sort → Role → ℕ → Values → Value
-function_value first to constructor k vs = constructed k vs
-function_value first to (projection c i) k vs = part_of (default_value first to) c i (value_at vs 0)
-function_value first to (recogniser c) k vs = a_truth (is_made_by c (value_at vs 0))
-function_value first to mapping k vs = default_value first to
+abbrev pub function_value : Interpretation → Sort → Role → ℕ → Values → Value
+function_value m to constructor k vs = constructed k vs
+function_value m to (projection c i) k vs = part_of (default_value m.of_sort to) c i (value_at vs 0)
+function_value m to (recogniser c) k vs = a_truth (is_made_by c (value_at vs 0))
+function_value m to mapping k vs = m.of_mapping k vs
 
 -- The value of a symbol on values. What the table leaves open, as the head of the empty list, is the default value of the
--- result's sort, and so is every mapping.
-abbrev pub symbol_value : Data → (ℕ → Value) → Symbol → Values → Value
-symbol_value g first truth vs = a_truth true
-symbol_value g first falsity vs = a_truth false
-symbol_value g first negation vs = a_truth (not (truth_in (value_at vs 0)))
-symbol_value g first conjunction vs = a_truth (truth_in (value_at vs 0) && truth_in (value_at vs 1))
-symbol_value g first disjunction vs = a_truth (truth_in (value_at vs 0) || truth_in (value_at vs 1))
-symbol_value g first implication vs = a_truth (not (truth_in (value_at vs 0)) || truth_in (value_at vs 1))
-symbol_value g first (equality s) vs = a_truth (same_value (value_at vs 0) (value_at vs 1))
-symbol_value g first (inequality s) vs = a_truth (not (same_value (value_at vs 0) (value_at vs 1)))
-symbol_value g first (conditional s) vs = cond (truth_in (value_at vs 0)) (value_at vs 1) (value_at vs 2)
-symbol_value g first (comparison c s) vs = a_truth (compares c (number_in (value_at vs 0)) (number_in (value_at vs 1)))
-symbol_value g first (arithmetic op ss to) vs = number_or (default_value first to) (value_of op (number_in (value_at vs 0)) (number_in (value_at vs 1)))
-symbol_value g first (minus s) vs = a_number (neg_ℤ (number_in (value_at vs 0)))
-symbol_value g first (upcast s to) vs = a_number (number_in (value_at vs 0))
-symbol_value g first (empty s) vs = a_list no_value
-symbol_value g first (cons s) vs = a_list (value_then (value_at vs 0) (list_in (value_at vs 1)))
-symbol_value g first (snoc s) vs = a_list (joined (list_in (value_at vs 0)) (value_then (value_at vs 1) no_value))
-symbol_value g first (concatenation s) vs = a_list (joined (list_in (value_at vs 0)) (list_in (value_at vs 1)))
-symbol_value g first (size s) vs = a_number (pos (count_of (list_in (value_at vs 0))))
-symbol_value g first (element_at s) vs = item_at (default_value first s) (list_in (value_at vs 0)) (place_in (number_in (value_at vs 1)))
-symbol_value g first (head s) vs = first_item (default_value first s) (list_in (value_at vs 0))
-symbol_value g first (rhead s) vs = last_item (default_value first s) (list_in (value_at vs 0))
-symbol_value g first (tail s) vs = a_list (after_first_item (list_in (value_at vs 0)))
-symbol_value g first (rtail s) vs = a_list (before_last_item (list_in (value_at vs 0)))
-symbol_value g first (membership s) vs = a_truth (is_among (value_at vs 0) (list_in (value_at vs 1)))
-symbol_value g first (function k) vs = function_value first (function_at g k).result (function_at g k).role k vs
+-- result's sort.
+abbrev pub symbol_value : Data → Interpretation → Symbol → Values → Value
+symbol_value g m truth vs = a_truth true
+symbol_value g m falsity vs = a_truth false
+symbol_value g m negation vs = a_truth (not (truth_in (value_at vs 0)))
+symbol_value g m conjunction vs = a_truth (truth_in (value_at vs 0) && truth_in (value_at vs 1))
+symbol_value g m disjunction vs = a_truth (truth_in (value_at vs 0) || truth_in (value_at vs 1))
+symbol_value g m implication vs = a_truth (not (truth_in (value_at vs 0)) || truth_in (value_at vs 1))
+symbol_value g m (equality s) vs = a_truth (same_value (value_at vs 0) (value_at vs 1))
+symbol_value g m (inequality s) vs = a_truth (not (same_value (value_at vs 0) (value_at vs 1)))
+symbol_value g m (conditional s) vs = cond (truth_in (value_at vs 0)) (value_at vs 1) (value_at vs 2)
+symbol_value g m (comparison c s) vs = a_truth (compares c (number_in (value_at vs 0)) (number_in (value_at vs 1)))
+symbol_value g m (arithmetic op ss to) vs = number_or (default_value m.of_sort to) (value_of op (number_in (value_at vs 0)) (number_in (value_at vs 1)))
+symbol_value g m (minus s) vs = a_number (neg_ℤ (number_in (value_at vs 0)))
+symbol_value g m (upcast s to) vs = a_number (number_in (value_at vs 0))
+symbol_value g m (empty s) vs = a_list no_value
+symbol_value g m (cons s) vs = a_list (value_then (value_at vs 0) (list_in (value_at vs 1)))
+symbol_value g m (snoc s) vs = a_list (joined (list_in (value_at vs 0)) (value_then (value_at vs 1) no_value))
+symbol_value g m (concatenation s) vs = a_list (joined (list_in (value_at vs 0)) (list_in (value_at vs 1)))
+symbol_value g m (size s) vs = a_number (pos (count_of (list_in (value_at vs 0))))
+symbol_value g m (element_at s) vs = item_at (default_value m.of_sort s) (list_in (value_at vs 0)) (place_in (number_in (value_at vs 1)))
+symbol_value g m (head s) vs = first_item (default_value m.of_sort s) (list_in (value_at vs 0))
+symbol_value g m (rhead s) vs = last_item (default_value m.of_sort s) (list_in (value_at vs 0))
+symbol_value g m (tail s) vs = a_list (after_first_item (list_in (value_at vs 0)))
+symbol_value g m (rtail s) vs = a_list (before_last_item (list_in (value_at vs 0)))
+symbol_value g m (membership s) vs = a_truth (is_among (value_at vs 0) (list_in (value_at vs 1)))
+symbol_value g m (function k) vs = function_value m (function_at g k).result (function_at g k).role k vs
 
 -- the value of a closed term
 abbrev mutual
-  pub value : Data → (ℕ → Value) → Term → Value
-  value g first (variable v) = a_truth true
-  value g first (numeral s z) = a_number z
-  value g first (unknown d k) = an_unknown d k
-  value g first (application f ts) = symbol_value g first f (values g first ts)
+  pub value : Data → Interpretation → Term → Value
+  value g m (variable v) = a_truth true
+  value g m (numeral s z) = a_number z
+  value g m (unknown d k) = an_unknown d k
+  value g m (application f ts) = symbol_value g m f (values g m ts)
 
-  pub values : Data → (ℕ → Value) → Terms → Values
-  values g first none = no_value
-  values g first (more t ts) = value_then (value g first t) (values g first ts)
+  pub values : Data → Interpretation → Terms → Values
+  values g m none = no_value
+  values g m (more t ts) = value_then (value g m t) (values g m ts)
 
 -- the values of a sort
 abbrev mutual
@@ -189,12 +199,14 @@ abbrev mutual
   AreValues g (s ∷ ss) (value_then v vs) = IsValue g s v × AreValues g ss vs
   AreValues g _ _ = ⊥
 
--- each declared sort gets one of its values
-abbrev pub AreFirstValues : Data → (ℕ → Value) → Type 0
-AreFirstValues g first = (d : ℕ) → d < length g.sorts → IsValue g (named d) (first d)
+-- an interpretation that keeps sorts: each declared sort gets one of its values, and a mapping gives a value of its result's sort
+-- for values of its arguments' sorts
+pub record KeepsSorts (g : Data) (m : Interpretation) : Type 0 where
+  pub sorts : (d : ℕ) → d < length g.sorts → IsValue g (named d) (m.of_sort d)
+  pub mappings : (k : ℕ) (vs : Values) → k < length g.functions → (function_at g k).role ≡ mapping → AreValues g (function_at g k).arguments vs → IsValue g (function_at g k).result (m.of_mapping k vs)
 
 -- the written equations hold of the values
-abbrev pub HoldOfValues : Data → (ℕ → Value) → List Equation → Type 0
-HoldOfValues g first own =
+abbrev pub HoldOfValues : Data → Interpretation → List Equation → Type 0
+HoldOfValues g m own =
     (q : Equation) (e : ℕ → Term) → Contains own q → IsClosedInstance g q e
-    → value g first (put e q.condition) ≡ a_truth true → value g first (put e q.left) ≡ value g first (put e q.right)
+    → value g m (put e q.condition) ≡ a_truth true → value g m (put e q.left) ≡ value g m (put e q.right)

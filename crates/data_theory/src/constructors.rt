@@ -1,10 +1,11 @@
 //! Numerals and constructors of structured sorts, up to provable equality.
 
-ghost use Rattle.data_theory.specs.ConsistencyLaws.{ConstructorsAreInjective, EqualConstructorsAreTheSame, EqualNumeralsAreTheSame, ProjectionsCompute, RecognisersAccept, RecognisersReject};
+ghost use Rattle.data_theory.specs.ConsistencyLaws.{ConstructorsAreInjective, DifferentNumeralsAreNotEqual, EqualConstructorsAreTheSame, EqualNumeralsAreTheSame, ProjectionsCompute, RecognisersAccept, RecognisersReject};
 
 /// Over consistent data two different numerals of one sort are not provably equal.
 pub fn equal_numerals_are_the_same()
-    ensures { EqualNumeralsAreTheSame }
+    ensures same { EqualNumeralsAreTheSame }
+    ensures different { DifferentNumeralsAreNotEqual }
 {}
 
 /// Over consistent data two different constructors of a structured sort are not provably equal.

@@ -1,6 +1,6 @@
 //! Environments: what stands for the variables of a term.
 
-ghost use Rattle.data_theory.specs.EnvironmentLaws.{AgreeingGiveTheSameTerm, AgreeingGiveTheSameTerms, ApplicationsHaveSorts, ArgumentsPutInBehindSums, ArgumentsPutInFirst, BoundAreTheParameters, BoundTogether, ClosedTermsFitAnywhere, ClosedTermsStay, EqualArgumentsGiveEqualEnvironments, EqualEnvironmentsGiveEqualLists, EqualOnTheVariablesGiveEqualLists, EqualOnTheVariablesGiveEqualTerms, ListsOfTerms, ParametersReadBack, PuttingInGoesThroughLists, PuttingInKeepsSorts, PuttingInTwice, TermsOfLists, TheFrontIsRead, TheFrontIsSkipped, TheMiddleIsSkipped, TheUnboundStay, WellSortedOverNothingIsClosed};
+ghost use Rattle.data_theory.specs.EnvironmentLaws.{AgreeingGiveTheSameTerm, AgreeingGiveTheSameTerms, ApplicationsHaveSorts, ArgumentsPutInBehindSums, ArgumentsPutInFirst, BoundAreTheParameters, BoundTogether, ClosedTermsFitAnywhere, ClosedTermsNeedNoVariables, ClosedTermsStay, EqualArgumentsGiveEqualEnvironments, EqualEnvironmentsGiveEqualLists, EqualOnTheVariablesGiveEqualLists, EqualOnTheVariablesGiveEqualTerms, ListsOfTerms, ParametersReadBack, PuttingInGoesThroughLists, PuttingInKeepsSorts, PuttingInTwice, TermsOfLists, TheFrontIsRead, TheFrontIsSkipped, TheMiddleIsSkipped, TheUnboundStay, WellSortedOverNothingIsClosed};
 
 /// A joined environment gives what its first part that binds the variable gives; an unbound variable stands for itself.
 pub fn joined_environments()
@@ -53,9 +53,10 @@ pub fn putting_in_keeps_sorts()
 {}
 
 /// A term that is well sorted over no variables is closed, stays as it is when anything is put in, and is well sorted over
-/// any variables.
+/// any variables. A term that is well sorted over some variables and has none of them is well sorted over no variables.
 pub fn closed_terms_stay()
     ensures closed { WellSortedOverNothingIsClosed }
+    ensures without_variables { ClosedTermsNeedNoVariables }
     ensures stay { ClosedTermsStay }
     ensures anywhere { ClosedTermsFitAnywhere }
 {}

@@ -1,6 +1,6 @@
 //! Worked derivations, as checks of the definitions.
 
-ghost use Rattle.data_theory.specs.Examples.{FalseIsNormal, HeadOfThree, MappingsAreEqual, NotTrueGoesToFalse, OneIsNotTwo, SmallDataAreConsistent, SmallDataMeetThePremises, TrueIsFalseIsInconsistent, TwoIsInOneTwo, WrappedNumbersTell};
+ghost use Rattle.data_theory.specs.Examples.{FalseIsNormal, HeadOfThree, MappingsAreEqual, NoNumeralBehindTheLast, NotTrueGoesToFalse, OneIsNotTwo, SmallDataAreConsistent, SmallDataMeetThePremises, TheLastNumeral, TrueIsFalseIsInconsistent, TwoIsInOneTwo, WrappedNumbersTell};
 
 /// `2 in [1, 2]` is provably true.
 pub fn membership_computes()
@@ -43,4 +43,10 @@ pub fn not_computes()
 pub fn the_premises_of_consistency_can_be_met()
     ensures premises { SmallDataMeetThePremises }
     ensures consistent { SmallDataAreConsistent }
+{}
+
+/// 2^128 - 1 has a numeral of Nat, and no greater number has one, so `sum n: Nat . a(n)` does no a(2^128).
+pub fn numerals_end()
+    ensures last { TheLastNumeral }
+    ensures behind { NoNumeralBehindTheLast }
 {}

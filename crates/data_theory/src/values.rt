@@ -1,18 +1,18 @@
 //! Values of closed terms, and consistency by them.
 
-ghost use Rattle.data_theory.specs.ConsistencyLaws.{BuiltInEquationsAreConsistent, BuiltInEquationsHold, EquationsOfValuesAreConsistent, ProvablyEqualTermsHaveOneValue, QuotientAndRemainder, SymbolsKeepSorts, TermsHaveValues, ThereAreFirstValues};
+ghost use Rattle.data_theory.specs.ConsistencyLaws.{BuiltInEquationsAreConsistent, BuiltInEquationsHold, EquationsOfValuesAreConsistent, ProvablyEqualTermsHaveOneValue, QuotientAndRemainder, SymbolsKeepSorts, TermsHaveValues, ThereAreInterpretations};
 
 /// The quotient times the divisor and the remainder make the number, and the remainder is below the divisor.
 pub fn quotient_is_the_greatest()
     ensures { QuotientAndRemainder }
 {}
 
-/// A symbol gives a value of its sort for values of its arguments' sorts.
+/// Over any interpretation that keeps sorts, a symbol gives a value of its sort for values of its arguments' sorts.
 pub fn symbols_keep_sorts()
     ensures { SymbolsKeepSorts }
 {}
 
-/// A closed term has a value of its sort.
+/// A closed term has a value of its sort, over any such interpretation.
 pub fn closed_terms_have_values()
     ensures { TermsHaveValues }
 {}
@@ -27,9 +27,9 @@ pub fn provably_equal_terms_have_one_value()
     ensures { ProvablyEqualTermsHaveOneValue }
 {}
 
-/// Where no sort is empty, each declared sort has a first value.
-pub fn no_empty_sort_gives_first_values()
-    ensures { ThereAreFirstValues }
+/// Where no sort is empty, there is an interpretation that keeps sorts, in which each mapping gives a default value.
+pub fn no_empty_sort_gives_an_interpretation()
+    ensures { ThereAreInterpretations }
 {}
 
 /// Data whose written equations hold of the values are consistent.

@@ -1,10 +1,11 @@
 -- Data of which nothing is known.
 use Rattle.std.proofs.Common.{◌≡◌, ℕ, zero, suc, ◌<◌, [], length, true, false, refl, arith}
-use Rattle.data_theory.specs.Terms.{Term}
+use Rattle.data_theory.specs.Terms.{named, Term}
 use Rattle.data_theory.specs.Declarations.{FitsRole, IsData, IsSort, function_at}
 use Rattle.data_theory.specs.Equations.{trueᵗ, falseᵗ}
 use Rattle.data_theory.specs.Provable.{ProvablyEqual}
-use Rattle.data_theory.specs.Values.{Value, a_truth, an_unknown, value, AreFirstValues, HoldOfValues}
+use Rattle.data_theory.specs.Values.{Value, a_truth, an_unknown, Interpretation, by_defaults, value, IsValue, KeepsSorts, HoldOfValues}
+use Rattle.data_theory.proofs.SortedValues.{default_is}
 use Rattle.data_theory.proofs.ConsistencyLemmas.{equal_terms_have_one_value}
 use Rattle.process_terms.specs.WorkedSteps.{unknown_data, whether_equal, SomeDataAreUnknown}
 
@@ -23,16 +24,25 @@ are_data = record { roles = roles; results = results }
 element : ℕ → ℕ → Value
 element k d = an_unknown d k
 
-first_values : (k : ℕ) → AreFirstValues unknown_data.declared (element k)
-unfolding element
-first_values k zero l = (refl, refl)
-first_values k (suc d) l = absurd (omega (arith, l))
+abbrev read_as : ℕ → Interpretation
+read_as k = by_defaults unknown_data.declared (element k)
 
-nothing_written : (k : ℕ) → HoldOfValues unknown_data.declared (element k) []
+elements_are : (k d : ℕ) → d < length unknown_data.declared.sorts → IsValue unknown_data.declared (named d) (element k d)
+unfolding element
+elements_are k zero l = (refl, refl)
+elements_are k (suc d) l = absurd (omega (arith, l))
+
+keeps : (k : ℕ) → KeepsSorts unknown_data.declared (read_as k)
+keeps k = record {
+  sorts = elements_are k;
+  mappings = λ j vs l e h. default_is unknown_data.declared (element k) (elements_are k) (function_at unknown_data.declared j).result (results j l);
+}
+
+nothing_written : (k : ℕ) → HoldOfValues unknown_data.declared (read_as k) []
 nothing_written k q e h = let l = h.1 in absurd (omega (arith, l))
 
-one_value : (k : ℕ) (t u : Term) → ProvablyEqual unknown_data.declared [] t u → value unknown_data.declared (element k) t ≡ value unknown_data.declared (element k) u
-one_value k t u h = equal_terms_have_one_value unknown_data.declared (element k) are_data (first_values k) [] (nothing_written k) t u h
+one_value : (k : ℕ) (t u : Term) → ProvablyEqual unknown_data.declared [] t u → value unknown_data.declared (read_as k) t ≡ value unknown_data.declared (read_as k) u
+one_value k t u h = equal_terms_have_one_value unknown_data.declared (read_as k) are_data (keeps k) [] (nothing_written k) t u h
 
 truths_differ : a_truth true ≡ a_truth false → ⊥
 truths_differ e = cc

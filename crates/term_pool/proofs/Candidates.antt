@@ -7,7 +7,7 @@ use Rattle.data_theory.specs.declared.ids.FunId.{FunId}
 use Rattle.data_theory.specs.Functions.{Function, arguments_of}
 use Rattle.data_theory.specs.Sorts.{Kind, SortInfo, booleans, positives, naturals, integers, lists_over, without_constructors, by_declarations, structured}
 use Rattle.data_theory.specs.IdSorts.{HasKind, AreSorts}
-use Rattle.data_theory.specs.IdTreeSorts.{HasNumber}
+use Rattle.data_theory.specs.IdTreeSorts.{IsNumberIn, HasNumber}
 use Rattle.data_theory.specs.Table.{pos_sort, nat_sort, int_sort}
 use Rattle.data_theory.specs.Signature.{Sig}
 use Rattle.term_pool.specs.declared.first_values.Root.TheVariants.{Number, Constant}
@@ -129,7 +129,7 @@ kind_of_info : (ss : List SortInfo) (k : ℕ) (i : SortInfo) (d : Kind) → slic
 kind_of_info ss k i d at h = sym h.2 ∙ ap (λ (j : SortInfo). j.kind) (one_entry ss k h.0 i h.1 at)
 
 -- only a number sort has numbers
-number_kind : (g : Sig) → AreSorts g.sorts → (s : SortId) (i : SortInfo) → slice_get g.sorts s.0 ≡ Some i → (z : ℤ) → HasNumber s z → IsNumberKind i.kind
+number_kind : (g : Sig) → AreSorts g.sorts → (s : SortId) (i : SortInfo) → slice_get g.sorts s.0 ≡ Some i → (z : ℤ) → IsNumberIn s z → IsNumberKind i.kind
 number_kind g sorts s i at z (inl h) = subst IsNumberKind (kind_of_info g.sorts s.0 i positives at ((sorts.positive_second s.0).1 (ap (λ (t : SortId). t.0) h.0))) tt
 number_kind g sorts s i at z (inr (inl h)) = subst IsNumberKind (kind_of_info g.sorts s.0 i naturals at ((sorts.natural_third s.0).1 (ap (λ (t : SortId). t.0) h.0))) tt
 number_kind g sorts s i at z (inr (inr h)) = subst IsNumberKind (kind_of_info g.sorts s.0 i integers at ((sorts.integer_fourth s.0).1 (ap (λ (t : SortId). t.0) h))) tt
@@ -142,7 +142,7 @@ record FirstNumber (s : SortId) : Type 0 where
   weighs : number_weight s number ≡ 1
   first : (z : ℤ) → HasNumber s z → (number ≡ z) ⊎ (1 < number_weight s z)
 
-positive_least : (z : ℤ) → HasNumber pos_sort z → (pos 1 ≡ z) ⊎ (1 < number_weight pos_sort z)
+positive_least : (z : ℤ) → IsNumberIn pos_sort z → (pos 1 ≡ z) ⊎ (1 < number_weight pos_sort z)
 positive_least (pos zero) (inl h) = absurd h.1.le
 positive_least (pos (suc zero)) (inl h) = inl refl
 positive_least (pos (suc (suc n))) (inl h) = inr (omega arith)
@@ -151,9 +151,9 @@ positive_least z (inr (inl h)) = let same : 1 ≡ 2 = ap (λ (t : SortId). t.0) 
 positive_least z (inr (inr h)) = let same : 1 ≡ 3 = ap (λ (t : SortId). t.0) h in absurd (omega (arith, same))
 
 first_positive : FirstNumber pos_sort
-first_positive = record { number = pos 1; has = inl (refl, record { le = tt }); weighs = refl; first = positive_least }
+first_positive = record { number = pos 1; has = (inl (refl, record { le = tt }), omega arith); weighs = refl; first = λ z h. positive_least z h.0 }
 
-natural_least : (z : ℤ) → HasNumber nat_sort z → (pos 0 ≡ z) ⊎ (1 < number_weight nat_sort z)
+natural_least : (z : ℤ) → IsNumberIn nat_sort z → (pos 0 ≡ z) ⊎ (1 < number_weight nat_sort z)
 natural_least z (inl h) = let same : 2 ≡ 1 = ap (λ (t : SortId). t.0) h.0 in absurd (omega (arith, same))
 natural_least (pos zero) (inr (inl h)) = inl refl
 natural_least (pos (suc n)) (inr (inl h)) = inr (omega arith)
@@ -161,15 +161,15 @@ natural_least (negsuc n) (inr (inl h)) = absurd h.1.le
 natural_least z (inr (inr h)) = let same : 2 ≡ 3 = ap (λ (t : SortId). t.0) h in absurd (omega (arith, same))
 
 first_natural : FirstNumber nat_sort
-first_natural = record { number = pos 0; has = inr (inl (refl, record { le = tt })); weighs = refl; first = natural_least }
+first_natural = record { number = pos 0; has = (inr (inl (refl, record { le = tt })), omega arith); weighs = refl; first = λ z h. natural_least z h.0 }
 
-integer_least : (z : ℤ) → HasNumber int_sort z → (pos 0 ≡ z) ⊎ (1 < number_weight int_sort z)
+integer_least : (z : ℤ) → IsNumberIn int_sort z → (pos 0 ≡ z) ⊎ (1 < number_weight int_sort z)
 integer_least (pos zero) h = inl refl
 integer_least (pos (suc n)) h = inr (omega arith)
 integer_least (negsuc n) h = inr (omega arith)
 
 first_integer : FirstNumber int_sort
-first_integer = record { number = pos 0; has = inr (inr refl); weighs = refl; first = integer_least }
+first_integer = record { number = pos 0; has = (inr (inr refl), omega arith); weighs = refl; first = λ z h. integer_least z h.0 }
 
 first_number : (g : Sig) → AreSorts g.sorts → (s : SortId) (i : SortInfo) → slice_get g.sorts s.0 ≡ Some i → IsNumberKind i.kind → FirstNumber s
 first_number g sorts s i at number = by_kind i.kind refl number
@@ -207,7 +207,7 @@ pub constant_candidate : (g : Sig) (es : List (Option First)) → AreSorts g.sor
 constant_candidate g es sorts s i at kind c weighs root = record { value = a_constant s; of_sort = (refl, (i, at, kind)); weighs = sym weighs; has_root = sym root; first = first }
   where
     first : (w : ConstructorValue) → IsValueOf g w s → IsOverSettled g es w → (a_constant s ≡ w) ⊎ ComesBefore g s (a_constant s) w
-    first (a_number a z) is over = absurd (subst IsNumberKind kind (number_kind g sorts s i at z is.1))
+    first (a_number a z) is over = absurd (subst IsNumberKind kind (number_kind g sorts s i at z is.1.0))
     first (built f ws) is over =
         let k = subst (λ (j : SortInfo). IsConstructorOf g s j.kind is.0 f) (one_entry g.sorts s.0 is.1.0 i is.1.1 at) is.1.2 in
         absurd (subst (λ (d : Kind). IsConstructorOf g s d is.0 f) kind k)
@@ -254,7 +254,7 @@ built_candidate g es sorts s i at kind places its c l =
     of_constructors h e ws get settled are le (inr differ) (inr m) = inr (lighter (omega (arith, m)))
 
     first : (w : ConstructorValue) → IsValueOf g w s → IsOverSettled g es w → (built l.fun l.values ≡ w) ⊎ ComesBefore g s (built l.fun l.values) w
-    first (a_number a z) is over = absurd (built_or_number i.kind kind (number_kind g sorts s i at z is.1))
+    first (a_number a z) is over = absurd (built_or_number i.kind kind (number_kind g sorts s i at z is.1.0))
     first (a_constant d) is over = absurd (subst IsBuiltKind (sym (kind_of_info g.sorts s.0 i without_constructors at is.1)) kind)
     first (built h ws) is over =
         let e = is.2.0 in
@@ -267,7 +267,7 @@ built_candidate g es sorts s i at kind places its c l =
 
 pub no_candidate : (g : Sig) (es : List (Option First)) → AreSorts g.sorts → (s : SortId) (i : SortInfo) → slice_get g.sorts s.0 ≡ Some i → IsBuiltKind i.kind
     → (places : List (Option FunId)) → AreItsConstructors g s places → IsLightestOf g es places (length places) None → IsCandidateOf g es s None
-no_candidate g es sorts s i at kind places its none (a_number a z) is over = built_or_number i.kind kind (number_kind g sorts s i at z is.1)
+no_candidate g es sorts s i at kind places its none (a_number a z) is over = built_or_number i.kind kind (number_kind g sorts s i at z is.1.0)
 no_candidate g es sorts s i at kind places its none (a_constant d) is over = subst IsBuiltKind (sym (kind_of_info g.sorts s.0 i without_constructors at is.1)) kind
 no_candidate g es sorts s i at kind places its none (built h ws) is over =
     let there = (its is.0 h).1 is.1 in
@@ -283,18 +283,18 @@ the_number : (g : Sig) (s : SortId) (z x : ℤ) → IsFirstValue g s (a_number s
 the_number g s z x first has weighs least = ⊎_elim sym (λ l. absurd (let less = first_weighs_least g s (a_number s z) (a_number s x) first (refl, has) in omega (arith, less, weighs, l))) least
 
 pub first_number_is : (g : Sig) (s : SortId) (z : ℤ) → IsFirstValue g s (a_number s z) → z ≡ cond (s.0 == 1) (pos 1) (pos 0)
-first_number_is g s z first = by_sort first.of_sort.1
+first_number_is g s z first = by_sort first.of_sort.1.0
   where
     positive : (t : SortId) → t ≡ pos_sort → (x : ℤ) → IsFirstValue g t (a_number t x) → HasNumber t x → x ≡ cond (t.0 == 1) (pos 1) (pos 0)
-    positive t e = subst (λ (r : SortId). (x : ℤ) → IsFirstValue g r (a_number r x) → HasNumber r x → x ≡ cond (r.0 == 1) (pos 1) (pos 0)) (sym e) (λ x f has. the_number g pos_sort x (pos 1) f (inl (refl, record { le = tt })) refl (positive_least x has))
+    positive t e = subst (λ (r : SortId). (x : ℤ) → IsFirstValue g r (a_number r x) → HasNumber r x → x ≡ cond (r.0 == 1) (pos 1) (pos 0)) (sym e) (λ x f has. the_number g pos_sort x (pos 1) f (inl (refl, record { le = tt }), omega arith) refl (positive_least x has.0))
 
     natural : (t : SortId) → t ≡ nat_sort → (x : ℤ) → IsFirstValue g t (a_number t x) → HasNumber t x → x ≡ cond (t.0 == 1) (pos 1) (pos 0)
-    natural t e = subst (λ (r : SortId). (x : ℤ) → IsFirstValue g r (a_number r x) → HasNumber r x → x ≡ cond (r.0 == 1) (pos 1) (pos 0)) (sym e) (λ x f has. the_number g nat_sort x (pos 0) f (inr (inl (refl, record { le = tt }))) refl (natural_least x has))
+    natural t e = subst (λ (r : SortId). (x : ℤ) → IsFirstValue g r (a_number r x) → HasNumber r x → x ≡ cond (r.0 == 1) (pos 1) (pos 0)) (sym e) (λ x f has. the_number g nat_sort x (pos 0) f (inr (inl (refl, record { le = tt })), omega arith) refl (natural_least x has.0))
 
     integer : (t : SortId) → t ≡ int_sort → (x : ℤ) → IsFirstValue g t (a_number t x) → HasNumber t x → x ≡ cond (t.0 == 1) (pos 1) (pos 0)
-    integer t e = subst (λ (r : SortId). (x : ℤ) → IsFirstValue g r (a_number r x) → HasNumber r x → x ≡ cond (r.0 == 1) (pos 1) (pos 0)) (sym e) (λ x f has. the_number g int_sort x (pos 0) f (inr (inr refl)) refl (integer_least x has))
+    integer t e = subst (λ (r : SortId). (x : ℤ) → IsFirstValue g r (a_number r x) → HasNumber r x → x ≡ cond (r.0 == 1) (pos 1) (pos 0)) (sym e) (λ x f has. the_number g int_sort x (pos 0) f (inr (inr refl), omega arith) refl (integer_least x has.0))
 
-    by_sort : HasNumber s z → z ≡ cond (s.0 == 1) (pos 1) (pos 0)
+    by_sort : IsNumberIn s z → z ≡ cond (s.0 == 1) (pos 1) (pos 0)
     by_sort (inl h) = positive s h.0 z first first.of_sort.1
     by_sort (inr (inl h)) = natural s h.0 z first first.of_sort.1
     by_sort (inr (inr h)) = integer s h z first first.of_sort.1

@@ -20,7 +20,7 @@ use Rattle.data_theory.specs.Signature.{Sig}
 use Rattle.data_theory.specs.IdSorts.{HasKind}
 use Rattle.data_theory.specs.IdSymbols.{if_declared, declared_from}
 use Rattle.data_theory.specs.IdData.{constructors_of}
-use Rattle.data_theory.specs.IdTreeSorts.{HasNumber}
+use Rattle.data_theory.specs.IdTreeSorts.{IsNumberIn, HasNumber}
 use Rattle.data_theory.specs.IdTrees.{numeral, function, none, more, apply_tree, apply_to_numeral}
 use Rattle.data_theory.specs.WholeSignatures.{HasDeclaredConstructors, IsSignature}
 use Rattle.data_theory.proofs.PlaceLemmas.{contains_read}
@@ -101,7 +101,7 @@ late_is_kept f s z late =
 
 -- ---- a constructor over its values
 -- only Pos, Nat and Int have numbers
-pub number_kind : (g : Sig) → IsSignature g → (s : SortId) (z : ℤ) → HasNumber s z → HasKind g.sorts s.0 sorts.positives ⊎ (HasKind g.sorts s.0 sorts.naturals ⊎ HasKind g.sorts s.0 sorts.integers)
+pub number_kind : (g : Sig) → IsSignature g → (s : SortId) (z : ℤ) → IsNumberIn s z → HasKind g.sorts s.0 sorts.positives ⊎ (HasKind g.sorts s.0 sorts.naturals ⊎ HasKind g.sorts s.0 sorts.integers)
 number_kind g stands s z (inl p) = inl ((stands.table.sorts.positive_second s.0).1 (ap (λ (x : SortId). x.0) p.0))
 number_kind g stands s z (inr (inl p)) = inr (inl ((stands.table.sorts.natural_third s.0).1 (ap (λ (x : SortId). x.0) p.0)))
 number_kind g stands s z (inr (inr p)) = inr (inr ((stands.table.sorts.integer_fourth s.0).1 (ap (λ (x : SortId). x.0) p)))
@@ -110,7 +110,7 @@ one_kind : (ss : List SortInfo) (i : ℕ) (k l : Kind) → HasKind ss i k → Ha
 one_kind ss i k l a b = let same : Some a.0 ≡ Some b.0 = sym a.1 ∙ b.1 in let equal : a.0 ≡ b.0 = cc in sym a.2 ∙ (ap (λ (x : SortInfo). x.kind) equal ∙ b.2)
 
 pub bare_has_no_number : (g : Sig) → IsSignature g → (s : SortId) (z : ℤ) → HasKind g.sorts s.0 sorts.without_constructors → HasNumber s z → ⊥
-bare_has_no_number g stands s z kind has = by_kind (number_kind g stands s z has)
+bare_has_no_number g stands s z kind has = by_kind (number_kind g stands s z has.0)
   where
     by_kind : HasKind g.sorts s.0 sorts.positives ⊎ (HasKind g.sorts s.0 sorts.naturals ⊎ HasKind g.sorts s.0 sorts.integers) → ⊥
     by_kind (inl k) = let wrong = one_kind g.sorts s.0 sorts.without_constructors sorts.positives kind k in cc
@@ -120,7 +120,7 @@ bare_has_no_number g stands s z kind has = by_kind (number_kind g stands s z has
 module _ (g : Sig) (stands : IsSignature g) where
   -- a list sort has no numbers
   no_number : (s : SortId) (e : SortId) (z : ℤ) → HasKind g.sorts s.0 (lists_over e) → HasNumber s z → ⊥
-  no_number s e z kind has = by_kind (number_kind g stands s z has)
+  no_number s e z kind has = by_kind (number_kind g stands s z has.0)
     where
       by_kind : HasKind g.sorts s.0 sorts.positives ⊎ (HasKind g.sorts s.0 sorts.naturals ⊎ HasKind g.sorts s.0 sorts.integers) → ⊥
       by_kind (inl k) = let wrong = one_kind g.sorts s.0 (lists_over e) sorts.positives kind k in cc

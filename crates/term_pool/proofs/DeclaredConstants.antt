@@ -1,5 +1,5 @@
 -- What becomes of a signature and its constants where constants are declared.
-use Rattle.std.proofs.Common.{◌≡◌, ◌==◌, ◌<◌, ◌+◌, ◌++◌, ◌&&◌, ◌≤◌, ℕ, zero, suc, Bool, true, false, cond, List, [], ◌∷◌, length, map, Some, None, refl, sym, ap, ◌∙◌, subst, arith, append-nil, ⊎_elim}
+use Rattle.std.proofs.Common.{◌≡◌, ◌==◌, ◌<◌, ◌+◌, ◌++◌, ◌&&◌, ◌≤◌, ℕ, zero, suc, Bool, true, false, cond, List, [], ◌∷◌, length, map, Some, None, refl, sym, ap, ◌∙◌, subst, arith, append-nil, append_assoc, ⊎_elim}
 use Rattle.std.specs.Prelude.{slice_get, is_some, IfSome, IsSome, Option, not}
 use Rattle.std.specs.Option.{option_map_or}
 use Rattle.std.specs.List.{All, Contains, filter, range_with_len}
@@ -26,8 +26,8 @@ use Rattle.data_theory.specs.WholeSignatures.{HasItsName, IsSignature}
 use Rattle.data_theory.proofs.NameLemmas.{text_behind}
 use Rattle.data_theory.proofs.PlaceLemmas.{contains_read, read_front, read_behind, one_place_pushed}
 use Rattle.data_theory.proofs.IdGrowthLemmas.{with_a_text_it_is_grown, with_a_function_it_is_grown, growth_after_growth_is_growth}
-use Rattle.term_pool.specs.Constants.{is_listed, all_sorts, IsConstantOf, AreConstants, DeclaresConstant, DeclaresConstants, none_left, declares}
-use Rattle.term_pool.specs.Pools.{Terms}
+use Rattle.term_pool.specs.Constants.{is_listed, all_sorts, IsConstantOf, AreConstants, KeepsConstants, DeclaresConstant, DeclaresConstants, none_left, declares}
+use Rattle.term_pool.specs.Pools.{PoolContents}
 use Rattle.term_pool.specs.FirstTerms.{is_bare_kind, lacks_constant, is_in_need}
 use Rattle.term_pool.proofs.SortSearch.{is_among}
 use Rattle.term_pool.proofs.Lists.{contains_none, contains_cons}
@@ -98,13 +98,13 @@ constant_grows d g cs h ds one =
 pub constant_keeps_sorts : (d : SortId) (g : Sig) (cs : List (SortId × FunId)) (h : Sig) (ds : List (SortId × FunId)) → DeclaresConstant d g cs h ds → h.sorts ≡ g.sorts
 constant_keeps_sorts d g cs h ds one = ap (λ (x : Sig). x.sorts) one.declared ∙ ap (λ (x : Sig). x.sorts) one.fresh.taken
 
-still_read : {A : Type 0} (xs ys more : List A) → ys ≡ xs ++ more → (i : ℕ) (x : A) → slice_get xs i ≡ Some x → slice_get ys i ≡ Some x
+pub still_read : {A : Type 0} (xs ys more : List A) → ys ≡ xs ++ more → (i : ℕ) (x : A) → slice_get xs i ≡ Some x → slice_get ys i ≡ Some x
 still_read xs ys more e i x at = subst (λ l. slice_get l i ≡ Some x) (sym e) (read_front xs more i x at)
 
 pub function_stays : (g h : Sig) → IsGrown g h → (i : ℕ) (f : Function) → slice_get g.functions i ≡ Some f → slice_get h.functions i ≡ Some f
 function_stays g h grown i f at = still_read g.functions h.functions grown.new_functions grown.functions i f at
 
-bare_stays : (g h : Sig) (d : SortId) → IsGrown g h → IsBare g.sorts d → IsBare h.sorts d
+pub bare_stays : (g h : Sig) (d : SortId) → IsGrown g h → IsBare g.sorts d → IsBare h.sorts d
 bare_stays g h d grown bare = (bare.0, still_read g.sorts h.sorts grown.new_sorts grown.sorts d.0 bare.0 bare.1, bare.2)
 
 pub constants_stay : (g h : Sig) (cs : List (SortId × FunId)) → IsGrown g h → AreConstants g cs → AreConstants h cs
@@ -200,6 +200,16 @@ pub declares_one_more : (sorts : List SortId) (d : SortId) (g : Sig) (cs : List 
 declares_one_more [] d g cs h ds i es none_left one = declares one none_left
 declares_one_more (x ∷ sorts) d g cs h ds i es (declares first rest) one = declares first (declares_one_more sorts d _ _ h ds i es rest one)
 
+-- the old ones stay
+pub constants_kept : (cs : List (SortId × FunId)) → KeepsConstants cs cs
+constants_kept cs = ([], sym (append-nil cs))
+
+pub constants_behind : (sorts : List SortId) (g : Sig) (cs : List (SortId × FunId)) (h : Sig) (ds : List (SortId × FunId)) → DeclaresConstants sorts g cs h ds → KeepsConstants cs ds
+constants_behind [] g cs h ds none_left = constants_kept cs
+constants_behind (d ∷ sorts) g cs h ds (declares {h = mid} {ds = more} one rest) =
+    let behind = constants_behind sorts mid more h ds rest in
+    (_, behind.1 ∙ (ap (λ l. l ++ behind.0) one.listed ∙ append_assoc cs _ behind.0))
+
 -- no constant of a later sort was declared
 pub later_listed_same : (sorts : List SortId) (g : Sig) (cs : List (SortId × FunId)) (h : Sig) (ds : List (SortId × FunId)) (e : SortId) → DeclaresConstants sorts g cs h ds → All (λ (d : SortId). d.0 < e.0) sorts → is_listed ds e ≡ is_listed cs e
 later_listed_same [] g cs h ds e none_left below = refl
@@ -232,14 +242,14 @@ all_below zero a e l = All-nil (λ (d : SortId). d.0 < e.0)
 all_below (suc n) a e l = All-cons (λ (d : SortId). d.0 < e.0) (record { 0 = a }) (map (λ k. record { 0 = k }) (range_with_len (a + 1) n)) (omega (arith, l)) (all_below n (a + 1) e (omega (arith, l)))
 
 -- the first sorts had their turn
-pub record IsDeclaring (g : Sig) (old : Terms) (sorts : List SortId) (n : ℕ) (h : Sig) (now : Terms) : Type 0 where
+pub record IsDeclaring (g : Sig) (old : PoolContents) (sorts : List SortId) (n : ℕ) (h : Sig) (now : PoolContents) : Type 0 where
   pub run : DeclaresConstants (filter (is_in_need g.sorts old.constants sorts) (sorts_below n)) g old.constants h now.constants
   pub same : h.sorts ≡ g.sorts
   pub constants : AreConstants h now.constants
   pub trees : now.trees ≡ old.trees
   pub grown : IsGrown g h
 
-pub none_declared : (g : Sig) (old : Terms) (sorts : List SortId) → AreConstants g old.constants → IsDeclaring g old sorts 0 g old
+pub none_declared : (g : Sig) (old : PoolContents) (sorts : List SortId) → AreConstants g old.constants → IsDeclaring g old sorts 0 g old
 none_declared g old sorts are = record { run = none_left; same = refl; constants = are; trees = refl; grown = grown_itself g }
 
 -- a sort that lacks a constant
@@ -271,7 +281,7 @@ bare_by_test ss d e = by_place (slice_get ss d.0) refl e
 pub lacks_is : (ss : List SortInfo) (cs : List (SortId × FunId)) (d : SortId) → lacks_constant ss cs d ≡ true → IsBare ss d × (is_listed cs d ≡ false)
 lacks_is ss cs d e = let parts = both (option_map_or (λ (s : SortInfo). is_bare_kind s.kind) (slice_get ss d.0) false) (not (is_listed cs d)) e in (bare_by_test ss d parts.0, not_true (is_listed cs d) parts.1)
 
-module _ (g : Sig) (old : Terms) (sorts : List SortId) (n : ℕ) (h : Sig) (now : Terms) (before : IsDeclaring g old sorts n h now) where
+module _ (g : Sig) (old : PoolContents) (sorts : List SortId) (n : ℕ) (h : Sig) (now : PoolContents) (before : IsDeclaring g old sorts n h now) where
   abbrev this : SortId
   this = record { 0 = n }
 
@@ -296,7 +306,7 @@ module _ (g : Sig) (old : Terms) (sorts : List SortId) (n : ℕ) (h : Sig) (now 
     grown = before.grown;
   }
 
-  pub one_more : is_among this sorts ≡ true → lacks_constant h.sorts now.constants this ≡ true → (i : Sig) (new : Terms) → DeclaresConstant this h now.constants i new.constants → new.trees ≡ now.trees → IsDeclaring g old sorts (n + 1) i new
+  pub one_more : is_among this sorts ≡ true → lacks_constant h.sorts now.constants this ≡ true → (i : Sig) (new : PoolContents) → DeclaresConstant this h now.constants i new.constants → new.trees ≡ now.trees → IsDeclaring g old sorts (n + 1) i new
   one_more among lacks i new one trees =
       let parts = lacks_is h.sorts now.constants this lacks in
       record {
@@ -309,5 +319,5 @@ module _ (g : Sig) (old : Terms) (sorts : List SortId) (n : ℕ) (h : Sig) (now 
       }
 
 -- all sorts had their turn
-pub declared_so_far : (g : Sig) (old : Terms) (sorts : List SortId) (n : ℕ) (h : Sig) (now : Terms) → IsDeclaring g old sorts n h now → n ≡ length g.sorts → DeclaresConstants (filter (is_in_need g.sorts old.constants sorts) (all_sorts g)) g old.constants h now.constants
+pub declared_so_far : (g : Sig) (old : PoolContents) (sorts : List SortId) (n : ℕ) (h : Sig) (now : PoolContents) → IsDeclaring g old sorts n h now → n ≡ length g.sorts → DeclaresConstants (filter (is_in_need g.sorts old.constants sorts) (all_sorts g)) g old.constants h now.constants
 declared_so_far g old sorts n h now is e = subst (λ k. DeclaresConstants (filter (is_in_need g.sorts old.constants sorts) (sorts_below k)) g old.constants h now.constants) e is.run

@@ -9,7 +9,7 @@ use Rattle.indexmap.specs.IndexSet.{insert_key}
 use Rattle.data_theory.specs.IdTrees.{Tree}
 use Rattle.term_pool.specs.declared.terms.Node.{Node}
 use Rattle.term_pool.specs.HeadTrees.{written_tree, head_tree, Stands, no_tree, trees_at, AreIn}
-use Rattle.term_pool.specs.Pools.{Terms, node_tree, trees_of_nodes, AreDistinct, Extends, Adds, AddsAtMost, IsPool}
+use Rattle.term_pool.specs.Pools.{PoolContents, node_tree, trees_of_nodes, AreDistinct, Extends, Adds, AddsAtMost, IsPool}
 use Rattle.term_pool.proofs.NodeTrees.{node_at, trees_kept, extends_itself}
 use Rattle.term_pool.proofs.SameNodes.{same_node, node_decides, written_alike}
 use Rattle.term_pool.proofs.NewNodes.{IsAbsent, pool_push, view_push}
@@ -71,6 +71,6 @@ adds_once old t new place distinct (inr more) here within = inr (λ has. fresh h
         omega (arith, low, same)
 
 -- after either answer
-pub at_most : {T E : Type 0} (answer : Result T E) (old new : Terms) (t : Tree) → OnOk answer (Adds old.trees t new.trees) → OnErr answer (new ≡ old) → AddsAtMost old.trees t new.trees
+pub at_most : {T E : Type 0} (answer : Result T E) (old new : PoolContents) (t : Tree) → OnOk answer (Adds old.trees t new.trees) → OnErr answer (new ≡ old) → AddsAtMost old.trees t new.trees
 at_most (Ok r) old new t ok err = ⊎_elim (λ was. inl was.1) (λ is. inr is.1) ok
-at_most (Err e) old new t ok err = inl (ap (λ (p : Terms). p.trees) err)
+at_most (Err e) old new t ok err = inl (ap (λ (p : PoolContents). p.trees) err)

@@ -16,7 +16,7 @@ use Rattle.term_pool.proofs.Entered.{extends_by_one}
 use Rattle.term_pool.proofs.Lists.{contains_none, falls_pop}
 
 -- ---- the listed terms as the pool grows
-listed_kept : (old new : List Tree) (by : List (VarId × TermId)) → Extends old new → AreIn old (listed_terms by) → (v : VarId) → listed new by v ≡ listed old by v
+pub listed_kept : (old new : List Tree) (by : List (VarId × TermId)) → Extends old new → AreIn old (listed_terms by) → (v : VarId) → listed new by v ≡ listed old by v
 listed_kept old new [] e within v = refl
 listed_kept old new (p ∷ ps) e within v =
     let first = tree_kept old new p.1 e (All-head (IsIn old) p.1 (listed_terms ps) within) in
@@ -26,7 +26,7 @@ listed_kept old new (p ∷ ps) e within v =
 pub listed_same : (old new : List Tree) (by : List (VarId × TermId)) → Extends old new → AreIn old (listed_terms by) → listed new by ≡ listed old by
 listed_same old new by e within = λ i v. listed_kept old new by e within v i
 
-adds_one_more : (old mid new : List Tree) (IsSo : Tree → Type 0) (t : Tree) → AddsOnly old IsSo mid → AddsAtMost mid t new → IsSo t → AddsOnly old IsSo new
+pub adds_one_more : (old mid new : List Tree) (IsSo : Tree → Type 0) (t : Tree) → AddsOnly old IsSo mid → AddsAtMost mid t new → IsSo t → AddsOnly old IsSo new
 adds_one_more old mid new IsSo t added (inl same) so = (added.0, same ∙ added.1, added.2)
 adds_one_more old mid new IsSo t added (inr more) so = (added.0 ++ t ∷ [], more ∙ (ap (λ ts. ts ++ t ∷ []) added.1 ∙ append_assoc old added.0 (t ∷ [])), All-push IsSo added.0 t added.2 so)
 

@@ -9,7 +9,7 @@ use Rattle.data_theory.specs.declared.ids.FunId.{FunId}
 use Rattle.data_theory.specs.Sorts.{IsBare}
 use Rattle.data_theory.specs.Functions.{Function, arguments_of}
 use Rattle.data_theory.specs.Signature.{Sig}
-use Rattle.data_theory.specs.IdTreeSorts.{HasNumber}
+use Rattle.data_theory.specs.IdTreeSorts.{IsNumberIn, HasNumber}
 use Rattle.data_theory.specs.IdTrees.{Tree, function, none, more, trees_of, apply_tree}
 use Rattle.data_theory.specs.WholeSignatures.{IsSignature}
 use Rattle.data_theory.proofs.CompleteLemmas.{four_sorts}
@@ -27,18 +27,21 @@ use Rattle.term_pool.proofs.SortSearch.{weight_at, Descends, entry_within}
 
 -- ---- numbers
 -- the sort of a number is one of Pos, Nat and Int
-number_sort : (s : SortId) (z : ℤ) → HasNumber s z → s.0 < 4
+number_sort : (s : SortId) (z : ℤ) → IsNumberIn s z → s.0 < 4
 number_sort s z (inl p) = let n = ap (λ (x : SortId). x.0) p.0 in omega (arith, n)
 number_sort s z (inr (inl p)) = let n = ap (λ (x : SortId). x.0) p.0 in omega (arith, n)
 number_sort s z (inr (inr p)) = let n = ap (λ (x : SortId). x.0) p in omega (arith, n)
 
 -- each of them has its first number
 pub first_has_number : (s : SortId) (z : ℤ) → HasNumber s z → HasNumber s (first_number s)
-first_has_number s z (inl p) = subst (λ (x : SortId). HasNumber x (first_number x)) (sym p.0) (inl (refl, omega arith))
-first_has_number s z (inr (inl p)) = subst (λ (x : SortId). HasNumber x (first_number x)) (sym p.0) (inr (inl (refl, omega arith)))
-first_has_number s z (inr (inr p)) = subst (λ (x : SortId). HasNumber x (first_number x)) (sym p) (inr (inr refl))
+first_has_number s z has = by_sort has.0
+  where
+    by_sort : IsNumberIn s z → HasNumber s (first_number s)
+    by_sort (inl p) = subst (λ (x : SortId). HasNumber x (first_number x)) (sym p.0) (inl (refl, omega arith), omega arith)
+    by_sort (inr (inl p)) = subst (λ (x : SortId). HasNumber x (first_number x)) (sym p.0) (inr (inl (refl, omega arith)), omega arith)
+    by_sort (inr (inr p)) = subst (λ (x : SortId). HasNumber x (first_number x)) (sym p) (inr (inr refl), omega arith)
 
-first_weighs_one : (s : SortId) (z : ℤ) → HasNumber s z → number_weight s (first_number s) ≡ 1
+first_weighs_one : (s : SortId) (z : ℤ) → IsNumberIn s z → number_weight s (first_number s) ≡ 1
 first_weighs_one s z (inl p) = ap (λ (x : SortId). number_weight x (first_number x)) p.0
 first_weighs_one s z (inr (inl p)) = ap (λ (x : SortId). number_weight x (first_number x)) p.0
 first_weighs_one s z (inr (inr p)) = ap (λ (x : SortId). number_weight x (first_number x)) p
@@ -62,7 +65,7 @@ first_number_is_first g s a z first =
     (first.first (a_number s (first_number s)) (refl, first_has_number s z has))
   where
     not_before : ComesBefore g s (a_number a z) (a_number s (first_number s)) → ⊥
-    not_before (lighter l) = let one = first_weighs_one s z first.of_sort.1 in omega (arith, l, one, weighs_some a z)
+    not_before (lighter l) = let one = first_weighs_one s z first.of_sort.1.0 in omega (arith, l, one, weighs_some a z)
 
 -- ---- the table
 module _ (g : Sig) (stands : IsSignature g) (firsts : List (Option First)) (table : AreFirstValues g firsts) where
@@ -79,7 +82,7 @@ module _ (g : Sig) (stands : IsSignature g) (firsts : List (Option First)) (tabl
       subst (IsEntryOf g s) (sym read.2 ∙ at) (table.first s read.0 read.1)
 
   value_within : (s : SortId) (v : ConstructorValue) → IsValueOf g v s → s.0 < length g.sorts
-  value_within s (a_number a z) is = omega (arith, number_sort s z is.1, four_sorts g stands.complete)
+  value_within s (a_number a z) is = omega (arith, number_sort s z is.1.0, four_sorts g stands.complete)
   value_within s (built f vs) is = slice_get_within g.sorts s.0 is.1.0 is.1.1
   value_within s (a_constant d) is = slice_get_within g.sorts s.0 is.1.0 is.1.1
 
@@ -224,7 +227,7 @@ module _ (g : Sig) (stands : IsSignature g) (firsts : List (Option First)) (tabl
       same_tree s t (of_constant at is) (built f vs) first = let e = value_of g stands firsts table s Constant at in let same = first_value_once g s e.0 (built f vs) e.1 first in let wrong : Constant ≡ Constructor f = sym e.2 ∙ ap root_of same in absurd cc
       same_tree s t (of_constant at is) (a_number a z) first = let e = value_of g stands firsts table s Constant at in let same = first_value_once g s e.0 (a_number a z) e.1 first in let wrong : Constant ≡ Number = sym e.2 ∙ ap root_of same in absurd cc
 
-      same_trees : (ss : List SortId) (ts : List Tree) → AreTreesOf fs firsts cs ss ts → (vs : ConstructorValues) → AreFirstOf g vs ss → trees_of ts ≡ trees_with (constant_of cs) vs
+      pub same_trees : (ss : List SortId) (ts : List Tree) → AreTreesOf fs firsts cs ss ts → (vs : ConstructorValues) → AreFirstOf g vs ss → trees_of ts ≡ trees_with (constant_of cs) vs
       same_trees [] [] no_trees no_value first = refl
       same_trees [] [] no_trees (value_then v vs) first = absurd first
       same_trees (s ∷ ss) (t ∷ ts) (tree_then one rest) (value_then v vs) first = λ i. more (same_tree s t one v first.0 i) (same_trees ss ts rest vs first.1 i)

@@ -1,6 +1,6 @@
 -- Merging and putting in keep sorts.
 use Rattle.std.proofs.Common.{◌≡◌, ℕ, zero, suc, ◌<◌, Bool, true, false, ◌==◌, ◌&&◌, ◌||◌, cond, List, [], ◌∷◌, map, take, Some, refl, sym, ap, ◌∙◌, subst, arith, ⊎_elim, inl, inr, ◌⊎◌}
-use Rattle.std.specs.Prelude.{slice_get, ℤ, pos, ◌≤ℤ◌}
+use Rattle.std.specs.Prelude.{◌^◌, slice_get, ℤ, pos, ◌≤ℤ◌}
 use Rattle.std.proofs.lemmas.Int.{ints}
 use Rattle.std.proofs.lemmas.Bool.Decides.{Decides-eqb}
 use Rattle.std.proofs.lemmas.List.Elements.{All-head, All-tail}
@@ -10,12 +10,14 @@ use Rattle.data_theory.specs.declared.ids.SortId.{SortId}
 use Rattle.data_theory.specs.declared.ids.FunId.{FunId}
 use Rattle.data_theory.specs.declared.ids.VarId.{VarId}
 use Rattle.data_theory.specs.declared.ids.TermId.{TermId}
+use Rattle.data_theory.specs.Arithmetic.{magnitude}
 use Rattle.data_theory.specs.Functions.{Function, arguments_of}
 use Rattle.data_theory.specs.Rows.{row_sorts, row_result}
 use Rattle.data_theory.specs.Table.{pos_sort, nat_sort, int_sort, first_rows}
 use Rattle.data_theory.specs.Signature.{Sig}
 use Rattle.data_theory.specs.IdTrees.{Tree, Trees, variable, numeral, function, none, more, trees_of, is_over, is_minus, apply_to_numeral, apply_tree, put_tree, put_trees}
 use Rattle.data_theory.specs.IdTreeSorts.{HasNumber, IsVariableOf, HasTreeSort, HaveTreeSorts}
+use Rattle.data_theory.proofs.Numbers.{magnitude-neg}
 use Rattle.term_pool.specs.declared.terms.Head.{Head}
 use Rattle.term_pool.specs.declared.terms.Head.TheVariants.{Var, Num, Fun}
 use Rattle.term_pool.specs.HeadTrees.{head_tree, tree_at, trees_at}
@@ -37,7 +39,7 @@ either : (b c : Bool) → (b || c) ≡ true → (b ≡ true) ⊎ (c ≡ true)
 either true c e = inl refl
 either false c e = inr e
 
-positive_is_natural : (z : ℤ) → pos 1 ≤ℤ z → pos 0 ≤ℤ z
+pub positive_is_natural : (z : ℤ) → pos 1 ≤ℤ z → pos 0 ≤ℤ z
 positive_is_natural z h = omega (arith, ints, h)
 
 abbrev from_to : SortId → SortId → List SortId × SortId
@@ -65,14 +67,22 @@ module _ (g : Sig) (first : HasFirstFunctions g) where
     has_number : (a : SortId) → arguments_of e ≡ a ∷ [] → (s ≡ a) × HasNumber s z
     has_number a is = (subst (HaveTreeSorts g (more (numeral s z) none)) is fits).0
 
-    as_integer : (n : ℤ) → e.result ≡ int_sort → HasTreeSort g (numeral int_sort n) e.result
-    as_integer n to = (sym to, inr (inr refl))
+    -- the numeral ends where numerals do
+    small : (ss : List SortId) → HaveTreeSorts g (more (numeral s z) none) ss → magnitude z < 2 ^ 128
+    small [] h = absurd h
+    small (a ∷ ss) h = h.0.1.1
+
+    is_small : magnitude z < 2 ^ 128
+    is_small = small (arguments_of e) fits
+
+    as_integer : (n : ℤ) → magnitude n < 2 ^ 128 → e.result ≡ int_sort → HasTreeSort g (numeral int_sort n) e.result
+    as_integer n l to = (sym to, (inr (inr refl), l))
 
     as_natural : (arguments_of e ≡ pos_sort ∷ []) × (e.result ≡ nat_sort) → HasTreeSort g (numeral nat_sort z) e.result
     as_natural is =
         let number = has_number pos_sort is.0 in
         let wrong : s ≡ int_sort → ⊥ = λ other. let numbers : 1 ≡ 3 = ap (λ (a : SortId). a.0) (sym number.0 ∙ other) in omega (arith, numbers) in
-        (sym is.1, inr (inl (refl, ⊎_elim (λ p. positive_is_natural z p.1) (λ others. ⊎_elim (λ n. n.1) (λ other. absurd (wrong other)) others) number.1)))
+        (sym is.1, (inr (inl (refl, ⊎_elim (λ p. positive_is_natural z p.1) (λ others. ⊎_elim (λ n. n.1) (λ other. absurd (wrong other)) others) number.1.0)), number.1.1))
 
     minus_to_integer : is_minus f s ≡ true → e.result ≡ int_sort
     unfolding first_rows
@@ -89,11 +99,11 @@ module _ (g : Sig) (first : HasFirstFunctions g) where
     unfolding first_rows
     keeps_by true c d to_nat to_int to_minus = as_natural (over 3 pos_sort nat_sort (omega arith) refl to_nat)
     keeps_by false true d to_nat to_int to_minus =
-        as_integer z (⊎_elim
+        as_integer z is_small (⊎_elim
         (λ on_nat. (over 4 nat_sort int_sort (omega arith) refl on_nat).1)
         (λ on_pos. (over 5 pos_sort int_sort (omega arith) refl on_pos).1)
         (either (is_over 4 nat_sort f s) (is_over 5 pos_sort f s) to_int))
-    keeps_by false false true to_nat to_int to_minus = as_integer (neg_ℤ z) (minus_to_integer (both (is_minus f s) (lt_z (pos 0) z) to_minus).0)
+    keeps_by false false true to_nat to_int to_minus = as_integer (neg_ℤ z) (subst (λ n. n < 2 ^ 128) (sym (magnitude-neg z)) is_small) (minus_to_integer (both (is_minus f s) (lt_z (pos 0) z) to_minus).0)
     keeps_by false false false to_nat to_int to_minus =
         let written : Tree = function f (more (numeral s z) none) in
         (e, at, refl, fits, λ i. cond (to_nat i) (numeral nat_sort z) (cond (to_int i) (numeral int_sort z) (cond (to_minus i) (numeral int_sort (neg_ℤ z)) written)))
@@ -101,7 +111,7 @@ module _ (g : Sig) (first : HasFirstFunctions g) where
     keeps_over_numeral : HasTreeSort g (apply_to_numeral f s z) e.result
     keeps_over_numeral = keeps_by (is_over 3 pos_sort f s) (is_over 4 nat_sort f s || is_over 5 pos_sort f s) (is_minus f s && lt_z (pos 0) z) refl refl refl
 
-  keeps_merging : (f : FunId) (e : Function) (ts : Trees) → slice_get g.functions f.0 ≡ Some e → HaveTreeSorts g ts (arguments_of e) → HasTreeSort g (apply_tree f ts) e.result
+  pub keeps_merging : (f : FunId) (e : Function) (ts : Trees) → slice_get g.functions f.0 ≡ Some e → HaveTreeSorts g ts (arguments_of e) → HasTreeSort g (apply_tree f ts) e.result
   keeps_merging f e none at fits = (e, at, refl, fits, refl)
   keeps_merging f e (more (numeral s z) none) at fits = keeps_over_numeral f s z e at fits
   keeps_merging f e (more (variable v) none) at fits = (e, at, refl, fits, refl)
@@ -110,25 +120,25 @@ module _ (g : Sig) (first : HasFirstFunctions g) where
   keeps_merging f e (more (variable v) (more t ts)) at fits = (e, at, refl, fits, refl)
   keeps_merging f e (more (function h us) (more t ts)) at fits = (e, at, refl, fits, refl)
 
-  keeps_head : (ts : List Tree) (h : Head) (ids : List TermId) (s : SortId) → HasHeadSort g ts h ids s → HasTreeSort g (head_tree h (trees_at ts ids)) s
+  pub keeps_head : (ts : List Tree) (h : Head) (ids : List TermId) (s : SortId) → HasHeadSort g ts h ids s → HasTreeSort g (head_tree h (trees_at ts ids)) s
   keeps_head ts (Var v) ids s has = has
   keeps_head ts (Num a n) ids s has = has
   keeps_head ts (Fun f) ids s has = subst (HasTreeSort g (apply_tree f (trees_of (trees_at ts ids)))) has.2 (keeps_merging f has.0 (trees_of (trees_at ts ids)) has.1 has.3)
 
   module _ (put : VarId → Tree) (sorted : (v : VarId) (s : SortId) → IsVariableOf g v s → HasTreeSort g (put v) s) where
     mutual
-      keeps_put : (t : Tree) (s : SortId) → HasTreeSort g t s → HasTreeSort g (put_tree put t) s
+      pub keeps_put : (t : Tree) (s : SortId) → HasTreeSort g t s → HasTreeSort g (put_tree put t) s
       keeps_put (variable v) s has = sorted v s has
       keeps_put (numeral a z) s has = has
       keeps_put (function f ts) s has = subst (HasTreeSort g (apply_tree f (put_trees put ts))) has.2 (keeps_merging f has.0 (put_trees put ts) has.1 (keep_put ts (arguments_of has.0) has.3))
 
-      keep_put : (ts : Trees) (ss : List SortId) → HaveTreeSorts g ts ss → HaveTreeSorts g (put_trees put ts) ss
+      pub keep_put : (ts : Trees) (ss : List SortId) → HaveTreeSorts g ts ss → HaveTreeSorts g (put_trees put ts) ss
       keep_put none [] have = have
       keep_put none (s ∷ ss) have = absurd have
       keep_put (more t ts) [] have = absurd have
       keep_put (more t ts) (s ∷ ss) have = (keeps_put t s have.0, keep_put ts ss have.1)
 
-  listed_sorted : (ts : List Tree) (by : List (VarId × TermId)) → HaveVariableSorts g ts by → (v : VarId) (s : SortId) → IsVariableOf g v s → HasTreeSort g (listed ts by v) s
+  pub listed_sorted : (ts : List Tree) (by : List (VarId × TermId)) → HaveVariableSorts g ts by → (v : VarId) (s : SortId) → IsVariableOf g v s → HasTreeSort g (listed ts by v) s
   listed_sorted ts [] have v s is = is
   listed_sorted ts (p ∷ ps) have v s is = sorted_by (p.0.0 == v.0) refl
       (All-head (λ q. (a : SortId) → IsVariableOf g q.0 a → HasTreeSort g (tree_at ts q.1) a) p ps have)

@@ -1,27 +1,29 @@
-mod NodeTrees
-mod SameNodes
-mod NewNodes
-mod Entered
-mod OneArgument
-mod Lists
-mod ArgumentTrees
-mod OpenTerms
-mod PutTrees
-mod InsertedTerms
-mod Filling
-mod KeptSorts
+pub mod NodeTrees
+pub mod SameNodes
+pub mod NewNodes
+pub mod Entered
+pub mod OneArgument
+pub mod Lists
+pub mod ArgumentTrees
+pub mod OpenTerms
+pub mod PutTrees
+pub mod InsertedTerms
+pub mod Filling
+pub mod KeptSorts
 pub mod FirstValueLemmas
 pub mod DigitLemmas
-mod DeclaredConstants
-mod SortSearch
-mod FirstTermLemmas
+pub mod DeclaredConstants
+pub mod SortSearch
+pub mod FirstTermLemmas
+pub mod SortedFirstTerms
 pub mod Candidates
 pub mod FirstTables
 pub mod FirstLoops
 pub mod ConstructorPlaces
-mod MadeTerms
-mod ConstructorTrees
-mod NeededConstants
+pub mod MadeTerms
+pub mod ConstructorTrees
+pub mod NeededConstants
 pub mod FirstValueGrowth
-mod EmptyPools
-mod EntryValues
+pub mod EmptyPools
+pub mod EntryValues
+pub mod GrownSignatures

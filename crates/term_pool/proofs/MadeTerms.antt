@@ -18,7 +18,7 @@ use Rattle.data_theory.specs.IdTrees.{Tree}
 use Rattle.term_pool.specs.declared.first_values.First.{First}
 use Rattle.term_pool.specs.declared.first_values.Root.TheVariants.{Constructor}
 use Rattle.term_pool.specs.HeadTrees.{tree_at, trees_at, IsIn, AreIn}
-use Rattle.term_pool.specs.Pools.{Terms, Extends}
+use Rattle.term_pool.specs.Pools.{PoolContents, Extends}
 use Rattle.term_pool.specs.Constants.{constant_of}
 use Rattle.term_pool.specs.FirstTerms.{HasRootAt, function_arguments, sorts_under, IsOrdered, IsReady, IsTreeOf, AreTreesOf, no_trees, tree_then, made_for, HasTerm}
 use Rattle.term_pool.proofs.NodeTrees.{extends_itself, extends_on, stays_in, tree_kept}
@@ -87,14 +87,14 @@ module _ {S : Type 0} (fs : List Function) (firsts : List (Option First)) (ts : 
 
 -- ---- while the terms are made
 -- those in front of the rest have theirs
-pub record IsMaking {S : Type 0} (fs : List Function) (firsts : List (Option First)) (old now : Terms) (sorts rest : List SortId) (made : HashMap SortId TermId S) : Type 0 where
+pub record IsMaking {S : Type 0} (fs : List Function) (firsts : List (Option First)) (old now : PoolContents) (sorts rest : List SortId) (made : HashMap SortId TermId S) : Type 0 where
   pub done : List SortId
   pub split : sorts ≡ done ++ rest
   pub terms : All (HasTerm fs firsts now.trees now.constants made) done
   pub kept : Extends old.trees now.trees
   pub constants : now.constants ≡ old.constants
 
-pub making_none : {S : Type 0} (fs : List Function) (firsts : List (Option First)) (old : Terms) (sorts rest : List SortId) (made : HashMap SortId TermId S) → rest ≡ sorts → IsMaking fs firsts old old sorts rest made
+pub making_none : {S : Type 0} (fs : List Function) (firsts : List (Option First)) (old : PoolContents) (sorts rest : List SortId) (made : HashMap SortId TermId S) → rest ≡ sorts → IsMaking fs firsts old old sorts rest made
 making_none fs firsts old sorts rest made same = record {
   done = [];
   split = sym same;
@@ -103,12 +103,12 @@ making_none fs firsts old sorts rest made same = record {
   constants = refl;
 }
 
-pub making_all : {S : Type 0} (fs : List Function) (firsts : List (Option First)) (old now : Terms) (sorts rest : List SortId) (made : HashMap SortId TermId S) → rest ≡ [] → IsMaking fs firsts old now sorts rest made → All (HasTerm fs firsts now.trees now.constants made) sorts
+pub making_all : {S : Type 0} (fs : List Function) (firsts : List (Option First)) (old now : PoolContents) (sorts rest : List SortId) (made : HashMap SortId TermId S) → rest ≡ [] → IsMaking fs firsts old now sorts rest made → All (HasTerm fs firsts now.trees now.constants made) sorts
 making_all fs firsts old now sorts rest made none is =
     let all : sorts ≡ is.done = is.split ∙ (ap (λ l. is.done ++ l) none ∙ append-nil is.done) in
     subst (All (HasTerm fs firsts now.trees now.constants made)) (sym all) is.terms
 
-module _ {S : Type 0} (fs : List Function) (firsts : List (Option First)) (old now : Terms) (sorts ids rest : List SortId) (next : SortId) (made : HashMap SortId TermId S) (step : ids ≡ next ∷ rest) (is : IsMaking fs firsts old now sorts ids made) where
+module _ {S : Type 0} (fs : List Function) (firsts : List (Option First)) (old now : PoolContents) (sorts ids rest : List SortId) (next : SortId) (made : HashMap SortId TermId S) (step : ids ≡ next ∷ rest) (is : IsMaking fs firsts old now sorts ids made) where
   whole : sorts ≡ is.done ++ next ∷ rest
   whole = is.split ∙ ap (λ l. is.done ++ l) step
 
@@ -126,7 +126,7 @@ module _ {S : Type 0} (fs : List Function) (firsts : List (Option First)) (old n
       All-weaker (Contains is.done) (HasTerm fs firsts now.trees now.constants made) (λ s has. All-contains (HasTerm fs firsts now.trees now.constants made) is.done s is.terms has) (sorts_under fs firsts next)
       (subst (λ l. All (Contains l) (sorts_under fs firsts next)) front (ordered (length is.done) next at))
 
-  module _ (new : Terms) (term : TermId) (later : HashMap SortId TermId S) (grows : Extends now.trees new.trees) (same : new.constants ≡ now.constants) (within : IsIn new.trees term) (tree : IsTreeOf fs firsts now.constants next (tree_at new.trees term))
+  module _ (new : PoolContents) (term : TermId) (later : HashMap SortId TermId S) (grows : Extends now.trees new.trees) (same : new.constants ≡ now.constants) (within : IsIn new.trees term) (tree : IsTreeOf fs firsts now.constants next (tree_at new.trees term))
       (updated : (q : SortId) → made_for later q ≡ cond (next.0 == q.0) (Some term) (made_for made q)) where
     pub making_more : IsMaking fs firsts old new sorts rest later
     making_more =

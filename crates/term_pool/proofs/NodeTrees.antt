@@ -46,11 +46,11 @@ trees_kept old new (id ∷ ids) e h =
     λ i. a i ∷ b i
 
 -- ---- what stands at a node's number
-trees_front : (ts : List Tree) (ns : List Node) → Extends ts (trees_after ts ns)
+pub trees_front : (ts : List Tree) (ns : List Node) → Extends ts (trees_after ts ns)
 trees_front ts [] = extends_itself ts
 trees_front ts (m ∷ ns) = extends_on ts (ts ++ node_tree ts m ∷ []) _ (node_tree ts m ∷ [], refl) (trees_front (ts ++ node_tree ts m ∷ []) ns)
 
-first_tree : (ts : List Tree) (m : Node) (ns : List Node) → AreIn ts m.args.items → get_or (trees_after ts (m ∷ ns)) (length ts) no_tree ≡ node_tree (trees_after ts (m ∷ ns)) m
+pub first_tree : (ts : List Tree) (m : Node) (ns : List Node) → AreIn ts m.args.items → get_or (trees_after ts (m ∷ ns)) (length ts) no_tree ≡ node_tree (trees_after ts (m ∷ ns)) m
 first_tree ts m ns before =
     let next = ts ++ node_tree ts m ∷ [] in
     let new = trees_after next ns in
@@ -58,7 +58,7 @@ first_tree ts m ns before =
     let here : get_or new (length ts) no_tree ≡ get_or next (length ts) no_tree = tree_kept next new (record { 0 = length ts }) (trees_front next ns) within in
     here ∙ (get_or_push ts (node_tree ts m) no_tree (length ts) refl ∙ ap (written_tree m.head) (sym (trees_kept ts new m.args.items (trees_front ts (m ∷ ns)) before)))
 
-tree_of : (ts : List Tree) (ns : List Node) (k : ℕ) (n : Node) → slice_get ns k ≡ Some n → All (λ (id : TermId). id.0 < length ts + k) n.args.items → get_or (trees_after ts ns) (length ts + k) no_tree ≡ node_tree (trees_after ts ns) n
+pub tree_of : (ts : List Tree) (ns : List Node) (k : ℕ) (n : Node) → slice_get ns k ≡ Some n → All (λ (id : TermId). id.0 < length ts + k) n.args.items → get_or (trees_after ts ns) (length ts + k) no_tree ≡ node_tree (trees_after ts ns) n
 tree_of ts [] k n at before = cc
 tree_of ts (m ∷ ns) zero n at before =
     let same : m ≡ n = cc in
@@ -78,7 +78,7 @@ pub record IsNodeAt (ts : List Tree) (k : ℕ) (n : Node) : Type 0 where
   pub before : AreIn ts n.args.items
   pub node : IsNode ts k n
 
-node_in : (ns : List Node) (k : ℕ) (n : Node) → IsPool ns → slice_get ns k ≡ Some n → IsNodeAt (trees_of_nodes ns) k n
+pub node_in : (ns : List Node) (k : ℕ) (n : Node) → IsPool ns → slice_get ns k ≡ Some n → IsNodeAt (trees_of_nodes ns) k n
 node_in ns k n p at =
     let node = p.nodes k n at in
     let within : k < length (trees_of_nodes ns) = omega (arith, trees_length [] ns, slice_get_within ns k n at) in

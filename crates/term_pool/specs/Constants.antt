@@ -54,6 +54,10 @@ pub record AreConstants (g : Sig) (cs : List (SortId × FunId)) : Type 0 where
   pub each : All (λ (c : SortId × FunId). IsConstantOf g c.0 c.1) cs
   pub once : HaveOnePlace (map (λ (c : SortId × FunId). c.0) cs)
 
+-- the old constants stay, and others come behind them
+abbrev pub KeepsConstants : List (SortId × FunId) → List (SortId × FunId) → Type 0
+KeepsConstants old new = (more : List (SortId × FunId)) × (new ≡ old ++ more)
+
 -- ---- declaring constants
 -- all sorts of a signature, in the order of their numbers
 abbrev pub all_sorts : Sig → List SortId

@@ -10,3 +10,4 @@ pub mod Weights
 pub mod FirstValues
 pub mod Constants
 pub mod FirstTerms
+pub mod GrowthLaws

@@ -9,7 +9,7 @@ use Rattle.term_pool.specs.declared.terms.Node.{Node}
 use Rattle.term_pool.specs.HeadTrees.{written_tree, head_tree, Stands, no_tree, trees_at}
 
 -- what a pool holds: its trees by their numbers, and the constants that it declared, each with its sort
-pub record Terms : Type 0 where
+pub record PoolContents : Type 0 where
   pub trees : List Tree
   pub constants : List (SortId × FunId)
 

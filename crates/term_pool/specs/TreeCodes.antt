@@ -7,7 +7,7 @@ use Rattle.data_theory.specs.declared.ids.VarId.{VarId}
 use Rattle.data_theory.specs.declared.ids.SortId.{SortId}
 use Rattle.data_theory.specs.declared.ids.FunId.{FunId}
 use Rattle.data_theory.specs.IdTrees.{Tree, Trees, variable, numeral, function, none, more}
-use Rattle.term_pool.specs.Pools.{Terms}
+use Rattle.term_pool.specs.Pools.{PoolContents}
 
 mutual
   pub code_tree : Tree → Gv
@@ -66,6 +66,6 @@ coded_sort = code_by ℕ coded_ℕ (λ s. s.0) (λ n. record { 0 = n }) (λ _. r
 abbrev pub coded_fun : Coded FunId
 coded_fun = code_by ℕ coded_ℕ (λ f. f.0) (λ n. record { 0 = n }) (λ _. refl)
 
-abbrev pub coded_terms : Coded Terms
-coded_terms =
+abbrev pub coded_contents : Coded PoolContents
+coded_contents =
     code_by (List Tree × List (SortId × FunId)) (coded× (coded_list coded_tree) (coded_list (coded× coded_sort coded_fun))) (λ t. (t.trees, t.constants)) (λ p. record { trees = p.0; constants = p.1 }) (λ _. refl)

@@ -8,6 +8,7 @@
 mod bindings;
 pub mod first_value_laws;
 mod first_values;
+pub mod growth;
 pub mod laws;
 mod merging;
 mod pool;

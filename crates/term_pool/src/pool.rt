@@ -20,12 +20,12 @@ pub struct Pool {
 }
 
 impl Model for Pool {
-    ghost use Rattle.term_pool.specs.Pools.{Terms};
-    ghost use Rattle.term_pool.specs.TreeCodes.{coded_terms};
+    ghost use Rattle.term_pool.specs.Pools.{PoolContents};
+    ghost use Rattle.term_pool.specs.TreeCodes.{coded_contents};
 
-    ghost Value = { Terms };
+    ghost Value = { PoolContents };
 
-    ghost coded = { coded_terms };
+    ghost coded = { coded_contents };
 
     ghost use Rattle.term_pool.specs.Pools.{trees_of_nodes, IsPool};
 

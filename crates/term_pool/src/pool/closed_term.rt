@@ -7,14 +7,14 @@ ghost use Rattle.data_theory.specs.declared.ids.TermId.{TermId};
 ghost use Rattle.data_theory.specs.Sorts.{IsBare};
 ghost use Rattle.data_theory.specs.Whole.{whole_of};
 ghost use Rattle.data_theory.specs.IdTerms.{IsGrown};
-ghost use Rattle.data_theory.specs.IdTreeSorts.{HasNumber};
+ghost use Rattle.data_theory.specs.IdTreeSorts.{HasNumber, HasTreeSort};
 ghost use Rattle.data_theory.specs.WholeSignatures.{IsSignature};
 ghost use Rattle.term_pool.specs.HeadTrees.{tree_at, trees_at, IsIn, AreIn};
 ghost use Rattle.term_pool.specs.Pools.{Extends};
-ghost use Rattle.term_pool.specs.ConstructorValues.{ConstructorValue, HasValue, IsFirstValue};
+ghost use Rattle.term_pool.specs.ConstructorValues.{ConstructorValue, ConstructorsGiveTheirSorts, HasValue, IsFirstValue};
 ghost use Rattle.term_pool.specs.FirstValues.{AreFirstValues};
 ghost use Rattle.term_pool.specs.FirstTerms.{HasEntry, HasRootAt, IsRootWithin, root_arguments, sorts_under, AreSortsWithin, lacks_constant, is_in_need, first_number, IsOrdered, IsReady, IsTreeOf, made_for, HasTerm};
-ghost use Rattle.term_pool.specs.Constants.{tree_with, constant_of, is_listed, AreConstants, all_sorts, sorts_in_need, DeclaresConstant, DeclaresConstants};
+ghost use Rattle.term_pool.specs.Constants.{tree_with, constant_of, is_listed, AreConstants, KeepsConstants, all_sorts, sorts_in_need, DeclaresConstant, DeclaresConstants};
 
 use super::Pool;
 use crate::first_values::{First, Root, first_values};
@@ -145,6 +145,7 @@ impl Pool {
         requires { AreConstants sig.old self.old.constants }
         ensures declared { OnOk result (DeclaresConstants (filter (is_in_need sig.old.sorts self.old.constants sorts.now.keys) (all_sorts sig.old)) sig.old self.old.constants sig.new self.new.constants) }
         ensures constants { AreConstants sig.new self.new.constants }
+        ensures kept { KeepsConstants self.old.constants self.new.constants }
         ensures trees { self.new.trees ≡ self.old.trees }
         ensures grown { IsGrown sig.old sig.new }
     {
@@ -214,7 +215,7 @@ impl Pool {
     /// stand in the value and aren't there yet are declared, in the order of their sorts: maps without arguments, whose names
     /// are the fresh ones to `dc_` with the sort's name behind it.
     ///
-    /// After `NoMemory` the pool and the signature may have got some of this.
+    /// After `NoMemory` the pool and the signature may have got some of this. The old terms and constants stay, then too.
     pub fn closed_term(&mut self, sig: &mut Signature, sort: SortId) -> Result<TermId, NoMemory>
         requires inhabited { HasValue sig.old sort }
         requires constants { AreConstants sig.old self.old.constants }
@@ -222,8 +223,10 @@ impl Pool {
         ensures first { IfOk result (λ id. (v : ConstructorValue) → IsFirstValue sig.old sort v → tree_at self.new.trees id ≡ tree_with (constant_of self.new.constants) v) }
         ensures declared { OnOk result ((v : ConstructorValue) → IsFirstValue sig.old sort v → DeclaresConstants (sorts_in_need sig.old self.old.constants v) sig.old self.old.constants sig.new self.new.constants) }
         ensures within { IfOk result (λ id. IsIn self.new.trees id) }
+        ensures sorted { IfOk result (λ id. ConstructorsGiveTheirSorts sig.old → HasTreeSort sig.new (tree_at self.new.trees id) sort) }
         ensures kept { Extends self.old.trees self.new.trees }
         ensures constants { AreConstants sig.new self.new.constants }
+        ensures constants_kept { KeepsConstants self.old.constants self.new.constants }
         ensures grown { IsGrown sig.old sig.new }
     {
         let firsts = first_values(self.alloc, sig)?;

@@ -1,21 +1,30 @@
-use Rattle.std.proofs.Common.{◌≡◌, List, Option, Some, sym, ◌∙◌, subst}
+use Rattle.std.proofs.Common.{◌≡◌, List, length, Option, Some, sym, ◌∙◌, subst}
+use Rattle.std.specs.List.{All}
 use Rattle.std.proofs.lemmas.List.Elements.{All-contains}
+use Rattle.data_theory.specs.IdTreeSorts.{HasTreeSort}
 use Rattle.data_theory.specs.declared.ids.SortId.{SortId}
 use Rattle.data_theory.specs.declared.ids.FunId.{FunId}
 use Rattle.data_theory.specs.declared.ids.TermId.{TermId}
 use Rattle.term_pool.specs.declared.first_values.First.{First}
 use Rattle.term_pool.specs.HeadTrees.{tree_at, IsIn}
 use Rattle.term_pool.specs.FirstValues.{AreFirstValues}
-use Rattle.term_pool.specs.FirstTerms.{HasTerm, AreSortsWithin}
-use Rattle.term_pool.specs.Constants.{tree_with, constant_of, sorts_in_need, DeclaresConstants}
-use Rattle.term_pool.proofs.DeclaredConstants.{grown_itself, function_stays}
+use Rattle.term_pool.specs.FirstTerms.{HasTerm, IsReady, AreSortsWithin}
+use Rattle.term_pool.specs.Constants.{tree_with, constant_of, AreConstants, sorts_in_need, DeclaresConstants}
+use Rattle.term_pool.proofs.DeclaredConstants.{grown_itself, constants_kept, function_stays}
 use Rattle.term_pool.proofs.FirstTermLemmas.{has_entry, some_entry, entry_is, same_tree}
+use Rattle.term_pool.proofs.SortedFirstTerms.{tree_sorted}
 use Rattle.term_pool.proofs.NeededConstants.{needs_same, still_ordered, all_ready}
 use Rattle.term_pool.proofs.pool.Pool.closed_term.Goals as goal
 use Rattle.term_pool.proofs.pool.Pool.closed_term.Goals.{After-sorts-3-1, After-drop-firsts-2}
 
 pub returns-in_err-firsts-clause-grown : goal.returns-in_err-firsts-clause-grown
 returns-in_err-firsts-clause-grown c = grown_itself c.args.sig.now
+
+pub returns-in_err-firsts-clause-constants_kept : goal.returns-in_err-firsts-clause-constants_kept
+returns-in_err-firsts-clause-constants_kept c = constants_kept c.args.self.now.constants
+
+pub returns-in_err-sorts-clause-constants_kept : goal.returns-in_err-sorts-clause-constants_kept
+returns-in_err-sorts-clause-constants_kept c = constants_kept c.args.self.now.constants
 
 pub returns-in_err-sorts-clause-grown : goal.returns-in_err-sorts-clause-grown
 returns-in_err-sorts-clause-grown c = grown_itself c.args.sig.now
@@ -71,3 +80,20 @@ returns-clause-declared c =
 
 pub returns-clause-within : goal.returns-clause-within
 returns-clause-within c = subst (IsIn c.first_terms.new.self.trees) (same_term c) (made c).within
+
+pub returns-clause-sorted : goal.returns-clause-sorted
+returns-clause-sorted c =
+    let before = (goal.at.returns-clause-sorted c).After-sorts-3-1 in
+    let g = c.args.sig.now in
+    let h = c.declare_constants.new.sig in
+    let firsts = c.as_slice-2.result.now in
+    let stands = c.in_ok-firsts.ensures.stands in
+    let constants = c.first_terms.new.self.constants in
+    let grown = c.declare_constants.ensures.grown in
+    let sorts = c.in_ok-sorts.sorts.keys in
+    let are = subst (AreConstants h) (sym c.first_terms.ensures.constants) c.declare_constants.ensures.constants in
+    let ready = subst (λ (cs : List (SortId × FunId)). All (IsReady (length h.functions) firsts cs) sorts) (sym c.first_terms.ensures.constants)
+    (all_ready g stands firsts (table before) h grown c.args.sort sorts c.args.self.now.constants c.declare_constants.new.self.constants (within before) c.in_ok-declare_constants.ensures.declared) in
+    let ordered = still_ordered g stands firsts (table before) h grown c.args.sort sorts (within before) in
+    λ gives. subst (λ (id : TermId). HasTreeSort h (tree_at c.first_terms.new.self.trees id) c.args.sort) (same_term c)
+    (tree_sorted g h stands gives grown firsts (table before) constants are sorts ready ordered c.args.sort _ (within before).has_sort (made c).is)

@@ -8,7 +8,7 @@ use Rattle.data_theory.specs.IdTreeSorts.{HasNumber}
 use Rattle.data_theory.specs.IdTrees.{numeral, function, none, trees_of, apply_tree}
 use Rattle.term_pool.specs.declared.first_values.Root.TheVariants.{Number, Constructor, Constant}
 use Rattle.term_pool.specs.HeadTrees.{trees_at, AreIn}
-use Rattle.term_pool.specs.Pools.{Terms}
+use Rattle.term_pool.specs.Pools.{PoolContents}
 use Rattle.term_pool.specs.Constants.{is_listed}
 use Rattle.term_pool.specs.FirstTerms.{HasTerm, AreTreesOf, of_number, of_constructor, of_constant, function_arguments}
 use Rattle.term_pool.proofs.MadeTerms.{under_read, args_read, have_terms, args_made, constant_read}
@@ -37,7 +37,7 @@ pub intern-requires-in-Constructor-clause-within : goal.intern-requires-in-Const
 intern-requires-in-Constructor-clause-within c = subst (AreIn c.args.self.now.trees) (sym c.as_slice.ensures.value) (trees c).0
 
 pub index-constant-requires : goal.index-constant-requires
-index-constant-requires c = ap (λ (t : Terms). is_listed t.constants c.args.sort) c.self-in-Constant.view_is ∙ c.requires.ready.root Constant c.in-Constant.ensures
+index-constant-requires c = ap (λ (t : PoolContents). is_listed t.constants c.args.sort) c.self-in-Constant.view_is ∙ c.requires.ready.root Constant c.in-Constant.ensures
 
 pub returns-in-Number-clause-tree : goal.returns-in-Number-clause-tree
 returns-in-Number-clause-tree c = IfOk-weaker c.intern.result _ _ (λ id e. of_number c.in-Number.ensures (e ∙ ap (numeral c.args.sort) c.numeral_of.ensures)) c.intern.ensures.tree
@@ -55,7 +55,7 @@ returns-in_ok-args-in-Constructor-clause-tree c =
 
 pub returns-in-Constant-clause-tree : goal.returns-in-Constant-clause-tree
 returns-in-Constant-clause-tree c =
-    let found : lookup (λ (e : SortId). c.args.sort.0 == e.0) c.args.self.now.constants ≡ Some c.index-constant.result.now = ap (λ (t : Terms). lookup (λ (e : SortId). c.args.sort.0 == e.0) t.constants) (sym c.self-in-Constant.view_is) ∙ c.index-constant.ensures in
+    let found : lookup (λ (e : SortId). c.args.sort.0 == e.0) c.args.self.now.constants ≡ Some c.index-constant.result.now = ap (λ (t : PoolContents). lookup (λ (e : SortId). c.args.sort.0 == e.0) t.constants) (sym c.self-in-Constant.view_is) ∙ c.index-constant.ensures in
     IfOk-weaker c.intern-in-Constant.result _ _
     (λ id e. of_constant c.in-Constant.ensures (e ∙ ap (λ f. function f none) (sym (constant_read c.args.self.now.constants c.args.sort c.index-constant.result.now found))))
     c.intern-in-Constant.ensures.tree
