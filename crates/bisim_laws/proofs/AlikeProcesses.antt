@@ -1,16 +1,16 @@
 -- Processes that are the same answer each other's steps.
-use Rattle.std.proofs.Common.{◌≡◌, ℕ, List, ap, subst, Some}
+use Rattle.std.proofs.Common.{◌≡◌, ℕ, List, ◌++◌, ap, subst, append_assoc, Some}
 use Rattle.std.specs.Prelude.{slice_get}
 use Rattle.data_theory.specs.Environments.{bound}
 use Rattle.data_theory.specs.Terms.{Sort, Term}
 use Rattle.data_theory.specs.Provable.{reflexive, symmetric, transitive}
 use Rattle.process_terms.specs.Theories.{Theory}
-use Rattle.process_terms.specs.Labels.{Label}
+use Rattle.process_terms.specs.Labels.{Label, AgreeInOrder}
 use Rattle.process_terms.specs.Processes.{Around, Table, Process, delta, act, choice, seq, cond, sum, call, merge, around, Definition, close, BodyOf, the_body}
 use Rattle.process_terms.specs.Steps.{Outcome, ended, goes_on, before, beside, within, Step, by_act, by_left, by_right, by_seq, by_true, by_false, by_sum, by_call, by_left_alone, by_right_alone, by_both, by_around}
 use Rattle.process_terms.proofs.AgreeingLabels.{equals_refl, equals_sym, agree_refl, agree_sym, agree_trans, agree_append}
 use Rattle.process_terms.proofs.OperatorLemmas.{passes_along}
-use Rattle.bisim_laws.specs.Sameness.{EqualData, equal_delta, equal_act, equal_choice, equal_seq, equal_cond, equal_sum, equal_call, equal_merge, equal_around, Alike, by_data, by_body, turned, joined_up, seq_regrouped, alike_choice, alike_seq, alike_cond, alike_sum, alike_merge, alike_around}
+use Rattle.bisim_laws.specs.Sameness.{EqualData, equal_delta, equal_act, equal_choice, equal_seq, equal_cond, equal_sum, equal_call, equal_merge, equal_around, Alike, by_data, by_body, turned, joined_up, seq_regrouped, merge_regrouped, alike_choice, alike_seq, alike_cond, alike_sum, alike_merge, alike_around}
 use Rattle.bisim_laws.specs.Bisimulations.{Lands, both_end, both_go_on, Answer, Bisimulation}
 use Rattle.bisim_laws.proofs.PuttingEqualData.{bodies_equal, tables_refl, tables_sym}
 
@@ -182,12 +182,58 @@ seq_to_right {th} q r m _ (by_seq (by_seq {r = o} s)) = record { label = m; outc
 seq_to_left : {th : Theory} {p : Process} (q r : Process) → AnswersAlike th (seq p (seq q r)) (seq (seq p q) r)
 seq_to_left {th} q r m _ (by_seq {r = o} s) = record { label = m; outcome = before (before o q) r; step = by_seq (by_seq s); agree = agree_refl th m; lands = lands_turned (before_regrouped th q r o) }
 
+beside_regrouped : (th : Theory) (o o' o'' : Outcome) → Lands (Alike th) (beside (beside o o') o'') (beside o (beside o' o''))
+beside_regrouped th ended ended ended = both_end
+beside_regrouped th ended ended (goes_on r) = lands_refl th (goes_on r)
+beside_regrouped th ended (goes_on q) ended = lands_refl th (goes_on q)
+beside_regrouped th ended (goes_on q) (goes_on r) = lands_refl th (goes_on (merge q r))
+beside_regrouped th (goes_on p) ended ended = lands_refl th (goes_on p)
+beside_regrouped th (goes_on p) ended (goes_on r) = lands_refl th (goes_on (merge p r))
+beside_regrouped th (goes_on p) (goes_on q) ended = lands_refl th (goes_on (merge p q))
+beside_regrouped th (goes_on p) (goes_on q) (goes_on r) = both_go_on merge_regrouped
+
+labels_regrouped : (th : Theory) (l m n : Label) → AgreeInOrder th ((l ++ m) ++ n) (l ++ (m ++ n))
+labels_regrouped th l m n = subst (λ k. AgreeInOrder th ((l ++ m) ++ n) k) (append_assoc l m n) (agree_refl th ((l ++ m) ++ n))
+
+merge_to_right : {th : Theory} (p q r : Process) → AnswersAlike th (merge (merge p q) r) (merge p (merge q r))
+merge_to_right {th} p q r m _ (by_left_alone (by_left_alone {r = o} s)) =
+    record { label = m; outcome = _; step = by_left_alone s; agree = agree_refl th m; lands = beside_regrouped th o (goes_on q) (goes_on r) }
+merge_to_right {th} p q r m _ (by_left_alone (by_right_alone {r = o} s)) =
+    record { label = m; outcome = _; step = by_right_alone (by_left_alone s); agree = agree_refl th m; lands = beside_regrouped th (goes_on p) o (goes_on r) }
+merge_to_right {th} p q r m _ (by_left_alone (by_both {r = o} {s = o'} s t)) =
+    record { label = m; outcome = _; step = by_both s (by_left_alone t); agree = agree_refl th m; lands = beside_regrouped th o o' (goes_on r) }
+merge_to_right {th} p q r m _ (by_right_alone {r = o} s) =
+    record { label = m; outcome = _; step = by_right_alone (by_right_alone s); agree = agree_refl th m; lands = beside_regrouped th (goes_on p) (goes_on q) o }
+merge_to_right {th} p q r m _ (by_both {s = o'} (by_left_alone {r = o} s) t) =
+    record { label = m; outcome = _; step = by_both s (by_right_alone t); agree = agree_refl th m; lands = beside_regrouped th o (goes_on q) o' }
+merge_to_right {th} p q r m _ (by_both {s = o'} (by_right_alone {r = o} s) t) =
+    record { label = m; outcome = _; step = by_right_alone (by_both s t); agree = agree_refl th m; lands = beside_regrouped th (goes_on p) o o' }
+merge_to_right {th} p q r _ _ (by_both {n = n} {s = o''} (by_both {m = l} {n = k} {r = o} {s = o'} s t) u) =
+    record { label = _; outcome = _; step = by_both s (by_both t u); agree = labels_regrouped th l k n; lands = beside_regrouped th o o' o'' }
+
+merge_to_left : {th : Theory} (p q r : Process) → AnswersAlike th (merge p (merge q r)) (merge (merge p q) r)
+merge_to_left {th} p q r m _ (by_left_alone {r = o} s) =
+    record { label = m; outcome = _; step = by_left_alone (by_left_alone s); agree = agree_refl th m; lands = lands_turned (beside_regrouped th o (goes_on q) (goes_on r)) }
+merge_to_left {th} p q r m _ (by_right_alone (by_left_alone {r = o} s)) =
+    record { label = m; outcome = _; step = by_left_alone (by_right_alone s); agree = agree_refl th m; lands = lands_turned (beside_regrouped th (goes_on p) o (goes_on r)) }
+merge_to_left {th} p q r m _ (by_right_alone (by_right_alone {r = o} s)) =
+    record { label = m; outcome = _; step = by_right_alone s; agree = agree_refl th m; lands = lands_turned (beside_regrouped th (goes_on p) (goes_on q) o) }
+merge_to_left {th} p q r m _ (by_right_alone (by_both {r = o} {s = o'} s t)) =
+    record { label = m; outcome = _; step = by_both (by_right_alone s) t; agree = agree_refl th m; lands = lands_turned (beside_regrouped th (goes_on p) o o') }
+merge_to_left {th} p q r m _ (by_both {r = o} s (by_left_alone {r = o'} t)) =
+    record { label = m; outcome = _; step = by_left_alone (by_both s t); agree = agree_refl th m; lands = lands_turned (beside_regrouped th o o' (goes_on r)) }
+merge_to_left {th} p q r m _ (by_both {r = o} s (by_right_alone {r = o'} t)) =
+    record { label = m; outcome = _; step = by_both (by_left_alone s) t; agree = agree_refl th m; lands = lands_turned (beside_regrouped th o (goes_on q) o') }
+merge_to_left {th} p q r _ _ (by_both {m = l} {r = o} s (by_both {m = k} {n = n} {r = o'} {s = o''} t u)) =
+    record { label = _; outcome = _; step = by_both (by_both s t) u; agree = agree_sym (labels_regrouped th l k n); lands = lands_turned (beside_regrouped th o o' o'') }
+
 mutual_of : {th : Theory} {p q : Process} → Alike th p q → Mutual th p q
 mutual_of (by_data h) = record { forth = through_data h; back = through_data (data_sym h) }
 mutual_of (by_body b) = record { forth = into_body b; back = out_of_body b }
 mutual_of (turned h) = let a = mutual_of h in record { forth = a.back; back = a.forth }
 mutual_of (joined_up h k) = let a = mutual_of h in let b = mutual_of k in record { forth = through_both a.forth b.forth; back = through_both b.back a.back }
 mutual_of (seq_regrouped {q = q} {r = r}) = record { forth = seq_to_right q r; back = seq_to_left q r }
+mutual_of (merge_regrouped {p = p} {q = q} {r = r}) = record { forth = merge_to_right p q r; back = merge_to_left p q r }
 mutual_of (alike_choice h k) = let a = mutual_of h in let b = mutual_of k in record { forth = through_choice a.forth b.forth; back = through_choice a.back b.back }
 mutual_of (alike_seq h k) = let a = mutual_of h in record { forth = through_seq a.forth k; back = through_seq a.back (turned k) }
 mutual_of (alike_cond h k) = let a = mutual_of h in let b = mutual_of k in record { forth = through_cond a.forth b.forth; back = through_cond a.back b.back }
