@@ -1,0 +1,3 @@
+pub mod FormFiring
+pub mod TailLemmas
+pub mod StayingForms

@@ -1,0 +1,5 @@
+pub mod Forms
+pub mod PlainForms
+pub mod Tails
+pub mod FormLaws
+pub mod FittingForms

@@ -1,0 +1,11 @@
+pub mod Conditions
+pub mod Columns
+pub mod Moving
+pub mod Progressing
+pub mod PlainLinears
+pub mod GoingOn
+pub mod Fitting
+pub mod TreeSummands
+pub mod TreeConditions
+pub mod MeantConditions
+pub mod Naming

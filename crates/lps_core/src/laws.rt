@@ -1,0 +1,44 @@
+//! Laws of linear processes. The functions do nothing: each contract is a law.
+
+ghost use Rattle.lps_core.specs.Conditions.{JoinedConditionsAreConditions, JoinedConditionsAreOver, JoinedConditionsAreSorted, JoinedConditionsAreTrue};
+
+/// A chain of conditions.
+pub fn conditions_join()
+    ensures holds { JoinedConditionsAreTrue }
+    ensures conditions { JoinedConditionsAreConditions }
+    ensures sorted { JoinedConditionsAreSorted }
+    ensures over { JoinedConditionsAreOver }
+{}
+
+ghost use Rattle.lps_core.specs.Moving.{RenewedSumsAreGood, RenewedSumsAreLinear, RenewedSumsAreSorted};
+
+/// Other ids for the sum variables.
+pub fn sums_are_renewed()
+    ensures linear { RenewedSumsAreLinear }
+    ensures sorted { RenewedSumsAreSorted }
+    ensures bisimilar { RenewedSumsAreGood }
+{}
+
+ghost use Rattle.lps_core.specs.Fitting.{WhatFitsIsSorted, WhatFitsStays};
+ghost use Rattle.lps_core.specs.GoingOn.{GoingOnGoesBack, GoodLinksStayGood};
+
+/// Data that go on from a signature's.
+pub fn data_go_on()
+    ensures back { GoingOnGoesBack }
+    ensures good { GoodLinksStayGood }
+{}
+
+/// What fits a pool and a signature is well sorted, and means the same as these grow.
+pub fn what_fits_stays()
+    ensures sorted { WhatFitsIsSorted }
+    ensures stays { WhatFitsStays }
+{}
+
+ghost use Rattle.lps_core.specs.MeantConditions.{ChainsMeanChains, NumbersMeanTheirSymbols, PartsMeanParts};
+
+/// Conditions over trees mean conditions.
+pub fn conditions_mean_conditions()
+    ensures numbers { NumbersMeanTheirSymbols }
+    ensures parts { PartsMeanParts }
+    ensures chains { ChainsMeanChains }
+{}
