@@ -258,3 +258,18 @@ none_more E n before here y below ys path = elim (same_or_not y n) [
   | inl same ↦ here ys (subst (λ (m : ℕ). IsPath E m ys m) same path)
   | inr differs ↦ before y (omega arith) ys path
 ]
+
+-- ---- the first cycle along the same edges
+pub first_cycle_map : (E F : ℕ → ℕ → Type 0) → ((a b : ℕ) → E a b → F a b) → ((a b : ℕ) → F a b → E a b) → (cycle : List ℕ) → IsFirstCycle E cycle → IsFirstCycle F cycle
+first_cycle_map E F to from [] first = first
+first_cycle_map E F to from (x ∷ xs) first = (first_path_map E F to from x xs x first.0, λ y ys path. first.1 y ys (path_map F E from y ys y path), first.2)
+
+-- each node of a path but the last has an edge
+path_edge : (E : ℕ → ℕ → Type 0) (a : ℕ) (xs : List ℕ) (b c : ℕ) → IsPath E a xs b → Contains (a ∷ xs) c → (e : ℕ) × E c e
+path_edge E a [] b c path stands = (b, subst (λ (n : ℕ). E n b) (sym (only_one a c stands)) path)
+path_edge E a (x ∷ xs) b c path (zero, below, same) = (x, subst (λ (n : ℕ). E n x) same path.0)
+path_edge E a (x ∷ xs) b c path (suc k, below, same) = path_edge E x xs b c path.1 (k, omega arith, same)
+
+pub cycle_below : (edges : List (Vec ℕ)) (among : List Bool) (cycle : List ℕ) → IsFirstCycle (HasEdgeAmong edges among) cycle → (a : ℕ) → Contains cycle a → a < length edges
+cycle_below edges among [] first a stands = absurd first
+cycle_below edges among (x ∷ xs) first a stands = let edge = path_edge (HasEdgeAmong edges among) x xs x a first.0.path stands in edge_below edges a edge.0 edge.1.1
