@@ -1,16 +1,16 @@
 -- Processes that are the same answer each other's steps.
-use Rattle.std.proofs.Common.{◌≡◌, ℕ, List, ap, subst, Some}
+use Rattle.std.proofs.Common.{◌≡◌, ℕ, List, ◌++◌, ap, subst, append_assoc, Some}
 use Rattle.std.specs.Prelude.{slice_get}
 use Rattle.data_theory.specs.Environments.{bound}
 use Rattle.data_theory.specs.Terms.{Sort, Term}
 use Rattle.data_theory.specs.Provable.{reflexive, symmetric, transitive}
 use Rattle.process_terms.specs.Theories.{Theory}
-use Rattle.process_terms.specs.Labels.{Label}
+use Rattle.process_terms.specs.Labels.{Label, AgreeInOrder}
 use Rattle.process_terms.specs.Processes.{Around, Table, Process, delta, act, choice, seq, cond, sum, call, merge, around, Definition, close, BodyOf, the_body}
 use Rattle.process_terms.specs.Steps.{Outcome, ended, goes_on, before, beside, within, Step, by_act, by_left, by_right, by_seq, by_true, by_false, by_sum, by_call, by_left_alone, by_right_alone, by_both, by_around}
 use Rattle.process_terms.proofs.AgreeingLabels.{equals_refl, equals_sym, agree_refl, agree_sym, agree_trans, agree_append}
 use Rattle.process_terms.proofs.OperatorLemmas.{passes_along}
-use Rattle.bisim_laws.specs.Sameness.{EqualData, equal_delta, equal_act, equal_choice, equal_seq, equal_cond, equal_sum, equal_call, equal_merge, equal_around, Alike, by_data, by_body, turned, joined_up, alike_choice, alike_seq, alike_cond, alike_sum, alike_merge, alike_around}
+use Rattle.bisim_laws.specs.Sameness.{EqualData, equal_delta, equal_act, equal_choice, equal_seq, equal_cond, equal_sum, equal_call, equal_merge, equal_around, Alike, by_data, by_body, turned, joined_up, seq_regrouped, merge_regrouped, alike_choice, alike_seq, alike_cond, alike_sum, alike_merge, alike_around}
 use Rattle.bisim_laws.specs.Bisimulations.{Lands, both_end, both_go_on, Answer, Bisimulation}
 use Rattle.bisim_laws.proofs.PuttingEqualData.{bodies_equal, tables_refl, tables_sym}
 
@@ -45,17 +45,17 @@ lands_weaken f (both_go_on h) = both_go_on (f _ _ h)
 pub answer_weaken : {th : Theory} {R S : Process → Process → Type 0} → ((p q : Process) → R p q → S p q) → {q : Process} {m : Label} {r : Outcome} → Answer th R q m r → Answer th S q m r
 answer_weaken f a = record { label = a.label; outcome = a.outcome; step = a.step; agree = a.agree; lands = lands_weaken f a.lands }
 
-lands_before : {R : Process → Process → Type 0} (q q' : Process) → R q q' → ((p p' : Process) → R p p' → R (seq p q) (seq p' q')) → {r r' : Outcome} → Lands R r r' → Lands R (before r q) (before r' q')
+pub lands_before : {R : Process → Process → Type 0} (q q' : Process) → R q q' → ((p p' : Process) → R p p' → R (seq p q) (seq p' q')) → {r r' : Outcome} → Lands R r r' → Lands R (before r q) (before r' q')
 lands_before q q' k f both_end = both_go_on k
 lands_before q q' k f (both_go_on h) = both_go_on (f _ _ h)
 
-lands_beside : {R : Process → Process → Type 0} → ((p p' q q' : Process) → R p p' → R q q' → R (merge p q) (merge p' q')) → {r r' s s' : Outcome} → Lands R r r' → Lands R s s' → Lands R (beside r s) (beside r' s')
+pub lands_beside : {R : Process → Process → Type 0} → ((p p' q q' : Process) → R p p' → R q q' → R (merge p q) (merge p' q')) → {r r' s s' : Outcome} → Lands R r r' → Lands R s s' → Lands R (beside r s) (beside r' s')
 lands_beside f both_end both_end = both_end
 lands_beside f both_end (both_go_on k) = both_go_on k
 lands_beside f (both_go_on h) both_end = both_go_on h
 lands_beside f (both_go_on h) (both_go_on k) = both_go_on (f _ _ _ _ h k)
 
-lands_within : {R : Process → Process → Type 0} (o : Around) → ((p p' : Process) → R p p' → R (around o p) (around o p')) → {r r' : Outcome} → Lands R r r' → Lands R (within o r) (within o r')
+pub lands_within : {R : Process → Process → Type 0} (o : Around) → ((p p' : Process) → R p p' → R (around o p) (around o p')) → {r r' : Outcome} → Lands R r r' → Lands R (within o r) (within o r')
 lands_within o f both_end = both_end
 lands_within o f (both_go_on h) = both_go_on (f _ _ h)
 
@@ -105,11 +105,11 @@ record Mutual (th : Theory) (p q : Process) : Type 0 where
 pub alike_refl : (th : Theory) (p : Process) → Alike th p p
 alike_refl th p = by_data (data_refl th p)
 
-lands_joined_up : {th : Theory} {r s t : Outcome} → Lands (Alike th) r s → Lands (Alike th) s t → Lands (Alike th) r t
+pub lands_joined_up : {th : Theory} {r s t : Outcome} → Lands (Alike th) r s → Lands (Alike th) s t → Lands (Alike th) r t
 lands_joined_up both_end both_end = both_end
 lands_joined_up (both_go_on h) (both_go_on k) = both_go_on (joined_up h k)
 
-lands_refl : (th : Theory) (r : Outcome) → Lands (Alike th) r r
+pub lands_refl : (th : Theory) (r : Outcome) → Lands (Alike th) r r
 lands_refl th ended = both_end
 lands_refl th (goes_on p) = both_go_on (alike_refl th p)
 
@@ -123,7 +123,7 @@ through_data : {th : Theory} {p q : Process} → EqualData th p q → AnswersAli
 through_data h m r s = answer_weaken (λ x y k. by_data k) (data_answers s _ h)
 
 -- a call has one body
-one_body : {d : Table} {x : ℕ} {ts : List Term} {p q : Process} → BodyOf d x ts p → BodyOf d x ts q → p ≡ q
+pub one_body : {d : Table} {x : ℕ} {ts : List Term} {p q : Process} → BodyOf d x ts p → BodyOf d x ts q → p ≡ q
 one_body {d = d} {ts = ts} b (the_body f at l) = is_that b f at
   where
     is_that : {x : ℕ} {p : Process} → BodyOf d x ts p → (f : Definition) → slice_get d x ≡ Some f → p ≡ close d (bound f.params ts) f.body
@@ -167,11 +167,73 @@ through_around {o = o} f m r (by_around s i) =
     let g = passes_along i a.agree in
     record { label = g.0; outcome = _; step = by_around a.step g.1.0; agree = g.1.1; lands = lands_within o (λ x y h. alike_around h) a.lands }
 
+-- ---- brackets
+pub lands_turned : {th : Theory} {r s : Outcome} → Lands (Alike th) r s → Lands (Alike th) s r
+lands_turned both_end = both_end
+lands_turned (both_go_on h) = both_go_on (turned h)
+
+before_regrouped : (th : Theory) (q r : Process) (o : Outcome) → Lands (Alike th) (before (before o q) r) (before o (seq q r))
+before_regrouped th q r ended = lands_refl th (goes_on (seq q r))
+before_regrouped th q r (goes_on p) = both_go_on seq_regrouped
+
+seq_to_right : {th : Theory} {p : Process} (q r : Process) → AnswersAlike th (seq (seq p q) r) (seq p (seq q r))
+seq_to_right {th} q r m _ (by_seq (by_seq {r = o} s)) = record { label = m; outcome = before o (seq q r); step = by_seq s; agree = agree_refl th m; lands = before_regrouped th q r o }
+
+seq_to_left : {th : Theory} {p : Process} (q r : Process) → AnswersAlike th (seq p (seq q r)) (seq (seq p q) r)
+seq_to_left {th} q r m _ (by_seq {r = o} s) = record { label = m; outcome = before (before o q) r; step = by_seq (by_seq s); agree = agree_refl th m; lands = lands_turned (before_regrouped th q r o) }
+
+beside_regrouped : (th : Theory) (o o' o'' : Outcome) → Lands (Alike th) (beside (beside o o') o'') (beside o (beside o' o''))
+beside_regrouped th ended ended ended = both_end
+beside_regrouped th ended ended (goes_on r) = lands_refl th (goes_on r)
+beside_regrouped th ended (goes_on q) ended = lands_refl th (goes_on q)
+beside_regrouped th ended (goes_on q) (goes_on r) = lands_refl th (goes_on (merge q r))
+beside_regrouped th (goes_on p) ended ended = lands_refl th (goes_on p)
+beside_regrouped th (goes_on p) ended (goes_on r) = lands_refl th (goes_on (merge p r))
+beside_regrouped th (goes_on p) (goes_on q) ended = lands_refl th (goes_on (merge p q))
+beside_regrouped th (goes_on p) (goes_on q) (goes_on r) = both_go_on merge_regrouped
+
+labels_regrouped : (th : Theory) (l m n : Label) → AgreeInOrder th ((l ++ m) ++ n) (l ++ (m ++ n))
+labels_regrouped th l m n = subst (λ k. AgreeInOrder th ((l ++ m) ++ n) k) (append_assoc l m n) (agree_refl th ((l ++ m) ++ n))
+
+merge_to_right : {th : Theory} (p q r : Process) → AnswersAlike th (merge (merge p q) r) (merge p (merge q r))
+merge_to_right {th} p q r m _ (by_left_alone (by_left_alone {r = o} s)) =
+    record { label = m; outcome = _; step = by_left_alone s; agree = agree_refl th m; lands = beside_regrouped th o (goes_on q) (goes_on r) }
+merge_to_right {th} p q r m _ (by_left_alone (by_right_alone {r = o} s)) =
+    record { label = m; outcome = _; step = by_right_alone (by_left_alone s); agree = agree_refl th m; lands = beside_regrouped th (goes_on p) o (goes_on r) }
+merge_to_right {th} p q r m _ (by_left_alone (by_both {r = o} {s = o'} s t)) =
+    record { label = m; outcome = _; step = by_both s (by_left_alone t); agree = agree_refl th m; lands = beside_regrouped th o o' (goes_on r) }
+merge_to_right {th} p q r m _ (by_right_alone {r = o} s) =
+    record { label = m; outcome = _; step = by_right_alone (by_right_alone s); agree = agree_refl th m; lands = beside_regrouped th (goes_on p) (goes_on q) o }
+merge_to_right {th} p q r m _ (by_both {s = o'} (by_left_alone {r = o} s) t) =
+    record { label = m; outcome = _; step = by_both s (by_right_alone t); agree = agree_refl th m; lands = beside_regrouped th o (goes_on q) o' }
+merge_to_right {th} p q r m _ (by_both {s = o'} (by_right_alone {r = o} s) t) =
+    record { label = m; outcome = _; step = by_right_alone (by_both s t); agree = agree_refl th m; lands = beside_regrouped th (goes_on p) o o' }
+merge_to_right {th} p q r _ _ (by_both {n = n} {s = o''} (by_both {m = l} {n = k} {r = o} {s = o'} s t) u) =
+    record { label = _; outcome = _; step = by_both s (by_both t u); agree = labels_regrouped th l k n; lands = beside_regrouped th o o' o'' }
+
+merge_to_left : {th : Theory} (p q r : Process) → AnswersAlike th (merge p (merge q r)) (merge (merge p q) r)
+merge_to_left {th} p q r m _ (by_left_alone {r = o} s) =
+    record { label = m; outcome = _; step = by_left_alone (by_left_alone s); agree = agree_refl th m; lands = lands_turned (beside_regrouped th o (goes_on q) (goes_on r)) }
+merge_to_left {th} p q r m _ (by_right_alone (by_left_alone {r = o} s)) =
+    record { label = m; outcome = _; step = by_left_alone (by_right_alone s); agree = agree_refl th m; lands = lands_turned (beside_regrouped th (goes_on p) o (goes_on r)) }
+merge_to_left {th} p q r m _ (by_right_alone (by_right_alone {r = o} s)) =
+    record { label = m; outcome = _; step = by_right_alone s; agree = agree_refl th m; lands = lands_turned (beside_regrouped th (goes_on p) (goes_on q) o) }
+merge_to_left {th} p q r m _ (by_right_alone (by_both {r = o} {s = o'} s t)) =
+    record { label = m; outcome = _; step = by_both (by_right_alone s) t; agree = agree_refl th m; lands = lands_turned (beside_regrouped th (goes_on p) o o') }
+merge_to_left {th} p q r m _ (by_both {r = o} s (by_left_alone {r = o'} t)) =
+    record { label = m; outcome = _; step = by_left_alone (by_both s t); agree = agree_refl th m; lands = lands_turned (beside_regrouped th o o' (goes_on r)) }
+merge_to_left {th} p q r m _ (by_both {r = o} s (by_right_alone {r = o'} t)) =
+    record { label = m; outcome = _; step = by_both (by_left_alone s) t; agree = agree_refl th m; lands = lands_turned (beside_regrouped th o (goes_on q) o') }
+merge_to_left {th} p q r _ _ (by_both {m = l} {r = o} s (by_both {m = k} {n = n} {r = o'} {s = o''} t u)) =
+    record { label = _; outcome = _; step = by_both (by_both s t) u; agree = agree_sym (labels_regrouped th l k n); lands = lands_turned (beside_regrouped th o o' o'') }
+
 mutual_of : {th : Theory} {p q : Process} → Alike th p q → Mutual th p q
 mutual_of (by_data h) = record { forth = through_data h; back = through_data (data_sym h) }
 mutual_of (by_body b) = record { forth = into_body b; back = out_of_body b }
 mutual_of (turned h) = let a = mutual_of h in record { forth = a.back; back = a.forth }
 mutual_of (joined_up h k) = let a = mutual_of h in let b = mutual_of k in record { forth = through_both a.forth b.forth; back = through_both b.back a.back }
+mutual_of (seq_regrouped {q = q} {r = r}) = record { forth = seq_to_right q r; back = seq_to_left q r }
+mutual_of (merge_regrouped {p = p} {q = q} {r = r}) = record { forth = merge_to_right p q r; back = merge_to_left p q r }
 mutual_of (alike_choice h k) = let a = mutual_of h in let b = mutual_of k in record { forth = through_choice a.forth b.forth; back = through_choice a.back b.back }
 mutual_of (alike_seq h k) = let a = mutual_of h in record { forth = through_seq a.forth k; back = through_seq a.back (turned k) }
 mutual_of (alike_cond h k) = let a = mutual_of h in let b = mutual_of k in record { forth = through_cond a.forth b.forth; back = through_cond a.back b.back }

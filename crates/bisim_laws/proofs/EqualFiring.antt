@@ -13,7 +13,7 @@ use Rattle.bisim_laws.specs.LinearProcesses.{variables, LabelIsOver, no_action_l
 use Rattle.bisim_laws.specs.LinkLaws.{EqualEnvironmentsServe}
 
 -- provably equal terms for some variables
-abbrev EqualOn : Theory → List ℕ → Environment → Environment → Type 0
+abbrev pub EqualOn : Theory → List ℕ → Environment → Environment → Type 0
 EqualOn th xs d e = (v : ℕ) → Contains xs v → Equal th (term_in d v) (term_in e v)
 
 pub list_equal : (th : Theory) (xs : List ℕ) (d e : Environment) → EqualOn th xs d e → (ts : List Term) → AreOver xs (terms_of ts) → Equals th (map (put (term_in d)) ts) (map (put (term_in e)) ts)

@@ -6,5 +6,7 @@ pub mod Unpaired
 pub mod PieceByPiece
 pub mod SortedFiring
 pub mod NamesOfVariables
+pub mod Regrouping
 pub mod EqualFiring
+pub mod SideBySide
 pub mod AlikeFiring

@@ -1,7 +1,6 @@
 -- `Same` doesn't look at the names of variables.
-use Rattle.std.proofs.Common.{◌≡◌, ℕ, zero, suc, List, [], ◌∷◌, length, cond as by_test, refl, sym, ap, subst, arith, ⊎_elim}
+use Rattle.std.proofs.Common.{◌≡◌, ℕ, zero, suc, List, [], ◌∷◌, length, refl, sym, subst, arith}
 use Rattle.std.specs.Prelude.{slice_get}
-use Rattle.std.proofs.lemmas.Bool.Decides.{eqb_tells}
 use Rattle.data_theory.specs.Terms.{Sort, Term, variable}
 use Rattle.data_theory.specs.Provable.{reflexive}
 use Rattle.data_theory.specs.Environments.{Environment, term_in, bound}
@@ -10,15 +9,13 @@ use Rattle.process_terms.specs.Labels.{Action, put_label, equal_args, AgreeInOrd
 use Rattle.process_terms.specs.Processes.{written_act}
 use Rattle.bisim_laws.specs.Sameness.{SameBody, same_act, SameDefinition, both_missing, both_there, SameTables, equal_act, equal_sum, equal_call, by_data, EqualData}
 use Rattle.bisim_laws.specs.LinkChecks.{one_action, NamesOfParametersDoNotCount, one_sum, NamesOfSumsDoNotCount}
-
-read_bound : (x : ℕ) (t : Term) (e : Environment) → term_in (record { var = x; term = t } ∷ e) x ≡ t
-read_bound x t e = ⊎_elim (λ k. ap (λ c. by_test c t (term_in e x)) k.0) (λ k. absurd (k.1 refl)) (eqb_tells x x)
+use Rattle.bisim_laws.proofs.Firing.{read_now}
 
 -- the label with one variable that stands for a term
 pub one_argument : (th : Theory) (a : Action) (x y : ℕ) (t u : Term) (d e : Environment) → Equal th t u
     → AgreeInOrder th (put_label (record { var = x; term = t } ∷ d) (record { name = a.name; sorts = a.sorts; args = variable x ∷ [] } ∷ [])) (put_label (record { var = y; term = u } ∷ e) (record { name = a.name; sorts = a.sorts; args = variable y ∷ [] } ∷ []))
 one_argument th a x y t u d e h =
-    next_agree (equal_args (more_terms (subst (λ w. Equal th w (term_in (record { var = y; term = u } ∷ e) y)) (sym (read_bound x t d)) (subst (λ w. Equal th t w) (sym (read_bound y u e)) h)) no_terms)) both_silent
+    next_agree (equal_args (more_terms (subst (λ w. Equal th w (term_in (record { var = y; term = u } ∷ e) y)) (sym (read_now x t d)) (subst (λ w. Equal th t w) (sym (read_now y u e)) h)) no_terms)) both_silent
 
 same_with_one : (th : Theory) (a : Action) (x y : ℕ) (ts us : List Term) → length ts ≡ 1 → Equals th ts us
     → SameBody th (bound (x ∷ []) ts) (written_act (record { name = a.name; sorts = a.sorts; args = variable x ∷ [] } ∷ [])) (bound (y ∷ []) us) (written_act (record { name = a.name; sorts = a.sorts; args = variable y ∷ [] } ∷ []))

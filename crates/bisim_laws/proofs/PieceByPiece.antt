@@ -13,7 +13,7 @@ use Rattle.bisim_laws.specs.LinkLaws.{PiecesAreEnough}
 use Rattle.bisim_laws.proofs.AlikeProcesses.{alike_refl, answer_weaken}
 use Rattle.bisim_laws.proofs.ComposedLinks.{up_to_bisimulation}
 
-left_before : {A : Type 0} (th : Theory) {P : Process → A → Type 0} {r : Outcome} {xs ys : List A} {q : Process} → LeftOver th P r xs → Chain P q ys → LeftOver th P (before r q) (xs ++ ys)
+pub left_before : {A : Type 0} (th : Theory) {P : Process → A → Type 0} {r : Outcome} {xs ys : List A} {q : Process} → LeftOver th P r xs → Chain P q ys → LeftOver th P (before r q) (xs ++ ys)
 left_before th {q = q} nothing_left_over c = pieces_left_over (alike_refl th q) c
 left_before th {xs = xs} {ys = ys} {q = q} (pieces_left_over h d) c = pieces_left_over (alike_seq h (alike_refl th q)) (more_pieces xs ys d c)
 
@@ -21,15 +21,15 @@ left_along : {A : Type 0} {th : Theory} {P : Process → A → Type 0} {r : Outc
 left_along {th = th} {P = P} {r = r} e h = subst (λ l. LeftOver th P r l) e h
 
 -- the step of a composition is one of its first piece
-record FirstStep {A : Type 0} (th : Theory) (P : Process → A → Type 0) (xs : List A) (m : Label) (r : Outcome) : Type 0 where
-  first : A
-  others : List A
-  is : xs ≡ first ∷ others
-  piece : Process
-  stands : P piece first
-  to : Outcome
-  step : Step th piece m to
-  then_left : (ys : List A) → LeftOver th P to ys → LeftOver th P r (ys ++ others)
+pub record FirstStep {A : Type 0} (th : Theory) (P : Process → A → Type 0) (xs : List A) (m : Label) (r : Outcome) : Type 0 where
+  pub first : A
+  pub others : List A
+  pub is : xs ≡ first ∷ others
+  pub piece : Process
+  pub stands : P piece first
+  pub to : Outcome
+  pub step : Step th piece m to
+  pub then_left : (ys : List A) → LeftOver th P to ys → LeftOver th P r (ys ++ others)
 
 longer : {A : Type 0} (th : Theory) {P : Process → A → Type 0} {xs ys : List A} {q : Process} {m : Label} {r : Outcome} → FirstStep th P xs m r → Chain P q ys → FirstStep th P (xs ++ ys) m (before r q)
 longer th {ys = ys} f c = record {
@@ -43,7 +43,7 @@ longer th {ys = ys} f c = record {
   then_left = λ zs h. left_along (append_assoc zs f.others ys) (left_before th (f.then_left zs h) c);
 }
 
-first_step : {A : Type 0} (th : Theory) {P : Process → A → Type 0} {p : Process} {xs : List A} {m : Label} {r : Outcome} → Chain P p xs → Step th p m r → FirstStep th P xs m r
+pub first_step : {A : Type 0} (th : Theory) {P : Process → A → Type 0} {p : Process} {xs : List A} {m : Label} {r : Outcome} → Chain P p xs → Step th p m r → FirstStep th P xs m r
 first_step th {r = r} (one_piece {p = p} {a = a} h) s = record {
   first = a;
   others = [];
@@ -57,20 +57,20 @@ first_step th {r = r} (one_piece {p = p} {a = a} h) s = record {
 first_step th (more_pieces xs ys c d) (by_seq s) = longer th (first_step th c s) d
 
 -- a step of the first piece is one of the composition
-record Lifted {A : Type 0} (th : Theory) (P : Process → A → Type 0) (q : Process) (r : Outcome) (m : Label) (ys others : List A) : Type 0 where
-  outcome : Outcome
-  step : Step th q m outcome
-  left : LeftOver th P outcome (ys ++ others)
+pub record Lifted {A : Type 0} (th : Theory) (P : Process → A → Type 0) (q : Process) (r : Outcome) (m : Label) (ys others : List A) : Type 0 where
+  pub outcome : Outcome
+  pub step : Step th q m outcome
+  pub left : LeftOver th P outcome (ys ++ others)
 
-record Lifts {A : Type 0} (th : Theory) (P : Process → A → Type 0) (q : Process) (xs : List A) : Type 0 where
-  first : A
-  others : List A
-  is : xs ≡ first ∷ others
-  piece : Process
-  stands : P piece first
-  lift : (m : Label) (r : Outcome) (ys : List A) → Step th piece m r → LeftOver th P r ys → Lifted th P q r m ys others
+pub record Lifts {A : Type 0} (th : Theory) (P : Process → A → Type 0) (q : Process) (xs : List A) : Type 0 where
+  pub first : A
+  pub others : List A
+  pub is : xs ≡ first ∷ others
+  pub piece : Process
+  pub stands : P piece first
+  pub lift : (m : Label) (r : Outcome) (ys : List A) → Step th piece m r → LeftOver th P r ys → Lifted th P q r m ys others
 
-lifts : {A : Type 0} (th : Theory) {P : Process → A → Type 0} {q : Process} {xs : List A} → Chain P q xs → Lifts th P q xs
+pub lifts : {A : Type 0} (th : Theory) {P : Process → A → Type 0} {q : Process} {xs : List A} → Chain P q xs → Lifts th P q xs
 lifts th (one_piece {p = p} {a = a} h) = record {
   first = a;
   others = [];
@@ -90,7 +90,7 @@ lifts th (more_pieces xs ys c d) =
       lift = λ m r zs s k. let g = f.lift m r zs s k in record { outcome = _; step = by_seq g.step; left = left_along (append_assoc zs f.others ys) (left_before th g.left d) };
     }
 
-some_piece : {A : Type 0} {P : Process → A → Type 0} {p : Process} {xs : List A} → Chain P p xs → xs ≡ [] → ⊥
+pub some_piece : {A : Type 0} {P : Process → A → Type 0} {p : Process} {xs : List A} → Chain P p xs → xs ≡ [] → ⊥
 some_piece (one_piece h) e = cc
 some_piece (more_pieces (x ∷ xs) ys c d) e = cc
 some_piece (more_pieces [] ys c d) e = some_piece c refl

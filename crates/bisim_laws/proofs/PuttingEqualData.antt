@@ -43,7 +43,7 @@ body_refl th d e h (written_call x ts) = same_call (terms_equal th d e h ts)
 body_refl th d e h (written_merge p q) = same_merge (body_refl th d e h p) (body_refl th d e h q)
 body_refl th d e h (written_around o p) = same_around (body_refl th d e h p)
 
-closed_equal : {th : Theory} {d d' : Table} → SameTables th d d' → {e f : Environment} {p q : Body} → SameBody th e p f q → EqualData th (close d e p) (close d' f q)
+pub closed_equal : {th : Theory} {d d' : Table} → SameTables th d d' → {e f : Environment} {p q : Body} → SameBody th e p f q → EqualData th (close d e p) (close d' f q)
 closed_equal k same_delta = equal_delta
 closed_equal k (same_act h) = equal_act h
 closed_equal k (same_choice h i) = equal_choice (closed_equal k h) (closed_equal k i)
@@ -54,7 +54,7 @@ closed_equal k (same_call h) = equal_call k h
 closed_equal k (same_merge h i) = equal_merge (closed_equal k h) (closed_equal k i)
 closed_equal k (same_around h) = equal_around (closed_equal k h)
 
-bound_equal : {th : Theory} {ts us : List Term} (xs : List ℕ) → Equals th ts us → EqualBindings th (bound xs ts) (bound xs us)
+pub bound_equal : {th : Theory} {ts us : List Term} (xs : List ℕ) → Equals th ts us → EqualBindings th (bound xs ts) (bound xs us)
 bound_equal [] h = no_bindings
 bound_equal (x ∷ xs) no_terms = no_bindings
 bound_equal (x ∷ xs) (more_terms h k) = one_binding h (bound_equal xs k)

@@ -1,5 +1,6 @@
 -- The base relations of links: which states of a process a linear process has, before what is the same counts as equal.
-use Rattle.std.specs.Prelude.{◌≡◌, ℕ, ◌+◌, Bool, true, false, List, [], ◌∷◌, ◌++◌, Option, Some, None, slice_get, pos}
+use Rattle.std.specs.Prelude.{◌≡◌, ℕ, ◌+◌, Bool, true, false, List, [], ◌∷◌, ◌++◌, length, Option, Some, None, slice_get, pos}
+use Rattle.std.specs.List.{AllByRecursion}
 use Rattle.data_theory.specs.Terms.{Sort, boolean, positive, named, Term, numeral, application, function}
 use Rattle.data_theory.specs.Environments.{bound, terms_of}
 use Rattle.process_terms.specs.Theories.{Theory, Equal, Equals, IsTrue, IsFalse, IsOfSort, AreOfSorts}
@@ -103,9 +104,16 @@ abbrev pub pushed : StackNames → Columns → List GreibachCall → Term
 pushed k c [] = application (function k.empty) (terms_of [])
 pushed k c (a ∷ calls) = application (function k.push) (terms_of (number_of a.equation ∷ (columns_of c (slice_get c.places a.equation) a.args ++ (pushed k c calls ∷ []))))
 
--- a composition of calls, with a stack that is provably equal to their frames
+-- the call has as many arguments as its equation has places
+pub record HasItsArguments (c : Columns) (a : GreibachCall) : Type 0 where
+  pub place : List ℕ
+  pub at : slice_get c.places a.equation ≡ Some place
+  pub long : length a.args ≡ length place
+
+-- a composition of calls that have their arguments, with a stack that is provably equal to their frames
 pub data StackState (th : Theory) (form : Table) (k : StackNames) (c : Columns) (l : Linear) : Process → Process → Type 0 where
-  stack_state : {p : Process} {calls : List GreibachCall} {t : Term} → Chain (IsCall form) p calls → IsOfSort th (named k.sort) (pushed k c calls) → IsOfSort th (named k.sort) t → Equal th t (pushed k c calls)
+  stack_state : {p : Process} {calls : List GreibachCall} {t : Term} → Chain (IsCall form) p calls → AllByRecursion (HasItsArguments c) calls
+      → IsOfSort th (named k.sort) (pushed k c calls) → IsOfSort th (named k.sort) t → Equal th t (pushed k c calls)
       → StackState th form k c l p (state_of l (t ∷ []))
 
 -- ---- parameters that are dropped

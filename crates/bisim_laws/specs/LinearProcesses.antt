@@ -1,8 +1,9 @@
 -- Linear processes, and their firings.
 use Rattle.std.specs.Prelude.{◌≡◌, ℕ, Bool, true, false, List, [], ◌∷◌, ◌++◌, map, length, Option, Some, None, Contains, if◌then◌else◌}
 use Rattle.data_theory.specs.Terms.{Sort, boolean, truth, Term, application, none, put}
-use Rattle.data_theory.specs.Declarations.{Data, Declares, HasSort, HaveSorts}
-use Rattle.data_theory.specs.Environments.{Environment, term_in, terms_of, IsOver, AreOver, Apart, AreDistinct}
+use Rattle.data_theory.specs.Equations.{trueᵗ}
+use Rattle.data_theory.specs.Declarations.{Data, IsSort, Declares, HasSort, HaveSorts}
+use Rattle.data_theory.specs.Environments.{Environment, term_in, bound, terms_of, IsOver, AreOver, Apart, AreDistinct}
 use Rattle.process_terms.specs.Theories.{Theory, Equals, IsTrue, IsOfSort, AreOfSorts}
 use Rattle.process_terms.specs.Labels.{Action, Label, put_label}
 use Rattle.process_terms.specs.Processes.{Bound, Body, written_delta, written_act, written_seq, written_cond, written_call, choice_of, sums_around, Table, Process, call}
@@ -49,6 +50,19 @@ linear_table l = record { params = variables l.params; body = choice_of (map sum
 abbrev pub state_of : Linear → List Term → Process
 state_of l ts = call (linear_table l) 0 ts
 
+-- ---- the definitions that a text may write for it
+-- a condition `true` may be left out, and may be written
+pub data WritesSummand (s : Summand) : Body → Type 0 where
+  with_condition : WritesSummand s (sums_around s.sums (written_cond s.condition (label_and_next s.label s.next) written_delta))
+  without_condition : s.condition ≡ trueᵗ → WritesSummand s (sums_around s.sums (label_and_next s.label s.next))
+
+pub data WriteSummands : List Summand → List Body → Type 0 where
+  no_summand_written : WriteSummands [] []
+  one_summand_written : {s : Summand} {p : Body} {ss : List Summand} {ps : List Body} → WritesSummand s p → WriteSummands ss ps → WriteSummands (s ∷ ss) (p ∷ ps)
+
+pub data WritesLinear (l : Linear) : Table → Type 0 where
+  writes_linear : {ps : List Body} → WriteSummands l.summands ps → WritesLinear l (record { params = variables l.params; body = choice_of ps } ∷ [])
+
 -- ---- the shape
 pub data LabelIsOver (xs : List ℕ) : Label → Type 0 where
   no_action_left : LabelIsOver xs []
@@ -84,30 +98,42 @@ pub data NextIsSorted (g : Data) (vs ss : List Sort) : Option (List Term) → Ty
 abbrev pub AreDeclared : List Sort → List Bound → Type 0
 AreDeclared vs xs = (x : Bound) → Contains xs x → Declares vs x.var x.sort
 
+-- each of these variables has a sort of the data
+abbrev pub HaveDataSorts : Data → List Bound → Type 0
+HaveDataSorts g xs = (x : Bound) → Contains xs x → IsSort g x.sort
+
 pub record SummandIsSorted (g : Data) (vs : List Sort) (params : List Bound) (s : Summand) : Type 0 where
   pub sums : AreDeclared vs s.sums
+  pub sum_sorts : HaveDataSorts g s.sums
   pub condition : HasSort g vs s.condition boolean
   pub label : LabelIsSorted g vs s.label
   pub next : NextIsSorted g vs (sorts params) s.next
 
 pub record IsWellSorted (g : Data) (vs : List Sort) (l : Linear) : Type 0 where
   pub params : AreDeclared vs l.params
+  pub param_sorts : HaveDataSorts g l.params
   pub summands : (s : Summand) → Contains l.summands s → SummandIsSorted g vs l.params s
 
--- The process of a linear text: one call, with closed terms of the parameters' sorts, of a definition of that shape.
+-- The process of a linear text: one call, with closed terms of the parameters' sorts, of a definition that writes a linear process.
 pub record IsLinearText (th : Theory) (p : Process) : Type 0 where
   pub process : Linear
+  pub table : Table
   pub initial : List Term
+  pub writes : WritesLinear process table
   pub is_linear : IsLinear process
   pub variable_sorts : List Sort
   pub is_sorted : IsWellSorted th.declared variable_sorts process
   pub of_sorts : AreOfSorts th (sorts process.params) initial
-  pub is : p ≡ state_of process initial
+  pub is : p ≡ call table 0 initial
 
 -- ---- firings
 -- what an environment has for variables
 abbrev pub reading : Environment → List ℕ → List Term
 reading e xs = map (term_in e) xs
+
+-- these variables as e has them, in front of another environment
+abbrev pub beside_reading : Environment → List ℕ → Environment → Environment
+beside_reading e xs d = bound xs (reading e xs) ++ d
 
 abbrev pub put_next : Environment → Option (List Term) → Option (List Term)
 put_next e None = None
@@ -118,9 +144,13 @@ pub data NextEquals (th : Theory) : Option (List Term) → Option (List Term) �
   both_without : NextEquals th None None
   both_with : {ts us : List Term} → Equals th ts us → NextEquals th (Some ts) (Some us)
 
+-- the end, or the call of a table's first definition with the next arguments
+abbrev pub outcome_in : Table → Option (List Term) → Outcome
+outcome_in d None = ended
+outcome_in d (Some ts) = goes_on (call d 0 ts)
+
 abbrev pub outcome_of : Linear → Option (List Term) → Outcome
-outcome_of l None = ended
-outcome_of l (Some ts) = goes_on (state_of l ts)
+outcome_of l next = outcome_in (linear_table l) next
 
 -- in this environment the summand does m, and the next arguments are those
 pub record Does (th : Theory) (s : Summand) (e : Environment) (m : Label) (next : Option (List Term)) : Type 0 where

@@ -4,10 +4,10 @@ use Rattle.data_theory.specs.Terms.{Sort, Term}
 use Rattle.data_theory.specs.Environments.{Environment, term_in, Agree}
 use Rattle.process_terms.specs.Theories.{Theory, Equal, Equals, AreOfSorts}
 use Rattle.process_terms.specs.Labels.{Label, put_label, AgreeInOrder}
-use Rattle.process_terms.specs.Processes.{Around, Bound, Table, Process, merge, around}
+use Rattle.process_terms.specs.Processes.{Around, Bound, Table, Process, call, merge, around}
 use Rattle.process_terms.specs.Steps.{Outcome, Step}
 use Rattle.bisim_laws.specs.Bisimulations.{Bisimulation, Progress}
-use Rattle.bisim_laws.specs.LinearProcesses.{Summand, Linear, variables, sorts, state_of, IsSummand, IsLinear, IsWellSorted, put_next, NextEquals, outcome_of, Does, Fires}
+use Rattle.bisim_laws.specs.LinearProcesses.{Summand, Linear, variables, sorts, linear_table, state_of, WritesLinear, IsSummand, IsLinear, IsWellSorted, put_next, NextEquals, outcome_in, outcome_of, Does, Fires}
 use Rattle.bisim_laws.specs.BaseStates.{Side, IsCall, Piece, StandsFor}
 use Rattle.bisim_laws.specs.Compositions.{PiecesAnswer}
 use Rattle.bisim_laws.specs.Links.{Link, Same, Then, Product, Beside, Wrapped, Under, Form, IsBase, States, Pairs, IsGood}
@@ -45,6 +45,20 @@ abbrev pub FiringsAreSteps : Type 0
 FiringsAreSteps =
     (th : Theory) (l : Linear) (ts : List Term) (m : Label) (next : Option (List Term)) → IsLinear l → Fires th l ts m next
     → Step th (state_of l ts) m (outcome_of l next)
+
+-- the same of each definition that a text may write for the linear process; the one that is printed is one of them
+abbrev pub WrittenStepsAreFirings : Type 0
+WrittenStepsAreFirings =
+    (th : Theory) (l : Linear) (d : Table) (ts : List Term) (m : Label) (r : Outcome) → IsLinear l → WritesLinear l d → Step th (call d 0 ts) m r
+    → (next : Option (List Term)) × (Fires th l ts m next × (r ≡ outcome_in d next))
+
+abbrev pub FiringsAreWrittenSteps : Type 0
+FiringsAreWrittenSteps =
+    (th : Theory) (l : Linear) (d : Table) (ts : List Term) (m : Label) (next : Option (List Term)) → IsLinear l → WritesLinear l d → Fires th l ts m next
+    → Step th (call d 0 ts) m (outcome_in d next)
+
+abbrev pub PrintedTablesAreWritten : Type 0
+PrintedTablesAreWritten = (l : Linear) → WritesLinear l (linear_table l)
 
 -- an environment that has the same terms for the summand's variables serves as well
 abbrev pub OtherEnvironmentsServe : Type 0

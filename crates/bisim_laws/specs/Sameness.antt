@@ -39,12 +39,15 @@ pub data EqualData (th : Theory) : Process → Process → Type 0 where
   equal_merge : {p p' q q' : Process} → EqualData th p p' → EqualData th q q' → EqualData th (merge p q) (merge p' q')
   equal_around : {o : Around} {p p' : Process} → EqualData th p p' → EqualData th (around o p) (around o p')
 
--- The same where a call and its body count as equal: the least equivalence that goes through all operators.
+-- The same where a call and its body count as equal, and where the brackets in a chain of `.` or of `||` don't count: the least
+-- equivalence that goes through all operators.
 pub data Alike (th : Theory) : Process → Process → Type 0 where
   by_data : {p q : Process} → EqualData th p q → Alike th p q
   by_body : {d : Table} {x : ℕ} {ts : List Term} {p : Process} → BodyOf d x ts p → Alike th (call d x ts) p
   turned : {p q : Process} → Alike th p q → Alike th q p
   joined_up : {p q r : Process} → Alike th p q → Alike th q r → Alike th p r
+  seq_regrouped : {p q r : Process} → Alike th (seq (seq p q) r) (seq p (seq q r))
+  merge_regrouped : {p q r : Process} → Alike th (merge (merge p q) r) (merge p (merge q r))
   alike_choice : {p p' q q' : Process} → Alike th p p' → Alike th q q' → Alike th (choice p q) (choice p' q')
   alike_seq : {p p' q q' : Process} → Alike th p p' → Alike th q q' → Alike th (seq p q) (seq p' q')
   alike_cond : {c : Term} {p p' q q' : Process} → Alike th p p' → Alike th q q' → Alike th (cond c p q) (cond c p' q')

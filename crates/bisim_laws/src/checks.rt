@@ -1,6 +1,6 @@
 //! What no good link can pair, and what `Same` pairs, as checks of the definitions.
 
-ghost use Rattle.bisim_laws.specs.LinkChecks.{AMissingParameterPairsNothing, EndingIsNotStopping, NamesOfParametersDoNotCount, NamesOfSumsDoNotCount, NothingDoneIsNoAnswer, NothingPairedIsNotGood, SolvedWithItselfIsGood};
+ghost use Rattle.bisim_laws.specs.LinkChecks.{AMissingParameterPairsNothing, BracketsDoNotCount, EndingIsNotStopping, NamesOfParametersDoNotCount, NamesOfSumsDoNotCount, NothingDoneIsNoAnswer, NothingPairedIsNotGood, PiecesMayStraddleABracket, SolvedWithItselfIsGood};
 
 /// A process that can do something has no good link with `delta`.
 pub fn nothing_done_is_no_answer()
@@ -22,6 +22,13 @@ pub fn nothing_paired_is_not_good()
 pub fn names_of_variables_do_not_count()
     ensures parameters { NamesOfParametersDoNotCount }
     ensures sums { NamesOfSumsDoNotCount }
+{}
+
+/// `Same` doesn't look at the brackets in a chain of `.` or of `||`. So `Form` is good for `X = (a . Y . b + d) . c . X; Y = e;`
+/// and its Greibach form, where an equation stands for `b . c . X`, which straddles a bracket.
+pub fn brackets_do_not_count()
+    ensures chains { BracketsDoNotCount }
+    ensures pieces { PiecesMayStraddleABracket }
 {}
 
 /// A base link that is good: a linear process with itself.

@@ -1,6 +1,6 @@
 //! What a linear process does.
 
-ghost use Rattle.bisim_laws.specs.LinkLaws.{EqualArgumentsFireAlike, EqualEnvironmentsServe, FiringsAreSteps, FiringsKeepSorts, OtherEnvironmentsServe, StepsAreFirings};
+ghost use Rattle.bisim_laws.specs.LinkLaws.{EqualArgumentsFireAlike, EqualEnvironmentsServe, FiringsAreSteps, FiringsAreWrittenSteps, FiringsKeepSorts, OtherEnvironmentsServe, PrintedTablesAreWritten, StepsAreFirings, WrittenStepsAreFirings};
 
 /// A step of a linear process's state is a firing of one summand.
 pub fn steps_are_firings()
@@ -10,6 +10,14 @@ pub fn steps_are_firings()
 /// Each firing of a summand is a step.
 pub fn firings_are_steps()
     ensures { FiringsAreSteps }
+{}
+
+/// The same holds of each definition that a text may write for a linear process, where a condition `true` is written or left
+/// out. The definition that is printed is one of them.
+pub fn written_definitions_fire()
+    ensures steps { WrittenStepsAreFirings }
+    ensures firings { FiringsAreWrittenSteps }
+    ensures printed { PrintedTablesAreWritten }
 {}
 
 /// A firing keeps the sorts of the arguments.

@@ -2,7 +2,7 @@
 use Rattle.std.specs.Prelude.{◌≡◌, ℕ, List, [], ◌∷◌, map, length, Some, slice_get}
 use Rattle.data_theory.specs.Terms.{Sort, Term, put}
 use Rattle.data_theory.specs.Environments.{Environment, term_in, bound}
-use Rattle.process_terms.specs.Systems.{Name}
+use Rattle.process_terms.specs.Names.{Name}
 use Rattle.process_terms.specs.Labels.{Label, put_label}
 use Rattle.process_terms.specs.Communication.{Rule}
 
@@ -73,7 +73,7 @@ pub data BodyOf (d : Table) : ℕ → List Term → Process → Type 0 where
   the_body : {x : ℕ} {ts : List Term} (f : Definition) → slice_get d x ≡ Some f → length ts ≡ length f.params → BodyOf d x ts (close d (bound f.params ts) f.body)
 
 -- ---- what is written with several operands
--- nested to the right; without operands it does nothing
+-- `+` and `.` nest to the right; without operands a chain does nothing
 abbrev pub chain_of : (Body → Body → Body) → List Body → Body
 chain_of op [] = written_delta
 chain_of op (p ∷ []) = p
@@ -85,8 +85,14 @@ choice_of ps = chain_of written_choice ps
 abbrev pub seq_of : List Body → Body
 seq_of ps = chain_of written_seq ps
 
+-- `||` nests to the left
+abbrev pub merged_with : Body → List Body → Body
+merged_with p [] = p
+merged_with p (q ∷ qs) = merged_with (written_merge p q) qs
+
 abbrev pub merge_of : List Body → Body
-merge_of ps = chain_of written_merge ps
+merge_of [] = written_delta
+merge_of (p ∷ ps) = merged_with p ps
 
 abbrev pub sums_around : List Bound → Body → Body
 sums_around [] p = p

@@ -5,15 +5,15 @@ use Rattle.process_terms.specs.Processes.{written_delta, written_choice, written
 use Rattle.process_terms.specs.PlainProcesses.{PlainProcess, act, choice, seq, merge, sum, processes_of}
 use Rattle.process_terms.specs.Meanings.{Entries, bound_at, body_of}
 
--- a chain is nested to the right
+-- chains of `+` and `.` are nested to the right, and chains of `||` to the left
 abbrev pub ChainsAreNested : Type 0
 ChainsAreNested =
     (g : Entries) (p q r : PlainProcess)
     → (body_of g (choice (processes_of (p ∷ q ∷ r ∷ []))) ≡ written_choice (body_of g p) (written_choice (body_of g q) (body_of g r)))
     × (body_of g (seq (processes_of (p ∷ q ∷ r ∷ []))) ≡ written_seq (body_of g p) (written_seq (body_of g q) (body_of g r)))
-    × (body_of g (merge (processes_of (p ∷ q ∷ r ∷ []))) ≡ written_merge (body_of g p) (written_merge (body_of g q) (body_of g r)))
+    × (body_of g (merge (processes_of (p ∷ q ∷ r ∷ []))) ≡ written_merge (written_merge (body_of g p) (body_of g q)) (body_of g r))
 
--- a chain of one operand means that operand, and a choice of none does nothing
+-- a chain of one operand means that operand, and a chain of none does nothing
 abbrev pub ShortChainsAddNothing : Type 0
 ShortChainsAddNothing =
     (g : Entries) (p : PlainProcess)
@@ -21,6 +21,7 @@ ShortChainsAddNothing =
     × (body_of g (seq (processes_of (p ∷ []))) ≡ body_of g p)
     × (body_of g (merge (processes_of (p ∷ []))) ≡ body_of g p)
     × (body_of g (choice (processes_of [])) ≡ written_delta)
+    × (body_of g (merge (processes_of [])) ≡ written_delta)
 
 -- a sum over two variables is one inside the other, the first one outside
 abbrev pub SumsAreNested : Type 0

@@ -19,8 +19,8 @@ pub fn growth_adds_entries()
     ensures signatures { SignaturesAddEntries }
 {}
 
-/// A chain of one operator is nested to the right, a sum over several variables is one inside the other, and no actions are
-/// `tau`.
+/// A chain of `+` or `.` is nested to the right and one of `||` to the left, a sum over several variables is one inside the
+/// other, and no actions are `tau`.
 pub fn worked_meanings()
     ensures chains { ChainsAreNested }
     ensures short_chains { ShortChainsAddNothing }

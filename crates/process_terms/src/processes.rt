@@ -26,7 +26,7 @@ pub enum Proc {
     Cond(TermId, Box<Proc>, Box<Proc>),
     /// `sum x: S, y: T . p`
     Sum(Vec<VarId>, Box<Proc>),
-    /// `p || q || r`
+    /// `p || q || r`, which means `(p || q) || r`
     Merge(Vec<Proc>),
     /// `allow({a, b|c}, p)`
     Allow(Vec<Vec<NameId>>, Box<Proc>),
