@@ -1,10 +1,10 @@
-//! Tests of the pool. Each lends its pool to its body: to prove that a pool is dropped at each of many ends takes minutes.
+//! Terms by number. Each test lends its pool to its body: to prove that a pool is dropped at each of many ends takes minutes.
 
-use super::*;
 use data_theory::{FunId, Num, SortId, TermId, VarId};
 use std::alloc::Global;
 use std::process::Abort;
 use std::test::Fail;
+use term_pool::{Head, Pool};
 
 const X: VarId = VarId(0);
 

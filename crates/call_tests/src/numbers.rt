@@ -1,5 +1,7 @@
-use super::*;
+//! Exact numbers, at the least and greatest ones.
+
 use data_theory::Num;
+use number_rules::{NumOp, NumberRules, exact};
 use std::process::Abort;
 
 /// A number as its sign and magnitude.

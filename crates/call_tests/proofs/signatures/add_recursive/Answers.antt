@@ -10,7 +10,7 @@ use Rattle.data_theory.specs.Table.{sort_rows}
 use Rattle.data_theory.specs.Structs.{Con, cons_of, struct_functions}
 use Rattle.data_theory.specs.Signature.{Sig, IsNewStruct}
 use Rattle.data_theory.proofs.PlaceLemmas.{read_appended}
-use Rattle.data_theory.proofs.signature_tests.add_recursive.Goals as goal
+use Rattle.call_tests.proofs.signatures.add_recursive.Goals as goal
 
 abbrev sorts_count : Option Function → ℕ
 sorts_count None = 0
@@ -66,7 +66,7 @@ is_new g n s c d last no_d no_c =
 
 pub add_struct-requires-clause-new : goal.add_struct-requires-clause-new
 add_struct-requires-clause-new g c =
-    let is : cons_of c.in_ok-from_array.field-0.items ≡ cons c.next_sort-sort.result c.args.names.c c.args.names.d =
-    ap cons_of c.in_ok-from_array.ensures.items ∙ (λ i. record { name = c.args.names.d; fields = c.new.ensures.items i; test = None } ∷ record { name = c.args.names.c; fields = c.in_ok-fields.ensures.items i; test = None } ∷ []) in
-    subst (IsNewStruct c.args.signature.now c.args.names.sort) (sym is)
-    (is_new c.args.signature.now c.args.names.sort c.next_sort-sort.result c.args.names.c c.args.names.d c.next_sort-sort.ensures.number (c.is_absent.ensures (search rules)) (c.is_absent-2.ensures (search rules)))
+    let is : cons_of c.in_ok-from_array.field-0.items ≡ cons c.next_sort-sort.result c.name_of-c.result c.name_of-d.result =
+    ap cons_of c.in_ok-from_array.ensures.items ∙ (λ i. record { name = c.name_of-d.result; fields = c.new.ensures.items i; test = None } ∷ record { name = c.name_of-c.result; fields = c.in_ok-fields.ensures.items i; test = None } ∷ []) in
+    subst (IsNewStruct c.args.signature.now c.name_of-name.result) (sym is)
+    (is_new c.args.signature.now c.name_of-name.result c.next_sort-sort.result c.name_of-c.result c.name_of-d.result c.next_sort-sort.ensures.number (c.is_absent.ensures (search rules)) (c.is_absent-2.ensures (search rules)))

@@ -1,13 +1,15 @@
-//! Tests of the signature, by values that were put down by hand.
+//! Signatures, by values that were put down by hand.
 //!
 //! A test gives the names of its signature up at its end: to prove that a whole signature is dropped takes half a minute.
-ghost use Rattle.std.specs.Prelude.{◌≡◌, ℕ, IsTrue};
+ghost use Rattle.std.specs.Prelude.{◌≡◌, ◌<◌, ℕ, length, IsTrue};
 ghost use Rattle.data_theory.specs.Keys.{key};
 ghost use Rattle.data_theory.specs.Functions.{HasKey};
 ghost use Rattle.data_theory.specs.Signature.{IsAct};
 ghost use Rattle.data_theory.specs.Sorts.{IsBare};
 
-use super::*;
+use data_theory::{
+    ActId, ConDecl, FunId, NameId, Names, NoMemory, Signature, SortId, SortKind, VarId,
+};
 use std::alloc::Global;
 use std::process::Abort;
 use std::test::Fail;
@@ -216,11 +218,14 @@ fn a_list_sort_is_added_once(rt: HostRuntime) -> Result<(), Fail> {
     outcome
 }
 
-/// Whether a name is that of a text.
-fn is_text(rt: &impl Abort, signature: &Signature, name: NameId, text: &str) -> bool {
-    let names = signature.names();
-    assert!(rt; name.0 < names.len());
-    names.text(name) == text
+/// The name of a text that is there.
+fn name_of(rt: &impl Abort, signature: &Signature, text: &str) -> NameId
+    ensures { result.0 < length signature.now.texts }
+{
+    let Some(name) = signature.names().find(text) else {
+        panic!(rt; "the text isn't there");
+    };
+    name
 }
 
 /// The first text behind a base that isn't taken fills the gaps one after the other.
@@ -232,10 +237,10 @@ fn gaps_are_filled(rt: &impl Abort, signature: &mut Signature) -> Result<(), Fai
     let fourth = signature.fresh("x")?;
     let other = signature.fresh("y")?;
     let word = signature.fresh("sort")?;
-    assert!(rt; is_text(rt, signature, second, "x_2"));
-    assert!(rt; is_text(rt, signature, fourth, "x_4"));
-    assert!(rt; is_text(rt, signature, other, "y"));
-    assert!(rt; is_text(rt, signature, word, "sort_1"));
+    assert_eq!(rt; name_of(rt, signature, "x_2"), second);
+    assert_eq!(rt; name_of(rt, signature, "x_4"), fourth);
+    assert_eq!(rt; name_of(rt, signature, "y"), other);
+    assert_eq!(rt; name_of(rt, signature, "sort_1"), word);
     Ok(())
 }
 
@@ -254,8 +259,8 @@ fn alias(
     text: &str,
     sort: SortId,
 ) -> Result<NameId, Fail> {
-    let name = signature.take_name(text)?;
-    assert!(rt; name.0 < signature.names().len());
+    signature.take_name(text)?;
+    let name = name_of(rt, signature, text);
     assert!(rt; sort.0 < signature.next_sort().0);
     let None = signature.sort(name) else {
         panic!(rt; "a sort has this name");
@@ -266,8 +271,8 @@ fn alias(
 
 /// Adds a declared sort.
 fn declared(rt: &impl Abort, signature: &mut Signature, text: &str) -> Result<SortId, Fail> {
-    let name = signature.take_name(text)?;
-    assert!(rt; name.0 < signature.names().len());
+    signature.take_name(text)?;
+    let name = name_of(rt, signature, text);
     let None = signature.sort(name) else {
         panic!(rt; "a sort has this name");
     };
@@ -281,8 +286,8 @@ fn variable(
     text: &str,
     sort: SortId,
 ) -> Result<VarId, Fail> {
-    let name = signature.take_name(text)?;
-    assert!(rt; name.0 < signature.names().len());
+    signature.take_name(text)?;
+    let name = name_of(rt, signature, text);
     assert!(rt; sort.0 < signature.next_sort().0);
     Ok(signature.add_var(name, sort)?)
 }
@@ -311,12 +316,11 @@ fn sorts_are_found_by_their_names(rt: HostRuntime) -> Result<(), Fail> {
 }
 
 /// Whether no function has a name and sorts.
-fn is_absent(rt: &impl Abort, signature: &Signature, name: NameId, sorts: &[SortId]) -> bool
+fn is_absent(signature: &Signature, name: NameId, sorts: &[SortId]) -> bool
+    requires { name.0 < length signature.now.texts }
     ensures { IsTrue result → (k : ℕ) → HasKey signature.now.functions (key name sorts.now) k → ⊥ }
 {
-    let names = signature.names();
-    assert!(rt; name.0 < names.len());
-    match signature.fun(names.text(name), sorts) {
+    match signature.fun(signature.names().text(name), sorts) {
         Some(_) => false,
         None => true,
     }
@@ -333,41 +337,31 @@ fn is_bare(rt: &impl Abort, signature: &Signature, sort: SortId) -> bool
     }
 }
 
-/// The names of `struct c(p: Nat, Bool)?is_c | d`.
-#[derive(Clone, Copy)]
-struct StructNames {
-    c: NameId,
-    p: NameId,
-    is_c: NameId,
-    d: NameId,
+/// Takes the names of `struct c(p: Nat, Bool)?is_c | d`.
+fn take_names(signature: &mut Signature) -> Result<(), Fail> {
+    for text in ["c", "p", "is_c", "d"] {
+        signature.take_name(text)?;
+    }
+    Ok(())
 }
 
-fn struct_names(signature: &mut Signature) -> Result<StructNames, Fail> {
-    Ok(StructNames {
-        c: signature.take_name("c")?,
-        p: signature.take_name("p")?,
-        is_c: signature.take_name("is_c")?,
-        d: signature.take_name("d")?,
-    })
-}
-
-/// Makes a declared sort `struct c(p: Nat, Bool)?is_c | d`.
+/// Makes a declared sort `struct c(p: Nat, Bool)?is_c | d`, whose names are taken.
 fn set_constructors(
     rt: &impl Abort,
     alloc: Global,
     signature: &mut Signature,
     sort: SortId,
-    names: StructNames,
 ) -> Result<(), Fail> {
-    let StructNames { c, p, is_c, d } = names;
+    let c = name_of(rt, signature, "c");
+    let p = name_of(rt, signature, "p");
+    let is_c = name_of(rt, signature, "is_c");
+    let d = name_of(rt, signature, "d");
     assert!(rt; is_bare(rt, signature, sort));
-    assert!(rt; is_absent(rt, signature, c, &[SortId(2), SortId(0)]));
-    assert!(rt; is_absent(rt, signature, d, &[]));
-    assert!(rt; is_absent(rt, signature, p, &[sort]));
-    assert!(rt; is_absent(rt, signature, is_c, &[sort]));
+    assert!(rt; is_absent(signature, c, &[SortId(2), SortId(0)]));
+    assert!(rt; is_absent(signature, d, &[]));
+    assert!(rt; is_absent(signature, p, &[sort]));
+    assert!(rt; is_absent(signature, is_c, &[sort]));
     assert!(rt; p.0 != is_c.0);
-    let count = signature.names().len();
-    assert!(rt; c.0 < count && p.0 < count && is_c.0 < count && d.0 < count);
     assert!(rt; 2 < signature.next_sort().0);
     let fields = Vec::from_array(alloc, [(Some(p), SortId(2)), (None, SortId(0))])?;
     let first = ConDecl {
@@ -402,8 +396,8 @@ fn is_constructor(
 /// The constructors of a `struct` come first, then the projection, then the recogniser.
 fn struct_stands(rt: &impl Abort, alloc: Global, signature: &mut Signature) -> Result<(), Fail> {
     let sort = declared(rt, signature, "D")?;
-    let names = struct_names(signature)?;
-    set_constructors(rt, alloc, signature, sort, names)?;
+    take_names(signature)?;
+    set_constructors(rt, alloc, signature, sort)?;
     let places = [Some(FunId(75)), None];
     assert!(rt;
         is_constructor(
@@ -446,11 +440,11 @@ fn set_constructor(
     sort: SortId,
     text: &str,
 ) -> Result<FunId, Fail> {
-    let name = signature.take_name(text)?;
-    assert!(rt; name.0 < signature.names().len());
+    signature.take_name(text)?;
+    let name = name_of(rt, signature, text);
     assert!(rt; sort.0 < signature.next_sort().0);
     assert!(rt; is_bare(rt, signature, sort));
-    assert!(rt; is_absent(rt, signature, name, &[]));
+    assert!(rt; is_absent(signature, name, &[]));
     let fun = signature.add_map(name, sort)?;
     signature.set_cons(sort, Vec::from_array(alloc, [fun])?);
     Ok(fun)
@@ -556,35 +550,18 @@ fn built_in_functions_have_sorts(rt: HostRuntime) -> Result<(), Fail> {
     outcome
 }
 
-/// The names of `sort D = struct d | c(D)`.
-#[derive(Clone, Copy)]
-struct RecursiveNames {
-    sort: NameId,
-    d: NameId,
-    c: NameId,
-}
-
-fn recursive_names(names: &mut Names) -> Result<RecursiveNames, Fail> {
-    Ok(RecursiveNames {
-        sort: names.enter("D")?,
-        d: names.enter("d")?,
-        c: names.enter("c")?,
-    })
-}
-
 /// Adds `sort D = struct d | c(D)`.
 fn add_recursive(
     rt: &impl Abort,
     alloc: Global,
     signature: &mut Signature,
-    names: RecursiveNames,
 ) -> Result<SortId, NoMemory> {
-    let RecursiveNames { sort: name, d, c } = names;
+    let name = name_of(rt, signature, "D");
+    let d = name_of(rt, signature, "d");
+    let c = name_of(rt, signature, "c");
     let sort = signature.next_sort();
-    let count = signature.names().len();
-    assert!(rt; name.0 < count && d.0 < count && c.0 < count);
-    assert!(rt; is_absent(rt, signature, d, &[]));
-    assert!(rt; is_absent(rt, signature, c, &[sort]));
+    assert!(rt; is_absent(signature, d, &[]));
+    assert!(rt; is_absent(signature, c, &[sort]));
     let None = signature.sort(name) else {
         panic!(rt; "a sort has this name");
     };
@@ -602,10 +579,10 @@ fn add_recursive(
     signature.add_struct(name, Vec::from_array(alloc, [first, second])?)
 }
 
-/// Nothing of that `struct` is in a signature of built-in functions over so many texts.
-fn nothing_is_added(rt: &impl Abort, signature: &Signature, name: NameId, texts: usize) {
+/// Nothing of that `struct` is in a signature of built-in functions.
+fn nothing_is_added(rt: &impl Abort, signature: &Signature) {
+    let name = name_of(rt, signature, "D");
     assert_eq!(rt; signature.next_sort(), SortId(4));
-    assert_eq!(rt; signature.names().len(), texts);
     assert_eq!(rt; signature.funs().len(), 0);
     assert_eq!(rt; signature.sort(name), None);
     assert_eq!(rt; signature.fun("==", &[SortId(4), SortId(4)]), None);
@@ -616,7 +593,8 @@ fn nothing_is_added(rt: &impl Abort, signature: &Signature, name: NameId, texts:
 }
 
 /// That `struct` is the fifth sort, and its constructors come behind the functions over it.
-fn recursive_stands(rt: &impl Abort, signature: &Signature, name: NameId, sort: SortId) {
+fn recursive_stands(rt: &impl Abort, signature: &Signature, sort: SortId) {
+    let name = name_of(rt, signature, "D");
     assert_eq!(rt; sort, SortId(4));
     assert_eq!(rt; signature.next_sort(), SortId(5));
     assert_eq!(rt; signature.sort(name), Some(sort));
@@ -641,24 +619,24 @@ fn recursive_is_added(
     rt: &impl Abort,
     alloc: Global,
     signature: &mut Signature,
-    names: RecursiveNames,
 ) -> Result<(), Fail> {
-    let texts = signature.names().len();
-    nothing_is_added(rt, signature, names.sort, texts);
-    let added = add_recursive(rt, alloc, signature, names);
+    nothing_is_added(rt, signature);
+    let added = add_recursive(rt, alloc, signature);
     if added.is_err() {
-        nothing_is_added(rt, signature, names.sort, texts);
+        nothing_is_added(rt, signature);
     }
-    recursive_stands(rt, signature, names.sort, added?);
+    recursive_stands(rt, signature, added?);
     Ok(())
 }
 
 #[test]
 fn a_recursive_struct_is_added(rt: HostRuntime) -> Result<(), Fail> {
     let mut texts = Names::new(rt.alloc());
-    let names = recursive_names(&mut texts)?;
+    for text in ["D", "d", "c"] {
+        texts.enter(text)?;
+    }
     let mut signature = Signature::new(rt.alloc(), texts)?;
-    let outcome = recursive_is_added(&rt, rt.alloc(), &mut signature, names);
+    let outcome = recursive_is_added(&rt, rt.alloc(), &mut signature);
     let _names = signature.into_names();
     outcome
 }

@@ -1,5 +1,7 @@
-use super::*;
+//! Copies of labels, rules and process terms.
+
 use data_theory::{ActId, NameId, NoMemory, ProcId, TermId, VarId};
+use process_terms::{Action, CommRule, CommSet, Component, Label, Proc};
 use std::alloc::Global;
 use std::test::Fail;
 

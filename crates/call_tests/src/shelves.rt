@@ -1,4 +1,9 @@
-use super::*;
+//! Texts that are loaded and bytes that are written, with calls that fail.
+
+use mcrl2_text::{
+    Failed, LoadFault, MAX_TEXT_LEN, MemShelf, MemSink, MemText, SteadyShelf, SteadySink, load,
+    write_all,
+};
 use std::alloc::Global;
 use std::test::Fail;
 

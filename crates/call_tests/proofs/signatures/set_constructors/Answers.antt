@@ -6,7 +6,7 @@ use Rattle.data_theory.specs.declared.ids.SortId.{SortId}
 use Rattle.data_theory.specs.Keys.{Key, key}
 use Rattle.data_theory.specs.Functions.{Function, key_of, HasKey, AreNew}
 use Rattle.data_theory.specs.Structs.{Con, cons_of, struct_functions}
-use Rattle.data_theory.proofs.signature_tests.set_constructors.Goals as goal
+use Rattle.call_tests.proofs.signatures.set_constructors.Goals as goal
 
 abbrev count : Option Key → ℕ
 count None = 0
@@ -53,7 +53,7 @@ module _ (s : SortId) (c p r d : NameId) where
 
 pub set_struct-requires-clause-new : goal.set_struct-requires-clause-new
 set_struct-requires-clause-new g c =
-    let is : cons_of c.in_ok-from_array.field-0.items ≡ cons c.args.sort c.args.names.c c.args.names.p c.args.names.is_c c.args.names.d =
-    ap cons_of c.in_ok-from_array.ensures.items ∙ (λ i. record { name = c.args.names.c; fields = c.in_ok-fields.ensures.items i; test = Some c.args.names.is_c } ∷ record { name = c.args.names.d; fields = c.new.ensures.items i; test = None } ∷ []) in
+    let is : cons_of c.in_ok-from_array.field-0.items ≡ cons c.args.sort c.name_of-c.result c.name_of-p.result c.name_of-is_c.result c.name_of-d.result =
+    ap cons_of c.in_ok-from_array.ensures.items ∙ (λ i. record { name = c.name_of-c.result; fields = c.in_ok-fields.ensures.items i; test = Some c.name_of-is_c.result } ∷ record { name = c.name_of-d.result; fields = c.new.ensures.items i; test = None } ∷ []) in
     subst (λ cs. AreNew c.args.signature.now.functions (struct_functions c.args.sort (length c.args.signature.now.functions) cs)) (sym is)
-    (are_new c.args.sort c.args.names.c c.args.names.p c.args.names.is_c c.args.names.d (omega arith) c.args.signature.now.functions (length c.args.signature.now.functions) (c.is_absent.ensures (search rules)) (c.is_absent-2.ensures (search rules)) (c.is_absent-3.ensures (search rules)) (c.is_absent-4.ensures (search rules)))
+    (are_new c.args.sort c.name_of-c.result c.name_of-p.result c.name_of-is_c.result c.name_of-d.result (omega arith) c.args.signature.now.functions (length c.args.signature.now.functions) (c.is_absent.ensures (search rules)) (c.is_absent-2.ensures (search rules)) (c.is_absent-3.ensures (search rules)) (c.is_absent-4.ensures (search rules)))

@@ -6,7 +6,7 @@ use Rattle.data_theory.specs.declared.ids.FunId.{FunId}
 use Rattle.data_theory.specs.Functions.{Function, declared_function}
 use Rattle.data_theory.specs.Signature.{Sig, with_function}
 use Rattle.data_theory.proofs.PlaceLemmas.{read_last}
-use Rattle.data_theory.proofs.signature_tests.set_constructor.Goals as goal
+use Rattle.call_tests.proofs.signatures.set_constructor.Goals as goal
 
 module _ (s new : Sig) (f : Function) (fun : FunId) (added : new ≡ with_function s f) (last : fun.0 ≡ length s.functions) where
   one_declared : All (Contains new.declared) (fun ∷ [])
@@ -22,9 +22,9 @@ module _ (s new : Sig) (f : Function) (fun : FunId) (added : new ≡ with_functi
 pub set_cons-requires-clause-declared : goal.set_cons-requires-clause-declared
 set_cons-requires-clause-declared g c =
     subst (All (Contains c.add_map.new.self.declared)) (sym c.in_ok-from_array.ensures.items)
-    (one_declared c.take_name.new.self c.add_map.new.self (declared_function c.in_ok-name.name [] c.args.sort) c.in_ok-fun.fun c.in_ok-fun.ensures.added c.in_ok-fun.ensures.number)
+    (one_declared c.take_name.new.self c.add_map.new.self (declared_function c.name_of-name.result [] c.args.sort) c.in_ok-fun.fun c.in_ok-fun.ensures.added c.in_ok-fun.ensures.number)
 
 pub set_cons-requires-clause-results : goal.set_cons-requires-clause-results
 set_cons-requires-clause-results g c =
     subst (All (λ (g : FunId). IfSome (slice_get c.add_map.new.self.functions g.0) (λ h. h.result ≡ c.args.sort))) (sym c.in_ok-from_array.ensures.items)
-    (one_result c.take_name.new.self c.add_map.new.self (declared_function c.in_ok-name.name [] c.args.sort) c.in_ok-fun.fun c.in_ok-fun.ensures.added c.in_ok-fun.ensures.number)
+    (one_result c.take_name.new.self c.add_map.new.self (declared_function c.name_of-name.result [] c.args.sort) c.in_ok-fun.fun c.in_ok-fun.ensures.added c.in_ok-fun.ensures.number)
