@@ -42,8 +42,3 @@ pub use num::Num;
 pub use signature::{Signature, Variable};
 pub use sort_table::SortKind;
 pub use structs::ConDecl;
-
-#[cfg(test)]
-mod signature_tests;
-#[cfg(test)]
-mod tests;

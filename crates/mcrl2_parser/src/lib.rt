@@ -40,22 +40,3 @@ pub use laws::{
 };
 pub use levels::{MAX_LEVEL, level};
 pub use parsing::parse;
-
-#[cfg(test)]
-mod data_tests;
-#[cfg(test)]
-mod declaration_tests;
-#[cfg(test)]
-mod grammar_tests;
-#[cfg(test)]
-mod part_tests;
-#[cfg(test)]
-mod process_tests;
-#[cfg(test)]
-mod reader_tests;
-#[cfg(test)]
-mod shapes;
-#[cfg(test)]
-mod spec_shapes;
-#[cfg(test)]
-mod tests;
