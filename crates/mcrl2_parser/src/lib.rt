@@ -6,6 +6,7 @@
 //! Sections and declarations are those of the mCRL2 language reference; the levels and their bound are this program's own.
 #![tactic(auto)]
 
+mod arrows;
 mod chains;
 mod constructor_readers;
 mod datas;
