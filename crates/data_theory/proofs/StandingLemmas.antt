@@ -1,5 +1,5 @@
 -- The built-in functions stand in every signature.
-use Rattle.std.proofs.Common.{◌≡◌, ℕ, zero, suc, ◌<◌, List, [], ◌∷◌, ◌++◌, map, length, Some, refl, sym, ap, ◌∙◌, subst, arith}
+use Rattle.std.proofs.Common.{◌≡◌, ℕ, zero, suc, ◌<◌, List, [], ◌∷◌, map, length, Some, refl, sym, ap, ◌∙◌, subst}
 use Rattle.std.specs.Prelude.{slice_get, option_map}
 use Rattle.std.specs.List.{All, Contains}
 use Rattle.std.proofs.lemmas.List.Elements.{All-weaker, All-contains, All-head, All-tail}
@@ -18,7 +18,7 @@ use Rattle.data_theory.specs.IdTables.{IsTable}
 use Rattle.data_theory.specs.IdData.{data_meant}
 use Rattle.data_theory.specs.IdTerms.{sort_under}
 use Rattle.data_theory.specs.WholeSignatures.{IsSignature}
-use Rattle.data_theory.specs.SignatureLaws.{RowStandsAt, RowStands, FirstFunctionsStand, FunctionsOverSortsStand, FunctionsOverListsStand, HasTruthFunctions, SignaturesHaveTruthFunctions, VariablesHaveSortsOfTheData}
+use Rattle.data_theory.specs.SignatureLaws.{RowStandsAt, RowStands, FirstFunctionsStand, FunctionsOverSortsStand, FunctionsOverListsStand, SignaturesHaveTruthFunctions, VariablesHaveSortsOfTheData}
 use Rattle.data_theory.proofs.PlaceLemmas.{read_front, read_contained}
 use Rattle.data_theory.proofs.NameLemmas.{place_reads}
 use Rattle.data_theory.proofs.IdSymbolLemmas.{built_in_is, sort_is}
