@@ -4,10 +4,10 @@
   bench/gate.py [COMMAND..]      starts the command at the top of the repository (`rt ci` without one) and prints a table at its end
 
 It looks every quarter of a second at the processes that the command has started, so it costs next to nothing. The processes of
-the prover name their crate on their command line: proofs of the crate, of its tests (and runs of these and of programs), and of
-its edits, which are tried in a folder of their own. What ends between two looks isn't seen: the last row has the rest of the
-command's own count. For an exact table run nothing else on the machine. Behind the table stand the seconds of each edit in the
-order of their names, and last those of the crate over what the edits left.
+the prover name their crate on their command line: proofs of the crate, of its tests (with what is built and run of these and of
+programs), and of its edits, which are tried in a folder of their own. What ends between two looks isn't seen: the last row but
+one has the rest of the command's own count. For an exact table run nothing else on the machine. Behind the table stand the
+seconds of each edit in the order of their names, and last those of the crate over what the edits left.
 """
 import os
 import re
@@ -74,7 +74,7 @@ def what(pid):
         edit = re.search(r"/rt-edit-[^/]*", folder)
         if edit:
             return crate, "edits", edit.group()
-        return crate, "tests" if "--test" in words else "proof", ""
+        return crate, "tests" if "--test" in words or "--crate-checked" in words else "proof", ""
     for word in words:
         program = re.search(r"/rt-run-[^/]*/bin/(\w+)$", word)
         if program:

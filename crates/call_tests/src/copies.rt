@@ -3,6 +3,7 @@
 use data_theory::{ActId, NameId, NoMemory, ProcId, TermId, VarId};
 use process_terms::{Action, CommRule, CommSet, Component, Label, Proc};
 use std::alloc::Global;
+use std::fmt::Debug;
 use std::test::Fail;
 
 // a3(t1, t4, t1)|a5
@@ -93,14 +94,10 @@ fn allowing(alloc: Global) -> Result<Proc, NoMemory> {
     Ok(Proc::Allow(sets, inner))
 }
 
-// chains, a sum of a condition, and each operator around another one
-fn terms(alloc: Global) -> Result<Vec<Proc>, NoMemory> {
-    let choice = Proc::Choice(operands(alloc)?);
-    let seq = Proc::Seq(operands(alloc)?);
-    let none = Proc::Choice(Vec::new(alloc));
-    let sum = summed(alloc)?;
-    let operators = allowing(alloc)?;
-    Ok(Vec::from_array(alloc, [choice, seq, none, sum, operators])?)
+/// Whether two values are printed alike.
+fn look_alike<T: Debug>(alloc: Global, one: &T, other: &T) -> Result<bool, NoMemory> {
+    let printed = format!(in alloc; "{one:?}")?;
+    Ok(printed == format!(in alloc; "{other:?}")?)
 }
 
 #[test]
@@ -108,51 +105,46 @@ fn copies_of_labels_and_rules_are_equal(rt: HostRuntime) -> Result<(), Fail> {
     let alloc = rt.alloc();
     let original = label(alloc)?;
     let copy = original.copy(alloc)?;
-    assert_eq!(rt;
-        format!(in alloc; "{copy:?}")?,
-        format!(in alloc; "{original:?}")?
-    );
+    assert!(rt; look_alike(alloc, &original, &copy)?);
     for action in &original.actions {
         let copy = action.copy(alloc)?;
-        assert_eq!(rt;
-            format!(in alloc; "{copy:?}")?,
-            format!(in alloc; "{action:?}")?
-        );
+        assert!(rt; look_alike(alloc, action, &copy)?);
     }
     let original = rules(alloc)?;
     let copy = original.copy(alloc)?;
-    assert_eq!(rt;
-        format!(in alloc; "{copy:?}")?,
-        format!(in alloc; "{original:?}")?
-    );
+    assert!(rt; look_alike(alloc, &original, &copy)?);
     Ok(())
 }
 
+/// Whether the copy of a process term is printed as the term is.
+fn is_copied(alloc: Global, term: &Proc) -> Result<bool, NoMemory> {
+    let copy = term.copy(alloc)?;
+    look_alike(alloc, term, &copy)
+}
+
+// chains, a sum of a condition, and each operator around another one
 #[test]
 fn copies_of_process_terms_are_equal(rt: HostRuntime) -> Result<(), Fail> {
     let alloc = rt.alloc();
-    for original in &terms(alloc)? {
-        let copy = original.copy(alloc)?;
-        assert_eq!(rt;
-            format!(in alloc; "{copy:?}")?,
-            format!(in alloc; "{original:?}")?
-        );
-    }
+    assert!(rt; is_copied(alloc, &Proc::Choice(operands(alloc)?))?);
+    assert!(rt; is_copied(alloc, &Proc::Seq(operands(alloc)?))?);
+    assert!(rt; is_copied(alloc, &Proc::Choice(Vec::new(alloc)))?);
+    assert!(rt; is_copied(alloc, &summed(alloc)?)?);
+    assert!(rt; is_copied(alloc, &allowing(alloc)?)?);
     Ok(())
+}
+
+/// Whether the copy of a component is printed as the component is.
+fn is_component_copied(alloc: Global, component: &Component) -> Result<bool, NoMemory> {
+    let copy = component.copy(alloc)?;
+    look_alike(alloc, component, &copy)
 }
 
 #[test]
 fn copies_of_components_are_equal(rt: HostRuntime) -> Result<(), Fail> {
     let alloc = rt.alloc();
     let args = Vec::from_array(alloc, [TermId(6), TermId(7)])?;
-    let called = Component::Call(ProcId(2), args);
-    let term = Component::Term(summed(alloc)?);
-    for original in [called, term] {
-        let copy = original.copy(alloc)?;
-        assert_eq!(rt;
-            format!(in alloc; "{copy:?}")?,
-            format!(in alloc; "{original:?}")?
-        );
-    }
+    assert!(rt; is_component_copied(alloc, &Component::Call(ProcId(2), args))?);
+    assert!(rt; is_component_copied(alloc, &Component::Term(summed(alloc)?))?);
     Ok(())
 }
