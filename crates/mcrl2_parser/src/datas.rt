@@ -51,6 +51,7 @@ pub fn unit<'a>(
 
 // The expression that a prefix sign begins, and the rest.
 #[cycle(datas)]
+#[inline(never)]
 fn prefixed<'a>(
     alloc: Global,
     text: &[u8],
@@ -72,6 +73,7 @@ fn prefixed<'a>(
 
 // The name, with arguments where a bracket stands behind it, and the rest.
 #[cycle(datas)]
+#[inline(never)]
 fn named<'a>(
     alloc: Global,
     text: &[u8],
@@ -96,6 +98,7 @@ fn named<'a>(
 
 // The list that an opening bracket begins, and the rest.
 #[cycle(datas)]
+#[inline(never)]
 fn listed<'a>(
     alloc: Global,
     text: &[u8],
@@ -120,6 +123,7 @@ fn listed<'a>(
 
 // The expression in brackets that an opening bracket begins, and the rest.
 #[cycle(datas)]
+#[inline(never)]
 fn bracketed<'a>(
     alloc: Global,
     text: &[u8],
@@ -183,6 +187,7 @@ pub fn data<'a>(
 
 // The expressions without infix signs, each behind a sign, that a front of the tokens spells, and the rest.
 #[cycle(datas)]
+#[inline(never)]
 fn operands<'a>(
     alloc: Global,
     text: &[u8],

@@ -67,6 +67,7 @@ fn joined_at(
 }
 
 /// The first operand and the further ones in one tree, joined from the tightest level on.
+#[inline(never)]
 pub fn joined(
     alloc: Global,
     first: DataTree,

@@ -19,16 +19,16 @@ process-returns-in_err-part-clause-only t c = λ p r a e. let x = err_from_is_er
     rw x.1 (x.2 ∙ choices_err _ c.loop-parts.invariant.0 c.in_err-part.ensures.only a e)
 
 pub process-returns-in_default-clause-found : goal.process-returns-in_default-clause-found
-process-returns-in_default-clause-found t c = choices_found {all = map plain_process c.push.new.self.items} c.loop-parts.invariant.0 c.in_ok-part.ensures.found (grind (arith, common_steps)) c.in_choice.ensures
+process-returns-in_default-clause-found t c = choices_found {all = map plain_process c.push_part.new.parts.items} c.loop-parts.invariant.0 c.in_ok-part.ensures.found c.in_ok-push_part.ensures.pushed c.in_ok-tree.ensures.tree
 
 pub process-returns-in_default-clause-only : goal.process-returns-in_default-clause-only
 process-returns-in_default-clause-only t c =
-    λ p r. choices_only {all = map plain_process c.push.new.self.items} c.loop-parts.invariant.0 c.in_ok-part.ensures.only (c.in_default.ensures.none refl) (grind (arith, common_steps)) c.in_choice.ensures
+    λ p r. choices_only {all = map plain_process c.push_part.new.parts.items} c.loop-parts.invariant.0 c.in_ok-part.ensures.only (c.in_default.ensures.none refl) c.in_ok-push_part.ensures.pushed c.in_ok-tree.ensures.tree
 
 pub process-loop-parts-preserved : goal.process-loop-parts-preserved
 process-loop-parts-preserved t c = (
       chain_goes_on (IsChoices c.args.text.now) EndsChoices c.loop-parts.invariant.0 (next_choice c.in_ok-part.ensures.found c.in_ok-part.ensures.only c.in-Ok.ensures.found.0 c.in-Ok.ensures.found.1)
-      (shorter_behind c.in_ok-part.ensures.shorter c.in-Ok.ensures.found.0) (grind (arith, common_steps)),
+      (shorter_behind c.in_ok-part.ensures.shorter c.in-Ok.ensures.found.0) c.in_ok-push_part.ensures.pushed,
       has_next c.loop-parts.invariant.1 (merge_rest c.in_ok-part.ensures.found) c.in-Ok.ensures.found.0,
     )
 
@@ -37,16 +37,16 @@ merge-returns-in_err-part-clause-only t c = λ o ps r a f s. let x = err_from_is
     rw x.1 (x.2 ∙ merge_err _ c.loop-parts.invariant.0 c.in_err-part.ensures.only a f s)
 
 pub merge-returns-in_default-clause-found : goal.merge-returns-in_default-clause-found
-merge-returns-in_default-clause-found t c = merge_found {all = map plain_process c.push.new.self.items} c.loop-parts.invariant.0 c.in_ok-part.ensures.found (c.in_default.ensures.none refl) (grind (arith, common_steps)) c.in_parallel.ensures
+merge-returns-in_default-clause-found t c = merge_found {all = map plain_process c.push_part.new.parts.items} c.loop-parts.invariant.0 c.in_ok-part.ensures.found (c.in_default.ensures.none refl) c.in_ok-push_part.ensures.pushed c.in_ok-tree.ensures.tree
 
 pub merge-returns-in_default-clause-only : goal.merge-returns-in_default-clause-only
 merge-returns-in_default-clause-only t c =
-    λ o ps r. merge_only {all = map plain_process c.push.new.self.items} c.loop-parts.invariant.0 c.in_ok-part.ensures.only (c.in_default.ensures.none refl) (grind (arith, common_steps)) c.in_parallel.ensures
+    λ o ps r. merge_only {all = map plain_process c.push_part.new.parts.items} c.loop-parts.invariant.0 c.in_ok-part.ensures.only (c.in_default.ensures.none refl) c.in_ok-push_part.ensures.pushed c.in_ok-tree.ensures.tree
 
 pub merge-loop-parts-preserved : goal.merge-loop-parts-preserved
 merge-loop-parts-preserved t c = (
       chain_goes_on (SpellsMerge c.args.text.now) EndsMerge c.loop-parts.invariant.0 (next_operand c.in_ok-part.ensures.found c.in_ok-part.ensures.only c.in-Ok.ensures.found.0 c.in-Ok.ensures.found.1)
-      (shorter_behind c.in_ok-part.ensures.shorter c.in-Ok.ensures.found.0) (grind (arith, common_steps)),
+      (shorter_behind c.in_ok-part.ensures.shorter c.in-Ok.ensures.found.0) c.in_ok-push_part.ensures.pushed,
       has_next c.loop-parts.invariant.1 (operand_rest c.in_ok-part.ensures.found) c.in-Ok.ensures.found.0,
     )
 
@@ -55,16 +55,16 @@ operand-returns-in_err-part-clause-only t c = λ s o p r a f k. let x = err_from
     rw x.1 (x.2 ∙ parts_err _ c.loop-parts.invariant.0 c.in_err-part.ensures.last c.in_err-part.ensures.atom a f k)
 
 pub operand-returns-in_default-clause-found : goal.operand-returns-in_default-clause-found
-operand-returns-in_default-clause-found t c = parts_found {all = map plain_process c.push.new.self.items} c.loop-parts.invariant.0 c.in_ok-part.ensures.found (c.in_default.ensures.none refl) (grind (arith, common_steps)) c.in_sequence.ensures
+operand-returns-in_default-clause-found t c = parts_found {all = map plain_process c.push_part.new.parts.items} c.loop-parts.invariant.0 c.in_ok-part.ensures.found (c.in_default.ensures.none refl) c.in_ok-push_part.ensures.pushed c.in_ok-tree.ensures.tree
 
 pub operand-returns-in_default-clause-only : goal.operand-returns-in_default-clause-only
 operand-returns-in_default-clause-only t c =
-    λ s o p r. parts_only {all = map plain_process c.push.new.self.items} c.loop-parts.invariant.0 c.in_ok-part.ensures.last c.in_ok-part.ensures.atom (c.in_default.ensures.none refl) (grind (arith, common_steps)) c.in_sequence.ensures
+    λ s o p r. parts_only {all = map plain_process c.push_part.new.parts.items} c.loop-parts.invariant.0 c.in_ok-part.ensures.last c.in_ok-part.ensures.atom (c.in_default.ensures.none refl) c.in_ok-push_part.ensures.pushed c.in_ok-tree.ensures.tree
 
 pub operand-loop-parts-preserved : goal.operand-loop-parts-preserved
 operand-loop-parts-preserved t c = (
       chain_goes_on (IsParts c.args.text.now) EndsParts c.loop-parts.invariant.0 (next_part c.in_ok-part.ensures.found c.in_ok-part.ensures.last c.in_ok-part.ensures.atom c.in-Ok.ensures.found.0 c.in-Ok.ensures.found.1)
-      (shorter_behind c.in_ok-part.ensures.shorter c.in-Ok.ensures.found.0) (grind (arith, common_steps)),
+      (shorter_behind c.in_ok-part.ensures.shorter c.in-Ok.ensures.found.0) c.in_ok-push_part.ensures.pushed,
       has_next c.loop-parts.invariant.1 (part_rest c.in_ok-part.ensures.found) c.in-Ok.ensures.found.0,
     )
 
@@ -118,10 +118,10 @@ pub sum-returns-in_err-rest-clause-only : goal.sum-returns-in_err-rest-clause-on
 sum-returns-in_err-rest-clause-only t c = λ o p r a f k. absurd (dot_err c.in_ok-variables.ensures.only (c.in_err-rest.ensures.none refl) (of_sum c.in_ok-word.ensures.found.0 a))
 
 pub sum-returns-clause-found : goal.sum-returns-clause-found
-sum-returns-clause-found t c = sum_found c.in_ok-tree.ensures (between c.joined_spans-span.ensures c.token_span.ensures c.span.ensures) c.in_ok-word.ensures.found.0 c.in_ok-word.ensures.found.1 c.in_ok-variables.ensures.found c.in_ok-rest.ensures.found.0 c.in_ok-rest.ensures.found.1 c.in_ok-inner.ensures.found
+sum-returns-clause-found t c = sum_found c.in_ok-tree.ensures.tree refl c.in_ok-word.ensures.found.0 c.in_ok-word.ensures.found.1 c.in_ok-variables.ensures.found c.in_ok-rest.ensures.found.0 c.in_ok-rest.ensures.found.1 c.in_ok-inner.ensures.found
 
 pub sum-returns-clause-only : goal.sum-returns-clause-only
-sum-returns-clause-only t c = λ o p r a f k. sum_only c.in_ok-tree.ensures (between c.joined_spans-span.ensures c.token_span.ensures c.span.ensures) c.in_ok-variables.ensures.only c.in_ok-rest.ensures.found.0 c.in_ok-inner.ensures.only (of_sum c.in_ok-word.ensures.found.0 a) f k
+sum-returns-clause-only t c = λ o p r a f k. sum_only c.in_ok-tree.ensures.tree refl c.in_ok-variables.ensures.only c.in_ok-rest.ensures.found.0 c.in_ok-inner.ensures.only (of_sum c.in_ok-word.ensures.found.0 a) f k
 
 pub condition-returns-in_err-then-clause-only : goal.condition-returns-in_err-then-clause-only
 condition-returns-in_err-then-clause-only t c = λ ts s o p r g a f k. let x = err_from_is_err_and c.from_residual.result c.from_residual.ensures.1 in
@@ -132,19 +132,19 @@ condition-returns-in_err-other-in-Ok-clause-only t c = λ ts s o p r g a f k. le
     rw x.1 (x.2 ∙ else_err _ c.in_ok-then.ensures.only c.in-Ok.ensures.found.0 c.in-Ok.ensures.found.1 c.in_err-other-in-Ok.ensures.only (of_guard g a) f k)
 
 pub condition-returns-in_ok-tree-in-Ok-clause-found : goal.condition-returns-in_ok-tree-in-Ok-clause-found
-condition-returns-in_ok-tree-in-Ok-clause-found t c = λ ts g. else_found g c.in_ok-then.ensures.found c.in-Ok.ensures.found.0 c.in-Ok.ensures.found.1 c.in_ok-other-in-Ok.ensures.found c.in_ok-tree-in-Ok.ensures (between c.joined_spans-span.ensures c.span.ensures c.span-in-Ok.ensures)
+condition-returns-in_ok-tree-in-Ok-clause-found t c = λ ts g. else_found g c.in_ok-then.ensures.found c.in-Ok.ensures.found.0 c.in-Ok.ensures.found.1 c.in_ok-other-in-Ok.ensures.found c.in_ok-tree-in-Ok.ensures.tree refl
 
 pub condition-returns-in_ok-tree-in-Ok-clause-only : goal.condition-returns-in_ok-tree-in-Ok-clause-only
-condition-returns-in_ok-tree-in-Ok-clause-only t c = λ ts s o p r g a f k. else_only c.in_ok-then.ensures.only c.in-Ok.ensures.found.0 c.in-Ok.ensures.found.1 c.in_ok-other-in-Ok.ensures.only c.in_ok-tree-in-Ok.ensures (between c.joined_spans-span.ensures c.span.ensures c.span-in-Ok.ensures) (of_guard g a) f k
+condition-returns-in_ok-tree-in-Ok-clause-only t c = λ ts s o p r g a f k. else_only c.in_ok-then.ensures.only c.in-Ok.ensures.found.0 c.in-Ok.ensures.found.1 c.in_ok-other-in-Ok.ensures.only c.in_ok-tree-in-Ok.ensures.tree refl (of_guard g a) f k
 
 pub condition-returns-in_ok-tree-in-Err-clause-found : goal.condition-returns-in_ok-tree-in-Err-clause-found
-condition-returns-in_ok-tree-in-Err-clause-found t c = λ ts g. then_found g c.in_ok-then.ensures.found (c.in-Err.ensures.none refl) c.in_ok-tree-in-Err.ensures (between c.joined_spans-span-in-Err.ensures c.span-in-Err.ensures c.span-in-Err-2.ensures)
+condition-returns-in_ok-tree-in-Err-clause-found t c = λ ts g. then_found g c.in_ok-then.ensures.found (c.in-Err.ensures.none refl) c.in_ok-tree-in-Err.ensures.tree refl
 
 pub condition-returns-in_ok-tree-in-Err-clause-only : goal.condition-returns-in_ok-tree-in-Err-clause-only
-condition-returns-in_ok-tree-in-Err-clause-only t c = λ ts s o p r g a f k. then_only c.in_ok-then.ensures.only (c.in-Err.ensures.none refl) c.in_ok-tree-in-Err.ensures (between c.joined_spans-span-in-Err.ensures c.span-in-Err.ensures c.span-in-Err-2.ensures) (of_guard g a) f k
+condition-returns-in_ok-tree-in-Err-clause-only t c = λ ts s o p r g a f k. then_only c.in_ok-then.ensures.only (c.in-Err.ensures.none refl) c.in_ok-tree-in-Err.ensures.tree refl (of_guard g a) f k
 
-pub atom-returns-in-Delta-clause-found : goal.atom-returns-in-Delta-clause-found
-atom-returns-in-Delta-clause-found t c = by_delta c.delta_at.ensures c.token_span.ensures c.in_ok-first.ensures.found c.in-Delta.is
+pub atom-returns-in_ok-tree-in-Delta-clause-found : goal.atom-returns-in_ok-tree-in-Delta-clause-found
+atom-returns-in_ok-tree-in-Delta-clause-found t c = by_delta c.in_ok-tree-in-Delta.ensures.tree refl c.in_ok-first.ensures.found c.in-Delta.is
 
 pub atom-returns-in_err-inner-in-LeftParen-clause-only : goal.atom-returns-in_err-inner-in-LeftParen-clause-only
 atom-returns-in_err-inner-in-LeftParen-clause-only t c = λ p r a n. let x = err_from_is_err_and c.from_residual-in_err-inner-in-LeftParen.result c.from_residual-in_err-inner-in-LeftParen.ensures.1 in
@@ -155,10 +155,10 @@ atom-returns-in_err-close-in-LeftParen-clause-only t c = λ p r a n. absurd (clo
 
 pub atom-returns-in_ok-tree-in-LeftParen-clause-found : goal.atom-returns-in_ok-tree-in-LeftParen-clause-found
 atom-returns-in_ok-tree-in-LeftParen-clause-found t c =
-    by_brackets c.in_ok-tree-in-LeftParen.ensures c.token_span-in-LeftParen.ensures c.in_ok-first.ensures.found c.in-LeftParen.is c.in_ok-inner-in-LeftParen.ensures.found c.in_ok-close-in-LeftParen.ensures.found.0 c.in_ok-close-in-LeftParen.ensures.found.1
+    by_brackets c.in_ok-tree-in-LeftParen.ensures.tree refl c.in_ok-first.ensures.found c.in-LeftParen.is c.in_ok-inner-in-LeftParen.ensures.found c.in_ok-close-in-LeftParen.ensures.found.0 c.in_ok-close-in-LeftParen.ensures.found.1
 
 pub atom-returns-in_ok-tree-in-LeftParen-clause-only : goal.atom-returns-in_ok-tree-in-LeftParen-clause-only
-atom-returns-in_ok-tree-in-LeftParen-clause-only t c = λ p r a n. brackets_only c.in_ok-tree-in-LeftParen.ensures c.token_span-in-LeftParen.ensures c.in_ok-inner-in-LeftParen.ensures.only c.in_ok-close-in-LeftParen.ensures.found.0
+atom-returns-in_ok-tree-in-LeftParen-clause-only t c = λ p r a n. brackets_only c.in_ok-tree-in-LeftParen.ensures.tree refl c.in_ok-inner-in-LeftParen.ensures.only c.in_ok-close-in-LeftParen.ensures.found.0
     (of_brackets c.in_ok-first.ensures.found c.in-LeftParen.is a)
 
 pub atom-returns-in_err-operator-in-Allow-clause-only : goal.atom-returns-in_err-operator-in-Allow-clause-only
@@ -176,15 +176,15 @@ atom-returns-in_err-close-in-Allow-clause-only t c = λ p r a n. absurd (shut_er
 
 pub atom-returns-in_ok-tree-in-Allow-clause-found : goal.atom-returns-in_ok-tree-in-Allow-clause-found
 atom-returns-in_ok-tree-in-Allow-clause-found t c =
-    by_operator c.in_ok-tree-in-Allow.ensures.around c.token_span-in-Allow.ensures c.in_ok-first.ensures.found c.in_ok-operator-in-Allow.ensures.found c.in_ok-inner-in-Allow.ensures.found c.in_ok-close-in-Allow.ensures.found.0 c.in_ok-close-in-Allow.ensures.found.1
+    by_operator c.in_ok-tree-in-Allow.ensures.tree refl c.in_ok-first.ensures.found c.in_ok-operator-in-Allow.ensures.found c.in_ok-inner-in-Allow.ensures.found c.in_ok-close-in-Allow.ensures.found.0 c.in_ok-close-in-Allow.ensures.found.1
 
 pub atom-returns-in_ok-tree-in-Allow-clause-only : goal.atom-returns-in_ok-tree-in-Allow-clause-only
-atom-returns-in_ok-tree-in-Allow-clause-only t c = λ p r a n. operator_only c.in_ok-tree-in-Allow.ensures.around c.token_span-in-Allow.ensures c.in_ok-operator-in-Allow.ensures.only c.in_ok-inner-in-Allow.ensures.only c.in_ok-close-in-Allow.ensures.found.0
+atom-returns-in_ok-tree-in-Allow-clause-only t c = λ p r a n. operator_only c.in_ok-tree-in-Allow.ensures.tree refl c.in_ok-operator-in-Allow.ensures.only c.in_ok-inner-in-Allow.ensures.only c.in_ok-close-in-Allow.ensures.found.0
     (of_operator c.in_ok-first.ensures.found (is_operation c.in-Allow.is) a)
 
 pub atom-returns-in_default : goal.atom-returns-in_default
 atom-returns-in_default t c = record {
-  shorter = c.step.ensures.shorter;
-  found = IfOk-weaker _ _ _ (λ x a. atom_step a) c.step.ensures.found;
-  only = λ p r a n. c.step.ensures.only p r (of_step c.in_ok-first.ensures.found c.in_default.not-Delta c.in_default.not-LeftParen c.in_default.not-Allow c.in_default.not-Block c.in_default.not-Hide c.in_default.not-Rename c.in_default.not-Comm a) n;
+  shorter = c.boxed_step.ensures.shorter;
+  found = IfOk-weaker _ _ _ (λ x a. atom_step a) c.boxed_step.ensures.found;
+  only = λ p r a n. c.boxed_step.ensures.only p r (of_step c.in_ok-first.ensures.found c.in_default.not-Delta c.in_default.not-LeftParen c.in_default.not-Allow c.in_default.not-Block c.in_default.not-Hide c.in_default.not-Rename c.in_default.not-Comm a) n;
 }
