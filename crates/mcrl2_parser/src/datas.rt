@@ -15,6 +15,7 @@ ghost use Rattle.mcrl2_syntax.specs.SpelledData.{SpellsUnit, SpellsItems, Spells
 ghost use Rattle.mcrl2_parser.specs.Operands.{SpellsSign, SpellsOperands};
 
 use crate::joining::joined;
+use crate::lists::push_sparing;
 use crate::words::{Fault, expect, next, word};
 use mcrl2_lexer::{Kind, Token};
 use mcrl2_syntax::{
@@ -158,7 +159,7 @@ pub fn items<'a>(
     let mut rest = tokens;
     loop {
         let (item, behind) = data(alloc, text, rest)?;
-        list.push(item)?;
+        push_sparing(&mut list, item)?;
         let Ok((_, after)) = expect(behind, Kind::Comma) else {
             list.shrink_to_fit();
             return Ok((list, behind));

@@ -50,9 +50,14 @@ pub fn process<'a>(
     ensures only { (p : PlainProcess) (r : List Token) → SpellsProcess text.now p tokens.now r → Ends r
         → MatchResult result (λ x. (plain_process x.0.value ≡ p) × (x.1.now ≡ r)) (λ e. e ≡ Fault.NoMemory) }
 {
+    let (first, end) = merge(alloc, text, arrows, tokens)?;
+    let Ok((_, after)) = expect(end, Kind::Plus) else {
+        return Ok((first, end));
+    };
     let mut parts = Vec::new(alloc);
-    let mut rest = tokens;
-    loop {
+    push_part(&mut parts, first)?;
+    let mut rest = after;
+    'parts: loop {
         let (part, end) = merge(alloc, text, arrows, rest)?;
         push_part(&mut parts, part)?;
         let Ok((_, after)) = expect(end, Kind::Plus) else {
@@ -77,9 +82,14 @@ fn merge<'a>(
     ensures only { (o : Bool) (ps : List PlainProcess) (r : List Token) → SpellsMerge text.now o ps tokens.now r → Follows r → Stays true o r
         → MatchResult result (λ x. (plain_process x.0.value ≡ merged ps) × (x.1.now ≡ r)) (λ e. e ≡ Fault.NoMemory) }
 {
+    let (first, end) = operand(alloc, text, arrows, tokens)?;
+    let Ok((_, after)) = expect(end, Kind::BarBar) else {
+        return Ok((first, end));
+    };
     let mut parts = Vec::new(alloc);
-    let mut rest = tokens;
-    loop {
+    push_part(&mut parts, first)?;
+    let mut rest = after;
+    'parts: loop {
         let (part, end) = operand(alloc, text, arrows, rest)?;
         push_part(&mut parts, part)?;
         let Ok((_, after)) = expect(end, Kind::BarBar) else {
@@ -104,9 +114,14 @@ fn operand<'a>(
     ensures only { (s o : Bool) (p : PlainProcess) (r : List Token) → SpellsOperand text.now s o p tokens.now r → Follows r → Stays s o r
         → MatchResult result (λ x. (plain_process x.0.value ≡ p) × (x.1.now ≡ r)) (λ e. e ≡ Fault.NoMemory) }
 {
+    let (first, end) = part(alloc, text, arrows, tokens)?;
+    let Ok((_, after)) = expect(end, Kind::Dot) else {
+        return Ok((first, end));
+    };
     let mut parts = Vec::new(alloc);
-    let mut rest = tokens;
-    loop {
+    push_part(&mut parts, first)?;
+    let mut rest = after;
+    'parts: loop {
         let (part, end) = part(alloc, text, arrows, rest)?;
         push_part(&mut parts, part)?;
         let Ok((_, after)) = expect(end, Kind::Dot) else {
