@@ -1,6 +1,6 @@
 -- The operands of an expression join to what its tokens spell.
-use Rattle.std.proofs.Common.{◌≡◌, ℕ, zero, suc, ◌+◌, ◌<◌, Bool, true, false, ◌||◌, if◌then◌else◌, List, [], ◌∷◌, ◌++◌, Some, nat_eq, reverse, refl, ap, sym, ◌∙◌, subst, add-one, arith}
-use Rattle.std.specs.List.{list_any}
+use Rattle.std.proofs.Common.{◌≡◌, ℕ, zero, suc, ◌+◌, ◌<◌, Bool, true, false, ◌||◌, ◌&&◌, if◌then◌else◌, List, [], ◌∷◌, ◌++◌, Some, nat_eq, reverse, refl, ap, sym, ◌∙◌, subst, add-one, arith}
+use Rattle.std.specs.List.{list_all, list_any}
 use Rattle.std.proofs.lemmas.Bool.{cond_both, eqb-true, eqb-false}
 use Rattle.std.proofs.lemmas.List.{reverse-append}
 use Rattle.mcrl2_lexer.specs.declared.token.Token.{Token}
@@ -149,6 +149,21 @@ parted_none k (o ∷ os) e =
     ap (λ (x : List Operand × List Operand). with_operand k (o.0, plain_data o.1) x) (parted_none k os both.1)
     ∙ with_other k (o.0, plain_data o.1) ([], plain_operands os) (eqb-false (level_of o.0) k both.0)
     ∙ ap (λ (x : PlainData). ([], (o.0, x) ∷ plain_operands os)) (grouped_none k (plain_data o.1))
+
+and_true : (a b : Bool) → a && b ≡ true → (a ≡ true) × (b ≡ true)
+and_true true b e = (refl, e)
+and_true false b e = absurd cc
+
+all_parted : (k : ℕ) (os : List (InfixSign × DataTree)) → list_all (λ o. nat_eq (level_of o.0) k) os ≡ true → parted k (plain_operands os) ≡ (plain_operands os, [])
+all_parted k [] e = refl
+all_parted k (o ∷ os) e =
+    let both = and_true (nat_eq (level_of o.0) k) (list_all (λ o. nat_eq (level_of o.0) k) os) e in
+    ap (λ (x : List Operand × List Operand). with_operand k (o.0, plain_data o.1) x) (all_parted k os both.1) ∙ with_same k (o.0, plain_data o.1) (plain_operands os, []) (eqb-true (level_of o.0) k both.0)
+
+-- all signs between the operands are of the level
+pub parted_all : (k : ℕ) (os seen others : List (InfixSign × DataTree)) → seen ≡ os → true ≡ list_all (λ o. nat_eq (level_of o.0) k) seen → others ≡ []
+    → (plain_operands os, plain_operands others) ≡ parted k (plain_operands os)
+parted_all k os seen others same e none = rw none (sym (all_parted k os (subst (λ (x : List (InfixSign × DataTree)). list_all (λ o. nat_eq (level_of o.0) k) x ≡ true) same (sym e))))
 
 pub joined_at_none : (k : ℕ) (d : PlainData) (os seen : List (InfixSign × DataTree)) → seen ≡ os → false ≡ list_any (λ o. nat_eq (level_of o.0) k) seen → (d, plain_operands os) ≡ joined_at k (d, plain_operands os)
 joined_at_none k d os seen same e = sym (ap (λ (x : List Operand × List Operand). (grouped k d x.0, x.1)) (parted_none k os (subst (λ (x : List (InfixSign × DataTree)). list_any (λ o. nat_eq (level_of o.0) k) x ≡ false) same (sym e))) ∙ ap (λ (x : PlainData). (x, plain_operands os)) (grouped_none k d))

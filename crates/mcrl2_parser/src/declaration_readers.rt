@@ -42,7 +42,7 @@ fn whole_process(alloc: Global, text: &[u8], tokens: &[Token]) -> Result<ProcTre
     let arrows = arrows_of(alloc, tokens)?;
     let (tree, rest) = process(alloc, text, &arrows, tokens)?;
     end(rest)?;
-    Ok(tree)
+    Ok(Box::into_inner(tree))
 }
 
 // The names of sorts that all the tokens spell.

@@ -5,6 +5,7 @@ ghost use Rattle.mcrl2_lexer.specs.declared.token.Token.{Token};
 ghost use Rattle.mcrl2_syntax.specs.DataTrees.{PlainData, plain_data};
 ghost use Rattle.mcrl2_parser.specs.ProcessReading.{BeginsCall, SpellsGuard};
 
+use crate::boxes::boxed_data;
 use crate::datas::unit;
 use crate::words::{Fault, expect};
 use mcrl2_lexer::{Kind, Token};
@@ -33,17 +34,19 @@ pub fn begins_call(tokens: &[Token]) -> bool
 /// # Errors
 ///
 /// `Syntax` where no condition begins there.
+#[inline(never)]
 pub fn guard<'a>(
     alloc: Global,
     text: &[u8],
     tokens: &'a [Token],
-) -> Result<(DataTree, &'a [Token]), Fault>
+) -> Result<(Box<DataTree>, &'a [Token]), Fault>
     ensures shorter { IfOk result (λ x. length x.1.now < length tokens.now) }
-    ensures found { IfOk result (λ x. SpellsGuard text.now (plain_data x.0) tokens.now x.1.now) }
+    ensures found { IfOk result (λ x. SpellsGuard text.now (plain_data x.0.value) tokens.now x.1.now) }
     ensures only { (c : PlainData) (r : List Token) → SpellsGuard text.now c tokens.now r
-        → MatchResult result (λ x. (plain_data x.0 ≡ c) × (x.1.now ≡ r)) (λ e. e ≡ Fault.NoMemory) }
+        → MatchResult result (λ x. (plain_data x.0.value ≡ c) × (x.1.now ≡ r)) (λ e. e ≡ Fault.NoMemory) }
 {
     let (tree, rest) = unit(alloc, text, tokens)?;
     let (_, rest) = expect(rest, Kind::Arrow)?;
+    let tree = boxed_data(alloc, tree)?;
     Ok((tree, rest))
 }

@@ -7,6 +7,7 @@
 #![tactic(auto)]
 
 mod arrows;
+mod boxes;
 mod chains;
 mod constructor_readers;
 mod datas;

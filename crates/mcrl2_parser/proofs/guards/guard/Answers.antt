@@ -6,4 +6,4 @@ pub returns-in_err-rest-clause-only : goal.returns-in_err-rest-clause-only
 returns-in_err-rest-clause-only c = λ d r g. absurd (unguarded c.in_ok-tree.ensures.only (c.in_err-rest.ensures.none refl) g)
 
 pub returns-clause-found : goal.returns-clause-found
-returns-clause-found c = guarded c.in_ok-tree.ensures.found c.in_ok-rest.ensures.found.0 c.in_ok-rest.ensures.found.1
+returns-clause-found c = rw c.in_ok-tree-2.ensures.tree (guarded c.in_ok-tree.ensures.found c.in_ok-rest.ensures.found.0 c.in_ok-rest.ensures.found.1)
