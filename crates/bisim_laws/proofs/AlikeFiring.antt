@@ -1,27 +1,28 @@
 -- Provably equal arguments fire alike.
-use Rattle.std.proofs.Common.{◌≡◌, ℕ, ⊎_elim, List, [], ◌∷◌, ◌++◌, length, refl, sym, ap, ◌∙◌, subst, Option, Some}
+use Rattle.std.proofs.Common.{◌≡◌, ℕ, ⊎_elim, List, [], ◌∷◌, length, refl, sym, ap, ◌∙◌, subst, Option, Some}
 use Rattle.std.specs.Prelude.{Contains}
 use Rattle.std.proofs.lemmas.List.Elements.{Contains-append_cases}
 use Rattle.data_theory.specs.Terms.{Sort, Term}
 use Rattle.data_theory.specs.Provable.{reflexive}
-use Rattle.data_theory.specs.Environments.{Environment, term_in, bound, Apart, AreDistinct, Agree}
-use Rattle.data_theory.proofs.EnvironmentLemmas.{contains_nothing, contains_cases as number_cases, front_is_read, front_is_skipped, bound_are_the_parameters}
-use Rattle.process_terms.specs.Theories.{Theory, Equal, Equals, more_terms, IsOfSort, AreOfSorts}
+use Rattle.data_theory.specs.Environments.{Environment, term_in, bound, Agree}
+use Rattle.data_theory.proofs.EnvironmentLemmas.{contains_nothing, contains_cases as number_cases}
+use Rattle.process_terms.specs.Theories.{Theory, Equal, Equals, more_terms, AreOfSorts}
 use Rattle.process_terms.specs.Labels.{Label, put_label}
 use Rattle.process_terms.specs.Processes.{Process}
 use Rattle.process_terms.specs.Steps.{Outcome, Step}
 use Rattle.process_terms.proofs.AgreeingLabels.{equals_refl, equals_sym}
 use Rattle.bisim_laws.specs.Sameness.{turned}
 use Rattle.bisim_laws.specs.Bisimulations.{Lands, both_end, both_go_on, Answer, Answers, Flipped, UpTo, up_to, Progress}
-use Rattle.bisim_laws.specs.LinearProcesses.{Linear, variables, sorts, state_of, IsLinear, IsWellSorted, reading, put_next, NextEquals, both_without, both_with, outcome_of, Fires}
+use Rattle.bisim_laws.specs.LinearProcesses.{Linear, variables, sorts, state_of, IsLinear, IsWellSorted, reading, beside_reading, put_next, NextEquals, both_without, both_with, outcome_of, Fires}
 use Rattle.bisim_laws.specs.BaseStates.{SolvedState, solved_state}
 use Rattle.bisim_laws.specs.LinkLaws.{EqualArgumentsFireAlike}
 use Rattle.bisim_laws.specs.LinkChecks.{SolvedWithItselfIsGood}
 use Rattle.bisim_laws.proofs.AlikeProcesses.{alike_refl, answer_weaken}
 use Rattle.bisim_laws.proofs.ComposedLinks.{up_to_bisimulation}
 use Rattle.bisim_laws.proofs.PuttingEqualData.{equals_long}
-use Rattle.bisim_laws.proofs.Firing.{variable_among, reading_same, reading_agrees, reading_long, bound_reads, fired, fire}
+use Rattle.bisim_laws.proofs.Firing.{reading_long, fired, fire}
 use Rattle.bisim_laws.proofs.EqualFiring.{does_equal}
+use Rattle.bisim_laws.proofs.SideBySide.{in_front_agree, reads_behind, bound_along}
 use Rattle.bisim_laws.proofs.SortedFiring.{firings_keep}
 
 -- readings that are provably equal
@@ -29,30 +30,16 @@ pub equal_at : (th : Theory) (xs : List ℕ) (d e : Environment) → Equals th (
 equal_at th [] d e h v i = absurd (contains_nothing v i)
 equal_at th (x ∷ xs) d e (more_terms h k) v i = ⊎_elim (λ q. subst (λ z. Equal th (term_in d z) (term_in e z)) q h) (λ j. equal_at th xs d e k v j) (number_cases x v xs i)
 
--- the terms of e for xs, before the parameters ys that are bound to us
-abbrev pub with_parameters : Environment → List ℕ → List ℕ → List Term → Environment
-with_parameters e xs ys us = bound xs (reading e xs) ++ bound ys us
-
-pub front_agrees : (e : Environment) (xs ys : List ℕ) (us : List Term) → AreDistinct xs → Agree xs (term_in (with_parameters e xs ys us)) (term_in e)
-front_agrees e xs ys us n = reading_agrees xs (with_parameters e xs ys us) e
-    (reading_same xs (with_parameters e xs ys us) (bound xs (reading e xs)) (λ v i. front_is_read (bound xs (reading e xs)) (bound ys us) v (subst (λ l. Contains l v) (sym (bound_are_the_parameters xs (reading e xs) (reading_long e xs))) i))
-    ∙ bound_reads xs (reading e xs) (reading_long e xs) n)
-
-pub back_reads : (e : Environment) (xs ys : List ℕ) (us : List Term) → Apart xs ys → AreDistinct ys → length us ≡ length ys → reading (with_parameters e xs ys us) ys ≡ us
-back_reads e xs ys us a n l =
-    reading_same ys (with_parameters e xs ys us) (bound ys us) (λ v i. front_is_skipped (bound xs (reading e xs)) (bound ys us) v (λ j. a v (subst (λ l. Contains l v) (bound_are_the_parameters xs (reading e xs) (reading_long e xs)) j) i))
-    ∙ bound_reads ys us l n
-
 pub fire_alike : EqualArgumentsFireAlike
 fire_alike th l ts us m next is h k =
     let s = k.summand in
     let f = is.summands s k.among in
     let ps : List ℕ = variables l.params in
     let vs : List ℕ = variables s.sums in
-    let e : Environment = with_parameters k.environment vs ps us in
+    let e : Environment = beside_reading k.environment vs (bound ps us) in
     let long : length us ≡ length ps = sym (equals_long h) ∙ ap length (sym k.reads) ∙ reading_long k.environment ps in
-    let front : Agree vs (term_in e) (term_in k.environment) = front_agrees k.environment vs ps us f.distinct in
-    let reads : reading e ps ≡ us = back_reads k.environment vs ps us f.apart is.distinct long in
+    let front : Agree vs (term_in e) (term_in k.environment) = in_front_agree k.environment (bound ps us) vs f.distinct in
+    let reads : reading e ps ≡ us = reads_behind k.environment vs ps us f.apart is.distinct long in
     let equal : Equals th (reading k.environment ps) (reading e ps) = subst (λ xs. Equals th xs (reading e ps)) (sym k.reads) (subst (λ xs. Equals th ts xs) (sym reads) h) in
     let r = does_equal th l.params s k.environment e m next f
     (λ v i. ⊎_elim (λ j. subst (λ t. Equal th (term_in k.environment v) t) (sym (front v j)) reflexive) (λ j. equal_at th ps k.environment e equal v j) (Contains-append_cases vs ps v i))
@@ -65,7 +52,7 @@ fire_alike th l ts us m next is h k =
         among = k.among;
         environment = e;
         reads = reads;
-        bound = λ x i. subst (λ t. IsOfSort th x.sort t) (sym (front x.var (variable_among s.sums x i))) (k.bound x i);
+        bound = bound_along th s.sums e k.environment front k.bound;
         does = r.does;
       };
       agree = r.agree;

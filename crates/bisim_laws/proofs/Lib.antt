@@ -8,4 +8,5 @@ pub mod SortedFiring
 pub mod NamesOfVariables
 pub mod Regrouping
 pub mod EqualFiring
+pub mod SideBySide
 pub mod AlikeFiring

@@ -3,7 +3,7 @@ use Rattle.std.specs.Prelude.{◌≡◌, ℕ, Bool, true, false, List, [], ◌�
 use Rattle.data_theory.specs.Terms.{Sort, boolean, truth, Term, application, none, put}
 use Rattle.data_theory.specs.Equations.{trueᵗ}
 use Rattle.data_theory.specs.Declarations.{Data, IsSort, Declares, HasSort, HaveSorts}
-use Rattle.data_theory.specs.Environments.{Environment, term_in, terms_of, IsOver, AreOver, Apart, AreDistinct}
+use Rattle.data_theory.specs.Environments.{Environment, term_in, bound, terms_of, IsOver, AreOver, Apart, AreDistinct}
 use Rattle.process_terms.specs.Theories.{Theory, Equals, IsTrue, IsOfSort, AreOfSorts}
 use Rattle.process_terms.specs.Labels.{Action, Label, put_label}
 use Rattle.process_terms.specs.Processes.{Bound, Body, written_delta, written_act, written_seq, written_cond, written_call, choice_of, sums_around, Table, Process, call}
@@ -130,6 +130,10 @@ pub record IsLinearText (th : Theory) (p : Process) : Type 0 where
 -- what an environment has for variables
 abbrev pub reading : Environment → List ℕ → List Term
 reading e xs = map (term_in e) xs
+
+-- these variables as e has them, in front of another environment
+abbrev pub beside_reading : Environment → List ℕ → Environment → Environment
+beside_reading e xs d = bound xs (reading e xs) ++ d
 
 abbrev pub put_next : Environment → Option (List Term) → Option (List Term)
 put_next e None = None

@@ -1,10 +1,10 @@
 -- What no good link can pair, and what `Same` pairs, as checks of the definitions.
 use Rattle.std.specs.Prelude.{◌≡◌, ℕ, List, [], ◌∷◌}
 use Rattle.data_theory.specs.Terms.{Sort, Term, variable}
-use Rattle.process_terms.specs.Systems.{Name}
+use Rattle.process_terms.specs.Names.{Name}
 use Rattle.process_terms.specs.Theories.{Theory, AreOfSorts}
 use Rattle.process_terms.specs.Labels.{Action, Label}
-use Rattle.process_terms.specs.Processes.{Bound, Body, written_act, written_choice, written_seq, written_sum, written_call, Table, Process, delta, act, seq, call, merge, close}
+use Rattle.process_terms.specs.Processes.{Bound, written_act, written_choice, written_seq, written_sum, written_call, Table, Process, delta, act, seq, call, merge, close}
 use Rattle.process_terms.specs.Steps.{Outcome, goes_on, Step}
 use Rattle.bisim_laws.specs.LinearProcesses.{Linear, sorts, state_of, IsLinear, IsWellSorted}
 use Rattle.bisim_laws.specs.BaseStates.{Piece, kept}
@@ -49,40 +49,50 @@ BracketsDoNotCount =
 abbrev pub without_arguments : Name → Label
 without_arguments a = record { name = a; sorts = []; args = [] } ∷ []
 
--- `proc X = (a . Y . b + d) . c . X;`, and any Y without parameters
-abbrev pub straddling : Name → Name → Name → Name → Body → Table
-straddling a b c d y =
+-- `proc X = (a . Y . b + d) . c . X; Y = e;`
+abbrev pub straddling : Name → Name → Name → Name → Name → Table
+straddling a b c d e =
     record {
       params = [];
       body = written_seq
           (written_choice (written_seq (written_act (without_arguments a)) (written_seq (written_call 1 []) (written_act (without_arguments b)))) (written_act (without_arguments d)))
           (written_seq (written_act (without_arguments c)) (written_call 0 []));
-    } ∷ record { params = []; body = y } ∷ []
+    }
+    ∷ record { params = []; body = written_act (without_arguments e) }
+    ∷ []
 
--- what equations of its form stand for: X, Y, and `b . c . X`
+-- its Greibach form: `X = a . Y . Z + d . W; Y = e; Z = b . W; W = c . X;`
+abbrev pub straddling_form : Name → Name → Name → Name → Name → Table
+straddling_form a b c d e =
+    record { params = []; body = written_choice (written_seq (written_act (without_arguments a)) (written_seq (written_call 1 []) (written_call 2 []))) (written_seq (written_act (without_arguments d)) (written_call 3 [])) }
+    ∷ record { params = []; body = written_act (without_arguments e) }
+    ∷ record { params = []; body = written_seq (written_act (without_arguments b)) (written_call 3 []) }
+    ∷ record { params = []; body = written_seq (written_act (without_arguments c)) (written_call 0 []) }
+    ∷ []
+
+-- what its equations stand for: X, Y, `b . c . X` and `c . X`
 abbrev pub straddling_pieces : Name → Name → List Piece
 straddling_pieces b c =
     record { params = []; body = written_call 0 [] }
     ∷ record { params = []; body = written_call 1 [] }
     ∷ record { params = []; body = written_seq (written_act (without_arguments b)) (written_seq (written_act (without_arguments c)) (written_call 0 [])) }
+    ∷ record { params = []; body = written_seq (written_act (without_arguments c)) (written_call 0 []) }
     ∷ []
 
--- `(Y . b) . (c . X)`
+-- `(Y . b) . (c . X)`, to which X comes by a
 abbrev pub after_a : Table → Name → Name → Process
 after_a d b c = seq (seq (call d 1 []) (act (without_arguments b))) (seq (act (without_arguments c)) (call d 0 []))
 
--- `Y . (b . (c . X))`
+-- `Y . (b . (c . X))`, which is what Y and Z stand for: the piece of Z straddles the bracket
 abbrev pub regrouped : Table → Name → Name → Process
 regrouped d b c = seq (call d 1 []) (seq (act (without_arguments b)) (seq (act (without_arguments c)) (call d 0 [])))
 
--- X does a and goes on with the former, and its form with the calls for Y and for `b . c . X`, which straddles the bracket: `Same`
--- pairs the former with the latter, and so `Form` pairs it with these calls.
 abbrev pub PiecesMayStraddleABracket : Type 0
 PiecesMayStraddleABracket =
-    (th : Theory) (a b c d : Name) (y : Body) (form : Table)
-    → Step th (call (straddling a b c d y) 0 []) (without_arguments a) (goes_on (after_a (straddling a b c d y) b c))
-    × Pairs th Same (after_a (straddling a b c d y) b c) (regrouped (straddling a b c d y) b c)
-    × Pairs th (Form (straddling a b c d y) (straddling_pieces b c) form) (after_a (straddling a b c d y) b c) (seq (call form 1 []) (call form 2 []))
+    (th : Theory) (a b c d e : Name)
+    → Step th (call (straddling a b c d e) 0 []) (without_arguments a) (goes_on (after_a (straddling a b c d e) b c))
+    × Pairs th Same (after_a (straddling a b c d e) b c) (regrouped (straddling a b c d e) b c)
+    × IsGood th (Form (straddling a b c d e) (straddling_pieces b c) (straddling_form a b c d e)) (call (straddling a b c d e) 0 []) (call (straddling_form a b c d e) 0 [])
 
 -- ---- a base link that is good
 -- the states of a linear process that have provably equal arguments, where no sum is removed

@@ -24,8 +24,8 @@ pub fn names_of_variables_do_not_count()
     ensures sums { NamesOfSumsDoNotCount }
 {}
 
-/// `Same` doesn't look at the brackets in a chain of `.` or of `||`. So `Form` pairs a state with calls of equations whose pieces
-/// straddle a bracket, as after a in `X = (a . Y . b + d) . c . X`.
+/// `Same` doesn't look at the brackets in a chain of `.` or of `||`. So `Form` is good for `X = (a . Y . b + d) . c . X; Y = e;`
+/// and its Greibach form, where an equation stands for `b . c . X`, which straddles a bracket.
 pub fn brackets_do_not_count()
     ensures chains { BracketsDoNotCount }
     ensures pieces { PiecesMayStraddleABracket }

@@ -7,7 +7,7 @@ use Rattle.std.proofs.lemmas.List.Elements.{Contains-append_cases}
 use Rattle.std.proofs.lemmas.Int.{ints}
 use lib.Signed.{lt_z}
 use lib.IntN.{neg_ℤ}
-use Rattle.data_theory.specs.Terms.{Sort, positive, natural, integer, negated, Symbol, minus, upcast, Term, Terms, variable, numeral, unknown, application, none, more, apply, put, put_all, AreClosed}
+use Rattle.data_theory.specs.Terms.{Sort, positive, natural, integer, negated, Symbol, minus, upcast, Term, Terms, variable, numeral, unknown, application, none, more, apply, put, put_all, variables_of, variables_of_all, AreClosed}
 use Rattle.data_theory.specs.Declarations.{Data, Declares, IsSymbol, IsUpcast, pos2nat, nat2int, pos2int, HasNumeral, argument_sorts, HasSort, HaveSorts}
 use Rattle.data_theory.specs.Provable.{Equation, ProvablyEqual, PlacesEqual, reflexive, congruent, no_places, place}
 use Rattle.data_theory.specs.Environments.{Environment, term_in, bound, bound_variables, terms_of, IsOver, AreOver, Agree, Apart}
@@ -315,3 +315,25 @@ mutual
   closed_all_fit g vs none (s ∷ ss) h = absurd h
   closed_all_fit g vs (more t ts) [] h = absurd h
   closed_all_fit g vs (more t ts) (s ∷ ss) h = (closed_terms_fit g vs t s h.0, closed_all_fit g vs ts ss h.1)
+
+-- ---- the variables of a sorted term have sorts, one each
+pub one_sort : (vs : List Sort) (v : ℕ) (a b : Sort) → Declares vs v a → Declares vs v b → a ≡ b
+one_sort [] v a b d e = absurd d
+one_sort (s ∷ vs) zero a b d e = sym d ∙ e
+one_sort (s ∷ vs) (suc v) a b d e = one_sort vs v a b d e
+
+mutual
+  pub variable_declared : (g : Data) (vs : List Sort) (t : Term) (s : Sort) → HasSort g vs t s → (v : ℕ) → Contains (variables_of t) v → (a : Sort) × Declares vs v a
+  variable_declared g vs (variable w) s h v (zero, l, e) = (s, subst (λ x. Declares vs x s) e h)
+  variable_declared g vs (variable w) s h v (suc k, l, e) = absurd (omega (arith, l))
+  variable_declared g vs (numeral a z) s h v c = absurd (contains_nothing v c)
+  variable_declared g vs (unknown d k) s h v c = absurd (contains_nothing v c)
+  variable_declared g vs (application f ts) s h v c = variables_declared g vs ts (argument_sorts g f) h.1 v c
+
+  variables_declared : (g : Data) (vs : List Sort) (ts : Terms) (ss : List Sort) → HaveSorts g vs ts ss → (v : ℕ) → Contains (variables_of_all ts) v → (a : Sort) × Declares vs v a
+  variables_declared g vs none ss h v c = absurd (contains_nothing v c)
+  variables_declared g vs (more t ts) [] h v c = absurd h
+  variables_declared g vs (more t ts) (s ∷ ss) h v c = elim (Contains-append_cases (variables_of t) (variables_of_all ts) v c) [
+    | inl m ↦ variable_declared g vs t s h.0 v m
+    | inr m ↦ variables_declared g vs ts ss h.1 v m
+  ]

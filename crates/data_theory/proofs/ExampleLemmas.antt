@@ -2,9 +2,10 @@
 use Rattle.std.proofs.Common.{ℕ, zero, suc, ◌<◌, List, [], ◌∷◌, length, refl, subst, arith}
 use Rattle.std.specs.Prelude.{◌^◌, pos}
 use Rattle.std.proofs.lemmas.Int.{ints}
-use Rattle.std.proofs.lemmas.List.Elements.{All-cons, All-nil}
+use Rattle.std.specs.List.{All}
+use Rattle.std.proofs.lemmas.List.Elements.{All-cons, All-nil, All-from_recursion}
 use Rattle.data_theory.specs.Terms.{Symbol, truth, falsity, negation, boolean, positive, natural, list, named, head, membership, function, Term, Terms, variable, numeral, unknown, application, none, more}
-use Rattle.data_theory.specs.Declarations.{Data, FitsRole, IsSort, HasSort, NoSortIsEmpty, function_at}
+use Rattle.data_theory.specs.Declarations.{Data, FitsRole, IsSort, Declares, HasSort, NoSortIsEmpty, function_at}
 use Rattle.data_theory.specs.Equations.{not_true, trueᵗ, falseᵗ, one, two, equals, emptyᵗ, consᵗ, in_cons, equal_numerals, equal_itself, head_cons, ◌∨ᵗ◌}
 use Rattle.data_theory.specs.Provable.{Equation, ProvablyEqual, PlacesEqual, reflexive, transitive, built_in, written, reflected, place, ProvablyTrue, IsClosedInstance, IsEmptyList}
 use Rattle.data_theory.specs.Rewriting.{Applies, a_line, an_equation, LooksFirst, FirstDecides, GoesTo, by_all, no_arguments, an_argument, tries, used, without_condition}
@@ -60,13 +61,17 @@ wrapped_results : (k : ℕ) → k < length wrapped_numbers.functions → IsSort 
 wrapped_results zero l = omega arith
 wrapped_results (suc k) l = absurd (omega (arith, l))
 
+wrapped_arguments : (k : ℕ) → k < length wrapped_numbers.functions → All (IsSort wrapped_numbers) (function_at wrapped_numbers k).arguments
+wrapped_arguments zero l = All-from_recursion (IsSort wrapped_numbers) (natural ∷ []) (tt, tt)
+wrapped_arguments (suc k) l = absurd (omega (arith, l))
+
 first_place : {g : Data} {own : List Equation} {t u : Term} {ts us : Terms} → PlacesEqual g own (more t ts) (more u us) → ProvablyEqual g own t u
 first_place (place h k) = h
 
 pub wrapped_numbers_tell : WrappedNumbersTell
 wrapped_numbers_tell own x y h k e =
     let has_sort : (t : Term) → HasSort wrapped_numbers [] t natural → HasSort wrapped_numbers [] (one (function 0) t) (named 0) = λ t i. (omega arith, (i, tt), refl, refl) in
-    first_place (constructors_are_injective wrapped_numbers own (record { roles = wrapped_roles; results = wrapped_results }) 0 0 (more x none) (more y none) refl refl (has_sort x h) (has_sort y k) (reflected e))
+    first_place (constructors_are_injective wrapped_numbers own (record { roles = wrapped_roles; results = wrapped_results; arguments = wrapped_arguments }) 0 0 (more x none) (more y none) refl refl (has_sort x h) (has_sort y k) (reflected e))
 
 pub mappings_are_equal : MappingsAreEqual
 mappings_are_equal t h =
@@ -76,11 +81,12 @@ mappings_are_equal t h =
     equals_of_equal two_mappings (first_is_second ∷ []) natural (one (function 0) t) (one (function 1) t) tt sort same
   where
     fits : IsClosedInstance two_mappings first_is_second (λ v. t)
-    fits zero s o d = subst (HasSort two_mappings [] t) d h
-    fits (suc v) s o d = absurd d
+    fits v (zero, l, e) = (natural, subst (λ w. Declares (natural ∷ []) w natural) e refl, h)
+    fits v (suc zero, l, e) = (natural, subst (λ w. Declares (natural ∷ []) w natural) e refl, h)
+    fits v (suc (suc k), l, e) = absurd (omega (arith, l))
 
 pub true_is_false_is_inconsistent : TrueIsFalseIsInconsistent
-true_is_false_is_inconsistent g ok = ok (written true_is_false (λ v. variable v) (0, omega arith, refl) (λ v s o d. absurd d) reflexive)
+true_is_false_is_inconsistent g ok = ok (written true_is_false (λ v. variable v) (0, omega arith, refl) (λ v o. absurd (omega (arith, o.1))) reflexive)
 
 small_roles : (k : ℕ) → k < length small_data.functions → FitsRole small_data (function_at small_data k) (function_at small_data k).role
 small_roles zero l = (0, refl)
@@ -98,6 +104,14 @@ small_results (suc (suc (suc zero))) l = tt
 small_results (suc (suc (suc (suc zero)))) l = tt
 small_results (suc (suc (suc (suc (suc k))))) l = absurd (omega (arith, l))
 
+small_arguments : (k : ℕ) → k < length small_data.functions → All (IsSort small_data) (function_at small_data k).arguments
+small_arguments zero l = All-nil (IsSort small_data)
+small_arguments (suc zero) l = All-from_recursion (IsSort small_data) (natural ∷ []) (tt, tt)
+small_arguments (suc (suc zero)) l = All-from_recursion (IsSort small_data) (named 0 ∷ []) (omega arith, tt)
+small_arguments (suc (suc (suc zero))) l = All-from_recursion (IsSort small_data) (named 0 ∷ []) (omega arith, tt)
+small_arguments (suc (suc (suc (suc zero)))) l = All-nil (IsSort small_data)
+small_arguments (suc (suc (suc (suc (suc k))))) l = absurd (omega (arith, l))
+
 small_inhabited : NoSortIsEmpty small_data
 small_inhabited zero l = (application (function 0) none, ((refl, tt), (omega arith, tt, refl, refl)))
 small_inhabited (suc zero) l = (unknown 1 0, (tt, (refl, omega arith, refl)))
@@ -108,7 +122,7 @@ empty_list = record { sorts = []; condition = trueᵗ; left = application (funct
 
 pub small_data_meet_the_premises : SmallDataMeetThePremises
 small_data_meet_the_premises = record {
-  data_are = record { roles = small_roles; results = small_results };
+  data_are = record { roles = small_roles; results = small_results; arguments = small_arguments };
   no_sort_is_empty = small_inhabited;
   empty_lists = All-cons (IsEmptyList small_data) empty_list [] (record { map = 4; element = boolean; role = refl; result = refl; left = refl; right = refl }) (All-nil (IsEmptyList small_data));
 }

@@ -10,7 +10,7 @@ use Rattle.data_theory.specs.Provable.{Equation, IsClosedInstance, ProvablyEqual
 use Rattle.data_theory.specs.Environments.{IsOver, AreOver}
 use Rattle.data_theory.specs.Rewriting.{lines, DecidedYesIsTrue, DecidedNoIsFalse, UnmatchedRootsStay, laid, laid_all, Applies, a_line, an_equation, LooksFirst, if_looks, and_looks, or_looks, implies_looks, GoesTo, a_variable, a_numeral, an_unknown, by_the_first, by_all, ArgumentsGoTo, no_arguments, an_argument, RootGoesTo, merged, tries, FromEquation, stays, passed, refused, used, ConditionGoesTo, without_condition, with_condition, IsNoVariable, IsWellFormed, AreSorts, Closes, GoesToKeepsTheSort, GoesToIsProvablyEqual}
 use Rattle.data_theory.proofs.EqualityLemmas.{places_reflexive}
-use Rattle.data_theory.proofs.EnvironmentLemmas.{contains_nothing, contains_cases, put-apply, putting_in_twice, putting_in_keeps_sorts, applications_have_sorts}
+use Rattle.data_theory.proofs.EnvironmentLemmas.{contains_nothing, contains_cases, put-apply, putting_in_twice, putting_in_keeps_sorts, applications_have_sorts, one_sort, variable_declared}
 use Rattle.data_theory.proofs.LinesOnTerms.{condition_sort, right_sort, line_put}
 
 -- ---- variables
@@ -39,12 +39,6 @@ mutual
   put_all_sorts g xs vs us e h none (s ∷ ss) o i = absurd i
   put_all_sorts g xs vs us e h (more t ts) [] o i = absurd i
   put_all_sorts g xs vs us e h (more t ts) (s ∷ ss) o i = (put_sort g xs vs us e h t s o.0 i.0, put_all_sorts g xs vs us e h ts ss o.1 i.1)
-
--- a variable has one sort
-pub one_sort : (vs : List Sort) (v : ℕ) (a b : Sort) → Declares vs v a → Declares vs v b → a ≡ b
-one_sort [] v a b h k = absurd h
-one_sort (s ∷ vs) zero a b h k = sym h ∙ k
-one_sort (s ∷ vs) (suc v) a b h k = one_sort vs v a b h k
 
 -- ---- a pattern laid over a well-sorted term
 module _ (g : Data) (ws vs : List Sort) (d : ℕ → Term) where
@@ -90,6 +84,17 @@ looks_first_unmerged f ts and_looks = refl
 looks_first_unmerged f ts or_looks = refl
 looks_first_unmerged f ts implies_looks = refl
 
+-- an instance of a well-formed equation by closed terms for the variables of its left side
+pub closed_instance : (g : Data) (q : Equation) → IsWellFormed g q → (e : ℕ → Term) → ((v : ℕ) (s : Sort) → Contains (variables_of q.left) v → Declares q.sorts v s → HasSort g [] (e v) s) → IsClosedInstance g q e
+closed_instance g q w e fits v j =
+    let xs = variables_of q.left in
+    let within : Contains xs v = ⊎_elim
+    (λ m. over_contains xs q.condition v w.covered.condition m)
+    (λ m. ⊎_elim (λ o. o) (λ o. over_contains xs q.right v w.covered.right o) (Contains-append_cases (variables_of q.left) (variables_of q.right) v m))
+    (Contains-append_cases (variables_of q.condition) (variables_of q.left ++ variables_of q.right) v j) in
+    let sort = variable_declared g q.sorts q.left w.sort w.left v within in
+    (sort.0, sort.1, fits v sort.0 within sort.1)
+
 module _ (g : Data) (own : List Equation) (ok : IsData g) (all : (q : Equation) → Contains own q → IsWellFormed g q) (vs : List Sort) (sorts : AreSorts g vs) where
   -- u has the sort s, and the closed instances of t and u are provably equal
   record Follows (t u : Term) (s : Sort) : Type 0 where
@@ -117,12 +122,7 @@ module _ (g : Data) (own : List Equation) (ok : IsData g) (all : (q : Equation) 
         sort = put_sort g xs q.sorts vs d fits q.right s w.covered.right (subst (HasSort g q.sorts q.right) same w.right);
         equal = λ e closes c.
             let f : ℕ → Term = λ v. put e (d v) in
-            let closed : IsClosedInstance g q f = λ v a j k.
-            let within : Contains xs v = ⊎_elim
-            (λ m. over_contains xs q.condition v w.covered.condition m)
-            (λ m. ⊎_elim (λ o. o) (λ o. over_contains xs q.right v w.covered.right o) (Contains-append_cases (variables_of q.left) (variables_of q.right) v m))
-            (Contains-append_cases (variables_of q.condition) (variables_of q.left ++ variables_of q.right) v j) in
-            putting_in_keeps_sorts g vs [] e closes (d v) a (fits v a within k) in
+            let closed : IsClosedInstance g q f = closed_instance g q w f (λ v a within k. putting_in_keeps_sorts g vs [] e closes (d v) a (fits v a within k)) in
             let left_is : put f q.left ≡ put e (laid d q.left) = sym (putting_in_twice d e q.left) ∙ ap (put e) (put_laid g q.sorts vs d q.left s h) in
             subst (λ x. ProvablyEqual g own x (put e (put d q.right))) left_is (subst (ProvablyEqual g own (put f q.left)) (sym (putting_in_twice d e q.right)) (written q f i closed (subst (λ x. ProvablyEqual g own x trueᵗ) (putting_in_twice d e q.condition) c)));
       }

@@ -2,7 +2,7 @@
 use Rattle.std.proofs.Common.{◌≡◌, ◌≢◌, ℕ, ◌<◌, ◌≤◌, List, [], ◌∷◌, length, get_or, refl, sym, ap, ◌∙◌, subst, arith, length-append}
 use Rattle.std.proofs.lemmas.List.{get_or_append_left}
 use Rattle.data_theory.specs.Terms.{Sort, boolean, positive, natural, integer, list, named, Symbol, truth, falsity, negation, conjunction, disjunction, implication, equality, inequality, conditional, comparison, arithmetic, minus, upcast, empty, cons, snoc, concatenation, size, element_at, head, rhead, tail, rtail, membership, function, Term, Terms, variable, numeral, unknown, application, none, more}
-use Rattle.data_theory.specs.Declarations.{Data, Function, Role, by_declarations, structured, constructor, projection, recogniser, mapping, function_at, sort_at, IsSort, IsSymbol, argument_sorts, result_sort, HasSort, HaveSorts}
+use Rattle.data_theory.specs.Declarations.{Data, DeclaredFunction, Role, by_declarations, structured, constructor, projection, recogniser, mapping, function_at, sort_at, IsSort, IsSymbol, argument_sorts, result_sort, HasSort, HaveSorts}
 use Rattle.data_theory.specs.Equations.{BuiltIn, trueᵗ, equals, all_equal, not_true, not_false, not_not, true_and, and_true, false_and, and_false, and_same, true_or, or_true, false_or, or_false, or_same, true_implies, false_implies, implies, and_commutes, or_commutes, and_associates, or_associates, and_distributes, or_distributes, and_absorbs, or_absorbs, not_and, not_or, and_not, or_not, equal_itself, not_equal, if_true, if_false, if_same, equal_commutes, equal_true, true_equal, equal_false, false_equal, operation_of_one, operation_of_two, minus_of, compared, equal_numerals, empty_equal_cons, cons_equal_empty, cons_equal_cons, empty_concat, concat_empty, cons_concat, empty_snoc, cons_snoc, size_empty, size_cons, head_cons, tail_cons, rhead_one, rhead_more, rtail_one, rtail_more, at_zero, at_later, in_empty, in_cons, different_constructors, same_constructor, projected, recognised, not_recognised}
 use Rattle.data_theory.specs.Provable.{ProvablyEqual, PlacesEqual, Equation, reflexive, symmetric, transitive, congruent, built_in, written, reflected, no_places, place}
 use Rattle.data_theory.specs.EqualityLaws.{Grows, AreAmong, GrowthKeepsDerivations, GrowthKeepsSorts}
@@ -22,7 +22,7 @@ module _ (g h : Data) (grows : Grows g h) where
   more_functions = omega (arith, ap length grows.functions, length-append g.functions grows.new_functions)
 
   role_in_grown : (k : ℕ) (r : Role) → (function_at g k).role ≡ r → r ≢ mapping → (function_at h k).role ≡ r
-  role_in_grown k r e n = ap (λ (f : Function). f.role) (function_in_grown k (function_within g k r e n)) ∙ e
+  role_in_grown k r e n = ap (λ (f : DeclaredFunction). f.role) (function_in_grown k (function_within g k r e n)) ∙ e
 
   structured_in_grown : (d : ℕ) → sort_at g d ≡ structured → sort_at h d ≡ structured
   structured_in_grown d e = construction_in_grown d (sort_within g d e) ∙ e
@@ -93,7 +93,7 @@ module _ (g h : Data) (grows : Grows g h) where
   line_in_grown in_cons = in_cons
   line_in_grown (different_constructors {b = b} {c = c} k p q n) = different_constructors (structured_in_grown _ k) (role_in_grown b constructor p (λ e. cc)) (role_in_grown c constructor q (λ e. cc)) n
   line_in_grown (same_constructor {d = d} {c = c} {xs = xs} {ys = ys} k p) =
-      subst (λ (f : Function). BuiltIn h trueᵗ (equals (named d) (application (function c) xs) (application (function c) ys)) (all_equal f.arguments xs ys)) (function_in_grown c (function_within g c constructor p (λ e. cc)))
+      subst (λ (f : DeclaredFunction). BuiltIn h trueᵗ (equals (named d) (application (function c) xs) (application (function c) ys)) (all_equal f.arguments xs ys)) (function_in_grown c (function_within g c constructor p (λ e. cc)))
       (same_constructor (structured_in_grown d k) (role_in_grown c constructor p (λ e. cc)))
   line_in_grown (projected {p = f} {c = c} {i = i} p) = projected (role_in_grown f (projection c i) p (λ e. cc))
   line_in_grown (recognised {r = f} {c = c} p) = recognised (role_in_grown f (recogniser c) p (λ e. cc))
@@ -135,11 +135,11 @@ module _ (g h : Data) (grows : Grows g h) where
   symbol_in_grown (function k) i = omega (arith, i, more_functions)
 
   arguments_in_grown : (f : Symbol) → IsSymbol g f → argument_sorts h f ≡ argument_sorts g f
-  arguments_in_grown (function k) i = ap (λ (d : Function). d.arguments) (function_in_grown k i)
+  arguments_in_grown (function k) i = ap (λ (d : DeclaredFunction). d.arguments) (function_in_grown k i)
   arguments_in_grown _ i = refl
 
   result_in_grown : (f : Symbol) → IsSymbol g f → result_sort h f ≡ result_sort g f
-  result_in_grown (function k) i = ap (λ (d : Function). d.result) (function_in_grown k i)
+  result_in_grown (function k) i = ap (λ (d : DeclaredFunction). d.result) (function_in_grown k i)
   result_in_grown _ i = refl
 
   mutual
@@ -163,7 +163,7 @@ module _ (g h : Data) (grows : Grows g h) where
       equal_in_grown (transitive e f) = transitive (equal_in_grown e) (equal_in_grown f)
       equal_in_grown (congruent f es) = congruent f (places_in_grown es)
       equal_in_grown (built_in {l = l} s a i c) = built_in s (line_in_grown a) (has_sort_in_grown [] l s i) (equal_in_grown c)
-      equal_in_grown (written q e a f c) = written q e (among q a) (λ v s o d. has_sort_in_grown [] (e v) s (f v s o d)) (equal_in_grown c)
+      equal_in_grown (written q e a f c) = written q e (among q a) (λ v o. let h = f v o in (h.0, h.1, has_sort_in_grown [] (e v) h.0 h.2)) (equal_in_grown c)
       equal_in_grown (reflected e) = reflected (equal_in_grown e)
 
       places_in_grown : {ts us : Terms} → PlacesEqual g own ts us → PlacesEqual h more' ts us

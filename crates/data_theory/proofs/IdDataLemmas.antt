@@ -1,7 +1,7 @@
 -- The data that a signature means.
 use Rattle.std.proofs.Common.{◌≡◌, ◌≢◌, ℕ, zero, suc, ◌<◌, ◌+◌, ◌⊎◌, inl, inr, List, [], ◌∷◌, ◌++◌, map, length, get_or, take, Bool, true, false, not, ◌||◌, ◌==◌, cond, Option, Some, None, refl, sym, ap, ◌∙◌, subst, arith, append_assoc, length-append}
 use Rattle.std.specs.Prelude.{slice_get, option_map}
-use Rattle.std.proofs.lemmas.List.Elements.{All-head, All-tail}
+use Rattle.std.proofs.lemmas.List.Elements.{All-head, All-tail, All-weaker, All-map}
 use Rattle.std.specs.List.{All, Contains, list_any, position, position_or_len}
 use Rattle.std.proofs.Math.Seq.{take-append_seam}
 use Rattle.std.proofs.lemmas.Bool.Decides.{Decides-eqb, Decides-ltb}
@@ -64,7 +64,7 @@ constructor_told ss i s t at c =
     let h = read_contained (constructors_of t.kind) i c in
     any_told (λ (x : SortInfo). list_any (same_id i) (constructors_of x.kind)) ss s t at (any_told (same_id i) (constructors_of t.kind) h.0 i h.1 ((Decides-eqb i.0 i.0).1 refl))
 
-constructor_tells : (ss : List SortInfo) (i : FunId) → is_constructor ss i ≡ true → (s : ℕ) × (t : SortInfo) × (slice_get ss s ≡ Some t) × Contains (constructors_of t.kind) i
+pub constructor_tells : (ss : List SortInfo) (i : FunId) → is_constructor ss i ≡ true → (s : ℕ) × (t : SortInfo) × (slice_get ss s ≡ Some t) × Contains (constructors_of t.kind) i
 constructor_tells ss i e =
     let h = any_tells (λ (x : SortInfo). list_any (same_id i) (constructors_of x.kind)) ss e in
     let k = any_tells (same_id i) (constructors_of h.1.kind) h.3 in
@@ -257,10 +257,10 @@ module _ (g : Sig) (table : IsTable g) (roles : AreRoles g) where
         let place = get_or_from_slice_get (map (sort_under g) h.sorts) k (sort_under g kept.1.0) boolean read in (
           length (constructions (take h.result.0 g.sorts)),
           ap (map (sort_under g)) args ∙ ap (λ s. s ∷ []) sort.0,
-          ap (λ (x : theory.Function). x.role) made.0 ∙ made.1,
-          ap (λ (x : theory.Function). x.result) made.0 ∙ sort.0,
+          ap (λ (x : theory.DeclaredFunction). x.role) made.0 ∙ made.1,
+          ap (λ (x : theory.DeclaredFunction). x.result) made.0 ∙ sort.0,
           rw made.0 (slice_get_within (map (sort_under g) h.sorts) k (sort_under g kept.1.0) read),
-          ap (sort_under g) to ∙ sym (ap (λ (x : theory.Function). get_or x.arguments k boolean) made.0 ∙ place),
+          ap (sort_under g) to ∙ sym (ap (λ (x : theory.DeclaredFunction). get_or x.arguments k boolean) made.0 ∙ place),
           sort.1,
         )
 
@@ -274,8 +274,8 @@ module _ (g : Sig) (table : IsTable g) (roles : AreRoles g) where
         let to : f.result ≡ bool_sort = ap (λ (x : Function). x.result) same ∙ kept.1.3 in (
           length (constructions (take h.result.0 g.sorts)),
           ap (map (sort_under g)) args ∙ ap (λ s. s ∷ []) sort.0,
-          ap (λ (x : theory.Function). x.role) made.0 ∙ made.1,
-          ap (λ (x : theory.Function). x.result) made.0 ∙ sort.0,
+          ap (λ (x : theory.DeclaredFunction). x.role) made.0 ∙ made.1,
+          ap (λ (x : theory.DeclaredFunction). x.result) made.0 ∙ sort.0,
           ap (sort_under g) to ∙ boolean_is g table,
           sort.1,
         )
@@ -284,13 +284,13 @@ module _ (g : Sig) (table : IsTable g) (roles : AreRoles g) where
     fits_role = holds_of_role g i Fits tt fits_projection fits_recogniser fits_constructor
 
 -- the declared function with a number
-abbrev Found : List Function → ℕ → FunId → Type 0
+abbrev pub Found : List Function → ℕ → FunId → Type 0
 Found fs k id = (i : ℕ) × (f : Function) × (id ≡ record { 0 = k + i }) × (slice_get fs i ≡ Some f) × (f.word ≡ None)
 
 found_behind : (x : Function) (fs : List Function) (k : ℕ) (id : FunId) → Found fs (suc k) id → Found (x ∷ fs) k id
 found_behind x fs k id h = (suc h.0, h.1, h.2 ∙ ap (λ (n : ℕ). record { 0 = n }) (let z : suc k + h.0 ≡ k + suc h.0 = omega arith in z), h.3, h.4)
 
-declared_found : (fs : List Function) (k n : ℕ) (default : FunId) → n < length (declared_from k fs) → Found fs k (get_or (declared_from k fs) n default)
+pub declared_found : (fs : List Function) (k n : ℕ) (default : FunId) → n < length (declared_from k fs) → Found fs k (get_or (declared_from k fs) n default)
 declared_found [] k n default l = absurd (omega (arith, l))
 declared_found (x ∷ fs) k n default l = by_word (λ m h. declared_found fs (suc k) m default h) x.word refl n l
   where
@@ -301,11 +301,14 @@ declared_found (x ∷ fs) k n default l = by_word (λ m h. declared_found fs (su
     by_word rest (Some w) e m h = found_behind x fs k (get_or (declared_from (suc k) fs) m default) (rest m h)
 
 module _ (g : Sig) (table : IsTable g) (roles : AreRoles g) where
-  abbrev WellFormed : theory.Function → Type 0
-  WellFormed f = FitsRole (data_meant g) f f.role × IsSort (data_meant g) f.result
+  abbrev WellFormed : theory.DeclaredFunction → Type 0
+  WellFormed f = FitsRole (data_meant g) f f.role × IsSort (data_meant g) f.result × All (IsSort (data_meant g)) f.arguments
 
   entry_well_formed : (i : FunId) (f : Function) → slice_get g.functions i.0 ≡ Some f → WellFormed (function_at_meant g i (Some f))
-  entry_well_formed i f at = (fits_role g table roles i f at, sort_is g table f.result (holds_at (HasSortsIn g.sorts) g.functions i.0 f table.within at).1)
+  entry_well_formed i f at =
+      let within = holds_at (HasSortsIn g.sorts) g.functions i.0 f table.within at in
+      let sorts_are = All-weaker (λ (s : SortId). s.0 < length g.sorts) (λ s. IsSort (data_meant g) (sort_under g s)) (sort_is g table) f.sorts within.0 in
+      (fits_role g table roles i f at, sort_is g table f.result within.1, All-map (IsSort (data_meant g)) (sort_under g) f.sorts sorts_are)
 
   well_formed : (k : ℕ) → k < length (data_meant g).functions → WellFormed (function_at (data_meant g) k)
   well_formed k l =
@@ -320,7 +323,11 @@ module _ (g : Sig) (table : IsTable g) (roles : AreRoles g) where
       subst WellFormed (sym entry) (entry_well_formed i h.1 at)
 
 pub meant_data_are_data : MeantDataAreData
-meant_data_are_data g table roles = record { roles = λ k l. (well_formed g table roles k l).0; results = λ k l. (well_formed g table roles k l).1 }
+meant_data_are_data g table roles = record {
+  roles = λ k l. (well_formed g table roles k l).0;
+  results = λ k l. (well_formed g table roles k l).1;
+  arguments = λ k l. (well_formed g table roles k l).2;
+}
 
 -- ---- growth
 constructions_both : (ss more : List SortInfo) → constructions (ss ++ more) ≡ constructions ss ++ constructions more

@@ -1,10 +1,11 @@
 -- The roles of functions are kept.
-use Rattle.std.proofs.Common.{◌≡◌, ℕ, zero, suc, ◌⊎◌, inl, inr, List, [], ◌∷◌, ◌++◌, length, Some, None, refl, sym, ap, ◌∙◌, subst, arith}
+use Rattle.std.proofs.Common.{◌≡◌, ◌<◌, ℕ, zero, suc, ◌⊎◌, inl, inr, List, [], ◌∷◌, ◌++◌, length, Some, None, refl, sym, ap, ◌∙◌, subst, arith}
 use Rattle.std.specs.Prelude.{slice_get}
 use Rattle.std.proofs.lemmas.List.Elements.{All-contains}
 use Rattle.std.specs.List.{All, Contains}
 use Rattle.std.proofs.lemmas.List.{take-append-le}
 use Rattle.std.proofs.lemmas.Option.{slice_get_within}
+use Rattle.data_theory.specs.declared.ids.NameId.{NameId}
 use Rattle.data_theory.specs.declared.ids.SortId.{SortId}
 use Rattle.data_theory.specs.declared.ids.FunId.{FunId}
 use Rattle.data_theory.specs.Declarations.{Role, constructor, projection, recogniser}
@@ -19,7 +20,7 @@ use Rattle.data_theory.specs.Names.{with_texts}
 use Rattle.data_theory.specs.FirstNames.{first_names}
 use Rattle.data_theory.specs.IdSymbols.{declared_from}
 use Rattle.data_theory.specs.IdData.{constructors_of}
-use Rattle.data_theory.specs.IdRoles.{IsDeclaredTo, IsDeclaredAs, declared_number, HasRole, constructs, projects, recognises, HaveRoles, TheFirstSignatureHasRoles, TextsKeepTheRoles, ActionsKeepTheRoles, VariablesKeepTheRoles, AliasesKeepTheRoles, ConstructorsKeepTheRoles, FunctionsKeepTheRoles, DeclaredSortsKeepTheRoles, ListSortsKeepTheRoles, IsStructConstructor, AreRoles}
+use Rattle.data_theory.specs.IdRoles.{IsDeclaredTo, IsDeclaredAs, declared_number, HasRole, constructs, projects, recognises, HaveRoles, TheFirstSignatureHasRoles, TextsKeepTheRoles, ActionsKeepTheRoles, VariablesKeepTheRoles, AliasesKeepTheRoles, ConstructorsKeepTheRoles, FunctionsKeepTheRoles, HasNoRole, NewFunctionsHaveNoRole, FunctionsGiveNoRole, DeclaredSortsGiveNoRole, ListSortsGiveNoRole, ConstructorsGiveNoRoleToOthers, DeclaredSortsKeepTheRoles, ListSortsKeepTheRoles, IsStructConstructor, AreRoles}
 use Rattle.data_theory.proofs.PlaceLemmas.{pushed_by_place, read_front}
 use Rattle.data_theory.proofs.FunctionLemmas.{read_mapped}
 use Rattle.data_theory.proofs.IdTableLemmas.{read_joined}
@@ -60,7 +61,7 @@ module _ (ss ts : List SortInfo) (fs new : List Function) (roles : HaveRoles ss 
   same_number : (c : FunId) (h : Function) → slice_get fs c.0 ≡ Some h → declared_number all c ≡ declared_number fs c
   same_number c h at = same_declared_number fs new c h at
 
-  old_role : (i : FunId) (r : Role) → HasRole ts all i r → HasRole ss fs i r
+  pub old_role : (i : FunId) (r : Role) → HasRole ts all i r → HasRole ss fs i r
   old_role i r (constructs s t at c) = constructs s t (back s t i at c) c
   old_role i r (projects c h k at p) = let o = with_place c h k i at p in subst (λ n. HasRole ss fs i (projection n k)) (sym (same_number c h o)) (projects c h k o p)
   old_role i r (recognises c h at t) = let o = with_test c h i at t in subst (λ n. HasRole ss fs i (recogniser n)) (sym (same_number c h o)) (recognises c h o t)
@@ -119,23 +120,29 @@ variables_keep_the_roles g v roles = roles
 pub aliases_keep_the_roles : AliasesKeepTheRoles
 aliases_keep_the_roles g n s roles = roles
 
+declared_is_plain : (n : NameId) (args : List SortId) (to : SortId) (j : ℕ) (f : Function) → slice_get (declared_function n args to ∷ []) j ≡ Some f → (f.projections ≡ []) × (f.test ≡ None)
+declared_is_plain n args to zero f at = let p : declared_function n args to ≡ f = cc in (ap (λ (x : Function). x.projections) (sym p), ap (λ (x : Function). x.test) (sym p))
+declared_is_plain n args to (suc j) f at = cc
+
+-- what has a role is an old function
+pub role_below : (g : Sig) → AreRoles g → (i : FunId) (r : Role) → HasRole g.sorts g.functions i r → i.0 < length g.functions
+role_below g roles i r (constructs s t at c) = let d = roles.constructors s t i at c in slice_get_within g.functions i.0 d.0 d.1
+role_below g roles i r (projects c h k at p) = let d = (roles.projections c i h k at p).1.2 in slice_get_within g.functions i.0 d.0 d.1
+role_below g roles i r (recognises c h at t) = let d = (roles.recognisers c i h at t).1 in slice_get_within g.functions i.0 d.0 d.1
+
 pub functions_keep_the_roles : FunctionsKeepTheRoles
-functions_keep_the_roles g n args to roles = roles_are_kept g.sorts g.sorts g.functions (declared_function n args to ∷ []) roles plain (λ s t at. at) (λ s t c at in'. at)
-  where
-    plain : (j : ℕ) (f : Function) → slice_get (declared_function n args to ∷ []) j ≡ Some f → (f.projections ≡ []) × (f.test ≡ None)
-    plain zero f at = let p : declared_function n args to ≡ f = cc in (ap (λ (x : Function). x.projections) (sym p), ap (λ (x : Function). x.test) (sym p))
-    plain (suc j) f at = cc
+functions_keep_the_roles g n args to roles = roles_are_kept g.sorts g.sorts g.functions (declared_function n args to ∷ []) roles (declared_is_plain n args to) (λ s t at. at) (λ s t c at in'. at)
 
 -- a sort without constructors
+constructed_before : (ss : List SortInfo) (s : SortInfo) → constructors_of s.kind ≡ [] → (i : SortId) (t : SortInfo) (c : FunId) → slice_get (ss ++ s ∷ []) i.0 ≡ Some t → Contains (constructors_of t.kind) c → slice_get ss i.0 ≡ Some t
+constructed_before ss s bare i t c at in' = elim (pushed_by_place ss s t i.0 at) [
+  | inl e ↦ e
+  | inr e ↦ absurd (nothing_in c (subst (λ l. Contains l c) (ap (λ (x : SortInfo). constructors_of x.kind) (sym e.1) ∙ bare) in'))
+]
+
 sort_kept : (g : Sig) (s : SortInfo) (rs : List Row) → AreRoles g → constructors_of s.kind ≡ [] → HaveRoles (g.sorts ++ s ∷ []) (g.functions ++ built_ins g.texts rs)
 sort_kept g s rs roles bare =
-    roles_are_kept g.sorts (g.sorts ++ s ∷ []) g.functions (built_ins g.texts rs) roles (rows_are_plain g.texts rs) (λ i t at. read_front g.sorts (s ∷ []) i.0 t at) back
-  where
-    back : (i : SortId) (t : SortInfo) (c : FunId) → slice_get (g.sorts ++ s ∷ []) i.0 ≡ Some t → Contains (constructors_of t.kind) c → slice_get g.sorts i.0 ≡ Some t
-    back i t c at in' = elim (pushed_by_place g.sorts s t i.0 at) [
-      | inl e ↦ e
-      | inr e ↦ absurd (nothing_in c (subst (λ l. Contains l c) (ap (λ (x : SortInfo). constructors_of x.kind) (sym e.1) ∙ bare) in'))
-    ]
+    roles_are_kept g.sorts (g.sorts ++ s ∷ []) g.functions (built_ins g.texts rs) roles (rows_are_plain g.texts rs) (λ i t at. read_front g.sorts (s ∷ []) i.0 t at) (constructed_before g.sorts s bare)
 
 pub declared_sorts_keep_the_roles : DeclaredSortsKeepTheRoles
 declared_sorts_keep_the_roles g n roles = sort_kept g (abstract_sort n) (sort_rows (record { 0 = length g.sorts })) roles refl
@@ -200,3 +207,30 @@ module _ (g : Sig) (sort : SortId) (cons : List FunId) (roles : AreRoles g) (bar
 
 pub constructors_keep_the_roles : ConstructorsKeepTheRoles
 constructors_keep_the_roles g sort cons roles bare made free = roles_after g sort cons roles bare made free
+
+-- ---- functions without a role
+pub functions_give_no_role : FunctionsGiveNoRole
+functions_give_no_role g n args to roles i none r h =
+    none r (old_role g.sorts g.sorts g.functions (declared_function n args to ∷ []) roles (declared_is_plain n args to) (λ s t at. at) (λ s t c at in'. at) i r h)
+
+pub new_functions_have_no_role : NewFunctionsHaveNoRole
+new_functions_have_no_role g n args to roles =
+    functions_give_no_role g n args to roles (record { 0 = length g.functions }) (λ r h. let below = role_below g roles (record { 0 = length g.functions }) r h in omega (arith, below))
+
+sort_gives_no_role : (g : Sig) (s : SortInfo) (rs : List Row) → AreRoles g → constructors_of s.kind ≡ [] → (i : FunId) → HasNoRole g i → (r : Role) → HasRole (g.sorts ++ s ∷ []) (g.functions ++ built_ins g.texts rs) i r → ⊥
+sort_gives_no_role g s rs roles bare i none r h =
+    none r (old_role g.sorts (g.sorts ++ s ∷ []) g.functions (built_ins g.texts rs) roles (rows_are_plain g.texts rs) (λ i t at. read_front g.sorts (s ∷ []) i.0 t at) (constructed_before g.sorts s bare) i r h)
+
+pub declared_sorts_give_no_role : DeclaredSortsGiveNoRole
+declared_sorts_give_no_role g n roles i none = sort_gives_no_role g (abstract_sort n) (sort_rows (record { 0 = length g.sorts })) roles refl i none
+
+pub list_sorts_give_no_role : ListSortsGiveNoRole
+list_sorts_give_no_role g e roles i none = sort_gives_no_role g (list_sort e) (list_table e (record { 0 = length g.sorts })) roles refl i none
+
+pub constructors_give_no_role_to_others : ConstructorsGiveNoRoleToOthers
+constructors_give_no_role_to_others g sort cons roles bare i other none r (constructs s t at c) = elim (cases_eq s.0 sort.0) [
+  | inl e ↦ other (subst (λ (k : Kind). Contains (constructors_of k) i) (kind_here g.sorts sort.0 (sorts.by_declarations cons) t (subst (λ n. slice_get (with_kind g.sorts sort.0 (sorts.by_declarations cons)) n ≡ Some t) e at)) c)
+  | inr n ↦ none constructor (constructs s t (sym (kind_elsewhere g.sorts sort.0 (sorts.by_declarations cons) s.0 n) ∙ at) c)
+]
+constructors_give_no_role_to_others g sort cons roles bare i other none r (projects c h k at p) = none _ (projects c h k at p)
+constructors_give_no_role_to_others g sort cons roles bare i other none r (recognises c h at t) = none _ (recognises c h at t)

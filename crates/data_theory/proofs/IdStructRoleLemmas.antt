@@ -9,21 +9,22 @@ use Rattle.data_theory.specs.declared.ids.NameId.{NameId}
 use Rattle.data_theory.specs.declared.ids.SortId.{SortId}
 use Rattle.data_theory.specs.declared.ids.FunId.{FunId}
 use Rattle.data_theory.specs.Declarations.{Role, constructor, projection, recogniser}
-use Rattle.data_theory.specs.Table.{bool_sort}
+use Rattle.data_theory.specs.Rows.{built_ins}
+use Rattle.data_theory.specs.Table.{bool_sort, sort_rows}
 use Rattle.data_theory.specs.Sorts.{SortInfo, structured, with_kind, IsBare}
 use Rattle.data_theory.specs.Functions.{Function, declared_function}
 use Rattle.data_theory.specs.Structs.{Con, named_function, projections_of, recogniser_of, all_projections, all_recognisers, count_of, named_fields, number_of, numbers_of, constructor_of, struct_functions, numbers_from}
 use Rattle.data_theory.specs.Structs as structs
 use Rattle.data_theory.specs.Signature.{Sig, with_sort}
 use Rattle.data_theory.specs.IdData.{constructors_of}
-use Rattle.data_theory.specs.IdRoles.{IsDeclaredTo, IsDeclaredAs, declared_number, HasRole, constructs, projects, recognises, HaveRoles, IsStructConstructor, AreRoles, StructsKeepTheRoles, StructSortsKeepTheRoles}
+use Rattle.data_theory.specs.IdRoles.{IsDeclaredTo, IsDeclaredAs, declared_number, HasRole, constructs, projects, recognises, HaveRoles, IsStructConstructor, AreRoles, StructsKeepTheRoles, StructSortsKeepTheRoles, StructsGiveNoRoleToOthers, StructSortsGiveNoRoleToOthers}
 use Rattle.data_theory.proofs.PlaceLemmas.{contains_read, read_front, read_behind}
 use Rattle.data_theory.proofs.ListSortLemmas.{kind_here, kind_there, kind_elsewhere, abstract_is_bare}
 use Rattle.data_theory.proofs.StructLemmas.{length-named, length-projections}
 use Rattle.data_theory.proofs.StructWithin.{length-constructors}
 use Rattle.data_theory.proofs.IdTableLemmas.{read_joined}
 use Rattle.data_theory.proofs.IdStructLemmas.{all_projections_are, all_recognisers_are}
-use Rattle.data_theory.proofs.IdRoleLemmas.{struct_stays, same_declared_number, declared_sorts_keep_the_roles}
+use Rattle.data_theory.proofs.IdRoleLemmas.{struct_stays, same_declared_number, role_below, declared_sorts_keep_the_roles, declared_sorts_give_no_role}
 
 -- a declared function stands among these, which stand behind n others
 abbrev StandsBehind : ℕ → List Function → FunId → List SortId → SortId → Type 0
@@ -293,12 +294,6 @@ module _ (g : Sig) (sort : SortId) (cs : List Con) (roles : AreRoles g) (bare : 
     | inr m ↦ inr (subst (λ (d : FunId). IsNewRole all made n (length cs) i (recogniser (declared_number all d))) (sym (this_number c m.0 m.1)) (recognises_one m.0 h m.2 t))
   ]
 
-  -- the old functions stand in front of the new ones
-  old_below : (i : FunId) (r : Role) → HasRole g.sorts g.functions i r → i.0 < n
-  old_below i r (constructs s t at c) = let d = roles.constructors s t i at c in slice_get_within g.functions i.0 d.0 d.1
-  old_below i r (projects c h k at p) = let d = (roles.projections c i h k at p).1.2 in slice_get_within g.functions i.0 d.0 d.1
-  old_below i r (recognises c h at t) = let d = (roles.recognisers c i h at t).1 in slice_get_within g.functions i.0 d.0 d.1
-
   among_projections : (i : FunId) (j k : ℕ) (h : Function) → slice_get made j ≡ Some h → slice_get h.projections k ≡ Some (Some i) → (projections_at ≤ i.0) × (i.0 < recognisers_at)
   among_projections i j k h at p = let r = projection_stands sort projections_at recognisers_at cs j h k i at p in where_it_stands projections_at ps i (sort ∷ []) r.0 r.2
 
@@ -336,8 +331,8 @@ module _ (g : Sig) (sort : SortId) (cs : List Con) (roles : AreRoles g) (bare : 
     where
       by_cases : HasRole g.sorts g.functions i q ⊎ IsNewRole all made n (length cs) i q → HasRole g.sorts g.functions i r ⊎ IsNewRole all made n (length cs) i r → q ≡ r
       by_cases (inl x) (inl y) = roles.one_role i q r x y
-      by_cases (inl x) (inr y) = let low = old_below i q x in let high = new_above i r y in absurd (omega (arith, low, high))
-      by_cases (inr x) (inl y) = let low = old_below i r y in let high = new_above i q x in absurd (omega (arith, low, high))
+      by_cases (inl x) (inr y) = let low = role_below g roles i q x in let high = new_above i r y in absurd (omega (arith, low, high))
+      by_cases (inr x) (inl y) = let low = role_below g roles i r y in let high = new_above i q x in absurd (omega (arith, low, high))
       by_cases (inr x) (inr y) = one_new_role i q r x y
 
   struct_roles : HaveRoles after all
@@ -350,3 +345,16 @@ pub struct_sorts_keep_the_roles : StructSortsKeepTheRoles
 struct_sorts_keep_the_roles g name cs roles =
     let sort : SortId = record { 0 = length g.sorts } in
     struct_roles (with_sort g name) sort cs (declared_sorts_keep_the_roles g name roles) (abstract_is_bare g.sorts name sort refl)
+
+-- ---- functions without a role
+pub structs_give_no_role_to_others : StructsGiveNoRoleToOthers
+structs_give_no_role_to_others g s cs roles bare i below none r h = elim (role_cases g s cs roles bare i r h) [
+  | inl o ↦ none r o
+  | inr n ↦ let above = new_above g s cs roles bare i r n in omega (arith, above, below)
+]
+
+pub struct_sorts_give_no_role_to_others : StructSortsGiveNoRoleToOthers
+struct_sorts_give_no_role_to_others g name cs roles i below none =
+    let sort : SortId = record { 0 = length g.sorts } in
+    let there : i.0 < length (with_sort g name).functions = omega (arith, below, length-append g.functions (built_ins g.texts (sort_rows sort))) in
+    structs_give_no_role_to_others (with_sort g name) sort cs (declared_sorts_keep_the_roles g name roles) (abstract_is_bare g.sorts name sort refl) i there (declared_sorts_give_no_role g name roles i none)

@@ -161,7 +161,7 @@ module _ (g : Sig) (table : IsTable g) where
   symbol_read : (i : FunId) (f : Function) → slice_get g.functions i.0 ≡ Some f → symbol_under g i ≡ symbol_of (sort_under g) (length (declared_from 0 (take i.0 g.functions))) f f.word
   symbol_read i f at = ap (symbol_at (sort_under g) (length (declared_from 0 (take i.0 g.functions)))) at
 
-  built_in_is : (i : FunId) (f : Function) (r : Row) → slice_get g.functions i.0 ≡ Some f → f ≡ row_function f.name r
+  pub built_in_is : (i : FunId) (f : Function) (r : Row) → slice_get g.functions i.0 ≡ Some f → f ≡ row_function f.name r
       → symbol_under g i ≡ word_symbol (row_word r) (map (sort_under g) (row_sorts r)) (sort_under g (row_result r))
   built_in_is i f r at e = symbol_read i f at ∙ ap (λ (h : Function). symbol_of (sort_under g) (length (declared_from 0 (take i.0 g.functions))) h h.word) e
 
@@ -288,7 +288,7 @@ module _ (g : Sig) (table : IsTable g) where
       let many : length (map (function_meant g) (declared_from 0 g.functions)) ≡ length (declared_from 0 g.functions) = length-map (declared_from 0 g.functions) (function_meant g) in
       let plain = plain_of g.texts g.sorts f (holds_at (IsEntry g.texts g.sorts) g.functions i.0 f table.entries at) e in
       let entry = declared_entry g i f at e in
-      (omega (arith, c, whole, many), ap (λ (x : theory.Function). x.arguments) entry ∙ ap (λ b. map (sort_under g) (cond b [] f.sorts)) (sym plain), ap (λ (x : theory.Function). x.result) entry)
+      (omega (arith, c, whole, many), ap (λ (x : theory.DeclaredFunction). x.arguments) entry ∙ ap (λ b. map (sort_under g) (cond b [] f.sorts)) (sym plain), ap (λ (x : theory.DeclaredFunction). x.result) entry)
 
   pub symbol_fits : (i : FunId) (f : Function) → slice_get g.functions i.0 ≡ Some f → SymbolFits g f (symbol_under g i)
   symbol_fits i f at = by_word f.word refl

@@ -145,7 +145,7 @@ first_tag (suc (suc (suc (suc i)))) s e = cc
 first_kind : (n : ℕ) (k : Kind) → tag k ≡ n → HasKind first_sorts n k → (i : ℕ) → HasKind first_sorts i k ↔ (i ≡ n)
 first_kind n k t h i = (λ a. sym (first_tag i a.0 a.1) ∙ (ap tag a.2 ∙ t), λ e. subst (λ j. HasKind first_sorts j k) (sym e) h)
 
-no_list_first : (e l : SortId) → IsListOver first_sorts e l → ⊥
+pub no_list_first : (e l : SortId) → IsListOver first_sorts e l → ⊥
 no_list_first e l o =
     let t : l.0 ≡ 4 = sym (first_tag l.0 o.0 o.1) ∙ ap tag o.2 in
     let w = slice_get_within first_sorts l.0 o.0 o.1 in
@@ -348,7 +348,7 @@ read_before (z ∷ ss) zero (suc j) k s y a e = inr e
 read_before (z ∷ ss) (suc i) zero k s y a e = inr e
 read_before (z ∷ ss) (suc i) (suc j) k s y a e = read_before ss i j k s y a e
 
-as_many_after : (ss : List SortInfo) (i : ℕ) (k : Kind) → length (with_kind ss i k) ≡ length ss
+pub as_many_after : (ss : List SortInfo) (i : ℕ) (k : Kind) → length (with_kind ss i k) ≡ length ss
 as_many_after [] i k = refl
 as_many_after (z ∷ ss) zero k = refl
 as_many_after (z ∷ ss) (suc i) k = ap suc (as_many_after ss i k)
@@ -375,7 +375,7 @@ module _ (ss : List SortInfo) (i : ℕ) (s : SortInfo) (new : Kind) (are : AreSo
   no_list : (e : SortId) → IsDeclaredKind (sorts.lists_over e) → ⊥
   no_list e d = omega (arith, d)
 
-  list_before : (e l : SortId) → IsListOver after e l → IsListOver ss e l
+  pub list_before : (e l : SortId) → IsListOver after e l → IsListOver ss e l
   list_before e l o = (same_kinds (sorts.lists_over e) (no_list e) l.0).0 o
 
   sorts_set : AreSorts after

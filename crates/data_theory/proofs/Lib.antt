@@ -22,6 +22,7 @@ pub mod NormalForms
 pub mod PlaceLemmas
 pub mod IdLemmas
 pub mod KeyLemmas
+pub mod NamedLemmas
 pub mod FunctionLemmas
 pub mod SortNameLemmas
 pub mod ListSortLemmas
@@ -44,4 +45,6 @@ pub mod IdGrowthLemmas
 pub mod StructGrowthLemmas
 pub mod IdStructLemmas
 pub mod IdStructRoleLemmas
+pub mod KeptEntries
 pub mod WholeSignatureLemmas
+pub mod StandingLemmas

@@ -138,7 +138,7 @@ read_kept (suc n) [] i x l e = cc
 read_kept (suc n) (s ∷ ss) zero x l e = e
 read_kept (suc n) (s ∷ ss) (suc i) x l e = read_kept n ss i x (omega (arith, l)) e
 
-below_or_above : (i n : ℕ) → (i < n) ⊎ (n ≤ i)
+pub below_or_above : (i n : ℕ) → (i < n) ⊎ (n ≤ i)
 below_or_above i zero = inr (omega arith)
 below_or_above zero (suc n) = inl (omega arith)
 below_or_above (suc i) (suc n) = elim (below_or_above i n) [ inl l ↦ inl (omega (arith, l)) | inr l ↦ inr (omega (arith, l)) ]

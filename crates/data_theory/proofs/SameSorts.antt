@@ -6,7 +6,7 @@ use Rattle.std.proofs.lemmas.List.Elements.{Contains-append_left, Contains-appen
 use lib.Signed.{lt_z, le_z_yes}
 use lib.IntN.{neg_ℤ}
 use Rattle.data_theory.specs.Terms.{Sort, boolean, positive, natural, integer, Symbol, minus, upcast, Term, Terms, variable, numeral, unknown, application, none, more, apply, put, variables_of, variables_of_all}
-use Rattle.data_theory.specs.Declarations.{Data, IsData, IsSymbol, positives, naturals, integers, pos2nat, nat2int, pos2int, IsNumberOf, argument_sorts, result_sort, HasSort, HaveSorts}
+use Rattle.data_theory.specs.Declarations.{Data, IsData, Declares, IsSymbol, positives, naturals, integers, pos2nat, nat2int, pos2int, IsNumberOf, argument_sorts, result_sort, HasSort, HaveSorts}
 use Rattle.data_theory.specs.Arithmetic.{magnitude}
 use Rattle.data_theory.specs.Provable.{Equation, variables_of_equation, ProvablyEqual, PlacesEqual, reflexive, symmetric, transitive, congruent, built_in, written, reflected, no_places, place}
 use Rattle.data_theory.specs.Environments.{IsOver, AreOver}
@@ -14,7 +14,7 @@ use Rattle.data_theory.specs.Rewriting.{IsWellFormed, AreSorts}
 use Rattle.data_theory.specs.SortLaws.{ProvablyEqualTermsHaveTheSameSort}
 use Rattle.data_theory.proofs.Numbers.{magnitude-neg}
 use Rattle.data_theory.proofs.BooleanLemmas.{true_has_sort}
-use Rattle.data_theory.proofs.EnvironmentLemmas.{contains_first, applications_have_sorts}
+use Rattle.data_theory.proofs.EnvironmentLemmas.{contains_first, applications_have_sorts, one_sort}
 use Rattle.data_theory.proofs.LinesOnTerms.{right_sort}
 use Rattle.data_theory.proofs.GoesToIsEqual.{put_sort}
 
@@ -204,9 +204,10 @@ module _ (g : Data) (own : List Equation) (ok : IsData g) (all : (q : Equation) 
     alike (written q e i fits c) =
         let w = all q i in
         let xs = variables_of_equation q in
+        let fit : (v : ℕ) (s : Sort) → Contains xs v → Declares q.sorts v s → HasSort g [] (e v) s = λ v s j d. let h = fits v j in subst (HasSort g [] (e v)) (one_sort q.sorts v h.0 s h.1 d) h.2 in
         let left = over_from xs q.left (λ v j. Contains-append_right (variables_of q.condition) (variables_of q.left ++ variables_of q.right) v (Contains-append_left (variables_of q.left) (variables_of q.right) v j)) in
         let right = over_from xs q.right (λ v j. Contains-append_right (variables_of q.condition) (variables_of q.left ++ variables_of q.right) v (Contains-append_right (variables_of q.left) (variables_of q.right) v j)) in
-        of_one_sort g (put e q.left) (put e q.right) w.sort (put_sort g xs q.sorts [] e fits q.left w.sort left w.left) (put_sort g xs q.sorts [] e fits q.right w.sort right w.right)
+        of_one_sort g (put e q.left) (put e q.right) w.sort (put_sort g xs q.sorts [] e fit q.left w.sort left w.left) (put_sort g xs q.sorts [] e fit q.right w.sort right w.right)
     alike (reflected {s = s} {t = t} {u = u} h) =
         let sorted = (alike h).back boolean (true_has_sort g) in
         of_one_sort g t u s sorted.1.0 sorted.1.1.0

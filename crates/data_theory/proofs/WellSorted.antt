@@ -2,10 +2,10 @@
 use Rattle.std.proofs.Common.{◌≡◌, ◌≢◌, ℕ, zero, suc, ◌<◌, List, [], ◌∷◌, length, get_or, sym, subst, arith}
 use Rattle.std.specs.Prelude.{ℤ}
 use Rattle.data_theory.specs.Terms.{Sort, boolean, positive, natural, integer, list, named, Operation, Symbol, truth, falsity, negation, conjunction, disjunction, implication, equality, inequality, conditional, comparison, arithmetic, minus, upcast, empty, cons, snoc, concatenation, size, element_at, head, rhead, tail, rtail, membership, function, Term, variable, numeral, unknown, application}
-use Rattle.data_theory.specs.Declarations.{Data, Function, Construction, by_declarations, structured, Role, mapping, function_at, sort_at, IsSort, IsUpcast, pos2nat, nat2int, pos2int, IsOperation, add_pos_pos, add_pos_nat, add_nat_pos, add_nat_nat, add_int_int, subtract_pos, subtract_nat, subtract_int, multiply_pos, multiply_nat, multiply_int, div_nat, div_int, mod_nat, mod_int, exp_pos, exp_nat, exp_int, min_pos, min_nat, min_int, max_pos, max_nat, max_int, abs_int, succ_pos, succ_nat, succ_int, pred_pos, pred_nat, pred_int, nat2pos, int2nat, int2pos, result_sort, IsSymbol, HasNumeral, HasSort, IsData}
+use Rattle.data_theory.specs.Declarations.{Data, DeclaredFunction, Construction, by_declarations, structured, Role, mapping, function_at, sort_at, IsSort, IsUpcast, pos2nat, nat2int, pos2int, IsOperation, add_pos_pos, add_pos_nat, add_nat_pos, add_nat_nat, add_int_int, subtract_pos, subtract_nat, subtract_int, multiply_pos, multiply_nat, multiply_int, div_nat, div_int, mod_nat, mod_int, exp_pos, exp_nat, exp_int, min_pos, min_nat, min_int, max_pos, max_nat, max_int, abs_int, succ_pos, succ_nat, succ_int, pred_pos, pred_nat, pred_int, nat2pos, int2nat, int2pos, result_sort, IsSymbol, HasNumeral, HasSort, IsData}
 
 -- past its end the table of functions has mappings, and the table of sorts has no structured sort
-role_within : (fs : List Function) (k : ℕ) (r : Role) → (get_or fs k (record { arguments = []; result = boolean; role = mapping })).role ≡ r → r ≢ mapping → k < length fs
+role_within : (fs : List DeclaredFunction) (k : ℕ) (r : Role) → (get_or fs k (record { arguments = []; result = boolean; role = mapping })).role ≡ r → r ≢ mapping → k < length fs
 role_within [] k r e n = absurd (n (sym e))
 role_within (f ∷ fs) zero r e n = omega arith
 role_within (f ∷ fs) (suc k) r e n = omega (arith, role_within fs k r e n)

@@ -1,6 +1,6 @@
 -- Each signature keeps its tables, and its names stay taken.
 use Rattle.std.proofs.Common.{◌≡◌, ◌==◌, ℕ, zero, suc, ◌+◌, ◌<◌, ◌≤◌, List, [], ◌∷◌, ◌++◌, length, map, get_or, Bool, true, false, cond, Some, refl, sym, ap, ◌∙◌, subst, arith, length-append}
-use Rattle.std.specs.Prelude.{slice_get}
+use Rattle.std.specs.Prelude.{slice_get, IfSome}
 use Rattle.std.specs.List.{All, Contains, list_any}
 use Rattle.std.proofs.lemmas.List.Elements.{All-nil, All-cons, All-head, All-tail, All-push, All-append, All-map, All-weaker, All-contains, All-contains_itself, All-from_recursion, Contains-append_left, Contains-append_right, Contains-push}
 use Rattle.data_theory.specs.declared.ids.NameId.{NameId}
@@ -11,7 +11,9 @@ use Rattle.data_theory.specs.declared.rows.Row.{Row}
 use Rattle.data_theory.specs.declared.signature.Variable.{Variable}
 use Rattle.data_theory.specs.Words.{text_of}
 use Rattle.data_theory.specs.Names.{AreDifferent, with_text, with_texts, place_in, places_in}
+use Rattle.data_theory.specs.Places.{HaveOnePlace}
 use Rattle.data_theory.specs.Keys.{key}
+use Rattle.data_theory.specs.SortNames.{IsName}
 use Rattle.data_theory.specs.Functions.{Function, HasKey, AreNew, declared_function}
 use Rattle.data_theory.specs.Taken.{with_name, with_names}
 use Rattle.data_theory.specs.Sorts.{Kind, SortInfo, without_constructors, by_declarations, structured, with_kind, IsBare, IsAnyListOver, first_sorts, abstract_sort, list_sort}
@@ -20,10 +22,11 @@ use Rattle.data_theory.specs.Structs.{Con, IsConWithin, all_projections, all_rec
 use Rattle.data_theory.specs.Rows.{row_word, built_in, built_ins}
 use Rattle.data_theory.specs.Table.{first_table, sort_rows, list_table}
 use Rattle.data_theory.specs.FirstNames.{first_names}
-use Rattle.data_theory.specs.Signature.{Sig, IsTaken, IsTakenAmong, first_signature, with_taken, with_variable, with_function, with_alias, with_sort, with_list, with_constructors, with_struct, with_action}
+use Rattle.data_theory.specs.Signature.{Sig, IsTaken, IsTakenAmong, first_signature, with_taken, with_variable, with_function, with_alias, with_sort, with_list, with_constructors, with_struct, with_action, IsAct}
 use Rattle.data_theory.specs.IdSorts.{construction_of}
 use Rattle.data_theory.specs.IdData.{constructors_of}
-use Rattle.data_theory.specs.WholeSignatures.{HasItsName, HasDeclaredConstructors, IsSignature}
+use Rattle.data_theory.specs.IdRoles.{IsDeclaredTo, HasNoRole}
+use Rattle.data_theory.specs.WholeSignatures.{HasItsName, HasDeclaredConstructors, HaveTheirRows, LeadToTheirSorts, IsSignature}
 use Rattle.data_theory.proofs.NameLemmas.{place_is, place_reads, has_texts, text_behind}
 use Rattle.data_theory.proofs.SignatureLemmas.{name_among}
 use Rattle.data_theory.proofs.TableLemmas.{is_first_name}
@@ -31,7 +34,9 @@ use Rattle.data_theory.proofs.CompleteLemmas.{first_complete, text_complete, act
 use Rattle.data_theory.proofs.StructWithin.{length-constructors, struct_complete}
 use Rattle.data_theory.proofs.IdTableLemmas.{still_read, the_first_signature_is_a_table, texts_keep_the_tables, actions_keep_the_tables, functions_keep_the_tables, declared_sorts_keep_the_tables, list_sorts_keep_the_tables, constructors_keep_the_tables}
 use Rattle.data_theory.proofs.IdStructLemmas.{structs_keep_the_tables}
-use Rattle.data_theory.proofs.IdStructRoleLemmas.{number_among, among_numbers}
+use Rattle.data_theory.proofs.IdRoleLemmas.{the_first_signature_has_roles, functions_keep_the_roles, declared_sorts_keep_the_roles, list_sorts_keep_the_roles, constructors_keep_the_roles}
+use Rattle.data_theory.proofs.IdStructRoleLemmas.{number_among, among_numbers, structs_keep_the_roles}
+use Rattle.data_theory.proofs.KeptEntries.{first_have_rows, rows_with_texts, rows_with_functions, rows_with_sort, rows_with_list, rows_with_kind, first_lead, lead_with_name, lead_with_sort, lead_with_list, lead_with_kind, names_still_differ, actions_still_differ, declared_to}
 
 pub signature_as : (s t : Sig) → IsSignature s → t ≡ s → IsSignature t
 signature_as s t h e = subst IsSignature (sym e) h
@@ -162,17 +167,38 @@ no_constructors : (given : List (List ℕ)) → All (HasDeclaredConstructors (fi
 unfolding first_signature
 no_constructors given = first_constructors []
 
+first_rows_there : (given : List (List ℕ)) → HaveTheirRows (first_signature given).texts (first_signature given).sorts (first_signature given).functions
+unfolding first_signature
+first_rows_there given = first_have_rows (with_texts given first_names)
+
+no_names : (given : List (List ℕ)) → HaveOnePlace (map (λ (e : NameId × SortId). e.0) (first_signature given).sort_names)
+unfolding first_signature
+no_names given i j x a b = cc
+
+first_names_there : (given : List (List ℕ)) → LeadToTheirSorts (first_signature given).sorts (first_signature given).sort_names
+unfolding first_signature
+first_names_there given = first_lead []
+
+no_actions : (given : List (List ℕ)) → HaveOnePlace (first_signature given).actions
+unfolding first_signature
+no_actions given i j x a b = cc
+
 pub first_stands : (given : List (List ℕ)) → AreDifferent given → IsSignature (first_signature given)
 first_stands given d =
     let table = the_first_signature_is_a_table given d in
     record {
       complete = first_complete given;
       table = table;
+      rows = first_rows_there given;
       words_taken = first_words_taken given;
       functions_taken = first_functions_taken given table.different;
       sorts_taken = first_sorts_taken given;
+      sort_names_differ = no_names given;
       sorts_named = first_names_of_sorts given;
+      first_names_lead = first_names_there given;
+      actions_differ = no_actions given;
       constructors_declared = no_constructors given;
+      roles = the_first_signature_has_roles given;
     }
 
 -- ---- what a call adds
@@ -183,48 +209,68 @@ text_stands g t s =
     record {
       complete = text_complete g t s.complete;
       table = texts_keep_the_tables g t s.table;
+      rows = rows_with_texts g.texts texts g.sorts g.functions (text_behind g.texts t) s.complete.words s.rows;
       words_taken = words_stay g s _ stay texts (still_read g.texts texts (text_behind g.texts t));
       functions_taken = functions_stay g s _ stay;
       sorts_taken = sorts_stay g s _ stay;
+      sort_names_differ = s.sort_names_differ;
       sorts_named = s.sorts_named;
+      first_names_lead = s.first_names_lead;
+      actions_differ = s.actions_differ;
       constructors_declared = s.constructors_declared;
+      roles = s.roles;
     }
 
-pub action_stands : (g : Sig) (t : List ℕ) (sorts : List SortId) → IsSignature g → All (λ i. i.0 < length g.sorts) sorts → IsSignature (with_action g t sorts)
-action_stands g t sorts s within =
+pub action_stands : (g : Sig) (t : List ℕ) (sorts : List SortId) → IsSignature g → All (λ i. i.0 < length g.sorts) sorts → (IsAct g t sorts → ⊥) → IsSignature (with_action g t sorts)
+action_stands g t sorts s within absent =
     let texts : List (List ℕ) = with_text g.texts t in
     record {
       complete = action_complete g t sorts s.complete within;
       table = actions_keep_the_tables g t sorts s.table;
+      rows = rows_with_texts g.texts texts g.sorts g.functions (text_behind g.texts t) s.complete.words s.rows;
       words_taken = words_stay g s g.taken (λ n c. c) texts (still_read g.texts texts (text_behind g.texts t));
       functions_taken = s.functions_taken;
       sorts_taken = s.sorts_taken;
+      sort_names_differ = s.sort_names_differ;
       sorts_named = s.sorts_named;
+      first_names_lead = s.first_names_lead;
+      actions_differ = actions_still_differ g t sorts s.complete absent s.actions_differ;
       constructors_declared = s.constructors_declared;
+      roles = s.roles;
     }
 
 pub variable_stands : (g : Sig) (v : Variable) → IsSignature g → v.name.0 < length g.texts → v.sort.0 < length g.sorts → IsSignature (with_variable g v)
 variable_stands g v s n o = record {
   complete = variable_complete g v s.complete n o;
   table = s.table;
+  rows = s.rows;
   words_taken = s.words_taken;
   functions_taken = s.functions_taken;
   sorts_taken = s.sorts_taken;
+  sort_names_differ = s.sort_names_differ;
   sorts_named = s.sorts_named;
+  first_names_lead = s.first_names_lead;
+  actions_differ = s.actions_differ;
   constructors_declared = s.constructors_declared;
+  roles = s.roles;
 }
 
-pub alias_stands : (g : Sig) (n : NameId) (sort : SortId) → IsSignature g → n.0 < length g.texts → sort.0 < length g.sorts → IsSignature (with_alias g n sort)
-alias_stands g n sort s a b =
+pub alias_stands : (g : Sig) (n : NameId) (sort : SortId) → IsSignature g → n.0 < length g.texts → sort.0 < length g.sorts → (IsName g.sort_names n → ⊥) → IsSignature (with_alias g n sort)
+alias_stands g n sort s a b absent =
     let stay = name_stays g.taken n in
     record {
       complete = alias_complete g n sort s.complete a b;
       table = s.table;
+      rows = s.rows;
       words_taken = words_stay g s _ stay g.texts (λ i u e. e);
       functions_taken = functions_stay g s _ stay;
       sorts_taken = All-push (λ (e : NameId × SortId). Contains (with_name g.taken n) e.0) g.sort_names (n, sort) (sorts_stay g s _ stay) (name_added g.taken n);
+      sort_names_differ = names_still_differ g.sort_names n sort absent s.sort_names_differ;
       sorts_named = s.sorts_named;
+      first_names_lead = lead_with_name g.sorts g.sort_names n sort s.first_names_lead;
+      actions_differ = s.actions_differ;
       constructors_declared = s.constructors_declared;
+      roles = s.roles;
     }
 
 pub function_stands : (g : Sig) (n : NameId) (args : List SortId) (to : SortId) → IsSignature g → n.0 < length g.texts → All (λ a. a.0 < length g.sorts) args → to.0 < length g.sorts → ((k : ℕ) → HasKey g.functions (key n args) k → ⊥)
@@ -234,15 +280,20 @@ function_stands g n args to s a b d none =
     record {
       complete = function_complete g n args to s.complete a b d;
       table = functions_keep_the_tables g n args to s.table b d none;
+      rows = rows_with_functions g.texts g.sorts g.functions (declared_function n args to ∷ []) s.rows;
       words_taken = words_stay g s _ stay g.texts (λ i u e. e);
       functions_taken = All-push (λ (f : Function). Contains (with_name g.taken n) f.name) g.functions (declared_function n args to) (functions_stay g s _ stay) (name_added g.taken n);
       sorts_taken = sorts_stay g s _ stay;
+      sort_names_differ = s.sort_names_differ;
       sorts_named = s.sorts_named;
+      first_names_lead = s.first_names_lead;
+      actions_differ = s.actions_differ;
       constructors_declared = more_declared g.declared (record { 0 = length g.functions } ∷ []) g.sorts s.constructors_declared;
+      roles = functions_keep_the_roles g n args to s.roles;
     }
 
-pub sort_stands : (g : Sig) (n : NameId) → IsSignature g → n.0 < length g.texts → IsSignature (with_sort g n)
-sort_stands g n s b =
+pub sort_stands : (g : Sig) (n : NameId) → IsSignature g → n.0 < length g.texts → (IsName g.sort_names n → ⊥) → IsSignature (with_sort g n)
+sort_stands g n s b absent =
     let sort : SortId = record { 0 = length g.sorts } in
     let taken : List NameId = with_name g.taken n in
     let stay = name_stays g.taken n in
@@ -250,11 +301,16 @@ sort_stands g n s b =
     record {
       complete = sort_complete g n s.complete b;
       table = declared_sorts_keep_the_tables g n s.complete s.table;
+      rows = rows_with_sort g.texts g.sorts g.functions n s.rows;
       words_taken = words;
       functions_taken = All-append (λ (f : Function). Contains taken f.name) g.functions (built_ins g.texts (sort_rows sort)) (functions_stay g s taken stay) (rows_taken g.texts taken s.table.different words (sort_rows sort));
       sorts_taken = All-push (λ (e : NameId × SortId). Contains taken e.0) g.sort_names (n, sort) (sorts_stay g s taken stay) (name_added g.taken n);
+      sort_names_differ = names_still_differ g.sort_names n sort absent s.sort_names_differ;
       sorts_named = All-push HasItsName g.sorts (abstract_sort n) s.sorts_named (λ _. refl);
+      first_names_lead = lead_with_sort g.sorts g.sort_names n s.first_names_lead;
+      actions_differ = s.actions_differ;
       constructors_declared = All-push (HasDeclaredConstructors g.declared) g.sorts (abstract_sort n) s.constructors_declared (All-nil (Contains g.declared));
+      roles = declared_sorts_keep_the_roles g n s.roles;
     }
 
 pub list_stands : (g : Sig) (e : SortId) → IsSignature g → e.0 < length g.sorts → ¬ (IsAnyListOver g.sorts e) → IsSignature (with_list g e)
@@ -263,27 +319,43 @@ list_stands g e s b none =
     record {
       complete = list_complete g e s.complete b;
       table = list_sorts_keep_the_tables g e s.complete s.table b none;
+      rows = rows_with_list g.texts g.sorts g.functions e s.rows;
       words_taken = s.words_taken;
       functions_taken = All-append (λ (f : Function). Contains g.taken f.name) g.functions (built_ins g.texts rows) s.functions_taken (rows_taken g.texts g.taken s.table.different s.words_taken rows);
       sorts_taken = s.sorts_taken;
+      sort_names_differ = s.sort_names_differ;
       sorts_named = All-push HasItsName g.sorts (list_sort e) s.sorts_named (no_kind 0 1 refl refl);
+      first_names_lead = lead_with_list g.sorts g.sort_names e s.first_names_lead;
+      actions_differ = s.actions_differ;
       constructors_declared = All-push (HasDeclaredConstructors g.declared) g.sorts (list_sort e) s.constructors_declared (All-nil (Contains g.declared));
+      roles = list_sorts_keep_the_roles g e s.roles;
     }
 
-pub constructors_stand : (g : Sig) (sort : SortId) (fs : List FunId) → IsSignature g → IsBare g.sorts sort → All (Contains g.declared) fs → IsSignature (with_constructors g sort fs)
-constructors_stand g sort fs s bare all = record {
+pub constructors_stand : (g : Sig) (sort : SortId) (fs : List FunId) → IsSignature g → IsBare g.sorts sort → All (Contains g.declared) fs → All (λ (f : FunId). IfSome (slice_get g.functions f.0) (λ x. x.result ≡ sort)) fs → All (HasNoRole g) fs → IsSignature (with_constructors g sort fs)
+constructors_stand g sort fs s bare all results free = record {
   complete = constructors_complete g sort fs s.complete bare all;
   table = constructors_keep_the_tables g sort (by_declarations fs) s.table bare refl;
+  rows = rows_with_kind g.texts g.sorts g.functions sort (by_declarations fs) s.table.sorts bare refl s.rows;
   words_taken = s.words_taken;
   functions_taken = s.functions_taken;
   sorts_taken = s.sorts_taken;
+  sort_names_differ = s.sort_names_differ;
   sorts_named = kinds_named g.sorts sort.0 (by_declarations fs) bare.0 bare.1 bare.2 s.sorts_named;
+  first_names_lead = lead_with_kind g.sorts g.sort_names sort.0 (by_declarations fs) s.first_names_lead;
+  actions_differ = s.actions_differ;
   constructors_declared = kinds_declared g.declared g.sorts sort.0 (by_declarations fs) all s.constructors_declared;
+  roles =
+      constructors_keep_the_roles g sort fs s.roles bare
+      (All-weaker (Contains fs) (λ f. IsDeclaredTo g.functions f sort)
+      (λ f c. declared_to g s.table sort f (All-contains (Contains g.declared) fs f all c) (All-contains (λ (i : FunId). IfSome (slice_get g.functions i.0) (λ x. x.result ≡ sort)) fs f results c))
+      fs (All-contains_itself fs))
+      (λ f r c. All-contains (HasNoRole g) fs f free c r);
 }
 
 pub struct_stands : (g : Sig) (sort : SortId) (cs : List Con) → IsSignature g → IsBare g.sorts sort → All (IsConWithin (length g.texts) (length g.sorts)) cs → AreNew g.functions (struct_functions sort (length g.functions) cs) → IsSignature (with_struct g sort cs)
 struct_stands g sort cs s bare within new =
     let fs : List Function = struct_functions sort (length g.functions) cs in
+    let kind : Kind = structured (numbers_from (length g.functions) (length cs)) in
     let names : List NameId = map (λ f. f.name) fs in
     let taken : List NameId = with_names g.taken names in
     let stay = names_stay g.taken names in
@@ -291,11 +363,16 @@ struct_stands g sort cs s bare within new =
     record {
       complete = struct_complete g sort cs s.complete bare within;
       table = structs_keep_the_tables g sort cs s.table bare within new;
+      rows = rows_with_functions g.texts (with_kind g.sorts sort.0 kind) g.functions fs (rows_with_kind g.texts g.sorts g.functions sort kind s.table.sorts bare refl s.rows);
       words_taken = words_stay g s taken stay g.texts (λ i u e. e);
       functions_taken = All-append (λ (f : Function). Contains taken f.name) g.functions fs (functions_stay g s taken stay) these;
       sorts_taken = sorts_stay g s taken stay;
-      sorts_named = kinds_named g.sorts sort.0 (structured (numbers_from (length g.functions) (length cs))) bare.0 bare.1 bare.2 s.sorts_named;
+      sort_names_differ = s.sort_names_differ;
+      sorts_named = kinds_named g.sorts sort.0 kind bare.0 bare.1 bare.2 s.sorts_named;
+      first_names_lead = lead_with_kind g.sorts g.sort_names sort.0 kind s.first_names_lead;
+      actions_differ = s.actions_differ;
+      roles = structs_keep_the_roles g sort cs s.roles bare;
       constructors_declared =
           let numbers : List FunId = numbers_from (length g.functions) (length fs) in
-          kinds_declared (g.declared ++ numbers) g.sorts sort.0 (structured (numbers_from (length g.functions) (length cs))) (struct_constructors g.declared sort (length g.functions) cs) (more_declared g.declared numbers g.sorts s.constructors_declared);
+          kinds_declared (g.declared ++ numbers) g.sorts sort.0 kind (struct_constructors g.declared sort (length g.functions) cs) (more_declared g.declared numbers g.sorts s.constructors_declared);
     }

@@ -1,5 +1,6 @@
 -- The sorts and functions of a text, and which terms are well sorted over them.
 use Rattle.std.specs.Prelude.{◌≡◌, ℕ, zero, suc, ◌<◌, ◌^◌, List, [], ◌∷◌, length, get_or, ℤ, pos, ◌≤ℤ◌}
+use Rattle.std.specs.List.{All}
 use Rattle.data_theory.specs.Terms.{Sort, boolean, positive, natural, integer, list, named, Operation, add, subtract, multiply, divide, modulo, power, minimum, maximum, absolute, successor, predecessor, to_positive, to_natural, Symbol, truth, falsity, negation, conjunction, disjunction, implication, equality, inequality, conditional, comparison, arithmetic, minus, upcast, empty, cons, snoc, concatenation, size, element_at, head, rhead, tail, rtail, membership, function, Term, Terms, variable, numeral, unknown, application, none, more, apply}
 use Rattle.data_theory.specs.Arithmetic.{magnitude}
 
@@ -11,7 +12,7 @@ pub data Role : Type 0 where
   recogniser : ℕ → Role
   mapping : Role
 
-pub record Function : Type 0 where
+pub record DeclaredFunction : Type 0 where
   pub arguments : List Sort
   pub result : Sort
   pub role : Role
@@ -25,9 +26,9 @@ pub data Construction : Type 0 where
 -- the declared sorts and functions, each at its number
 pub record Data : Type 0 where
   pub sorts : List Construction
-  pub functions : List Function
+  pub functions : List DeclaredFunction
 
-abbrev pub function_at : Data → ℕ → Function
+abbrev pub function_at : Data → ℕ → DeclaredFunction
 function_at g k = get_or g.functions k (record { arguments = []; result = boolean; role = mapping })
 
 abbrev pub sort_at : Data → ℕ → Construction
@@ -201,16 +202,17 @@ abbrev mutual
   HaveSorts g vs (more t ts) (s ∷ ss) = HasSort g vs t s × HaveSorts g vs ts ss
 
 -- what a declared function's role asks of its sorts; only a `struct` has projections and recognisers
-abbrev pub FitsRole : Data → Function → Role → Type 0
+abbrev pub FitsRole : Data → DeclaredFunction → Role → Type 0
 FitsRole g f constructor = (d : ℕ) × (f.result ≡ named d)
 FitsRole g f (projection c i) = (d : ℕ) × (f.arguments ≡ named d ∷ []) × ((function_at g c).role ≡ constructor) × ((function_at g c).result ≡ named d) × (i < length (function_at g c).arguments) × (f.result ≡ get_or (function_at g c).arguments i boolean) × (sort_at g d ≡ structured)
 FitsRole g f (recogniser c) = (d : ℕ) × (f.arguments ≡ named d ∷ []) × ((function_at g c).role ≡ constructor) × ((function_at g c).result ≡ named d) × (f.result ≡ boolean) × (sort_at g d ≡ structured)
 FitsRole g f mapping = Unit {0}
 
--- each function's role fits its sorts, and its result is a sort of the data
+-- each function's role fits its sorts, and its result and its arguments have sorts of the data
 pub record IsData (g : Data) : Type 0 where
   pub roles : (k : ℕ) → k < length g.functions → FitsRole g (function_at g k) (function_at g k).role
   pub results : (k : ℕ) → k < length g.functions → IsSort g (function_at g k).result
+  pub arguments : (k : ℕ) → k < length g.functions → All (IsSort g) (function_at g k).arguments
 
 -- a term of constructors, numerals and unknown elements, where `true`, `false`, `[]` and `|>` count as constructors
 abbrev mutual

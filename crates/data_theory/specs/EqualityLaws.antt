@@ -2,7 +2,7 @@
 use Rattle.std.specs.Prelude.{◌≡◌, ◌↔◌, ℕ, ◌++◌, List, []}
 use Rattle.std.specs.List.{Contains}
 use Rattle.data_theory.specs.Terms.{Sort, Symbol, Term, Terms, apply, put, put_all}
-use Rattle.data_theory.specs.Declarations.{Data, Construction, Function, HasSort, IsData}
+use Rattle.data_theory.specs.Declarations.{Data, Construction, DeclaredFunction, HasSort, IsData}
 use Rattle.data_theory.specs.Equations.{equals}
 use Rattle.data_theory.specs.Provable.{Equation, ProvablyEqual, PlacesEqual, ProvablyTrue}
 
@@ -52,7 +52,7 @@ EqualsItself = (g : Data) (own : List Equation) → IsData g → (s : Sort) (x :
 -- further sorts and functions stand behind the old ones, which keep their numbers
 pub record Grows (g h : Data) : Type 0 where
   pub new_sorts : List Construction
-  pub new_functions : List Function
+  pub new_functions : List DeclaredFunction
   pub sorts : h.sorts ≡ g.sorts ++ new_sorts
   pub functions : h.functions ≡ g.functions ++ new_functions
 

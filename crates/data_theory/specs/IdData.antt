@@ -55,11 +55,11 @@ abbrev pub role_meant : Sig → FunId → Role
 role_meant g i = cond (is_constructor g.sorts i) constructor (role_among 0 g.functions i)
 
 -- a function with the sorts that its numbers mean
-abbrev pub function_at_meant : Sig → FunId → Option Function → theory.Function
+abbrev pub function_at_meant : Sig → FunId → Option Function → theory.DeclaredFunction
 function_at_meant g i None = record { arguments = []; result = boolean; role = mapping }
 function_at_meant g i (Some f) = record { arguments = map (sort_meant g.sorts) f.sorts; result = sort_meant g.sorts f.result; role = role_meant g i }
 
-abbrev pub function_meant : Sig → FunId → theory.Function
+abbrev pub function_meant : Sig → FunId → theory.DeclaredFunction
 function_meant g i = function_at_meant g i (slice_get g.functions i.0)
 
 -- the declared sorts and functions of a signature

@@ -1,5 +1,5 @@
 -- What the entries of a signature keep of constructors, projections and recognisers.
-use Rattle.std.specs.Prelude.{◌≡◌, ℕ, List, [], ◌∷◌, length, take, Some, None, slice_get}
+use Rattle.std.specs.Prelude.{◌≡◌, ◌<◌, ℕ, List, [], ◌∷◌, length, take, Some, None, slice_get}
 use Rattle.std.specs.List.{All, Contains}
 use Rattle.data_theory.specs.declared.ids.NameId.{NameId}
 use Rattle.data_theory.specs.declared.ids.SortId.{SortId}
@@ -27,6 +27,10 @@ pub data HasRole (ss : List SortInfo) (fs : List Function) (i : FunId) : Role �
   constructs : (s : SortId) (t : SortInfo) → slice_get ss s.0 ≡ Some t → Contains (constructors_of t.kind) i → HasRole ss fs i constructor
   projects : (c : FunId) (h : Function) (k : ℕ) → slice_get fs c.0 ≡ Some h → slice_get h.projections k ≡ Some (Some i) → HasRole ss fs i (projection (declared_number fs c) k)
   recognises : (c : FunId) (h : Function) → slice_get fs c.0 ≡ Some h → h.test ≡ Some i → HasRole ss fs i (recogniser (declared_number fs c))
+
+-- a function has none: it is a mapping
+abbrev pub HasNoRole : Sig → FunId → Type 0
+HasNoRole g i = (r : Role) → HasRole g.sorts g.functions i r → ⊥
 
 -- ---- what they keep
 -- the function was declared with this result, and with these sorts
@@ -89,6 +93,33 @@ StructsKeepTheRoles = (g : Sig) (s : SortId) (cs : List Con) → AreRoles g → 
 
 abbrev pub StructSortsKeepTheRoles : Type 0
 StructSortsKeepTheRoles = (g : Sig) (n : NameId) (cs : List Con) → AreRoles g → AreRoles (with_struct_sort g n cs)
+
+-- ---- functions without a role
+-- a function that was declared by itself has none
+abbrev pub NewFunctionsHaveNoRole : Type 0
+NewFunctionsHaveNoRole = (g : Sig) (n : NameId) (args : List SortId) (to : SortId) → AreRoles g → HasNoRole (with_function g (declared_function n args to)) (record { 0 = length g.functions })
+
+-- it gets none by what else is declared, nor by constructors among which it isn't
+abbrev pub FunctionsGiveNoRole : Type 0
+FunctionsGiveNoRole = (g : Sig) (n : NameId) (args : List SortId) (to : SortId) → AreRoles g → (i : FunId) → HasNoRole g i → HasNoRole (with_function g (declared_function n args to)) i
+
+abbrev pub DeclaredSortsGiveNoRole : Type 0
+DeclaredSortsGiveNoRole = (g : Sig) (n : NameId) → AreRoles g → (i : FunId) → HasNoRole g i → HasNoRole (with_sort g n) i
+
+abbrev pub ListSortsGiveNoRole : Type 0
+ListSortsGiveNoRole = (g : Sig) (e : SortId) → AreRoles g → (i : FunId) → HasNoRole g i → HasNoRole (with_list g e) i
+
+abbrev pub ConstructorsGiveNoRoleToOthers : Type 0
+ConstructorsGiveNoRoleToOthers =
+    (g : Sig) (s : SortId) (cons : List FunId) → AreRoles g → IsBare g.sorts s → (i : FunId) → ¬ (Contains cons i) → HasNoRole g i → HasNoRole (with_constructors g s cons) i
+
+abbrev pub StructsGiveNoRoleToOthers : Type 0
+StructsGiveNoRoleToOthers =
+    (g : Sig) (s : SortId) (cs : List Con) → AreRoles g → IsBare g.sorts s → (i : FunId) → i.0 < length g.functions → HasNoRole g i → HasNoRole (with_struct g s cs) i
+
+abbrev pub StructSortsGiveNoRoleToOthers : Type 0
+StructSortsGiveNoRoleToOthers =
+    (g : Sig) (n : NameId) (cs : List Con) → AreRoles g → (i : FunId) → i.0 < length g.functions → HasNoRole g i → HasNoRole (with_struct_sort g n cs) i
 
 -- ---- the laws of the data that a signature means
 abbrev pub RolesAreFound : Type 0

@@ -1,11 +1,13 @@
 -- Which term a tree means.
 use Rattle.std.specs.Prelude.{◌≡◌, ◌<◌, ◌++◌, ℕ, List, map, length}
+use Rattle.data_theory.specs.declared.ids.NameId.{NameId}
 use Rattle.data_theory.specs.declared.ids.SortId.{SortId}
 use Rattle.data_theory.specs.declared.ids.FunId.{FunId}
 use Rattle.data_theory.specs.declared.signature.Variable.{Variable}
 use Rattle.data_theory.specs.Terms as terms
 use Rattle.data_theory.specs.Terms.{Sort, Symbol, Term, Terms}
 use Rattle.data_theory.specs.Sorts.{SortInfo}
+use Rattle.data_theory.specs.Keys.{Key}
 use Rattle.data_theory.specs.Functions.{Function}
 use Rattle.data_theory.specs.Signature.{Sig}
 use Rattle.data_theory.specs.IdTrees.{Tree, Trees, variable, numeral, function, none, more}
@@ -51,13 +53,21 @@ abbrev mutual
   AreTreesWithin g none = Unit {0}
   AreTreesWithin g (more t ts) = IsTreeWithin g t × AreTreesWithin g ts
 
--- texts, sorts, functions and variables come behind the old ones
+-- in each table of a signature what is new comes behind the old
 pub record IsGrown (g h : Sig) : Type 0 where
   pub new_texts : List (List ℕ)
+  pub new_taken : List NameId
   pub new_sorts : List SortInfo
+  pub new_sort_names : List (NameId × SortId)
   pub new_functions : List Function
+  pub new_declared : List FunId
+  pub new_actions : List Key
   pub new_variables : List Variable
   pub texts : h.texts ≡ g.texts ++ new_texts
+  pub taken : h.taken ≡ g.taken ++ new_taken
   pub sorts : h.sorts ≡ g.sorts ++ new_sorts
+  pub sort_names : h.sort_names ≡ g.sort_names ++ new_sort_names
   pub functions : h.functions ≡ g.functions ++ new_functions
+  pub declared : h.declared ≡ g.declared ++ new_declared
+  pub actions : h.actions ≡ g.actions ++ new_actions
   pub variables : h.variables ≡ g.variables ++ new_variables

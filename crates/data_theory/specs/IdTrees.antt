@@ -49,7 +49,7 @@ abbrev pub apply_tree : FunId → Trees → Tree
 apply_tree f (more (numeral s z) none) = apply_to_numeral f s z
 apply_tree f ts = function f ts
 
--- trees put in for all variables at once, and what can merge then merges
+-- Substitution: trees put in for all variables at once, and what can merge then merges.
 abbrev mutual
   pub put_tree : (VarId → Tree) → Tree → Tree
   put_tree e (variable v) = e v

@@ -16,11 +16,11 @@ pub record Equation : Type 0 where
 abbrev pub variables_of_equation : Equation → List ℕ
 variables_of_equation q = variables_of q.condition ++ (variables_of q.left ++ variables_of q.right)
 
--- each variable of the equation has a closed term of its sort
+-- each variable that occurs in the equation has a sort there, and a closed term of it
 abbrev pub IsClosedInstance : Data → Equation → (ℕ → Term) → Type 0
-IsClosedInstance g q e = (v : ℕ) (s : Sort) → Contains (variables_of_equation q) v → Declares q.sorts v s → HasSort g [] (e v) s
+IsClosedInstance g q e = (v : ℕ) → Contains (variables_of_equation q) v → (s : Sort) × Declares q.sorts v s × HasSort g [] (e v) s
 
--- Two closed terms are provably equal over the data and the written equations: a constructor for each rule.
+-- Two closed terms are provably equal over the data g and the written equations `own`: a constructor for each rule.
 mutual
   pub data ProvablyEqual (g : Data) (own : List Equation) : Term → Term → Type 0 where
     reflexive : {t : Term} → ProvablyEqual g own t t

@@ -69,7 +69,7 @@ place_of (recognised p) = Some 53
 place_of (not_recognised p q n) = Some 54
 place_of _ = None
 
--- a pattern with terms for its variables, where nothing merges
+-- the instance of a pattern by terms for its variables, where nothing merges
 abbrev mutual
   pub laid : (ℕ → Term) → Term → Term
   laid e (variable v) = e v

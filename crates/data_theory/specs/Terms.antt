@@ -91,7 +91,7 @@ apply (minus natural) (more (numeral natural z) none) = negated natural z
 apply (minus integer) (more (numeral integer z) none) = negated integer z
 apply f ts = application f ts
 
--- terms put in for all variables at once, and what can merge then merges
+-- Substitution: terms put in for all variables at once, and what can merge then merges.
 abbrev mutual
   pub put : (ℕ → Term) → Term → Term
   put e (variable v) = e v

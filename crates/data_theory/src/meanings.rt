@@ -5,7 +5,7 @@
 
 ghost use Rattle.data_theory.specs.IdGrowth.{GrowthAfterGrowthIsGrowth, WithAFunctionItIsGrown, WithAListSortItIsGrown, WithASortItIsGrown, WithATextItIsGrown, WithAVariableItIsGrown, WithAnActionItIsGrown, WithAnAliasItIsGrown};
 ghost use Rattle.data_theory.specs.IdTableLaws.{ActionsKeepTheTables, AliasesKeepTheTables, ConstructorsKeepTheTables, DeclaredSortsKeepTheTables, FunctionsKeepTheTables, ListSortsKeepTheTables, SortsKeepTheTables, StructsKeepTheTables, TextsKeepTheTables, TheFirstSignatureIsATable, VariablesKeepTheTables};
-ghost use Rattle.data_theory.specs.IdRoles.{ActionsKeepTheRoles, AliasesKeepTheRoles, ConstructorsKeepTheRoles, DeclaredSortsKeepTheRoles, FunctionsKeepTheRoles, GrowthKeepsMeantData, ListSortsKeepTheRoles, MeantDataAreData, RolesAreFound, StructSortsKeepTheRoles, StructsKeepTheRoles, TextsKeepTheRoles, TheFirstSignatureHasRoles, VariablesKeepTheRoles};
+ghost use Rattle.data_theory.specs.IdRoles.{ActionsKeepTheRoles, AliasesKeepTheRoles, ConstructorsGiveNoRoleToOthers, ConstructorsKeepTheRoles, DeclaredSortsGiveNoRole, DeclaredSortsKeepTheRoles, FunctionsGiveNoRole, FunctionsKeepTheRoles, GrowthKeepsMeantData, ListSortsGiveNoRole, ListSortsKeepTheRoles, MeantDataAreData, NewFunctionsHaveNoRole, RolesAreFound, StructSortsGiveNoRoleToOthers, StructSortsKeepTheRoles, StructsGiveNoRoleToOthers, StructsKeepTheRoles, TextsKeepTheRoles, TheFirstSignatureHasRoles, VariablesKeepTheRoles};
 ghost use Rattle.data_theory.specs.IdLaws.{DeclaredFunctionsStandInTheData, DeclaredSortsStandInTheData, DifferentFunctionsMeanDifferentSymbols, DifferentSortsMeanDifferentSorts, DifferentTreesMeanDifferentTerms, GrowthKeepsMeantSorts, GrowthKeepsMeantSymbols, GrowthKeepsMeantTerms, ListedFunctionsMeanTheirPlaces, MergingTreesMergesTerms, PuttingInTreesPutsInTerms, SettingConstructorsKeepsMeantTerms, SortedTreesAreWithin, SortedTreesMeanSortedTerms, SortsMeanTheirKinds};
 
 /// A sort means what its kind says: a list sort the lists over what its element means, and a declared sort the one with its
@@ -35,8 +35,8 @@ pub fn meaning_goes_through_substitution()
     ensures putting_in { PuttingInTreesPutsInTerms }
 {}
 
-/// Where texts, sorts, functions and variables come behind the old ones, what was there means what it meant; so
-/// it does where a declared sort gets its constructors.
+/// Where what is new comes behind the old in each table, what was there means what it meant; so it does where a declared sort
+/// gets its constructors.
 pub fn growth_keeps_meanings()
     ensures sorts { GrowthKeepsMeantSorts }
     ensures symbols { GrowthKeepsMeantSymbols }
@@ -101,4 +101,36 @@ pub fn roles_are_kept()
     ensures constructors { ConstructorsKeepTheRoles }
     ensures structs { StructsKeepTheRoles }
     ensures struct_sorts { StructSortsKeepTheRoles }
+{}
+
+/// A function that was declared by itself has no role: it is a mapping. It gets none by what else is declared, and none by
+/// constructors among which it isn't, so that it may become a constructor later.
+pub fn new_functions_are_mappings()
+    ensures new { NewFunctionsHaveNoRole }
+    ensures functions { FunctionsGiveNoRole }
+    ensures declared_sorts { DeclaredSortsGiveNoRole }
+    ensures list_sorts { ListSortsGiveNoRole }
+    ensures constructors { ConstructorsGiveNoRoleToOthers }
+    ensures structs { StructsGiveNoRoleToOthers }
+    ensures struct_sorts { StructSortsGiveNoRoleToOthers }
+{}
+
+ghost use Rattle.data_theory.specs.SignatureLaws.{FirstFunctionsStand, FunctionsOverListsStand, FunctionsOverSortsStand, SignaturesHaveTruthFunctions, VariablesHaveSortsOfTheData};
+
+/// In every signature the functions of the language's table are found by their names and sorts: those over all of its sorts, and
+/// those over all of its list sorts. They mean what their rows say; no declared function stands in their place.
+pub fn built_in_functions_stand()
+    ensures first { FirstFunctionsStand }
+    ensures over_sorts { FunctionsOverSortsStand }
+    ensures over_lists { FunctionsOverListsStand }
+{}
+
+/// In every signature `true`, `false`, `!`, `&&`, `||` and `=>` have the numbers 6 to 11, and mean what they should.
+pub fn truth_functions_have_their_numbers()
+    ensures { SignaturesHaveTruthFunctions }
+{}
+
+/// The sorts of a signature's variables are sorts of the data that it means.
+pub fn variables_have_sorts_of_the_data()
+    ensures { VariablesHaveSortsOfTheData }
 {}

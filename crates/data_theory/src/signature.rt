@@ -12,6 +12,7 @@ use crate::sort_table::{SortKind, SortTable};
 use crate::structs::{ConDecl, numbers_from, struct_entries};
 use crate::table::{first_table, list_table, sort_rows};
 use crate::taken::take_first_names;
+use crate::words::Word;
 use indexmap::IndexSet;
 use std::alloc::Global;
 use std::marker::Model;
@@ -55,6 +56,7 @@ impl Signature {
     ghost use Rattle.std.specs.List.{All, Contains};
     ghost use Rattle.data_theory.specs.Keys.{key};
     ghost use Rattle.data_theory.specs.Functions.{HasKey, AreNew, arguments_of, declared_function};
+    ghost use Rattle.data_theory.specs.NamedFunctions.{functions_named};
     ghost use Rattle.data_theory.specs.Structs.{cons_of, struct_functions, IsConWithin};
     ghost use Rattle.data_theory.specs.Places.{HaveOnePlace};
     ghost use Rattle.data_theory.specs.Sorts.{kind_of, IsBare, IsListOver, IsAnyListOver};
@@ -62,6 +64,7 @@ impl Signature {
     ghost use Rattle.data_theory.specs.Actions.{actions_of};
     ghost use Rattle.data_theory.specs.Signature.{Sig, IsFun, IsTaken, first_signature, with_taken, with_variable, with_function, with_alias, with_sort, with_list, with_constructors, with_struct, with_struct_sort, IsNewStruct, IsAct, with_action};
     ghost use Rattle.data_theory.specs.Fresh.{IsFreshIn};
+    ghost use Rattle.data_theory.specs.IdRoles.{HasNoRole};
     ghost use Rattle.data_theory.specs.WholeSignatures.{IsSignature};
 
     /// The sorts Bool, Pos, Nat and Int with their built-in functions, over the given names. The words that are no
@@ -145,6 +148,19 @@ impl Signature {
         ensures { IfSome (slice_get self.now.functions fun.0) (λ f. f.name ≡ result) }
     {
         self.functions.get(fun).name
+    /// The declared functions of a name, in their order.
+    pub fn funs_named(&self, name: NameId) -> &[FunId]
+        ensures { result.now ≡ functions_named self.now.functions name }
+    {
+        self.functions.named(name)
+    }
+
+    /// The word of a built-in function; a declared one has none.
+    pub fn word_of(&self, fun: FunId) -> Option<Word>
+        requires { fun.0 < length self.now.functions }
+        ensures { IfSome (slice_get self.now.functions fun.0) (λ f. f.word ≡ result) }
+    {
+        self.functions.get(fun).word
     }
 
     /// The name of a function.
@@ -301,12 +317,13 @@ impl Signature {
         Ok(list)
     }
 
-    /// Gives a declared sort without constructors its constructors, which are declared functions into it.
+    /// Gives a declared sort without constructors its constructors, which are declared functions into it that are mappings.
     pub fn set_cons(&mut self, sort: SortId, cons: Vec<FunId>)
         requires bare { IsBare self.old.sorts sort }
         requires declared { All (Contains self.old.declared) cons.items }
         requires results { All (λ fun. IfSome (slice_get self.old.functions fun.0) (λ f. f.result ≡ sort)) cons.items }
         requires different { HaveOnePlace cons.items }
+        requires free { All (HasNoRole self.old) cons.items }
         ensures { self.new ≡ with_constructors self.old sort cons.items }
     {
         self.sorts.set_kind(sort, SortKind::Cons(cons));

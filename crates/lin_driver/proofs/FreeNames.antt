@@ -3,7 +3,7 @@ use Rattle.std.proofs.Common.{◌≡◌, ◌≢◌, ℕ, zero, suc, ◌+◌, ◌
 use Rattle.std.specs.Option.{SomeIff}
 use Rattle.std.proofs.lemmas.List.Folds.{list_any-append}
 use Rattle.std.proofs.lemmas.Fmt.{decimal_injective}
-use Rattle.process_terms.specs.Systems.{Name}
+use Rattle.process_terms.specs.Names.{Name}
 use Rattle.data_theory.specs.Fresh.{candidate}
 use Rattle.process_terms.specs.Fresh.{IsFresh}
 use Rattle.process_terms.proofs.Lists.{In, here, there, in_contains}

@@ -9,7 +9,8 @@ use Rattle.process_terms.specs.Fresh.{IsFresh, taken_at_start}
 use Rattle.process_terms.specs.Headline.{StandsFor}
 use Rattle.process_terms.specs.Numbering.{IsNumbering}
 use Rattle.process_terms.specs.Printed.{printed}
-use Rattle.process_terms.specs.Systems.{Name, System, IsWellNamed}
+use Rattle.process_terms.specs.Names.{Name}
+use Rattle.process_terms.specs.Systems.{System, IsWellNamed}
 use Rattle.lin_driver.specs.FirstForm.{HasFirstForm, IsFirstForm, SpellsSystem}
 use Rattle.lin_driver.specs.Linearised.{IsLinearisedTo}
 use Rattle.lin_driver.proofs.FirstForms.{AreTokens, acts_identifiers, each_has_summand}

@@ -4,7 +4,7 @@ use Rattle.std.specs.Prelude.{bytes_eq, filter}
 use Rattle.std.proofs.lemmas.List.Folds.{list_any-append}
 use Rattle.std.proofs.lemmas.Slice.Eq.{bytes_eq-Decides}
 use Rattle.std.proofs.lemmas.Grind.{common_steps}
-use Rattle.process_terms.specs.Systems.{Name}
+use Rattle.process_terms.specs.Names.{Name}
 use Rattle.process_terms.specs.Numbering.{first_occurrences}
 use Rattle.process_terms.proofs.Lists.{Apart, In, in_append, in_filter, bytes_tell}
 use Rattle.process_terms.proofs.Lists.Apart.{no_name, one_more}

@@ -8,7 +8,8 @@ use Rattle.std.proofs.lemmas.Bool.{cases_lt}
 use Rattle.std.proofs.lemmas.List.Elements.{filter_map-append}
 use Rattle.std.proofs.lemmas.List.{get_or_append_left, map-append, take-append-le, take_all}
 use Rattle.std.proofs.lemmas.List.Sums.{fold-append}
-use Rattle.process_terms.specs.Systems.{Name, Summand, Equation, System, IsWellNamed, equation_names}
+use Rattle.process_terms.specs.Names.{Name}
+use Rattle.process_terms.specs.Systems.{Summand, Equation, System, IsWellNamed, equation_names}
 use Rattle.process_terms.specs.Numbering.{IsNumbering, calls_of, summands_of}
 use Rattle.process_terms.proofs.Lists.{Apart, In, contains_in, in_contains}
 use Rattle.process_terms.proofs.Lists.Apart.{no_name, one_more}

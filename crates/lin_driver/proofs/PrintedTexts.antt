@@ -2,7 +2,8 @@
 use Rattle.std.proofs.Common.{Bor, ◌≡◌, ℕ, ◌-◌, ◌≤◌, Bool, true, false, cond, List, [], ◌∷◌, ◌++◌, map, length, get_or, take, drop, flat_map, nat_lt, Option, Some, None, codes, refl, sym, ap, ◌∙◌, append_assoc, arith}
 use Rattle.std.proofs.lemmas.List.{take_all}
 use Rattle.std.proofs.lemmas.List.Folds.{flat_map-map}
-use Rattle.process_terms.specs.Systems.{Name, System}
+use Rattle.process_terms.specs.Names.{Name}
+use Rattle.process_terms.specs.Systems.{System}
 use Rattle.process_terms.specs.LinearProcess as linear
 use Rattle.process_terms.specs.LinearProcess.{with_control, linear_summands}
 use Rattle.process_terms.specs.Printed.{listed, parameter_text, summand_text, summands_text, start_text, printed}

@@ -10,7 +10,8 @@ use Rattle.std.proofs.Math.Seq.{take-suc}
 use Rattle.std.proofs.lemmas.Grind.{common_steps}
 use Rattle.std.proofs.lemmas.List.Folds.{list_all-map}
 use Rattle.std.proofs.lemmas.List.Quantifiers.{all_pairs_push}
-use Rattle.process_terms.specs.Systems.{Name, Summand, Equation, System, IsWellNamed, equation_names}
+use Rattle.process_terms.specs.Names.{Name}
+use Rattle.process_terms.specs.Systems.{Summand, Equation, System, IsWellNamed, equation_names}
 use Rattle.process_terms.proofs.Lists.Apart.{one_more}
 use Rattle.process_terms.proofs.Lists.In.{here, there}
 use Rattle.process_terms.proofs.Lists.{Apart, In, apart, apart_append, apart_back, apart_front, contains_in, in_back, in_contains, pairs_apart}

@@ -1,6 +1,6 @@
 -- What the code's linear summands say: those of the definitions.
 use Rattle.std.specs.Prelude.{List, Some}
-use Rattle.process_terms.specs.Systems.{Name}
+use Rattle.process_terms.specs.Names.{Name}
 use Rattle.process_terms.specs.LinearProcess as linear
 use Rattle.lin_driver.specs.declared.printing.LinearSummand.{LinearSummand}
 

@@ -1,6 +1,7 @@
 -- The linear process of a text of the first form, as it is printed.
 use Rattle.std.specs.Prelude.{◌≡◌, ℕ, List, ◌∷◌, codes}
-use Rattle.process_terms.specs.Systems.{Name, System}
+use Rattle.process_terms.specs.Names.{Name}
+use Rattle.process_terms.specs.Systems.{System}
 use Rattle.process_terms.specs.Numbering.{IsNumbering}
 use Rattle.process_terms.specs.Fresh.{IsFresh, taken_at_start}
 use Rattle.process_terms.specs.Printed.{printed}

@@ -1,7 +1,8 @@
 -- How names are declared and used.
 use Rattle.std.specs.Prelude.{◌≢◌, ◌&&◌, Bool, true, not, List, AllPairs, Option, None, Some, bytes_eq}
 use Rattle.std.specs.List.{list_all, list_any}
-use Rattle.process_terms.specs.Systems.{Name, Summand, Equation, System, equation_names}
+use Rattle.process_terms.specs.Names.{Name}
+use Rattle.process_terms.specs.Systems.{Summand, Equation, System, equation_names}
 
 -- no two of the names are equal
 abbrev pub AreDistinct : List Name → Type 0

@@ -1,6 +1,6 @@
 -- What the code's systems say: those of the definitions.
 use Rattle.std.specs.Prelude.{map, option_map}
-use Rattle.process_terms.specs.Systems.{Name}
+use Rattle.process_terms.specs.Names.{Name}
 use Rattle.process_terms.specs.Systems as plain
 use Rattle.lin_driver.specs.declared.system.Summand.{Summand}
 use Rattle.lin_driver.specs.declared.system.Equation.{Equation}

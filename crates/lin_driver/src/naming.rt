@@ -1,7 +1,8 @@
 //! Whether the names of a system are declared once each, and used as they are declared.
 ghost use Rattle.std.specs.Prelude.{◌≡◌, ◌&&◌, List, ℕ, map, not, IfOk, IsErrOf};
 ghost use Rattle.std.specs.List.{list_all};
-ghost use Rattle.process_terms.specs.Systems.{Name, IsWellNamed, equation_names};
+ghost use Rattle.process_terms.specs.Names.{Name};
+ghost use Rattle.process_terms.specs.Systems.{IsWellNamed, equation_names};
 ghost use Rattle.process_terms.specs.Systems as plain;
 ghost use Rattle.lin_driver.specs.Naming.{AreDistinct, is_among, uses_names};
 ghost use Rattle.lin_driver.specs.PlainSystems.{plain_summand, plain_equation, plain_system};

@@ -2,6 +2,7 @@
 ghost use Rattle.std.specs.Prelude.{◌≡◌, ◌≢◌, ◌<◌, ◌∷◌, [], List, ℕ, map, length, IfOk, IfErr, IsErr, MatchResult};
 ghost use Rattle.mcrl2_lexer.specs.declared.kind.Kind.TheVariants.{Comma, Semicolon, Dot, Plus};
 ghost use Rattle.mcrl2_lexer.specs.declared.token.Token.{Token};
+ghost use Rattle.process_terms.specs.Names.{Name};
 ghost use Rattle.process_terms.specs.Systems as plain;
 ghost use Rattle.lin_driver.specs.FirstForm.{SpellsName, SpellsList, SpellsSummand, SpellsEquation, SpellsEquations, SpellsSystem};
 ghost use Rattle.lin_driver.specs.PlainSystems.{plain_summand, plain_equation, plain_system};
@@ -28,7 +29,7 @@ fn next(tokens: &[Token]) -> Result<(Token, &[Token]), PlainFault>
 fn name<'a, 't>(text: &'a [u8], tokens: &'t [Token]) -> Result<(&'a [u8], &'t [Token]), PlainFault>
     requires { AreWithin (length text.now) tokens.now }
     ensures found { IfOk result (λ read. SpellsName text.now read.0.now tokens.now read.1.now) }
-    ensures only { (name : plain.Name) (rest : List Token) → SpellsName text.now name tokens.now rest
+    ensures only { (name : Name) (rest : List Token) → SpellsName text.now name tokens.now rest
         → MatchResult result (λ read. (read.0.now ≡ name) × (read.1.now ≡ rest)) (λ _. ⊥) }
     ensures within { IfOk result (λ read. AreWithin (length text.now) read.1.now) }
     ensures shorter { IfOk result (λ read. length read.1.now < length tokens.now) }
@@ -49,7 +50,7 @@ fn names<'a, 't>(
 ) -> Result<(Vec<&'a [u8]>, &'t [Token]), PlainFault>
     requires { AreWithin (length text.now) tokens.now }
     ensures found { IfOk result (λ read. SpellsList (SpellsName text.now) Comma Semicolon (map (λ name. name.now) read.0.items) tokens.now read.1.now) }
-    ensures only { (names : List plain.Name) (rest : List Token) → SpellsList (SpellsName text.now) Comma Semicolon names tokens.now rest
+    ensures only { (names : List Name) (rest : List Token) → SpellsList (SpellsName text.now) Comma Semicolon names tokens.now rest
         → MatchResult result (λ read. (map (λ name. name.now) read.0.items ≡ names) × (read.1.now ≡ rest)) (λ fault. fault ≡ PlainFault.NoMemory) }
     ensures within { IfOk result (λ read. AreWithin (length text.now) read.1.now) }
 {

@@ -6,7 +6,8 @@ use Rattle.std.proofs.lemmas.Bool.{or_parts, both_ways}
 use Rattle.std.proofs.lemmas.List.Elements.{All-nil}
 use Rattle.mcrl2_lexer.specs.Words.{is_name_byte}
 use Rattle.mcrl2_lexer.specs.Tokens.{name_or_word}
-use Rattle.process_terms.specs.Systems.{Name, Summand, Equation, equation_names, IsWellNamed, EachHasSummand}
+use Rattle.process_terms.specs.Names.{Name}
+use Rattle.process_terms.specs.Systems.{Summand, Equation, equation_names, IsWellNamed, EachHasSummand}
 use Rattle.process_terms.specs.Numbering.{calls_of, IsNumbering}
 use Rattle.data_theory.specs.FirstNames.{reserved_words}
 use Rattle.process_terms.specs.Fresh.{taken_at_start}

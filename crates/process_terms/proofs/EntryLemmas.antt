@@ -50,7 +50,7 @@ action_stays g h grown a within =
 pub signatures_add_entries : SignaturesAddEntries
 signatures_add_entries g h ts us table complete within grow = record {
   texts = (grow.signature.new_texts, grow.signature.texts);
-  actions = mapped_begins (HasActionNumbers g) (action_entry g) (action_entry h) (action_stays g h grow.signature) g.actions h.actions grow.actions complete.within.actions;
+  actions = mapped_begins (HasActionNumbers g) (action_entry g) (action_entry h) (action_stays g h grow.signature) g.actions h.actions (grow.signature.new_actions, grow.signature.actions) complete.within.actions;
   variables = mapped_begins (HasVariableNumbers g) (λ (v : Variable). sort_under g v.sort) (λ (v : Variable). sort_under h v.sort) (λ v known. growth_keeps_meant_sorts g h grow.signature v.sort known.1) g.variables h.variables
       (grow.signature.new_variables, grow.signature.variables) complete.within.variables;
   terms = mapped_begins (IsTreeWithin g) (term_under g) (term_under h) (growth_keeps_meant_terms g h table grow.signature) ts us grow.pool within;

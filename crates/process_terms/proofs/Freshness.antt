@@ -7,7 +7,7 @@ use Rattle.mcrl2_lexer.specs.declared.kind.Kind.{Kind}
 use Rattle.mcrl2_lexer.specs.declared.kind.Kind.TheVariants.{Identifier}
 use Rattle.mcrl2_lexer.specs.Words.{word_kind, is_name_byte}
 use Rattle.mcrl2_lexer.specs.Tokens.{AreNameBytes, IsToken, name_or_word}
-use Rattle.process_terms.specs.Systems.{Name}
+use Rattle.process_terms.specs.Names.{Name}
 use Rattle.data_theory.specs.FirstNames.{reserved_words}
 use Rattle.data_theory.specs.Fresh.{candidate}
 use Rattle.process_terms.specs.Fresh.{built_in_names, taken_at_start, IsFresh}

@@ -1,10 +1,11 @@
 -- What code means stays as its tables grow.
-use Rattle.std.proofs.Common.{◌≡◌, ◌<◌, ◌≤◌, ℕ, List, [], ◌∷◌, map, length, take, get_or, refl, ap, ap₂, ◌∙◌, arith, length-append}
+use Rattle.std.proofs.Common.{◌≡◌, ◌<◌, ◌≤◌, ℕ, List, [], ◌∷◌, map, length, take, get_or, refl, sym, ap, ap₂, ◌∙◌, subst, arith, length-append}
 use Rattle.std.specs.List.{All}
 use Rattle.std.proofs.Math.Nat.{max-le}
 use Rattle.std.proofs.lemmas.List.{get_or_append_left, take-append-le}
 use Rattle.std.proofs.lemmas.List.Elements.{All-nil, All-cons, All-head, All-tail}
 use Rattle.data_theory.specs.Terms.{boolean}
+use Rattle.data_theory.specs.Environments.{IsOver}
 use Rattle.data_theory.specs.Equations.{trueᵗ}
 use Rattle.data_theory.specs.Complete.{BeginsWith}
 use Rattle.data_theory.specs.declared.ids.VarId.{VarId}
@@ -145,10 +146,19 @@ equation_stays old new grows q h =
     let variables = variables_stay old new grows q.variables h.0 in
     let condition = term_stays old new grows q.condition h.1 in
     let left = term_stays old new grows q.left h.2 in
-    let right = term_stays old new grows q.right h.3 in (
+    let right = term_stays old new grows q.right h.3 in
+    let own : List ℕ = map (λ (x : VarId). x.0) q.variables in (
       ap₂ (λ ss c. record { sorts = ss; condition = c; left = term_at new q.left; right = term_at new q.right }) sorts condition.0
           ∙ ap₂ (λ x y. record { sorts = take (above q.variables) old.variables; condition = term_at old q.condition; left = x; right = y }) left.0 right.0,
-      (variables.1, condition.1, left.1, right.1),
+      (
+        variables.1,
+        condition.1,
+        left.1,
+        right.1,
+        subst (IsOver own) (sym condition.0) h.4,
+        subst (IsOver own) (sym left.0) h.5,
+        subst (IsOver own) (sym right.0) h.6,
+      ),
     )
 
 pub models_are_settled : ModelsAreSettled

@@ -1,7 +1,8 @@
 -- The numbers of the equations pair the states of a system with those of its linear process.
 use Rattle.std.proofs.Common.{◌≡◌, ℕ, suc, ◌+◌, ◌<◌, inl, inr, Bool, true, false, not, cond, List, [], ◌∷◌, ◌++◌, length, map, filter, flat_map, option_map, option_and_then, find, Option, Some, None, Contains, bytes_eq, ltb, refl, sym, ap, ◌∙◌, subst, arith}
 use Rattle.std.proofs.lemmas.Bool.{ltb-false}
-use Rattle.process_terms.specs.Systems.{Name, Summand, Equation, System, equation_names, IsWellNamed}
+use Rattle.process_terms.specs.Names.{Name}
+use Rattle.process_terms.specs.Systems.{Summand, Equation, System, equation_names, IsWellNamed}
 use Rattle.process_terms.specs.Numbering.{equation_of, summands_in, summands_of, calls_of, first_occurrences, IsNumbering, number_of}
 use Rattle.process_terms.specs.LinearProcess.{LinearSummand, with_control, linear_summand, linear_summands, linear_of}
 use Rattle.process_terms.specs.SystemSteps.{ended, goes_to, HasSummand, SystemStep, by_end, by_call}

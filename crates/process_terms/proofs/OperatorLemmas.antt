@@ -3,7 +3,7 @@ use Rattle.std.proofs.Common.{◌≡◌, List, [], ◌∷◌, ◌++◌, refl, sy
 use Rattle.std.specs.Prelude.{Contains}
 use Rattle.data_theory.specs.Terms.{Sort, Term, equality, conjunction}
 use Rattle.data_theory.specs.Provable.{reflexive, symmetric, transitive, congruent, place, no_places}
-use Rattle.process_terms.specs.Systems.{Name}
+use Rattle.process_terms.specs.Names.{Name}
 use Rattle.process_terms.specs.Theories.{Theory, Equal, IsFalse, Equals, no_terms, more_terms, AllTrue, none_left, true_and_more}
 use Rattle.process_terms.specs.Labels.{Action, Label, Permuted, AgreeAction, equal_args, AgreeInOrder, both_silent, next_agree}
 use Rattle.process_terms.specs.Communication.{Rule, Split, all_split, to_first, to_second, HaveArgumentSorts, no_more_actions, one_more_action, IsGroup, equalities, group_equalities, conjunction_of, Grouped, all_grouped, stays, joins, NoneFurther}

@@ -4,7 +4,8 @@ use Rattle.std.proofs.Math.ListN.{get_or-append}
 use Rattle.std.proofs.Math.Seq.{get_or-append_seam}
 use Rattle.std.proofs.lemmas.List.Concat.{flat_map-append}
 use Rattle.std.proofs.lemmas.List.Elements.{Contains-get_or}
-use Rattle.process_terms.specs.Systems.{Name, System}
+use Rattle.process_terms.specs.Names.{Name}
+use Rattle.process_terms.specs.Systems.{System}
 use Rattle.process_terms.specs.Numbering.{calls_of, first_occurrences, IsNumbering}
 use Rattle.process_terms.proofs.Lists.{In, here, there, in_contains, in_back, in_flat_map, Apart, one_more}
 use Rattle.process_terms.proofs.Numbered.{occurs, apart_firsts}

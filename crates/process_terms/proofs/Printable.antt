@@ -4,7 +4,7 @@ use Rattle.std.specs.Prelude.{⊤}
 use Rattle.std.proofs.lemmas.List.Elements.{All-head, All-tail}
 use Rattle.mcrl2_lexer.specs.declared.kind.Kind.TheVariants.{Identifier, Semicolon, Dot}
 use Rattle.mcrl2_lexer.specs.Tokens.{IsToken}
-use Rattle.process_terms.specs.Systems.{Name}
+use Rattle.process_terms.specs.Names.{Name}
 use Rattle.process_terms.specs.LinearProcess.{LinearSummand, LinearProcess}
 use Rattle.process_terms.specs.Printed.{listed, parameter_text, condition_text, next_text, summand_text, summands_text, start_text, process_text}
 use Rattle.process_terms.specs.LinearText.{Word, name, fixed, SpellsNames, last_name, one_name, SpellsParameter, no_parameter, parameter, SpellsCondition, no_condition, condition, SpellsNext, no_call, bare_call, call, SpellsSummand, summand, SpellsChoice, last_summand, one_summand, SpellsBody, no_summand, choice, SpellsStart, bare_start, start, SpellsProcess, process}

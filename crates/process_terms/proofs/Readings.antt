@@ -4,7 +4,7 @@ use Rattle.mcrl2_lexer.specs.declared.kind.Kind.{Kind}
 use Rattle.mcrl2_lexer.specs.declared.kind.Kind.TheVariants.{Semicolon, Plus, Equals, Delta, Init, Dot}
 use Rattle.mcrl2_lexer.specs.declared.token.Token.{Token}
 use Rattle.mcrl2_lexer.proofs.Single.{tokens_once}
-use Rattle.process_terms.specs.Systems.{Name}
+use Rattle.process_terms.specs.Names.{Name}
 use Rattle.process_terms.specs.LinearProcess.{LinearSummand, LinearProcess}
 use Rattle.process_terms.specs.LinearText.{Word, name, fixed, SpellsNames, last_name, one_name, SpellsParameter, no_parameter, parameter, SpellsCondition, no_condition, condition, SpellsNext, no_call, bare_call, call, SpellsSummand, summand, SpellsChoice, last_summand, one_summand, SpellsBody, no_summand, choice, SpellsStart, bare_start, start, SpellsProcess, process, words_of, LinearText}
 

@@ -4,7 +4,7 @@ use Rattle.std.specs.Prelude.{Contains, slice_index_or, ◌<◌}
 use Rattle.data_theory.specs.Terms.{Sort, Term}
 use Rattle.data_theory.specs.Provable.{symmetric, transitive}
 use Rattle.data_theory.specs.Equations.{equals}
-use Rattle.process_terms.specs.Systems.{Name}
+use Rattle.process_terms.specs.Names.{Name}
 use Rattle.process_terms.specs.Theories.{Theory, IsTrue, IsFalse, IsOfSort, AllTrue, none_left, true_and_more}
 use Rattle.process_terms.specs.Labels.{Action, Label, Inserted, at_front, further, Permuted, nothing_left, one_placed}
 use Rattle.process_terms.specs.Communication.{Rule, Split, all_split, to_first, to_second, no_more_actions, one_more_action, IsGroup, group_equalities, conjunction_of, Grouped, all_grouped, stays, joins, NoneFurther}

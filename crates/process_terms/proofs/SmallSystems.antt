@@ -1,6 +1,7 @@
 -- The steps of two small systems.
 use Rattle.std.proofs.Common.{◌≡◌, ℕ, List, [], ◌∷◌, ◌↔◌, length, get_or, Some, None, codes, refl, sym, ap, ◌∙◌, subst₂, arith}
-use Rattle.process_terms.specs.Systems.{Name, Summand, Equation}
+use Rattle.process_terms.specs.Names.{Name}
+use Rattle.process_terms.specs.Systems.{Summand, Equation}
 use Rattle.process_terms.specs.LinearProcess.{LinearSummand, LinearProcess}
 use Rattle.process_terms.specs.SystemSteps.{After, goes_to, HasSummand, SystemStep, by_end, by_call}
 use Rattle.process_terms.specs.LinearSteps.{HoldsAtNumber, LinearStep, by_end as linear_end, by_call as linear_call}

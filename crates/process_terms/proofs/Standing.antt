@@ -1,7 +1,8 @@
 -- What is printed for a system stands for it.
 use Rattle.std.proofs.Common.{◌≡◌, ◌≢◌, ℕ, ◌+◌, ◌<◌, ◌≤◌, ◌^◌, Bool, true, false, cond, List, [], ◌∷◌, ◌++◌, length, Option, Some, None, option_and_then, option_to_list, Contains, All, IfSome, ltb, codes, refl, sym, ap, subst, arith}
 use Rattle.std.proofs.lemmas.Bool.{ltb-true, ltb-false}
-use Rattle.process_terms.specs.Systems.{Name, Summand, Equation, System, equation_names, IsWellNamed, EachHasSummand}
+use Rattle.process_terms.specs.Names.{Name}
+use Rattle.process_terms.specs.Systems.{Summand, Equation, System, equation_names, IsWellNamed, EachHasSummand}
 use Rattle.process_terms.specs.Numbering.{summands_of, IsNumbering, number_of}
 use Rattle.process_terms.specs.Fresh.{taken_at_start, IsFresh}
 use Rattle.process_terms.specs.LinearProcess.{LinearSummand, LinearProcess, with_control, linear_summands, linear_of}

@@ -1,5 +1,7 @@
 -- Data of which nothing is known.
 use Rattle.std.proofs.Common.{◌≡◌, ℕ, zero, suc, ◌<◌, [], length, true, false, refl, arith}
+use Rattle.std.specs.List.{All}
+use Rattle.std.proofs.lemmas.List.Elements.{All-nil}
 use Rattle.data_theory.specs.Terms.{named, Term}
 use Rattle.data_theory.specs.Declarations.{FitsRole, IsData, IsSort, function_at}
 use Rattle.data_theory.specs.Equations.{trueᵗ, falseᵗ}
@@ -17,8 +19,12 @@ results : (k : ℕ) → k < length unknown_data.declared.functions → IsSort un
 results zero l = omega arith
 results (suc k) l = absurd (omega (arith, l))
 
+arguments : (k : ℕ) → k < length unknown_data.declared.functions → All (IsSort unknown_data.declared) (function_at unknown_data.declared k).arguments
+arguments zero l = All-nil (IsSort unknown_data.declared)
+arguments (suc k) l = absurd (omega (arith, l))
+
 are_data : IsData unknown_data.declared
-are_data = record { roles = roles; results = results }
+are_data = record { roles = roles; results = results; arguments = arguments }
 
 -- f may be any of the unknown elements
 element : ℕ → ℕ → Value

@@ -2,7 +2,7 @@
 use Rattle.std.specs.Prelude.{◌≡◌, List, [], ◌∷◌, ◌++◌, Contains}
 use Rattle.data_theory.specs.Terms.{Sort, Term}
 use Rattle.data_theory.specs.Equations.{trueᵗ, equals, ◌∧ᵗ◌}
-use Rattle.process_terms.specs.Systems.{Name}
+use Rattle.process_terms.specs.Names.{Name}
 use Rattle.process_terms.specs.Theories.{Theory, IsFalse, AllTrue}
 use Rattle.process_terms.specs.Labels.{Action, Label, names, Permuted}
 

@@ -1,6 +1,7 @@
 -- Two small systems and their steps.
 use Rattle.std.specs.Prelude.{None, ℕ, List, [], ◌∷◌, Some, codes}
-use Rattle.process_terms.specs.Systems.{Name, System}
+use Rattle.process_terms.specs.Names.{Name}
+use Rattle.process_terms.specs.Systems.{System}
 use Rattle.process_terms.specs.LinearProcess.{LinearProcess, linear_of}
 use Rattle.process_terms.specs.SystemSteps.{After, SystemStep}
 use Rattle.process_terms.specs.LinearSteps.{LinearStep}

@@ -2,7 +2,7 @@
 use Rattle.std.specs.Prelude.{◌≡◌, ◌<◌, ℕ, List, [], ◌∷◌, ◌++◌, Contains, codes}
 use Rattle.data_theory.specs.FirstNames.{reserved_words}
 use Rattle.data_theory.specs.Fresh.{candidate}
-use Rattle.process_terms.specs.Systems.{Name}
+use Rattle.process_terms.specs.Names.{Name}
 
 -- the identifiers that name built-in functions
 abbrev pub built_in_names : List Name

@@ -2,7 +2,8 @@
 use Rattle.std.specs.Prelude.{◌≡◌, ◌<◌, ◌^◌, ℕ, List, ◌∷◌, length, All, codes}
 use Rattle.mcrl2_lexer.specs.declared.kind.Kind.TheVariants.{Identifier}
 use Rattle.mcrl2_lexer.specs.Tokens.{IsToken}
-use Rattle.process_terms.specs.Systems.{Name, System, IsWellNamed, EachHasSummand}
+use Rattle.process_terms.specs.Names.{Name}
+use Rattle.process_terms.specs.Systems.{System, IsWellNamed, EachHasSummand}
 use Rattle.process_terms.specs.Numbering.{IsNumbering}
 use Rattle.process_terms.specs.Fresh.{taken_at_start, IsFresh}
 use Rattle.process_terms.specs.LinearProcess.{LinearProcess, linear_of}

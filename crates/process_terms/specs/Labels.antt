@@ -2,7 +2,7 @@
 use Rattle.std.specs.Prelude.{List, [], ◌∷◌, map}
 use Rattle.data_theory.specs.Terms.{Sort, Term, put}
 use Rattle.data_theory.specs.Environments.{Environment, term_in}
-use Rattle.process_terms.specs.Systems.{Name}
+use Rattle.process_terms.specs.Names.{Name}
 use Rattle.process_terms.specs.Theories.{Theory, Equals}
 
 -- a name with the sorts of its arguments, and the arguments; the same name with other sorts is another action

@@ -1,3 +1,4 @@
+pub mod Names
 pub mod Systems
 pub mod Numbering
 pub mod Fresh

@@ -1,6 +1,7 @@
 -- Linear processes with one control parameter, or none.
 use Rattle.std.specs.Prelude.{◌+◌, ℕ, List, [], ◌∷◌, ◌++◌, map, length, nat_lt, if◌then◌else◌, Option, Some, None, option_and_then}
-use Rattle.process_terms.specs.Systems.{Name, Summand, System}
+use Rattle.process_terms.specs.Names.{Name}
+use Rattle.process_terms.specs.Systems.{Summand, System}
 use Rattle.process_terms.specs.Numbering.{number_of, summands_of}
 
 -- Where the parameter has the number of the condition, or anywhere without one, the action, and the parameter's number

@@ -1,6 +1,6 @@
 -- The steps of a linear process.
 use Rattle.std.specs.Prelude.{◌≡◌, ⊤, ℕ, Option, Some, None, Contains}
-use Rattle.process_terms.specs.Systems.{Name}
+use Rattle.process_terms.specs.Names.{Name}
 use Rattle.process_terms.specs.LinearProcess.{LinearProcess}
 use Rattle.process_terms.specs.SystemSteps.{After, ended, goes_to}
 

@@ -6,7 +6,7 @@ use Rattle.mcrl2_lexer.specs.declared.token.Token.{Token}
 use Rattle.mcrl2_lexer.specs.Words.{decimal}
 use Rattle.mcrl2_lexer.specs.Tokens.{slice_of}
 use Rattle.mcrl2_lexer.specs.Lexing.{HasTokens}
-use Rattle.process_terms.specs.Systems.{Name}
+use Rattle.process_terms.specs.Names.{Name}
 use Rattle.process_terms.specs.LinearProcess.{LinearSummand, LinearProcess}
 
 -- what a token says: a name, a number, or which word or sign it is

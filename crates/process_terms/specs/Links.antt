@@ -1,6 +1,7 @@
 -- Links between the states of a system and of a linear process.
 use Rattle.std.specs.Prelude.{◌≡◌, ℕ, List, Some}
-use Rattle.process_terms.specs.Systems.{Name, System}
+use Rattle.process_terms.specs.Names.{Name}
+use Rattle.process_terms.specs.Systems.{System}
 use Rattle.process_terms.specs.Numbering.{number_of}
 use Rattle.process_terms.specs.LinearProcess.{LinearProcess}
 use Rattle.process_terms.specs.SystemSteps.{After, ended, goes_to, SystemStep}

@@ -1,6 +1,7 @@
 -- What labels, process terms and specifications in code mean: the written ones that they stand for.
 use Rattle.std.specs.Prelude.{◌<◌, ◌+◌, ℕ, List, [], ◌∷◌, map, length, take, get_or, All, max}
 use Rattle.data_theory.specs.Terms.{Sort, boolean, Term}
+use Rattle.data_theory.specs.Environments.{IsOver}
 use Rattle.data_theory.specs.Equations.{trueᵗ}
 use Rattle.data_theory.specs.Declarations.{Data}
 use Rattle.data_theory.specs.Complete.{BeginsWith}
@@ -9,7 +10,7 @@ use Rattle.data_theory.specs.declared.ids.NameId.{NameId}
 use Rattle.data_theory.specs.declared.ids.ActId.{ActId}
 use Rattle.data_theory.specs.declared.ids.VarId.{VarId}
 use Rattle.data_theory.specs.declared.ids.TermId.{TermId}
-use Rattle.process_terms.specs.Systems.{Name}
+use Rattle.process_terms.specs.Names.{Name}
 use Rattle.process_terms.specs.Theories.{Theory}
 use Rattle.process_terms.specs.Labels.{Action, Label}
 use Rattle.process_terms.specs.Communication.{Rule}
@@ -153,8 +154,15 @@ abbrev mutual
 abbrev pub HasDefinition : Entries → PlainDefinition → Type 0
 HasDefinition g d = All (HasVariable g) d.params × HasProcess g d.body
 
+-- the variables of a term are all among these
+abbrev pub ReadsOnly : Entries → List VarId → TermId → Type 0
+ReadsOnly g xs t = IsOver (map (λ (x : VarId). x.0) xs) (term_at g t)
+
+-- the condition and the sides of an equation are over its own variables
 abbrev pub HasEquation : Entries → PlainEquation → Type 0
-HasEquation g q = All (HasVariable g) q.variables × HasTerm g q.condition × HasTerm g q.left × HasTerm g q.right
+HasEquation g q =
+    All (HasVariable g) q.variables × HasTerm g q.condition × HasTerm g q.left × HasTerm g q.right
+    × ReadsOnly g q.variables q.condition × ReadsOnly g q.variables q.left × ReadsOnly g q.variables q.right
 
 abbrev pub HasModel : Entries → PlainModel → Type 0
 HasModel g m = All (HasEquation g) m.equations × All (HasDefinition g) m.definitions × HasProcess g m.init

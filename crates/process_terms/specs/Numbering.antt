@@ -1,6 +1,7 @@
 -- The order in which the equations of a system are met, and their numbers.
 use Rattle.std.specs.Prelude.{◌≡◌, ◌<◌, ◌+◌, ℕ, List, [], ◌∷◌, length, not, if◌then◌else◌, Option, Some, None, option_map, find, filter, filter_map, flat_map, Contains, bytes_eq, slice_index_or}
-use Rattle.process_terms.specs.Systems.{Name, Summand, Equation, System}
+use Rattle.process_terms.specs.Names.{Name}
+use Rattle.process_terms.specs.Systems.{Summand, Equation, System}
 
 -- the equation of that name
 abbrev pub equation_of : System → Name → Option Equation

@@ -1,6 +1,7 @@
 -- The bytes that are printed for a linear process.
 use Rattle.std.specs.Prelude.{ℕ, List, [], ◌∷◌, ◌++◌, flat_map, Option, Some, None, codes, decimal}
-use Rattle.process_terms.specs.Systems.{Name, System}
+use Rattle.process_terms.specs.Names.{Name}
+use Rattle.process_terms.specs.Systems.{System}
 use Rattle.process_terms.specs.LinearProcess.{LinearSummand, LinearProcess, linear_of}
 
 -- `a, b`

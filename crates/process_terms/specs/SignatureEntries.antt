@@ -14,8 +14,7 @@ action_entry g a = record { name = get_or g.texts a.name.0 []; sorts = map (sort
 abbrev pub entries_of : Sig → List Tree → Entries
 entries_of g ts = record { texts = g.texts; actions = map (action_entry g) g.actions; variables = variable_sorts g; terms = map (term_under g) ts }
 
--- texts, sorts, functions, actions and variables come behind the old ones in the signature, and trees in the pool
+-- what is new comes behind the old ones in the tables of the signature, and behind the old trees in the pool
 pub record BothGrow (g h : Sig) (ts us : List Tree) : Type 0 where
   pub signature : IsGrown g h
-  pub actions : BeginsWith g.actions h.actions
   pub pool : BeginsWith ts us

@@ -1,7 +1,7 @@
 -- The steps of closed process terms.
 use Rattle.std.specs.Prelude.{ℕ, List, [], ◌∷◌, ◌++◌, Contains}
 use Rattle.data_theory.specs.Terms.{Sort, Term}
-use Rattle.process_terms.specs.Systems.{Name}
+use Rattle.process_terms.specs.Names.{Name}
 use Rattle.process_terms.specs.Theories.{Theory, IsTrue, IsFalse, IsOfSort}
 use Rattle.process_terms.specs.Labels.{Action, Label, names, Permuted}
 use Rattle.process_terms.specs.Communication.{Rule, Communicates}

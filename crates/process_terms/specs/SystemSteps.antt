@@ -1,6 +1,7 @@
 -- The steps of a system of equations.
 use Rattle.std.specs.Prelude.{◌≡◌, Some, None, Contains}
-use Rattle.process_terms.specs.Systems.{Name, Summand, Equation, System}
+use Rattle.process_terms.specs.Names.{Name}
+use Rattle.process_terms.specs.Systems.{Summand, Equation, System}
 
 -- what comes after a step: the end, or a state
 pub data After (State : Type 0) : Type 0 where

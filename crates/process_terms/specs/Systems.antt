@@ -1,9 +1,6 @@
 -- Systems of equations without data.
-use Rattle.std.specs.Prelude.{◌≢◌, ℕ, List, [], ◌++◌, map, Option, All, AllPairs, Contains, IfSome}
-
--- the bytes of an identifier
-abbrev pub Name : Type 0
-Name = List ℕ
+use Rattle.std.specs.Prelude.{◌≢◌, List, [], ◌++◌, map, Option, All, AllPairs, Contains, IfSome}
+use Rattle.process_terms.specs.Names.{Name}
 
 -- an action, and the equation that comes after it, if any
 pub record Summand : Type 0 where

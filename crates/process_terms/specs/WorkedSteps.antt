@@ -3,7 +3,7 @@ use Rattle.std.specs.Prelude.{◌≡◌, ◌↔◌, ◌⊎◌, List, [], ◌∷�
 use Rattle.data_theory.specs.Terms.{Sort, named, function, Term, unknown, application, none}
 use Rattle.data_theory.specs.Declarations.{mapping, without_constructors}
 use Rattle.data_theory.specs.Equations.{equals}
-use Rattle.process_terms.specs.Systems.{Name}
+use Rattle.process_terms.specs.Names.{Name}
 use Rattle.process_terms.specs.Theories.{Theory, IsTrue, IsFalse, IsConsistent, IsOfSort}
 use Rattle.process_terms.specs.Labels.{Action, Label}
 use Rattle.process_terms.specs.Processes.{allow, comm, Process, delta, act, seq, sum, merge, around}

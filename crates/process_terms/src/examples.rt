@@ -1,7 +1,7 @@
 //! Small systems. The functions do nothing: each contract is a fact about the definitions.
 
 ghost use Rattle.std.specs.Prelude.{◌≡◌, ◌↔◌, ◌∷◌, [], List, ℕ, codes};
-ghost use Rattle.process_terms.specs.Systems.{Name};
+ghost use Rattle.process_terms.specs.Names.{Name};
 ghost use Rattle.process_terms.specs.LinearProcess.{LinearProcess};
 ghost use Rattle.process_terms.specs.Printed.{printed};
 ghost use Rattle.process_terms.specs.SystemSteps.{After, goes_to};

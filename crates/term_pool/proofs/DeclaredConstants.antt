@@ -76,12 +76,20 @@ grown_as g h i same grown = subst (IsGrown g) (sym same) grown
 pub grown_itself : (g : Sig) → IsGrown g g
 grown_itself g = record {
   new_texts = [];
+  new_taken = [];
   new_sorts = [];
+  new_sort_names = [];
   new_functions = [];
+  new_declared = [];
+  new_actions = [];
   new_variables = [];
   texts = sym (append-nil g.texts);
+  taken = sym (append-nil g.taken);
   sorts = sym (append-nil g.sorts);
+  sort_names = sym (append-nil g.sort_names);
   functions = sym (append-nil g.functions);
+  declared = sym (append-nil g.declared);
+  actions = sym (append-nil g.actions);
   variables = sym (append-nil g.variables);
 }
 

@@ -27,3 +27,5 @@ pub mod FirstValueGrowth
 pub mod EmptyPools
 pub mod EntryValues
 pub mod GrownSignatures
+pub mod RowsFound
+pub mod InhabitedSorts

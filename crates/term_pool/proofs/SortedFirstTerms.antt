@@ -16,10 +16,11 @@ use Rattle.data_theory.specs.WholeSignatures.{IsSignature}
 use Rattle.data_theory.proofs.PlaceLemmas.{read_contained, contains_read, read_taken}
 use Rattle.term_pool.specs.declared.first_values.First.{First}
 use Rattle.term_pool.specs.declared.first_values.Root.TheVariants.{Constructor, Constant}
-use Rattle.term_pool.specs.ConstructorValues.{ConstructorValue, a_number, built, a_constant, IsFirstValue, AreFirstOf, ConstructorsGiveTheirSorts}
+use Rattle.term_pool.specs.ConstructorValues.{ConstructorValue, a_number, built, a_constant, IsFirstValue, AreFirstOf}
 use Rattle.term_pool.specs.FirstValues.{root_of, AreFirstValues}
 use Rattle.term_pool.specs.FirstTerms.{HasRootAt, IsOrdered, IsReady, function_arguments, sorts_under, IsTreeOf, of_number, of_constructor, of_constant, AreTreesOf, no_trees, tree_then}
 use Rattle.term_pool.specs.Constants.{is_listed, constant_of, IsConstantOf, AreConstants, trees_with}
+use Rattle.term_pool.proofs.RowsFound.{constructors_give_their_sorts}
 use Rattle.term_pool.proofs.ConstructorTrees.{constructor_unmerged}
 use Rattle.term_pool.proofs.DeclaredConstants.{function_stays}
 use Rattle.term_pool.proofs.FirstTermLemmas.{value_of, arguments_are, number_ready, under_root, same_trees}
@@ -40,7 +41,7 @@ listed_constant g (c ∷ cs) each d e = by_test (d.0 == c.0.0) refl (listed_cons
 contains_taken : {A : Type 0} (n : ℕ) (xs : List A) (x : A) → Contains (take n xs) x → Contains xs x
 contains_taken n xs x has = let at = read_contained (take n xs) x has in contains_read xs at.0 x (read_taken n xs at.0 x at.1).1
 
-module _ (g h : Sig) (stands : IsSignature g) (gives : ConstructorsGiveTheirSorts g) (grown : IsGrown g h) (firsts : List (Option First)) (table : AreFirstValues g firsts)
+module _ (g h : Sig) (stands : IsSignature g) (grown : IsGrown g h) (firsts : List (Option First)) (table : AreFirstValues g firsts)
     (cs : List (SortId × FunId)) (constants : AreConstants h cs) (sorts : List SortId) (ready : All (IsReady (length h.functions) firsts cs) sorts) (ordered : IsOrdered h.functions firsts sorts) where
   -- the sorts of the arguments are among these too
   arguments_among : (s : SortId) (f : FunId) → Contains sorts s → HasRootAt firsts s (Constructor f) → All (Contains sorts) (function_arguments h.functions f)
@@ -59,7 +60,7 @@ module _ (g h : Sig) (stands : IsSignature g) (gives : ConstructorsGiveTheirSort
       let same : trees_of ts ≡ trees_with (constant_of cs) vs = same_trees g stands firsts table h.functions (function_stays g h grown) cs (function_arguments h.functions f) ts args vs (subst (AreFirstOf g vs) (sym listed) (arguments_first g s k vs first part.0 part.1)) in
       let kept : apply_tree f (trees_of ts) ≡ function f (trees_of ts) =
       subst (λ (us : Trees). apply_tree f us ≡ function f us) (sym same) (subst (λ (x : FunId). apply_tree x (trees_with (constant_of cs) vs) ≡ function x (trees_with (constant_of cs) vs)) fun (constructor_unmerged g stands (constant_of cs) s k vs first.of_sort)) in
-      let result : part.0.result ≡ s = gives s first.of_sort.0 k part.0 first.of_sort.1 part.1 in
+      let result : part.0.result ≡ s = constructors_give_their_sorts g stands s first.of_sort.0 k part.0 first.of_sort.1 part.1 in
       subst (λ (x : Tree). HasTreeSort h x s) (sym (is ∙ kept)) (part.0, there, result, subst (HaveTreeSorts h (trees_of ts)) listed fit, kept)
   built_sorted s t f ts at fit args is (a_number a z) first root = absurd cc
   built_sorted s t f ts at fit args is (a_constant d) first root = absurd cc

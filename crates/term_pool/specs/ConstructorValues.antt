@@ -38,10 +38,6 @@ IsConstructorOf g s (structured fs) k f = slice_get fs k ≡ Some f
 abbrev pub IsConstructorAt : Sig → SortId → ℕ → FunId → Type 0
 IsConstructorAt g s k f = (i : SortInfo) × (slice_get g.sorts s.0 ≡ Some i) × IsConstructorOf g s i.kind k f
 
--- each constructor of a sort gives that sort
-abbrev pub ConstructorsGiveTheirSorts : Sig → Type 0
-ConstructorsGiveTheirSorts g = (s : SortId) (k : ℕ) (f : FunId) (e : Function) → IsConstructorAt g s k f → slice_get g.functions f.0 ≡ Some e → e.result ≡ s
-
 abbrev mutual
   pub IsValueOf : Sig → ConstructorValue → SortId → Type 0
   IsValueOf g (a_number a z) s = (a ≡ s) × HasNumber s z

@@ -11,3 +11,4 @@ pub mod FirstValues
 pub mod Constants
 pub mod FirstTerms
 pub mod GrowthLaws
+pub mod InhabitedData

@@ -1,6 +1,7 @@
-//! What stays where a signature grows.
+//! Inhabited sorts: what stays where a signature grows, and what the data of a signature say of them.
 
 ghost use Rattle.term_pool.specs.GrowthLaws.{ConstantsStay, InhabitedSortsStayInhabited};
+ghost use Rattle.term_pool.specs.InhabitedData.{SortsHaveValuesWhereNoneIsEmpty};
 
 /// Where texts, sorts, functions and variables come behind the old ones, a sort that has a value has one still.
 pub fn inhabited_sorts_stay_inhabited()
@@ -11,4 +12,9 @@ pub fn inhabited_sorts_stay_inhabited()
 /// again.
 pub fn constants_stay()
     ensures { ConstantsStay }
+{}
+
+/// Each sort of a signature has a value exactly where no sort of the data that it means is empty.
+pub fn sorts_have_values_where_none_is_empty()
+    ensures { SortsHaveValuesWhereNoneIsEmpty }
 {}

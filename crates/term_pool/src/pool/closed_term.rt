@@ -11,7 +11,7 @@ ghost use Rattle.data_theory.specs.IdTreeSorts.{HasNumber, HasTreeSort};
 ghost use Rattle.data_theory.specs.WholeSignatures.{IsSignature};
 ghost use Rattle.term_pool.specs.HeadTrees.{tree_at, trees_at, IsIn, AreIn};
 ghost use Rattle.term_pool.specs.Pools.{Extends};
-ghost use Rattle.term_pool.specs.ConstructorValues.{ConstructorValue, ConstructorsGiveTheirSorts, HasValue, IsFirstValue};
+ghost use Rattle.term_pool.specs.ConstructorValues.{ConstructorValue, HasValue, IsFirstValue};
 ghost use Rattle.term_pool.specs.FirstValues.{AreFirstValues};
 ghost use Rattle.term_pool.specs.FirstTerms.{HasEntry, HasRootAt, IsRootWithin, root_arguments, sorts_under, AreSortsWithin, lacks_constant, is_in_need, first_number, IsOrdered, IsReady, IsTreeOf, made_for, HasTerm};
 ghost use Rattle.term_pool.specs.Constants.{tree_with, constant_of, is_listed, AreConstants, KeepsConstants, all_sorts, sorts_in_need, DeclaresConstant, DeclaresConstants};
@@ -223,7 +223,7 @@ impl Pool {
         ensures first { IfOk result (λ id. (v : ConstructorValue) → IsFirstValue sig.old sort v → tree_at self.new.trees id ≡ tree_with (constant_of self.new.constants) v) }
         ensures declared { OnOk result ((v : ConstructorValue) → IsFirstValue sig.old sort v → DeclaresConstants (sorts_in_need sig.old self.old.constants v) sig.old self.old.constants sig.new self.new.constants) }
         ensures within { IfOk result (λ id. IsIn self.new.trees id) }
-        ensures sorted { IfOk result (λ id. ConstructorsGiveTheirSorts sig.old → HasTreeSort sig.new (tree_at self.new.trees id) sort) }
+        ensures sorted { IfOk result (λ id. HasTreeSort sig.new (tree_at self.new.trees id) sort) }
         ensures kept { Extends self.old.trees self.new.trees }
         ensures constants { AreConstants sig.new self.new.constants }
         ensures constants_kept { KeepsConstants self.old.constants self.new.constants }

@@ -4,7 +4,8 @@ use Rattle.std.specs.Prelude.{codes}
 use Rattle.process_terms.specs.Fresh.{IsFresh, taken_at_start}
 use Rattle.process_terms.specs.Headline.{StandsFor}
 use Rattle.process_terms.specs.Printed.{printed}
-use Rattle.process_terms.specs.Systems.{Name, System}
+use Rattle.process_terms.specs.Names.{Name}
+use Rattle.process_terms.specs.Systems.{System}
 use Rattle.lin_driver.specs.FirstForm.{IsFirstForm}
 use Rattle.lin_driver.specs.Linearised.{IsLinearisedTo}
 use Rattle.lin_driver.specs.PlainSystems.{plain_system}

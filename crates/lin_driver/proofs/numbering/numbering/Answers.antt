@@ -1,7 +1,8 @@
 use Rattle.std.proofs.Common.{rules, arith, ◌≡◌, ◌<◌, ◌≤◌, length, List, [], ◌∷◌, sym, ◌∙◌, ap, subst, Contains, slice_index_or}
 use Rattle.std.proofs.lemmas.Grind.{common_steps}
 use Rattle.std.specs.Prelude.{filter_map}
-use Rattle.process_terms.specs.Systems.{Name, Summand, equation_names}
+use Rattle.process_terms.specs.Names.{Name}
+use Rattle.process_terms.specs.Systems.{Summand, equation_names}
 use Rattle.process_terms.specs.Numbering.{calls_of, summands_in}
 use Rattle.lin_driver.specs.Meeting.{met_with}
 use Rattle.lin_driver.specs.PlainSystems.{plain_equation, plain_system}

@@ -1,4 +1,4 @@
-use Rattle.std.proofs.Common.{arith, map, refl, sym, ◌∙◌}
+use Rattle.std.proofs.Common.{rules, arith, map, refl, sym, ◌∙◌}
 use Rattle.std.proofs.lemmas.Result.{IfOk-weaker, err_from_is_err_and}
 use Rattle.std.proofs.lemmas.Grind.{common_steps}
 use Rattle.mcrl2_lexer.specs.declared.kind.Kind.TheVariants.{Sum}
@@ -7,58 +7,66 @@ use Rattle.mcrl2_syntax.specs.SpelledProcesses.{SpellsMerge}
 use Rattle.mcrl2_parser.specs.ProcessReading.{finds_last, finds_atom}
 use Rattle.mcrl2_parser.proofs.ChainLeft.{chain_goes_on, shorter_behind}
 use Rattle.mcrl2_parser.proofs.ProcessChains.{IsChoices, EndsChoices, EndsMerge, IsParts, EndsParts, next_choice, choices_err, choices_found, choices_only, next_operand, merge_err, merge_found, merge_only, next_part, parts_err, parts_found, parts_only}
-use Rattle.mcrl2_parser.proofs.Conditions.{between, of_sum, dot_err, last_is_sum, last_is_cond, no_last, no_atom, no_sum, sum_found, sum_only, of_guard, then_err, then_only, then_found, else_err, else_only, else_found}
+use Rattle.mcrl2_parser.proofs.Conditions.{between, of_sum, dot_err, last_is_sum, last_is_cond, no_last, last_err, no_atom, no_sum, sum_found, sum_only, of_guard, then_err, then_only, then_found, else_err, else_only, else_found}
 use Rattle.mcrl2_parser.proofs.Atoms.{atom_step, by_delta, by_brackets, by_operator, of_brackets, of_operator, of_step, inner_err, close_err, brackets_only, around_err, shut_err, operator_only, is_operation}
+use Rattle.mcrl2_parser.proofs.ArrowTables.{behind_less, has_behind, has_next, has_behind_guard, has_under, part_rest, operand_rest, merge_rest, vars_rest}
+use Rattle.mcrl2_parser.proofs.GuardLooks.{no_atom_guard, not_guard}
 use Rattle.mcrl2_parser.proofs.ProcessGuards.{begun, unbegun}
 use Rattle.mcrl2_parser.proofs.processes.+process.Goals as goal
 
 pub process-returns-in_err-part-clause-only : goal.process-returns-in_err-part-clause-only
 process-returns-in_err-part-clause-only t c = λ p r a e. let x = err_from_is_err_and c.from_residual.result c.from_residual.ensures.1 in
-    rw x.1 (x.2 ∙ choices_err _ c.loop-parts.invariant c.in_err-part.ensures.only a e)
+    rw x.1 (x.2 ∙ choices_err _ c.loop-parts.invariant.0 c.in_err-part.ensures.only a e)
 
 pub process-returns-in_default-clause-found : goal.process-returns-in_default-clause-found
-process-returns-in_default-clause-found t c = choices_found {all = map plain_process c.push.new.self.items} c.loop-parts.invariant c.in_ok-part.ensures.found (grind (arith, common_steps)) c.in_choice.ensures
+process-returns-in_default-clause-found t c = choices_found {all = map plain_process c.push.new.self.items} c.loop-parts.invariant.0 c.in_ok-part.ensures.found (grind (arith, common_steps)) c.in_choice.ensures
 
 pub process-returns-in_default-clause-only : goal.process-returns-in_default-clause-only
 process-returns-in_default-clause-only t c =
-    λ p r. choices_only {all = map plain_process c.push.new.self.items} c.loop-parts.invariant c.in_ok-part.ensures.only (c.in_default.ensures.none refl) (grind (arith, common_steps)) c.in_choice.ensures
+    λ p r. choices_only {all = map plain_process c.push.new.self.items} c.loop-parts.invariant.0 c.in_ok-part.ensures.only (c.in_default.ensures.none refl) (grind (arith, common_steps)) c.in_choice.ensures
 
 pub process-loop-parts-preserved : goal.process-loop-parts-preserved
-process-loop-parts-preserved t c =
-    chain_goes_on (IsChoices c.args.text.now) EndsChoices c.loop-parts.invariant (next_choice c.in_ok-part.ensures.found c.in_ok-part.ensures.only c.in-Ok.ensures.found.0 c.in-Ok.ensures.found.1)
-    (shorter_behind c.in_ok-part.ensures.shorter c.in-Ok.ensures.found.0) (grind (arith, common_steps))
+process-loop-parts-preserved t c = (
+      chain_goes_on (IsChoices c.args.text.now) EndsChoices c.loop-parts.invariant.0 (next_choice c.in_ok-part.ensures.found c.in_ok-part.ensures.only c.in-Ok.ensures.found.0 c.in-Ok.ensures.found.1)
+      (shorter_behind c.in_ok-part.ensures.shorter c.in-Ok.ensures.found.0) (grind (arith, common_steps)),
+      has_next c.loop-parts.invariant.1 (merge_rest c.in_ok-part.ensures.found) c.in-Ok.ensures.found.0,
+    )
 
 pub merge-returns-in_err-part-clause-only : goal.merge-returns-in_err-part-clause-only
 merge-returns-in_err-part-clause-only t c = λ o ps r a f s. let x = err_from_is_err_and c.from_residual.result c.from_residual.ensures.1 in
-    rw x.1 (x.2 ∙ merge_err _ c.loop-parts.invariant c.in_err-part.ensures.only a f s)
+    rw x.1 (x.2 ∙ merge_err _ c.loop-parts.invariant.0 c.in_err-part.ensures.only a f s)
 
 pub merge-returns-in_default-clause-found : goal.merge-returns-in_default-clause-found
-merge-returns-in_default-clause-found t c = merge_found {all = map plain_process c.push.new.self.items} c.loop-parts.invariant c.in_ok-part.ensures.found (c.in_default.ensures.none refl) (grind (arith, common_steps)) c.in_parallel.ensures
+merge-returns-in_default-clause-found t c = merge_found {all = map plain_process c.push.new.self.items} c.loop-parts.invariant.0 c.in_ok-part.ensures.found (c.in_default.ensures.none refl) (grind (arith, common_steps)) c.in_parallel.ensures
 
 pub merge-returns-in_default-clause-only : goal.merge-returns-in_default-clause-only
 merge-returns-in_default-clause-only t c =
-    λ o ps r. merge_only {all = map plain_process c.push.new.self.items} c.loop-parts.invariant c.in_ok-part.ensures.only (c.in_default.ensures.none refl) (grind (arith, common_steps)) c.in_parallel.ensures
+    λ o ps r. merge_only {all = map plain_process c.push.new.self.items} c.loop-parts.invariant.0 c.in_ok-part.ensures.only (c.in_default.ensures.none refl) (grind (arith, common_steps)) c.in_parallel.ensures
 
 pub merge-loop-parts-preserved : goal.merge-loop-parts-preserved
-merge-loop-parts-preserved t c =
-    chain_goes_on (SpellsMerge c.args.text.now) EndsMerge c.loop-parts.invariant (next_operand c.in_ok-part.ensures.found c.in_ok-part.ensures.only c.in-Ok.ensures.found.0 c.in-Ok.ensures.found.1)
-    (shorter_behind c.in_ok-part.ensures.shorter c.in-Ok.ensures.found.0) (grind (arith, common_steps))
+merge-loop-parts-preserved t c = (
+      chain_goes_on (SpellsMerge c.args.text.now) EndsMerge c.loop-parts.invariant.0 (next_operand c.in_ok-part.ensures.found c.in_ok-part.ensures.only c.in-Ok.ensures.found.0 c.in-Ok.ensures.found.1)
+      (shorter_behind c.in_ok-part.ensures.shorter c.in-Ok.ensures.found.0) (grind (arith, common_steps)),
+      has_next c.loop-parts.invariant.1 (operand_rest c.in_ok-part.ensures.found) c.in-Ok.ensures.found.0,
+    )
 
 pub operand-returns-in_err-part-clause-only : goal.operand-returns-in_err-part-clause-only
 operand-returns-in_err-part-clause-only t c = λ s o p r a f k. let x = err_from_is_err_and c.from_residual.result c.from_residual.ensures.1 in
-    rw x.1 (x.2 ∙ parts_err _ c.loop-parts.invariant c.in_err-part.ensures.last c.in_err-part.ensures.atom a f k)
+    rw x.1 (x.2 ∙ parts_err _ c.loop-parts.invariant.0 c.in_err-part.ensures.last c.in_err-part.ensures.atom a f k)
 
 pub operand-returns-in_default-clause-found : goal.operand-returns-in_default-clause-found
-operand-returns-in_default-clause-found t c = parts_found {all = map plain_process c.push.new.self.items} c.loop-parts.invariant c.in_ok-part.ensures.found (c.in_default.ensures.none refl) (grind (arith, common_steps)) c.in_sequence.ensures
+operand-returns-in_default-clause-found t c = parts_found {all = map plain_process c.push.new.self.items} c.loop-parts.invariant.0 c.in_ok-part.ensures.found (c.in_default.ensures.none refl) (grind (arith, common_steps)) c.in_sequence.ensures
 
 pub operand-returns-in_default-clause-only : goal.operand-returns-in_default-clause-only
 operand-returns-in_default-clause-only t c =
-    λ s o p r. parts_only {all = map plain_process c.push.new.self.items} c.loop-parts.invariant c.in_ok-part.ensures.last c.in_ok-part.ensures.atom (c.in_default.ensures.none refl) (grind (arith, common_steps)) c.in_sequence.ensures
+    λ s o p r. parts_only {all = map plain_process c.push.new.self.items} c.loop-parts.invariant.0 c.in_ok-part.ensures.last c.in_ok-part.ensures.atom (c.in_default.ensures.none refl) (grind (arith, common_steps)) c.in_sequence.ensures
 
 pub operand-loop-parts-preserved : goal.operand-loop-parts-preserved
-operand-loop-parts-preserved t c =
-    chain_goes_on (IsParts c.args.text.now) EndsParts c.loop-parts.invariant (next_part c.in_ok-part.ensures.found c.in_ok-part.ensures.last c.in_ok-part.ensures.atom c.in-Ok.ensures.found.0 c.in-Ok.ensures.found.1)
-    (shorter_behind c.in_ok-part.ensures.shorter c.in-Ok.ensures.found.0) (grind (arith, common_steps))
+operand-loop-parts-preserved t c = (
+      chain_goes_on (IsParts c.args.text.now) EndsParts c.loop-parts.invariant.0 (next_part c.in_ok-part.ensures.found c.in_ok-part.ensures.last c.in_ok-part.ensures.atom c.in-Ok.ensures.found.0 c.in-Ok.ensures.found.1)
+      (shorter_behind c.in_ok-part.ensures.shorter c.in-Ok.ensures.found.0) (grind (arith, common_steps)),
+      has_next c.loop-parts.invariant.1 (part_rest c.in_ok-part.ensures.found) c.in-Ok.ensures.found.0,
+    )
 
 pub part-returns-then-is_ok-clause-found : goal.part-returns-then-is_ok-clause-found
 part-returns-then-is_ok-clause-found t c = IfOk-weaker _ _ _ (λ x a. finds_last a) c.sum.ensures.found
@@ -69,21 +77,42 @@ part-returns-then-is_ok-clause-last t c = λ s o p r a f k. let x = last_is_sum 
 pub part-returns-then-is_ok-clause-atom : goal.part-returns-then-is_ok-clause-atom
 part-returns-then-is_ok-clause-atom t c = λ p r a n b. absurd (no_sum (begun Sum c.args.tokens.now c.expect.result c.expect.ensures.found (sym c.is_ok.ensures.value ∙ c.if-is_ok.true)) a)
 
-pub part-returns-in-Some-clause-found : goal.part-returns-in-Some-clause-found
-part-returns-in-Some-clause-found t c = let g = rw c.in-Some.is at c.in_ok-guard.ensures.found in IfOk-weaker _ _ _ (λ x a. finds_last (a c.args.tokens.now g)) c.condition.ensures.found
+pub part-returns-in_err-guard-clause-last : goal.part-returns-in_err-guard-clause-last
+part-returns-in_err-guard-clause-last t c = λ s o p r a f k. let x = err_from_is_err_and c.from_residual.result c.from_residual.ensures.1 in
+    rw x.1 (x.2 ∙ last_err _ (unbegun Sum c.args.tokens.now c.expect.result c.expect.ensures.none (sym c.is_ok.ensures.value ∙ c.if-is_ok.false)) c.in_err-guard.ensures.only a)
 
-pub part-returns-in-Some-clause-last : goal.part-returns-in-Some-clause-last
-part-returns-in-Some-clause-last t c = let g = rw c.in-Some.is at c.in_ok-guard.ensures.found in λ s o p r a f k. c.condition.ensures.only c.args.tokens.now s o p r g (last_is_cond g a) f k
+pub part-returns-in_err-guard-clause-atom : goal.part-returns-in_err-guard-clause-atom
+part-returns-in_err-guard-clause-atom t c = λ p r a n b. absurd (no_atom_guard (sym c.if-begins_guard.ensures) a n b)
 
-pub part-returns-in-Some-clause-atom : goal.part-returns-in-Some-clause-atom
-part-returns-in-Some-clause-atom t c = let g = rw c.in-Some.is at c.in_ok-guard.ensures.found in λ p r a n b. absurd (no_atom g a n b)
+pub part-condition-requires : goal.part-condition-requires
+part-condition-requires t c = (search rules, has_behind_guard c.requires c.in_ok-guard.ensures.found)
 
-pub part-returns-in-None-clause-found : goal.part-returns-in-None-clause-found
-part-returns-in-None-clause-found t c = IfOk-weaker _ _ _ (λ x a. finds_atom a) c.atom.ensures.found
+pub part-returns-then-begins_guard-clause-found : goal.part-returns-then-begins_guard-clause-found
+part-returns-then-begins_guard-clause-found t c = IfOk-weaker _ _ _ (λ x a. finds_last (a c.args.tokens.now c.in_ok-guard.ensures.found)) c.condition.ensures.found
 
-pub part-returns-in-None-clause-last : goal.part-returns-in-None-clause-last
-part-returns-in-None-clause-last t c = λ s o p r a f k. absurd (no_last (unbegun Sum c.args.tokens.now c.expect.result c.expect.ensures.none (sym c.is_ok.ensures.value ∙ c.if-is_ok.false))
-    (λ d us g. rw c.in-None.is at (c.in_ok-guard.ensures.only d us g)) a)
+pub part-returns-then-begins_guard-clause-last : goal.part-returns-then-begins_guard-clause-last
+part-returns-then-begins_guard-clause-last t c = λ s o p r a f k. c.condition.ensures.only c.args.tokens.now s o p r c.in_ok-guard.ensures.found (last_is_cond c.in_ok-guard.ensures.found a) f k
+
+pub part-returns-then-begins_guard-clause-atom : goal.part-returns-then-begins_guard-clause-atom
+part-returns-then-begins_guard-clause-atom t c = λ p r a n b. absurd (no_atom c.in_ok-guard.ensures.found a n b)
+
+pub part-returns-clause-found : goal.part-returns-clause-found
+part-returns-clause-found t c = IfOk-weaker _ _ _ (λ x a. finds_atom a) c.atom.ensures.found
+
+pub part-returns-clause-last : goal.part-returns-clause-last
+part-returns-clause-last t c = λ s o p r a f k. absurd (no_last (unbegun Sum c.args.tokens.now c.expect.result c.expect.ensures.none (sym c.is_ok.ensures.value ∙ c.if-is_ok.false)) (λ d us g. not_guard c.if-begins_guard.ensures g) a)
+
+pub sum-merge-requires : goal.sum-merge-requires
+sum-merge-requires t c = (grind (arith, common_steps), has_next (has_behind c.requires c.in_ok-word.ensures.found.0) (vars_rest c.in_ok-variables.ensures.found) c.in_ok-rest.ensures.found.0)
+
+pub condition-operand-requires-in-Ok : goal.condition-operand-requires-in-Ok
+condition-operand-requires-in-Ok t c = let has = has_next c.requires (operand_rest c.in_ok-then.ensures.found) c.in-Ok.ensures.found.0 in search rules
+
+pub atom-process-requires : goal.atom-process-requires
+atom-process-requires t c = let less = behind_less c.in_ok-first.ensures.found in (omega (arith, less), has_behind c.requires c.in_ok-first.ensures.found)
+
+pub atom-process-requires-in-Allow : goal.atom-process-requires-in-Allow
+atom-process-requires-in-Allow t c = let less = c.in_ok-operator-in-Allow.ensures.shorter in (omega (arith, less), has_under c.requires c.in_ok-operator-in-Allow.ensures.found)
 
 pub sum-returns-in_err-rest-clause-only : goal.sum-returns-in_err-rest-clause-only
 sum-returns-in_err-rest-clause-only t c = λ o p r a f k. absurd (dot_err c.in_ok-variables.ensures.only (c.in_err-rest.ensures.none refl) (of_sum c.in_ok-word.ensures.found.0 a))

@@ -14,7 +14,7 @@ push-requires c =
 
 pub invariant_of-self-in-Ok-1 : goal.invariant_of-self-in-Ok-1
 invariant_of-self-in-Ok-1 c =
-    signature_as (with_action c.args.self.now c.args.name.now c.args.sorts.items) _ (action_stands c.args.self.now c.args.name.now c.args.sorts.items (subst IsSignature c.self.view_is c.self.invariant) c.requires.sorts)
+    signature_as (with_action c.args.self.now c.args.name.now c.args.sorts.items) _ (action_stands c.args.self.now c.args.name.now c.args.sorts.items (subst IsSignature c.self.view_is c.self.invariant) c.requires.sorts c.requires.absent)
     (action_added (sig_of c.self.inside) c.args.name.now c.args.sorts.items c.in_ok-id.id c.enter.new.self c.push.new.self (entered_is _ _ _ c.in_ok-id.ensures.entered) (place_is c.enter.new.self c.args.name.now c.in_ok-id.id.0 c.in_ok-id.ensures.different c.in_ok-id.ensures.place) c.in-Ok.ensures.pushed
     ∙ ap (λ s. with_action s c.args.name.now c.args.sorts.items) c.self.view_is)
 

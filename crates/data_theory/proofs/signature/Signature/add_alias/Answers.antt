@@ -10,4 +10,4 @@ push-requires c = subst (λ (s : Sig). IsName s.sort_names c.args.name → ⊥) 
 
 pub invariant_of-self-2 : goal.invariant_of-self-2
 invariant_of-self-2 c =
-    signature_as (with_alias c.args.self.now c.args.name c.args.sort) _ (alias_stands c.args.self.now c.args.name c.args.sort (subst IsSignature c.self.view_is c.self.invariant) c.requires.name c.requires.sort) (search rules)
+    signature_as (with_alias c.args.self.now c.args.name c.args.sort) _ (alias_stands c.args.self.now c.args.name c.args.sort (subst IsSignature c.self.view_is c.self.invariant) c.requires.name c.requires.sort c.requires.absent) (search rules)

@@ -26,7 +26,7 @@ added c =
     ∙ ap (λ s. with_sort s c.args.name) c.self.view_is
 
 pub invariant_of-self-2 : goal.invariant_of-self-2
-invariant_of-self-2 c = signature_as (with_sort c.args.self.now c.args.name) _ (sort_stands c.args.self.now c.args.name (subst IsSignature c.self.view_is c.self.invariant) c.requires.name) (added c)
+invariant_of-self-2 c = signature_as (with_sort c.args.self.now c.args.name) _ (sort_stands c.args.self.now c.args.name (subst IsSignature c.self.view_is c.self.invariant) c.requires.name c.requires.absent) (added c)
 
 pub returns-clause-added : goal.returns-clause-added
 returns-clause-added c = added c

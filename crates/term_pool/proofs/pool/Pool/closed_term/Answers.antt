@@ -95,5 +95,5 @@ returns-clause-sorted c =
     let ready = subst (λ (cs : List (SortId × FunId)). All (IsReady (length h.functions) firsts cs) sorts) (sym c.first_terms.ensures.constants)
     (all_ready g stands firsts (table before) h grown c.args.sort sorts c.args.self.now.constants c.declare_constants.new.self.constants (within before) c.in_ok-declare_constants.ensures.declared) in
     let ordered = still_ordered g stands firsts (table before) h grown c.args.sort sorts (within before) in
-    λ gives. subst (λ (id : TermId). HasTreeSort h (tree_at c.first_terms.new.self.trees id) c.args.sort) (same_term c)
-    (tree_sorted g h stands gives grown firsts (table before) constants are sorts ready ordered c.args.sort _ (within before).has_sort (made c).is)
+    subst (λ (id : TermId). HasTreeSort h (tree_at c.first_terms.new.self.trees id) c.args.sort) (same_term c)
+    (tree_sorted g h stands grown firsts (table before) constants are sorts ready ordered c.args.sort _ (within before).has_sort (made c).is)

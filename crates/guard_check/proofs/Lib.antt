@@ -1,0 +1,4 @@
+pub mod CallLemmas
+pub mod GuardLemmas
+pub mod GraphLemmas
+pub mod CycleLemmas

@@ -1,0 +1,4 @@
+pub mod Calls
+pub mod Guards
+pub mod CallGraphs
+pub mod Faults

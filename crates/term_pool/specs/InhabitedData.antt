@@ -1,0 +1,12 @@
+-- Inhabited sorts of a signature, and of the data that it means.
+use Rattle.std.specs.Prelude.{◌<◌, ◌↔◌, length}
+use Rattle.data_theory.specs.declared.ids.SortId.{SortId}
+use Rattle.data_theory.specs.Declarations.{NoSortIsEmpty}
+use Rattle.data_theory.specs.Signature.{Sig}
+use Rattle.data_theory.specs.IdData.{data_meant}
+use Rattle.data_theory.specs.WholeSignatures.{IsSignature}
+use Rattle.term_pool.specs.ConstructorValues.{HasValue}
+
+-- no sort of the data is empty exactly where each sort of the signature has a value
+abbrev pub SortsHaveValuesWhereNoneIsEmpty : Type 0
+SortsHaveValuesWhereNoneIsEmpty = (g : Sig) → IsSignature g → NoSortIsEmpty (data_meant g) ↔ ((s : SortId) → s.0 < length g.sorts → HasValue g s)
