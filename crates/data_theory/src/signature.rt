@@ -135,6 +135,19 @@ impl Signature {
         self.declared.as_slice()
     }
 
+    /// How many functions there are, built-in and declared. Their ids are those below it.
+    pub fn fun_count(&self) -> usize
+        ensures { result ≡ length self.now.functions }
+    {
+        self.functions.len()
+    }
+
+    /// The id of a function's name.
+    pub fn fun_name_id(&self, fun: FunId) -> NameId
+        requires { fun.0 < length self.now.functions }
+        ensures { IfSome (slice_get self.now.functions fun.0) (λ f. f.name ≡ result) }
+    {
+        self.functions.get(fun).name
     /// The declared functions of a name, in their order.
     pub fn funs_named(&self, name: NameId) -> &[FunId]
         ensures { result.now ≡ functions_named self.now.functions name }
