@@ -148,6 +148,8 @@ impl Signature {
         ensures { IfSome (slice_get self.now.functions fun.0) (λ f. f.name ≡ result) }
     {
         self.functions.get(fun).name
+    }
+
     /// The declared functions of a name, in their order.
     pub fn funs_named(&self, name: NameId) -> &[FunId]
         ensures { result.now ≡ functions_named self.now.functions name }

@@ -265,8 +265,8 @@ naming_stands g h ts us l k s extends fits named within =
     all_mapped (λ (s : PlainSummand). s.sums) (All (λ x. Contains g.taken (name_of g x))) l.summands
     (both_weaker (SummandFits g ts l.params) (λ (s : PlainSummand). All (HasTakenName g) s.sums) (λ (s : PlainSummand). All (λ x. Contains g.taken (name_of g x)) s.sums) (λ s f t. both_weaker (IsVariable g) (HasTakenName g) (λ x. Contains g.taken (name_of g x)) (taken_name g) s.sums f.sums t) l.summands fits.summands fits.sums_taken) in
     let n = all_sums_named (IsUsed g l.params) g s used (map (λ (s : PlainSummand). s.sums) l.summands) h (map (λ (s : PlainSummand). s.sums) k.summands) named.names sums_are names_are in
-    let grow : BothGrow g h ts us = record { signature = n.0.grown; actions = ([], n.0.actions ∙ sym (append-nil g.actions)); pool = extends } in
-    let before = what_fits_fits_still g h ts us l s.table s.complete n.0.stands.table grow n.0.taken fits in
+    let grow : BothGrow g h ts us = record { signature = n.0.grown; pool = extends } in
+    let before = what_fits_fits_still g h ts us l s.table s.complete n.0.stands.table grow fits in
     let all = all_stand g h ts us l.params n.0.stands.table (first_functions h n.0.stands.complete) grow n.0 fits.params l.summands k.summands
         (All-weaker (SummandFits g ts l.params) (IsSummandIn ts) (λ s f. fitting_is_in g ts l.params s f) l.summands fits.summands)
         (All-weaker (SummandFits g ts l.params) (λ (s : PlainSummand). All (IsVariable g) s.sums) (λ s f. f.sums) l.summands fits.summands)

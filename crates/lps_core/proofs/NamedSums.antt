@@ -30,7 +30,7 @@ use Rattle.bisim_laws.proofs.Firing.{contains_first, contains_later, contains_no
 use Rattle.lps_core.specs.Fitting.{IsVariable, sort_of_variable, HasTakenName}
 use Rattle.lps_core.specs.TreeSummands.{numbers_of}
 use Rattle.lps_core.specs.Naming.{name_of, names_of, GrowsByNames, IsNamed, it_stays, it_is_new, AreNamed, no_sum, one_more_sum, SummandsAreNamed, no_summand, one_more_summand}
-use Rattle.lps_core.proofs.GrownSignatures.{grown_itself}
+use Rattle.term_pool.proofs.DeclaredConstants.{grown_itself}
 use Rattle.lps_core.proofs.Members.{contains_map, map_contains, all_from}
 use Rattle.lps_core.proofs.OverVariables.{distinct_append}
 use Rattle.lps_core.proofs.Staying.{sort_is_within}

@@ -140,7 +140,7 @@ what_fits_is_sorted g ts l table complete fits = record {
 module _ (g h : Sig) (ts us : List Tree) (table : IsTable g) (complete : IsComplete g) (grow : BothGrow g h ts us) where
   -- all but the terms
   abbrev others : Grows (entries_of g []) (entries_of h us)
-  others = signatures_add_entries g h [] us table complete (λ k d i. absurd (omega (arith, i))) (record { signature = grow.signature; actions = grow.actions; pool = (us, refl) })
+  others = signatures_add_entries g h [] us table complete (λ k d i. absurd (omega (arith, i))) (record { signature = grow.signature; pool = (us, refl) })
 
   pub variable_stays : (v : VarId) → IsVariable g v → bound_at (entries_of h us) v ≡ bound_at (entries_of g ts) v
   variable_stays v k = ap (λ s. record { var = v.0; sort = s }) (entry_stays (variable_sorts g) (variable_sorts h) boolean v.0 others.variables (subst (λ n. v.0 < n) (sym (length-map g.variables (λ (y : Variable). sort_under g y.sort))) k)).0

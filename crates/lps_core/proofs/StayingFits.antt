@@ -2,7 +2,7 @@
 use Rattle.std.proofs.Common.{◌≡◌, ◌<◌, ℕ, List, [], ◌∷◌, ◌++◌, map, length, get_or, refl, sym, ap, ap₂, ◌∙◌, subst, Option, Some, None}
 use Rattle.std.specs.Prelude.{slice_get, IfSome}
 use Rattle.std.specs.List.{All, Contains}
-use Rattle.std.proofs.lemmas.List.Elements.{All-weaker}
+use Rattle.std.proofs.lemmas.List.Elements.{All-weaker, Contains-append_left}
 use Rattle.std.proofs.lemmas.Option.{slice_get_within, slice_get-get_or, get_or_from_slice_get}
 use Rattle.data_theory.specs.declared.ids.SortId.{SortId}
 use Rattle.data_theory.specs.declared.ids.VarId.{VarId}
@@ -74,7 +74,7 @@ module _ (g h : Sig) (ts us : List Tree) (grow : BothGrow g h ts us) where
   }
 
   pub action_fits : (a : PlainAction) → IsActionOf g ts a → IsActionOf h us a
-  action_fits a k = record { key = k.key; stands = entry_kept g.actions h.actions a.act.0 k.key grow.actions k.stands; args = terms_fit k.key.sorts a.args k.args }
+  action_fits a k = record { key = k.key; stands = entry_kept g.actions h.actions a.act.0 k.key (grow.signature.new_actions, grow.signature.actions) k.stands; args = terms_fit k.key.sorts a.args k.args }
 
   next_fits : (ss : List SortId) (next : Option (List TermId)) → IfSome next (AreTermsOf g ts ss) → IfSome next (AreTermsOf h us ss)
   next_fits ss None k = k
@@ -91,9 +91,9 @@ module _ (g h : Sig) (ts us : List Tree) (grow : BothGrow g h ts us) where
     next = subst (λ ss. IfSome s.next (AreTermsOf h us ss)) (sym (sorts_kept g h params grow.signature vs)) (next_fits (map (sort_of_variable g) params) s.next k.next);
   }
 
-  pub taken_fits : ((n : NameId) → Contains g.taken n → Contains h.taken n) → (x : VarId) → IsVariable g x → HasTakenName g x → HasTakenName h x
-  taken_fits taken x l k =
-      name_taken h x (variable_kept g h x grow.signature l) (subst (λ n. Contains h.taken n) (sym (name_kept g h x grow.signature l)) (taken (name_of g x) (taken_name g x l k)))
+  pub taken_fits : (x : VarId) → IsVariable g x → HasTakenName g x → HasTakenName h x
+  taken_fits x l k =
+      name_taken h x (variable_kept g h x grow.signature l) (subst (λ n. Contains h.taken n) (sym (name_kept g h x grow.signature l)) (subst (λ ns. Contains ns (name_of g x)) (sym grow.signature.taken) (Contains-append_left g.taken grow.signature.new_taken (name_of g x) (taken_name g x l k))))
 
 -- closed terms of sorts have no variables
 pub lists_are_closed : (d : Data) (ts : List Term) (ss : List Sort) → HaveSorts d [] (terms_of ts) ss → AreClosed (terms_of ts)
@@ -109,7 +109,7 @@ closed_terms_fit g ts params ids table vs k c =
     (closed_lists_need_no_variables (data_meant g) (variable_sorts g) (terms_of (map (term_at (entries_of g ts)) ids)) _ c (terms_sorted g ts (map (sort_of_variable g) params) ids table k))
 
 pub what_fits_fits_still : WhatFitsFitsStill
-what_fits_fits_still g h ts us l table complete new_table grow taken fits =
+what_fits_fits_still g h ts us l table complete new_table grow fits =
     let stays = what_fits_stays g h ts us l table complete grow fits in
     let params = variables_fit g h ts us grow l.params fits.params in
     let init = subst (λ ss. AreTermsOf h us ss l.init) (sym (sorts_kept g h l.params grow.signature fits.params)) (terms_fit g h ts us grow (map (sort_of_variable g) l.params) l.init fits.init) in
@@ -119,7 +119,7 @@ what_fits_fits_still g h ts us l table complete new_table grow taken fits =
       closed = closed_terms_fit h us l.params l.init new_table params init (subst (λ z. AreClosed (terms_of z)) (sym stays.1) (lists_are_closed (data_meant g) (initial_of (entries_of g ts) l) (sorts (linear_of (entries_of g ts) l).params) fits.closed));
       summands = All-weaker (SummandFits g ts l.params) (SummandFits h us l.params) (λ s k. summand_fits g h ts us grow l.params s fits.params k) l.summands fits.summands;
       linear = subst (λ z. IsLinear z) (sym stays.0) fits.linear;
-      taken = both_weaker (IsVariable g) (HasTakenName g) (HasTakenName h) (taken_fits g h ts us grow taken) l.params fits.params fits.taken;
+      taken = both_weaker (IsVariable g) (HasTakenName g) (HasTakenName h) (taken_fits g h ts us grow) l.params fits.params fits.taken;
       sums_taken = both_weaker (SummandFits g ts l.params) (λ (s : PlainSummand). All (HasTakenName g) s.sums) (λ (s : PlainSummand). All (HasTakenName h) s.sums)
-          (λ s k m. both_weaker (IsVariable g) (HasTakenName g) (HasTakenName h) (taken_fits g h ts us grow taken) s.sums k.sums m) l.summands fits.summands fits.sums_taken;
+          (λ s k m. both_weaker (IsVariable g) (HasTakenName g) (HasTakenName h) (taken_fits g h ts us grow) s.sums k.sums m) l.summands fits.summands fits.sums_taken;
     }

@@ -3,7 +3,6 @@ use Rattle.std.specs.Prelude.{◌≡◌, ◌<◌, List, [], map, length, Some, I
 use Rattle.std.specs.List.{All, Contains}
 use Rattle.data_theory.specs.Declarations.{HaveSorts}
 use Rattle.data_theory.specs.Environments.{terms_of}
-use Rattle.data_theory.specs.declared.ids.NameId.{NameId}
 use Rattle.data_theory.specs.declared.ids.SortId.{SortId}
 use Rattle.data_theory.specs.declared.ids.VarId.{VarId}
 use Rattle.data_theory.specs.declared.ids.TermId.{TermId}
@@ -76,8 +75,7 @@ WhatFitsStays =
     (g h : Sig) (ts us : List Tree) (l : PlainLinear) → IsTable g → IsComplete g → BothGrow g h ts us → Fits g ts l
     → (linear_of (entries_of h us) l ≡ linear_of (entries_of g ts) l) × (initial_of (entries_of h us) l ≡ initial_of (entries_of g ts) l)
 
--- and it fits still, where no taken name is given up
+-- and it fits still
 abbrev pub WhatFitsFitsStill : Type 0
 WhatFitsFitsStill =
-    (g h : Sig) (ts us : List Tree) (l : PlainLinear) → IsTable g → IsComplete g → IsTable h → BothGrow g h ts us → ((n : NameId) → Contains g.taken n → Contains h.taken n)
-    → Fits g ts l → Fits h us l
+    (g h : Sig) (ts us : List Tree) (l : PlainLinear) → IsTable g → IsComplete g → IsTable h → BothGrow g h ts us → Fits g ts l → Fits h us l
