@@ -1,16 +1,16 @@
 -- The summands of an encoding.
-use Rattle.std.proofs.Common.{◌≡◌, ◌+◌, ℕ, zero, suc, Bool, true, false, List, [], ◌∷◌, ◌++◌, map, length, refl, sym, ap, ◌∙◌, subst, arith, ◌⊎◌, ⊎_elim, Some, None}
+use Rattle.std.proofs.Common.{◌≡◌, ◌+◌, ℕ, zero, suc, List, [], ◌∷◌, map, length, refl, sym, ap, ◌∙◌, subst, arith, ⊎_elim, Some}
 use Rattle.std.specs.Prelude.{Contains, slice_get}
 use Rattle.std.proofs.lemmas.List.Elements.{Contains-append_cases, Contains-append_left, Contains-append_right}
 use Rattle.process_terms.specs.Processes.{Bound}
 use Rattle.bisim_laws.specs.LinearProcesses.{Summand, variables}
 use Rattle.bisim_laws.specs.BaseStates.{Columns}
-use Rattle.bisim_laws.proofs.Firing.{contains_first, contains_later, contains_cases, contains_none, variable_among}
+use Rattle.bisim_laws.proofs.Firing.{contains_first, contains_later, contains_none, variable_among}
 use Rattle.data_theory.proofs.EnvironmentLemmas.{contains_nothing, contains_cases as number_cases}
 use Rattle.greibach.specs.Forms.{FormSummand, FormEquation, Form}
 use Rattle.lps_core.proofs.Members.{map_contains, contains_map}
 use Rattle.lps_core.proofs.Renewing.{same_long}
-use Rattle.regular_encoder.specs.Encoding.{control_params, place_of, encoded_summand, encoded_from, encoded_params, IsPlace, IsLayout}
+use Rattle.regular_encoder.specs.Encoding.{control_params, encoded_summand, encoded_from, encoded_params, IsPlace}
 
 -- ---- lists
 pub variables_among : (xs ys : List Bound) → ((y : Bound) → Contains xs y → Contains ys y) → (v : ℕ) → Contains (variables xs) v → Contains (variables ys) v

@@ -1,22 +1,21 @@
 -- Summands that are encoded one after another.
-use Rattle.std.proofs.Common.{◌≡◌, ◌<◌, ◌≤◌, ◌+◌, ℕ, zero, suc, List, [], ◌∷◌, ◌++◌, map, take, length, get_or, refl, sym, ap, ap₂, ◌∙◌, subst, arith, Option, Some, None}
-use Rattle.std.specs.Prelude.{option_map, IfSome}
+use Rattle.std.proofs.Common.{◌≡◌, ◌<◌, ◌+◌, ℕ, zero, suc, List, [], ◌∷◌, ◌++◌, map, take, length, get_or, refl, sym, ap, ap₂, ◌∙◌, subst, arith, Some}
 use Rattle.std.specs.List.{All}
-use Rattle.std.proofs.lemmas.List.{append_assoc, append-nil, map-append, take_more, take_all}
+use Rattle.std.proofs.lemmas.List.{append_assoc, append-nil, map-append, take_more}
 use Rattle.std.proofs.lemmas.List.Elements.{All-push, All-weaker, All-head, All-tail}
 use Rattle.data_theory.specs.declared.ids.VarId.{VarId}
 use Rattle.data_theory.specs.declared.ids.TermId.{TermId}
-use Rattle.data_theory.specs.IdTrees.{Tree, variable, put_tree}
-use Rattle.term_pool.specs.HeadTrees.{tree_at, trees_at, IsIn, AreIn}
+use Rattle.data_theory.specs.IdTrees.{Tree, put_tree}
+use Rattle.term_pool.specs.HeadTrees.{tree_at, trees_at, AreIn}
 use Rattle.term_pool.specs.Pools.{Extends}
 use Rattle.term_pool.specs.Bindings.{listed, listed_terms}
 use Rattle.lps_core.specs.declared.linears.Summand.{Summand}
 use Rattle.greibach.specs.declared.forms.GreibachSummand.{GreibachSummand}
-use Rattle.lps_core.specs.PlainLinears.{PlainSummand, plain_summand}
+use Rattle.lps_core.specs.PlainLinears.{plain_summand}
 use Rattle.greibach.specs.PlainForms.{PlainFormSummand, plain_form_summand}
-use Rattle.lps_core.specs.TreeSummands.{TreeSummand, trees_of_label, trees_of_summand, put_actions, IsActionIn, IsSummandIn, bound_tree}
+use Rattle.lps_core.specs.TreeSummands.{trees_of_label, trees_of_summand, put_actions, IsSummandIn, bound_tree}
 use Rattle.lps_core.specs.TreeConditions.{conjunction_tree, tree_parts, trees_without_true}
-use Rattle.lps_core.proofs.PoolTrees.{extends_itself, extends_on, tree_kept, trees_kept, all_in_kept, listed_kept, put_along, args_along, actions_in_kept, actions_kept, actions_along}
+use Rattle.lps_core.proofs.PoolTrees.{extends_on, tree_kept, trees_kept, all_in_kept, listed_kept, put_along, args_along, actions_in_kept, actions_kept, actions_along}
 use Rattle.lps_core.proofs.KeptSummands.{summand_in_kept, summands_kept}
 use Rattle.regular_encoder.specs.TreeEncoding.{PlainLayout, place_at, tree_control_of, tree_control_parts, tree_encoded_next, tree_encoded, IsCallIn, IsFormSummandIn}
 

@@ -1,18 +1,18 @@
 -- The encoding is a linear process, and well sorted.
-use Rattle.std.proofs.Common.{◌≡◌, ◌+◌, ℕ, suc, Bool, true, false, List, [], ◌∷◌, ◌++◌, map, length, refl, sym, ap, ap₂, ◌∙◌, subst, arith, ◌⊎◌, ⊎_elim, Option, Some, None, cond}
+use Rattle.std.proofs.Common.{◌≡◌, ◌+◌, ℕ, suc, Bool, true, false, List, [], ◌∷◌, ◌++◌, map, length, refl, sym, ap, ap₂, ◌∙◌, subst, arith, ⊎_elim, Some, cond}
 use Rattle.std.specs.Prelude.{Contains, slice_get, pos, ◌≤ℤ◌}
 use Rattle.std.specs.List.{AllByRecursion}
 use Rattle.std.proofs.lemmas.Bool.Decides.{eqb_tells}
 use Rattle.std.proofs.lemmas.Int.{ints}
 use Rattle.std.proofs.lemmas.List.Elements.{Contains-append_cases, Contains-append_left, Contains-append_right}
 use Rattle.std.proofs.lemmas.Option.{slice_get_within}
-use Rattle.data_theory.specs.Terms.{Sort, boolean, positive, Term, variable, put}
+use Rattle.data_theory.specs.Terms.{Sort, boolean, positive, Term, put}
 use Rattle.data_theory.specs.Declarations.{Data, HasNumeral, Declares, HasSort, HaveSorts}
-use Rattle.data_theory.specs.Environments.{Environment, term_in, bound, terms_of, IsOver, AreOver}
+use Rattle.data_theory.specs.Environments.{term_in, bound, terms_of, IsOver, AreOver}
 use Rattle.data_theory.proofs.EnvironmentLemmas.{contains_first as number_first, contains_later as number_later, putting_in_keeps_sorts}
 use Rattle.process_terms.specs.Processes.{Bound}
-use Rattle.bisim_laws.specs.LinearProcesses.{Summand, variables, sorts, IsSummand, NextIsOver, no_next, next_over, SummandIsSorted, NextIsSorted, no_next_to_sort, next_sorted, AreDeclared}
-use Rattle.bisim_laws.specs.BaseStates.{GreibachCall, Columns, number_of, control_of}
+use Rattle.bisim_laws.specs.LinearProcesses.{variables, sorts, IsSummand, NextIsOver, no_next, next_over, SummandIsSorted, NextIsSorted, no_next_to_sort, next_sorted, AreDeclared}
+use Rattle.bisim_laws.specs.BaseStates.{GreibachCall, Columns, control_of}
 use Rattle.bisim_laws.proofs.Firing.{contains_first, contains_later, variable_among}
 use Rattle.lps_core.specs.Moving.{SameSorts, no_more, one_more, renaming_to}
 use Rattle.greibach.specs.Forms.{FormSummand, FormEquation, Form, CallIsOver, IsForm, IsFormSummand, FormIsSorted}
@@ -22,7 +22,7 @@ use Rattle.lps_core.proofs.OverVariables.{ArePutOver, put_over, puts_over, label
 use Rattle.lps_core.proofs.SortedTerms.{HaveTheirSorts, puts_sorted, label_sorted, renamed_sorted, one_sort}
 use Rattle.std.proofs.lemmas.List.{length-map}
 use Rattle.regular_encoder.specs.Encoding.{control_params, control_parts, place_of, to_columns, next_columns, encoded_next, encoded_summand, encoded_params, IsPlace, IsLayout, EncodedIsLinear, EncodedIsSorted}
-use Rattle.regular_encoder.proofs.Encoded.{Among, is_among, place_long, place_among, columns_among}
+use Rattle.regular_encoder.proofs.Encoded.{is_among, place_long, place_among, columns_among}
 
 -- ---- over variables
 control_among : (b : Bool) (v : ℕ) (xs : List Bound) → b ≡ true → Contains (variables (control_params b v ++ xs)) v

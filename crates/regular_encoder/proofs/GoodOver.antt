@@ -1,13 +1,9 @@
 -- The encoding over each theory that goes on from a signature.
-use Rattle.std.proofs.Common.{◌≡◌, ℕ, List, [], ◌∷◌}
-use Rattle.std.specs.Prelude.{Contains}
-use Rattle.data_theory.specs.Terms.{Sort, boolean, Term, Terms, none, more}
-use Rattle.data_theory.specs.Declarations.{Data, HaveSorts}
-use Rattle.data_theory.specs.Environments.{terms_of}
+use Rattle.std.proofs.Common.{List, []}
+use Rattle.data_theory.specs.Terms.{Sort, boolean}
+use Rattle.data_theory.specs.Declarations.{Data}
 use Rattle.data_theory.specs.EqualityLaws.{Grows}
 use Rattle.data_theory.proofs.GrowthLemmas.{growth_keeps_sorts}
-use Rattle.process_terms.specs.Labels.{Label}
-use Rattle.bisim_laws.specs.LinearProcesses.{LabelIsSorted, no_action_to_sort, action_sorted}
 use Rattle.lps_core.proofs.GrowingData.{data_sorts_grown, terms_grown, label_grown}
 use Rattle.greibach.specs.Forms.{Form, FormIsSorted}
 use Rattle.regular_encoder.specs.Encoding.{encoded_params}

@@ -1,26 +1,20 @@
 -- What is laid out is a layout.
 use Rattle.lps_core.specs.TreeSummands.{numbers_of}
-use Rattle.std.proofs.Common.{◌≡◌, ◌<◌, ◌≤◌, ℕ, zero, suc, Bool, true, false, List, [], ◌∷◌, ◌++◌, map, length, get_or, refl, sym, ap, ap₂, ◌∙◌, subst, arith, ⊎_elim, Option, Some, None}
+use Rattle.std.proofs.Common.{◌≡◌, ◌<◌, ℕ, zero, suc, false, List, [], ◌∷◌, ◌++◌, map, get_or, refl, sym, ap, ◌∙◌, subst, arith, Option, Some, None}
 use Rattle.std.specs.Prelude.{Contains, slice_get, is_some, option_to_list}
 use Rattle.std.specs.List.{AllZip}
-use Rattle.std.proofs.lemmas.List.{map-append}
 use Rattle.data_theory.specs.declared.ids.VarId.{VarId}
-use Rattle.data_theory.specs.Terms.{boolean, positive}
 use Rattle.data_theory.specs.Environments.{AreDistinct}
 use Rattle.data_theory.specs.Signature.{Sig}
 use Rattle.data_theory.specs.IdTrees.{Tree}
-use Rattle.data_theory.specs.IdTerms.{sort_under}
-use Rattle.process_terms.specs.Processes.{Bound}
 use Rattle.process_terms.specs.Meanings.{bound_at}
 use Rattle.process_terms.specs.SignatureEntries.{entries_of}
 use Rattle.bisim_laws.specs.LinearProcesses.{variables}
-use Rattle.bisim_laws.proofs.Firing.{contains_none, contains_first, contains_later, contains_cases}
 use Rattle.lps_core.specs.Moving.{SameSorts, no_more, one_more}
-use Rattle.greibach.specs.PlainForms.{PlainEquation, PlainFormSummand, form_summand_of, equation_of}
-use Rattle.greibach.specs.Forms.{FormEquation, FormSummand}
-use Rattle.regular_encoder.specs.Encoding.{control_params, encoded_params, place_of}
+use Rattle.greibach.specs.PlainForms.{form_summand_of, equation_of}
+use Rattle.regular_encoder.specs.Encoding.{control_params}
 use Rattle.regular_encoder.specs.TreeEncoding.{PlainLayout}
-use Rattle.regular_encoder.specs.Layouts.{IsPlaceOf, LaidOut, columns_meant, control_variable, LaidOutIsALayout}
+use Rattle.regular_encoder.specs.Layouts.{control_variable, LaidOutIsALayout}
 use Rattle.std.proofs.lemmas.List.{length-map}
 use Rattle.lps_core.proofs.Members.{contains_map, map_contains}
 

@@ -1,31 +1,22 @@
 -- What the code makes means the encoding.
-use Rattle.std.proofs.Common.{◌≡◌, ◌≤◌, ◌-◌, ℕ, suc, List, [], ◌∷◌, ◌++◌, map, refl, sym, ap, ap₂, ◌∙◌, arith, Option, Some, None}
-use Rattle.std.specs.Prelude.{option_map, IfSome}
-use Rattle.std.specs.List.{All, AllByRecursion}
+use Rattle.std.proofs.Common.{◌≡◌, ◌≤◌, ◌-◌, ℕ, suc, List, [], ◌∷◌, ◌++◌, map, refl, ap, ap₂, ◌∙◌, arith}
+use Rattle.std.specs.List.{AllByRecursion}
 use Rattle.std.proofs.lemmas.List.{map-append}
-use Rattle.std.proofs.lemmas.List.Elements.{All-head, All-tail}
-use Rattle.data_theory.specs.declared.ids.VarId.{VarId}
-use Rattle.data_theory.specs.declared.ids.TermId.{TermId}
 use Rattle.data_theory.specs.Signature.{Sig}
 use Rattle.data_theory.specs.Complete.{IsComplete}
 use Rattle.data_theory.specs.IdTables.{IsTable}
 use Rattle.data_theory.specs.IdTrees.{Tree, put_tree}
-use Rattle.data_theory.specs.IdTerms.{term_under, IsTreeWithin}
-use Rattle.term_pool.specs.HeadTrees.{tree_at, trees_at, AreIn}
-use Rattle.process_terms.specs.PlainProcesses.{PlainAction}
-use Rattle.process_terms.specs.Meanings.{action_at, bound_at, term_at, label_of}
+use Rattle.data_theory.specs.IdTerms.{IsTreeWithin}
+use Rattle.term_pool.specs.HeadTrees.{tree_at}
 use Rattle.process_terms.specs.SignatureEntries.{entries_of}
-use Rattle.bisim_laws.specs.LinearProcesses.{variables}
 use Rattle.bisim_laws.specs.BaseStates.{Columns}
-use Rattle.lps_core.specs.PlainLinears.{PlainSummand, summand_of}
 use Rattle.greibach.specs.PlainForms.{PlainEquation, PlainFormSummand, equation_of, form_summand_of}
-use Rattle.lps_core.specs.TreeSummands.{trees_of_label, trees_of_summand, IsActionIn, IsSummandIn, meant_action, meant_summand, numbers_of}
+use Rattle.lps_core.specs.TreeSummands.{meant_summand}
 use Rattle.lps_core.proofs.MeantTrees.{numbers_meant, summands_read}
 use Rattle.regular_encoder.specs.Encoding.{encoded_summand, encoded_from}
 use Rattle.regular_encoder.specs.TreeEncoding.{PlainLayout, tree_encoded, IsFormSummandIn}
 use Rattle.regular_encoder.specs.MeantEncoding.{MeansColumns}
 use Rattle.regular_encoder.specs.WholeEncoding.{moves_of, trees_encoded_from, AreEquationsIn, WhatIsMadeMeansTheEncoding}
-use Rattle.regular_encoder.proofs.RegularStates.{map_map}
 use Rattle.regular_encoder.proofs.MeantTrees.{encoded_trees_mean}
 
 module _ (g : Sig) (ts : List Tree) (l : PlainLayout) (c : Columns) (v : ℕ) (table : IsTable g) (complete : IsComplete g) (m : MeansColumns l c v) where

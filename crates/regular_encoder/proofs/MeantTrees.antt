@@ -1,39 +1,34 @@
 -- What an encoding over trees means.
-use Rattle.std.proofs.Common.{◌≡◌, ◌≤◌, ◌<◌, ◌+◌, ◌-◌, ◌==◌, ℕ, zero, suc, Bool, true, false, List, [], ◌∷◌, ◌++◌, map, length, get_or, refl, sym, ap, ap₂, ◌∙◌, subst, arith, cond, Option, Some, None}
+use Rattle.std.proofs.Common.{◌≡◌, ◌≤◌, ◌+◌, ◌-◌, ℕ, zero, suc, Bool, true, false, List, [], ◌∷◌, ◌++◌, map, get_or, refl, sym, ap, ap₂, ◌∙◌, arith, Option, Some, None}
 use Rattle.std.specs.Prelude.{pos, option_map}
 use Rattle.std.specs.List.{All}
 use Rattle.std.proofs.lemmas.List.{append-nil, map-append}
-use Rattle.std.proofs.lemmas.List.Elements.{All-head, All-tail}
+use Rattle.std.proofs.lemmas.List.Elements.{All-head}
 use Rattle.data_theory.specs.declared.ids.VarId.{VarId}
 use Rattle.data_theory.specs.declared.ids.TermId.{TermId}
-use Rattle.data_theory.specs.Table.{pos_sort}
-use Rattle.data_theory.specs.Terms.{positive, equality, Symbol, Term, Terms, variable as var, numeral as num, unknown, application, none as no_terms, more as and_more, apply, put, put_all}
+use Rattle.data_theory.specs.Terms.{positive, Term, variable as var, numeral as num, application, none as no_terms, more as and_more, put}
 use Rattle.data_theory.specs.Equations.{equals}
 use Rattle.data_theory.specs.Environments.{Environment, term_in, bound}
 use Rattle.data_theory.specs.Signature.{Sig}
 use Rattle.data_theory.specs.Complete.{IsComplete}
 use Rattle.data_theory.specs.IdTables.{IsTable}
-use Rattle.data_theory.specs.IdTrees.{Tree, variable, numeral, put_tree}
-use Rattle.data_theory.specs.IdTerms.{sort_under, symbol_under, term_under, IsTreeWithin}
-use Rattle.data_theory.proofs.IdTermLemmas.{putting_in_trees_puts_in_terms}
-use Rattle.term_pool.specs.HeadTrees.{tree_at, trees_at, IsIn, AreIn}
-use Rattle.process_terms.specs.PlainProcesses.{PlainAction}
-use Rattle.process_terms.specs.Labels.{Action, put_label}
-use Rattle.process_terms.specs.Meanings.{action_at, bound_at, term_at, label_of}
+use Rattle.data_theory.specs.IdTrees.{Tree, variable, put_tree}
+use Rattle.data_theory.specs.IdTerms.{term_under}
+use Rattle.term_pool.specs.HeadTrees.{tree_at, trees_at}
+use Rattle.process_terms.specs.Labels.{put_label}
+use Rattle.process_terms.specs.Meanings.{bound_at, term_at, label_of}
 use Rattle.process_terms.specs.SignatureEntries.{entries_of}
 use Rattle.process_terms.specs.Communication.{conjunction_of}
-use Rattle.bisim_laws.specs.LinearProcesses.{variables}
-use Rattle.bisim_laws.specs.BaseStates.{GreibachCall, Columns, number_of, control_of}
+use Rattle.bisim_laws.specs.BaseStates.{Columns, number_of, control_of}
 use Rattle.lps_core.specs.Conditions.{parts, without_true, joined}
-use Rattle.greibach.specs.PlainForms.{PlainFormSummand, call_of, form_summand_of}
-use Rattle.greibach.specs.Forms.{FormEquation}
-use Rattle.lps_core.specs.TreeSummands.{TreeAction, trees_of_label, IsActionIn, put_actions, bound_tree, meant_action, meant_summand, numbers_of}
+use Rattle.greibach.specs.PlainForms.{call_of}
+use Rattle.lps_core.specs.TreeSummands.{bound_tree, numbers_of}
 use Rattle.lps_core.specs.TreeConditions.{tree_parts, trees_without_true, conjunction_tree}
 use Rattle.lps_core.proofs.Staying.{term_is, terms_are}
 use Rattle.lps_core.proofs.MeantTrees.{Means, bound_means, variables_mean, put_means, puts_mean, label_means}
 use Rattle.lps_core.proofs.MeantParts.{numbers_mean, positive_meant, parts_mean_parts, chains_mean_chains}
-use Rattle.regular_encoder.specs.Encoding.{control_parts, place_of, to_columns, next_columns, encoded_next, encoded_summand}
-use Rattle.regular_encoder.specs.TreeEncoding.{PlainLayout, place_at, number_tree, tree_control_parts, tree_control_of, tree_next, tree_encoded_next, tree_encoded, IsCallIn, IsFormSummandIn}
+use Rattle.regular_encoder.specs.Encoding.{control_parts, place_of, to_columns, encoded_next}
+use Rattle.regular_encoder.specs.TreeEncoding.{PlainLayout, place_at, number_tree, tree_control_parts, tree_control_of, tree_encoded_next, IsCallIn}
 use Rattle.regular_encoder.specs.MeantEncoding.{HasControl, MeansColumns, EncodedTreesMean}
 
 -- ---- the control number

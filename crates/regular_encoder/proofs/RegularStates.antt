@@ -1,39 +1,37 @@
 -- The encoding and the form answer each other.
-use Rattle.std.proofs.Common.{◌≡◌, ◌+◌, ◌<◌, ◌≤◌, ℕ, suc, Bool, true, false, List, [], ◌∷◌, ◌++◌, map, length, get_or, refl, sym, ap, ◌∙◌, subst, arith, ◌⊎◌, inl, inr, ⊎_elim, Option, Some, None}
+use Rattle.std.proofs.Common.{◌≡◌, ◌+◌, ◌<◌, ◌≤◌, ℕ, suc, Bool, true, false, List, [], ◌∷◌, ◌++◌, map, length, get_or, refl, sym, ap, ◌∙◌, subst, arith, Option, Some}
 use Rattle.std.specs.Prelude.{Contains, slice_get, pos}
 use Rattle.std.specs.List.{AllByRecursion}
-use Rattle.std.proofs.lemmas.Int.{ints}
 use Rattle.std.proofs.lemmas.Option.{slice_get-get_or, slice_get_within, get_or_from_slice_get}
-use Rattle.std.proofs.lemmas.List.Elements.{Contains-append_cases, Contains-append_left, Contains-append_right}
-use Rattle.data_theory.specs.Terms.{Sort, boolean, positive, Term, variable, numeral, put}
-use Rattle.data_theory.specs.Declarations.{Data, Declares, HasSort, HaveSorts}
+use Rattle.data_theory.specs.Terms.{Sort, boolean, positive, Term, put}
+use Rattle.data_theory.specs.Declarations.{Data, HasSort}
 use Rattle.data_theory.specs.Equations.{equals}
 use Rattle.data_theory.specs.Provable.{reflexive, reflected}
-use Rattle.data_theory.specs.Environments.{Environment, term_in, bound, terms_of, IsOver, Agree, Apart, AreDistinct}
+use Rattle.data_theory.specs.Environments.{Environment, term_in, bound, IsOver, Agree, AreDistinct}
 use Rattle.data_theory.proofs.EqualityLemmas.{equals_of_equal}
 use Rattle.data_theory.proofs.ConsistencyLemmas.{equal_numerals_are_the_same}
-use Rattle.process_terms.specs.Theories.{Theory, IsTrue, IsConsistent, IsOfSort, AreOfSorts, AllTrue, none_left, true_and_more}
-use Rattle.process_terms.specs.Labels.{Label, put_label}
-use Rattle.process_terms.specs.Processes.{Bound, Table, Process, call}
-use Rattle.process_terms.specs.Steps.{Outcome, goes_on, Step}
+use Rattle.process_terms.specs.Theories.{Theory, IsTrue, IsConsistent, AreOfSorts, AllTrue, none_left, true_and_more}
+use Rattle.process_terms.specs.Labels.{Label}
+use Rattle.process_terms.specs.Processes.{Bound, Process, call}
+use Rattle.process_terms.specs.Steps.{Outcome, Step}
 use Rattle.process_terms.proofs.AgreeingLabels.{agree_refl}
 use Rattle.bisim_laws.specs.Bisimulations.{Lands, both_end, both_go_on, Answer, Flipped, UpTo, up_to}
-use Rattle.bisim_laws.specs.LinearProcesses.{Summand, Linear, variables, sorts, state_of, IsLinear, IsWellSorted, AreDeclared, HaveDataSorts, reading, put_next, outcome_of, Does, AreBound, Fires}
+use Rattle.bisim_laws.specs.LinearProcesses.{Linear, variables, sorts, state_of, IsLinear, IsWellSorted, AreDeclared, HaveDataSorts, reading, put_next, outcome_of, Does, AreBound, Fires}
 use Rattle.bisim_laws.specs.BaseStates.{GreibachCall, Columns, number_of, control_of, RegularState, regular_state}
 use Rattle.bisim_laws.specs.Links.{Regular}
 use Rattle.bisim_laws.proofs.Firing.{contains_first, reading_same, reading_agrees, bound_reads, reading_long, fired, fire}
 use Rattle.bisim_laws.proofs.SortedFiring.{firings_keep}
 use Rattle.bisim_laws.proofs.AlikeProcesses.{alike_refl}
 use Rattle.bisim_laws.proofs.ComposedLinks.{up_to_enough}
-use Rattle.lps_core.specs.Conditions.{joined, AreConditionsOnce}
+use Rattle.lps_core.specs.Conditions.{AreConditionsOnce}
 use Rattle.lps_core.specs.Moving.{Through, beside_reading}
-use Rattle.greibach.specs.Forms.{FormSummand, FormEquation, Form, form_table, CallIsOver, IsForm, IsFormSummand, IsTail, FormIsSorted, after_calls, FormFires}
+use Rattle.greibach.specs.Forms.{FormSummand, FormEquation, Form, form_table, CallIsOver, IsForm, IsTail, FormIsSorted, after_calls, FormFires}
 use Rattle.lps_core.proofs.Chains.{joined_true}
 use Rattle.lps_core.proofs.Environments.{in_front_agree, reads_behind, bound_along, put_through, puts_through, label_through, through_behind, readings_to}
 use Rattle.lps_core.proofs.SortedTerms.{HaveTerms, closed_instance, bound_have_terms, read_bound, both_have_terms}
 use Rattle.std.proofs.lemmas.List.{length-map}
 use Rattle.greibach.proofs.FormFiring.{form_fired, form_fire}
-use Rattle.regular_encoder.specs.Encoding.{control_params, control_parts, place_of, to_columns, next_columns, encoded_next, encoded_summand, encoded_params, encoded, IsPlace, IsLayout, EncodedIsBisimilar}
+use Rattle.regular_encoder.specs.Encoding.{control_params, control_parts, place_of, to_columns, next_columns, encoded_next, encoded_summand, encoded_params, encoded, IsLayout, EncodedIsBisimilar}
 use Rattle.regular_encoder.proofs.Encoded.{Among, is_among, stands_among, place_long, place_among}
 use Rattle.regular_encoder.proofs.Fitting.{parts_over, parts_sorted, encoded_linear, encoded_sorted, IsNumbered, numbered}
 
@@ -216,8 +214,8 @@ module _ (th : Theory) (vs : List Sort) (c : Columns) (v : ℕ) (form : Form) (c
           bound = b;
           does = record {
             holds = (joined_true th (term_in d) cs (conditions s k.among d b h)).0
-            (control_holds th d c.control v i (numbered c v form layout i q at) c.columns ts h (put (term_in (to_columns c i q)) s.condition ∷ [])
-            (true_and_more (subst (λ t. IsTrue th t) (sym (put_through xs (to_columns c i q) d e g s.condition f.condition)) k.holds) none_left));
+                (control_holds th d c.control v i (numbered c v form layout i q at) c.columns ts h (put (term_in (to_columns c i q)) s.condition ∷ [])
+                (true_and_more (subst (λ t. IsTrue th t) (sym (put_through xs (to_columns c i q) d e g s.condition f.condition)) k.holds) none_left));
             label = k.label ∙ sym (label_through xs (to_columns c i q) d e g s.label f.label);
             onward = refl;
           };
@@ -228,7 +226,7 @@ module _ (th : Theory) (vs : List Sort) (c : Columns) (v : ℕ) (form : Form) (c
           step = fire th L state m (put_next d y.next) linear fires;
           agree = agree_refl th m;
           lands = subst (λ z. Lands (UpTo th R) z (outcome_of L (put_next d y.next))) (sym k.outcome)
-          (lands_after i q s.next xs d e (tail i q s at k.among) f.next g (λ us w. firings_keep th vs L state us m linear well state_sorted (subst (λ z. Fires th L state m z) (sym w) fires)));
+              (lands_after i q s.next xs d e (tail i q s at k.among) f.next g (λ us w. firings_keep th vs L state us m linear well state_sorted (subst (λ z. Fires th L state m z) (sym w) fires)));
         }
 
     back_at : {m : Label} {next : Option (List Term)} (k : Fires th L state m next) (s : FormSummand) → Contains q.summands s → k.summand ≡ encoded_summand c v i q s → Answer th (Flipped (UpTo th R)) (call (form_table form) i args) m (outcome_of L next)
@@ -261,7 +259,7 @@ module _ (th : Theory) (vs : List Sort) (c : Columns) (v : ℕ) (form : Form) (c
           });
           agree = agree_refl th m;
           lands = subst (λ z. Lands (Flipped (UpTo th R)) (outcome_of L z) (after_calls (form_table form) e s.next)) (sym does.onward)
-          (lands_turned (lands_after i q s.next xs d e (tail i q s at among) f.next g (λ us u. firings_keep th vs L state us m linear well state_sorted (subst (λ z. Fires th L state m z) (does.onward ∙ sym u) k))));
+              (lands_turned (lands_after i q s.next xs d e (tail i q s at among) f.next g (λ us u. firings_keep th vs L state us m linear well state_sorted (subst (λ z. Fires th L state m z) (does.onward ∙ sym u) k))));
         }
 
     -- a summand that fires is one of this equation

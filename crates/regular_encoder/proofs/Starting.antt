@@ -1,6 +1,6 @@
 -- Where the encoding starts.
-use Rattle.std.proofs.Common.{◌≡◌, ◌<◌, ℕ, suc, Bool, List, [], ◌∷◌, ◌++◌, map, length, refl, sym, ap, ap₂, ◌∙◌, subst, arith, ⊎_elim, cond, Some}
-use Rattle.std.specs.Prelude.{Contains, slice_get}
+use Rattle.std.proofs.Common.{◌≡◌, ◌<◌, ℕ, List, [], ◌∷◌, ◌++◌, length, sym, ap, ◌∙◌, subst, ⊎_elim, cond}
+use Rattle.std.specs.Prelude.{Contains}
 use Rattle.std.proofs.lemmas.Bool.Decides.{eqb_tells}
 use Rattle.std.proofs.lemmas.Option.{slice_get-get_or, slice_get_within}
 use Rattle.std.proofs.lemmas.List.Elements.{Contains-append_right}
@@ -8,17 +8,17 @@ use Rattle.data_theory.specs.Terms.{Sort, Term}
 use Rattle.data_theory.specs.Declarations.{Data, Declares, HasSort, HaveSorts}
 use Rattle.data_theory.specs.Environments.{Environment, term_in, bound, terms_of}
 use Rattle.data_theory.proofs.EnvironmentLemmas.{front_is_read, bound_are_the_parameters}
-use Rattle.process_terms.specs.Theories.{Theory, AreOfSorts}
+use Rattle.process_terms.specs.Theories.{AreOfSorts}
 use Rattle.process_terms.specs.Processes.{Bound, call}
 use Rattle.bisim_laws.specs.Bisimulations.{up_to}
 use Rattle.bisim_laws.specs.LinearProcesses.{variables, sorts, state_of, AreDeclared, reading}
-use Rattle.bisim_laws.specs.BaseStates.{Columns, control_of, columns_of, RegularState, regular_state}
+use Rattle.bisim_laws.specs.BaseStates.{control_of, RegularState, regular_state}
 use Rattle.bisim_laws.proofs.Firing.{contains_first, contains_later, contains_cases, contains_none, bound_reads, reading_same}
 use Rattle.bisim_laws.proofs.AlikeProcesses.{alike_refl}
-use Rattle.greibach.specs.Forms.{FormEquation, Form, form_table}
+use Rattle.greibach.specs.Forms.{form_table}
 use Rattle.lps_core.proofs.Environments.{readings_to}
 use Rattle.lps_core.proofs.SortedTerms.{one_sort}
-use Rattle.regular_encoder.specs.Encoding.{control_params, place_of, encoded_params, encoded, IsPlace, IsLayout, EncodedIsGood}
+use Rattle.regular_encoder.specs.Encoding.{control_params, place_of, encoded, EncodedIsGood}
 use Rattle.regular_encoder.proofs.Encoded.{place_long, place_among}
 use Rattle.regular_encoder.proofs.Fitting.{same_sorts, numbered}
 use Rattle.regular_encoder.proofs.RegularStates.{sorts_long, number_in_front, encoded_bisimilar}
@@ -66,8 +66,7 @@ encoded_good th vs c v form q init con is tail sorted layout declared sorts_of_d
     readings_to (term_in e) xs place (place_among c q place p)
     ∙ reading_same place e (bound place init) (λ u i. front_is_read (bound place init) (bound xs c.defaults) u (subst (λ z. Contains z u) (sym (bound_are_the_parameters place init long)) i))
     ∙ bound_reads place init long p.distinct in
-    let within : 0 < length c.places = subst (λ n. 0 < n) (sym layout.long) (slice_get_within form 0 q at) in
-    (
+    let within : 0 < length c.places = subst (λ n. 0 < n) (sym layout.long) (slice_get_within form 0 q at) in (
       record {
         starts = up_to (alike_refl th _)
             (subst (λ ts. RegularState th (form_table form) c (encoded c v form) (call (form_table form) 0 ts) (state_of (encoded c v form) (control_of c.control 0 ++ first))) args

@@ -1,7 +1,7 @@
 -- The linear process of a tail form.
-use Rattle.std.specs.Prelude.{◌≡◌, ◌<◌, ℕ, suc, Bool, true, false, List, [], ◌∷◌, ◌++◌, map, length, Option, Some, None, get_or, slice_get, Contains, pos}
+use Rattle.std.specs.Prelude.{◌≡◌, ◌<◌, ℕ, suc, Bool, true, false, List, [], ◌∷◌, ◌++◌, map, length, Option, Some, None, get_or, slice_get, Contains}
 use Rattle.data_theory.specs.Terms.{Sort, positive, Term, variable, put}
-use Rattle.data_theory.specs.Declarations.{Data, Declares}
+use Rattle.data_theory.specs.Declarations.{Data}
 use Rattle.data_theory.specs.Equations.{equals}
 use Rattle.data_theory.specs.Environments.{Environment, term_in, bound, Apart, AreDistinct}
 use Rattle.process_terms.specs.Theories.{Theory, IsConsistent, AreOfSorts}

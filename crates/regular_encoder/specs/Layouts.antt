@@ -1,11 +1,7 @@
 -- When the columns that were laid out in code are a layout of the form.
-use Rattle.std.specs.Prelude.{◌≡◌, ◌==◌, ◌&&◌, ◌<◌, ◌≤◌, ℕ, suc, Bool, List, [], ◌∷◌, ◌++◌, map, length, if◌then◌else◌, get_or, slice_get, Option, Some, None, is_some, option_to_list}
-use Rattle.std.specs.List.{All, AllZip, Contains, list_any, position, range_with_len}
-use Rattle.data_theory.specs.declared.ids.NameId.{NameId}
-use Rattle.data_theory.specs.declared.ids.SortId.{SortId}
+use Rattle.std.specs.Prelude.{◌≡◌, ◌<◌, ◌≤◌, ℕ, List, [], ◌++◌, map, length, get_or, slice_get, Option, Some, None, is_some, option_to_list}
+use Rattle.std.specs.List.{AllZip, Contains}
 use Rattle.data_theory.specs.declared.ids.VarId.{VarId}
-use Rattle.data_theory.specs.declared.signature.Variable.{Variable}
-use Rattle.data_theory.specs.Table.{bool_sort}
 use Rattle.data_theory.specs.Signature.{Sig}
 use Rattle.data_theory.specs.Terms.{Term}
 use Rattle.data_theory.specs.Environments.{AreDistinct}

@@ -1,17 +1,14 @@
 -- What an encoding over trees means.
-use Rattle.std.specs.Prelude.{◌≡◌, ◌≤◌, ◌-◌, ℕ, Bool, true, false, List, [], map, option_map, Option, Some, None}
-use Rattle.std.specs.List.{AllByRecursion}
+use Rattle.std.specs.Prelude.{◌≡◌, ◌≤◌, ◌-◌, ℕ, Bool, true, false, List, map, Option, Some, None}
 use Rattle.data_theory.specs.declared.ids.VarId.{VarId}
 use Rattle.data_theory.specs.Signature.{Sig}
 use Rattle.data_theory.specs.Complete.{IsComplete}
 use Rattle.data_theory.specs.IdTables.{IsTable}
 use Rattle.data_theory.specs.IdTrees.{Tree, variable, put_tree}
-use Rattle.data_theory.specs.IdTerms.{term_under, IsTreeWithin}
+use Rattle.data_theory.specs.IdTerms.{IsTreeWithin}
 use Rattle.term_pool.specs.HeadTrees.{tree_at}
-use Rattle.process_terms.specs.Labels.{Action}
-use Rattle.process_terms.specs.Meanings.{action_at, bound_at}
 use Rattle.process_terms.specs.SignatureEntries.{entries_of}
-use Rattle.bisim_laws.specs.LinearProcesses.{Summand, variables}
+use Rattle.bisim_laws.specs.LinearProcesses.{variables}
 use Rattle.bisim_laws.specs.BaseStates.{Columns}
 use Rattle.greibach.specs.PlainForms.{PlainFormSummand, form_summand_of}
 use Rattle.greibach.specs.Forms.{FormEquation}

@@ -1,5 +1,5 @@
 -- The encoding over the trees of a pool.
-use Rattle.std.specs.Prelude.{◌≡◌, ◌≤◌, ◌==◌, ◌-◌, ℕ, List, [], ◌∷◌, ◌++◌, map, length, cond, get_or, Option, Some, None, Vec, pos}
+use Rattle.std.specs.Prelude.{◌≡◌, ◌≤◌, ◌-◌, ℕ, List, [], ◌∷◌, ◌++◌, map, length, get_or, Option, Some, None, Vec, pos}
 use Rattle.std.specs.List.{All}
 use Rattle.std.specs.Global.{Global}
 use Rattle.data_theory.specs.declared.ids.VarId.{VarId}

@@ -1,5 +1,5 @@
 -- The whole encoding: over each theory that goes on from a signature, and as what the code makes means.
-use Rattle.std.specs.Prelude.{◌≡◌, ◌≤◌, ◌++◌, ℕ, suc, List, [], ◌∷◌, map, Option, Some, slice_get, IfSome}
+use Rattle.std.specs.Prelude.{◌≡◌, ◌++◌, ℕ, suc, List, [], ◌∷◌, map, Some, slice_get}
 use Rattle.std.specs.List.{All, AllByRecursion}
 use Rattle.data_theory.specs.declared.ids.VarId.{VarId}
 use Rattle.data_theory.specs.Terms.{Sort, Term}
@@ -11,17 +11,17 @@ use Rattle.data_theory.specs.IdTables.{IsTable}
 use Rattle.data_theory.specs.IdData.{data_meant}
 use Rattle.data_theory.specs.IdTrees.{Tree, variable, put_tree}
 use Rattle.data_theory.specs.IdTerms.{IsTreeWithin}
-use Rattle.term_pool.specs.HeadTrees.{tree_at, trees_at, IsIn, AreIn}
+use Rattle.term_pool.specs.HeadTrees.{tree_at}
 use Rattle.process_terms.specs.Processes.{call}
 use Rattle.process_terms.specs.SignatureEntries.{entries_of}
 use Rattle.process_terms.specs.Meanings.{bound_at}
-use Rattle.bisim_laws.specs.LinearProcesses.{Linear, sorts, state_of, AreDeclared, HaveDataSorts}
+use Rattle.bisim_laws.specs.LinearProcesses.{sorts, state_of, AreDeclared, HaveDataSorts}
 use Rattle.bisim_laws.specs.BaseStates.{Columns}
 use Rattle.bisim_laws.specs.Links.{Regular}
 use Rattle.lps_core.specs.GoingOn.{IsGoodOver}
 use Rattle.lps_core.specs.declared.linears.Summand.{Summand}
-use Rattle.lps_core.specs.PlainLinears.{plain_summand, PlainSummand, PlainLinear, linear_of}
-use Rattle.greibach.specs.PlainForms.{PlainEquation, PlainFormSummand, PlainForm, equation_of, form_of}
+use Rattle.lps_core.specs.PlainLinears.{plain_summand, PlainLinear, linear_of}
+use Rattle.greibach.specs.PlainForms.{PlainEquation, PlainFormSummand, PlainForm, form_of}
 use Rattle.greibach.specs.Forms.{FormEquation, Form, form_table, IsForm, IsTail, FormIsSorted}
 use Rattle.lps_core.specs.TreeSummands.{TreeSummand, trees_of_summand, IsSummandIn, bound_tree}
 use Rattle.regular_encoder.specs.Encoding.{encoded_params, encoded, first_terms, IsLayout}

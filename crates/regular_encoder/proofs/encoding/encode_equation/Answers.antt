@@ -26,12 +26,11 @@ loop-summand-preserved c =
     let place : c.as_slice-place.result.now ≡ place_at (plain_layout c.args.layout.now) c.args.number = c.as_slice-place.ensures.value ∙ ap (λ v. v.items) c.index.ensures ∙ sym (place_read c.args.layout.now c.args.number _ c.requires.number c.requires.place) in
     let moves : (v : VarId) → listed c.renaming.new.pool.trees c.in_ok-by.by.items v ≡ moves_of (plain_layout c.args.layout.now) c.args.number (plain_equation c.args.equation.now) v =
     λ v. c.in_ok-by.ensures.moves v ∙ ap₂ (λ xs ys. bound_tree xs (map variable ys) v) c.as_slice.ensures.value place in
-    let within = subst (λ z. All (IsFormSummandIn c.args.pool.now.trees (plain_layout c.args.layout.now)) (map plain_form_summand z)) (sym c.deref-summand-items.ensures.value) c.requires.within in
-    (
+    let within = subst (λ z. All (IsFormSummandIn c.args.pool.now.trees (plain_layout c.args.layout.now)) (map plain_form_summand z)) (sym c.deref-summand-items.ensures.value) c.requires.within in (
       subst (λ z. IsEncoding (plain_layout c.args.layout.now) c.args.number (moves_of (plain_layout c.args.layout.now) c.args.number (plain_equation c.args.equation.now)) c.args.pool.now.trees c.args.summands.now.items c.deref-summand-items.result.now (c.loop-summand.summand-index + 1) c.encode_summand.new.pool.trees z) (sym c.in_ok-push.ensures.items)
-      (encoding_more _ _ _ c.args.pool.now.trees c.renaming.new.pool.trees c.in_ok-by.by.items _ _ _ c.loop-summand.pool.trees _ c.summand-item.result c.loop-summand.invariant.0 c.loop-summand-test.true c.summand-item.is within
-      c.loop-summand.invariant.2 c.in_ok-by.ensures.within moves _ _ c.encode_summand.ensures.kept c.in_ok-made.ensures.within
-      (c.in_ok-made.ensures.summand ∙ ap (λ z. tree_encoded (plain_layout c.args.layout.now) c.args.number (listed c.loop-summand.pool.trees z) c.loop-summand.pool.trees (plain_form_summand c.summand-item.result)) c.as_slice-in-loop-summand.ensures.value)),
+          (encoding_more _ _ _ c.args.pool.now.trees c.renaming.new.pool.trees c.in_ok-by.by.items _ _ _ c.loop-summand.pool.trees _ c.summand-item.result c.loop-summand.invariant.0 c.loop-summand-test.true c.summand-item.is within
+          c.loop-summand.invariant.2 c.in_ok-by.ensures.within moves _ _ c.encode_summand.ensures.kept c.in_ok-made.ensures.within
+          (c.in_ok-made.ensures.summand ∙ ap (λ z. tree_encoded (plain_layout c.args.layout.now) c.args.number (listed c.loop-summand.pool.trees z) c.loop-summand.pool.trees (plain_form_summand c.summand-item.result)) c.as_slice-in-loop-summand.ensures.value)),
       c.encode_summand.ensures.constants ∙ c.loop-summand.invariant.1,
       extends_on c.renaming.new.pool.trees c.loop-summand.pool.trees c.encode_summand.new.pool.trees c.loop-summand.invariant.2 c.encode_summand.ensures.kept,
     )

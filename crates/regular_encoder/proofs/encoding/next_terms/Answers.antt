@@ -1,5 +1,5 @@
 use Rattle.lps_core.specs.TreeSummands.{bound_tree}
-use Rattle.std.proofs.Common.{◌≡◌, ◌-◌, ◌++◌, map, get_or, ap, sym, ◌∙◌}
+use Rattle.std.proofs.Common.{◌≡◌, ◌++◌, map, ap, sym, ◌∙◌}
 use Rattle.data_theory.specs.IdTrees.{put_tree}
 use Rattle.term_pool.specs.HeadTrees.{trees_at}
 use Rattle.term_pool.specs.Bindings.{listed}
