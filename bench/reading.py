@@ -1,14 +1,19 @@
 #!/usr/bin/env python3
-"""How fast texts are read up to their refusal, beside `wc -w` on the same file.
+"""How fast texts are read up to their refusal, beside `wc -w` on the same file, and how much stack deep ones take.
 
-Run it from the top of the repository, after a build: bench/reading.py
-It prints one line for each text: its kind, size, seconds, bytes a second, peak memory, and how many times the time of
-`wc -w` that was. The peak is never less than that of this script, which starts the program. It is no part of the gate.
+Run it from the top of the repository, after a build: bench/reading.py [speed|stack|short] [PROGRAM WORD..]
+`speed` prints one line for each text: its kind, size, seconds, bytes a second, peak memory in all and for each byte of the
+text, and how many times the time of `wc -w` that was. The peak is never less than that of this script, which starts the
+program. `stack` prints for each kind of nesting the least `ulimit -s` that texts of some depths need, and how many bytes a
+level that is. `short` prints what the program says of texts that nest less than they seem to: none ends for want of memory.
+With no word all are printed. It is no part of the gate.
 """
 
 import os
 import pathlib
+import resource
 import subprocess
+import sys
 import tempfile
 import time
 
@@ -37,6 +42,33 @@ KINDS = {
     "declarations": (b"", b"act a, b: S # T;", b" init a;"),
     "sections of equations": (b"", b"var x: S; eqn f(x) = x;\n", b" init a;"),
     "short sections": (b"", b"var x:S;", b" init a;"),
+    "sorts": (b"sort ", b"A;", b"init a;"),
+    "equations": (b"eqn ", b"a=b;", b"init a;"),
+    "processes": (b"proc ", b"P=a;", b"init a;"),
+    "conditions": (b"init ", b"b->a||", b"a;"),
+    "conditions, both": (b"init ", b"b->a<>a||", b"a;"),
+    "nested choices": (b"init " + b"(" * 990 + b"a", b" + a", b")" * 990 + b";"),
+    "nested arrow": (b"init " + b"(" * 990 + b"a", b" + a", b" + b -> a" + b")" * 990 + b";"),
+    "nested, no guards": (b"init " + b"(" * 990 + b"a", b" + a", b" -> b)" * 990 + b";"),
+}
+# Nestings: what stands in front, what opens a level, what stands inside, what closes a level, and what stands behind.
+NESTINGS = {
+    "brackets": ("init ", "(", "a", ")", ";"),
+    "brackets of data": ("init a(", "(", "b", ")", ");"),
+    "brackets and signs": ("init a(", "(b && ", "b", ")", ");"),
+    "lists": ("init a(", "[", "b", "]", ");"),
+    "calls": ("init a(", "f(", "b", ")", ");"),
+    "prefix signs": ("init a(", "!", "b", "", ");"),
+    "conditions": ("init ", "b -> ", "a", "", ";"),
+    "sums": ("init ", "sum x: S . ", "a", "", ";"),
+    "sorts": ("map f: ", "(", "A", ")", "; init a;"),
+}
+# Texts of level 1,000 at most that don't nest as deep as they are long.
+SHORT = {
+    "conditions": "init " + "b->a||" * 1_400 + "a;",
+    "conditions, both": "init " + "b->a<>a||" * 700 + "a;",
+    "conditions and signs": "init " + "b->" * 400 + "a||" + "!" * 999 + "b->a;",
+    "signs in turn": "init a(" + "(" * 20 + "x" + (" => y" * 900 + " && !z)") * 20 + ");",
 }
 
 
@@ -62,16 +94,65 @@ def text_of(size, front, piece, behind):
     return (piece * (room // len(piece) + 1))[:size]
 
 
+def speed(command, path):
+    for kind, pieces in KINDS.items():
+        for size in (1, 4, 16):
+            path.write_bytes(text_of(size * MIB, *pieces))
+            seconds, memory = best([*command, path])
+            words, _ = best(["wc", "-w", path])
+            rate = size / seconds
+            each = memory / 1024 / size
+            print(f"{kind:21} {size:3} MiB {seconds:7.3f} s {rate:7.1f} MiB/s {memory // 1024:5} MiB peak {each:6.1f} a byte {seconds / words:6.2f} x wc -w")
+
+
+def ends(command, path, kib):
+    """Whether the program ends by itself with a stack of that many KiB and no environment."""
+
+    def limit():
+        resource.setrlimit(resource.RLIMIT_STACK, (kib * 1024, resource.RLIM_INFINITY))
+
+    outcome = subprocess.run([*command, path], preexec_fn=limit, env={}, capture_output=True, check=False)
+    return outcome.returncode >= 0
+
+
+def least(command, path):
+    """The least stack in KiB, within 8, that the program needs."""
+    low, high = 0, 16 * 1024
+    while high - low > 8:
+        middle = (low + high) // 2
+        if ends(command, path, middle):
+            high = middle
+        else:
+            low = middle
+    return high
+
+
+def stack(command, path):
+    for kind, (front, opens, inside, closes, behind) in NESTINGS.items():
+        needs = {}
+        for depth in (250, 500, 990):
+            path.write_text(front + opens * depth + inside + closes * depth + behind)
+            needs[depth] = least(command, path)
+        each = (needs[990] - needs[250]) * 1024 // (990 - 250)
+        shown = " ".join(f"{depth}: {kib:5} KiB" for depth, kib in needs.items())
+        print(f"{kind:21} {shown} {each:6} bytes a level")
+
+
+def short(command, path):
+    for kind, text in SHORT.items():
+        path.write_text(text)
+        said = subprocess.run([*command, path], capture_output=True, check=False)
+        print(f"{kind:21} {said.stderr.decode().strip()}")
+
+
 def main():
+    parts = {"speed": speed, "stack": stack, "short": short}
+    wanted = sys.argv[1:2] if len(sys.argv) > 1 else list(parts)
+    command = sys.argv[2:] if len(sys.argv) > 2 else [PROGRAM, "linearise"]
     with tempfile.TemporaryDirectory() as folder:
         path = pathlib.Path(folder) / "text.mcrl2"
-        for kind, pieces in KINDS.items():
-            for size in (1, 4, 16):
-                path.write_bytes(text_of(size * MIB, *pieces))
-                seconds, memory = best([PROGRAM, "linearise", path])
-                words, _ = best(["wc", "-w", path])
-                rate = size / seconds
-                print(f"{kind:20} {size:3} MiB {seconds:7.3f} s {rate:7.1f} MiB/s {memory // 1024:5} MiB peak {seconds / words:6.2f} x wc -w")
+        for name in wanted:
+            parts[name](command, path)
 
 
 if __name__ == "__main__":

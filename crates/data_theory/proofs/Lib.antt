@@ -22,6 +22,7 @@ pub mod NormalForms
 pub mod PlaceLemmas
 pub mod IdLemmas
 pub mod KeyLemmas
+pub mod NamedLemmas
 pub mod FunctionLemmas
 pub mod SortNameLemmas
 pub mod ListSortLemmas

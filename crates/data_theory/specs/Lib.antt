@@ -23,6 +23,7 @@ pub mod Sorts
 pub mod Words
 pub mod Rows
 pub mod Table
+pub mod RowsOfWords
 pub mod Taken
 pub mod FirstNames
 pub mod Structs
@@ -34,6 +35,7 @@ pub mod IdTrees
 pub mod IdTreeSorts
 pub mod IdSorts
 pub mod IdSymbols
+pub mod NamedFunctions
 pub mod IdTables
 pub mod IdData
 pub mod IdTerms

@@ -143,3 +143,7 @@ first_table = first_rows ++ truth_rows ++ sort_rows bool_sort ++ sort_rows pos_s
 -- all that comes with a list sort, in order
 unfoldable pub list_table : SortId → SortId → List Row
 list_table element list = sort_rows list ++ list_rows element list
+
+-- the whole table over a sort and its list sort, in the language's order
+unfoldable pub language_table : SortId → SortId → List Row
+language_table sort list = truth_rows ++ sort_rows sort ++ comparison_rows ++ sum_rows ++ first_rows ++ quotient_rows ++ extreme_rows ++ step_rows ++ list_rows sort list

@@ -2,6 +2,7 @@
 
 use crate::ids::{FunId, NameId, SortId};
 use crate::keys::Keys;
+use crate::named_functions::NamedFunctions;
 use crate::no_memory::NoMemory;
 use crate::words::Word;
 use std::alloc::Global;
@@ -24,17 +25,19 @@ pub struct FunEntry {
 pub struct Functions {
     entries: Vec<FunEntry>,
     keys: Keys,
+    named: NamedFunctions,
 }
 
 impl Model for Functions {
-    ghost use Rattle.std.specs.Prelude.{◌≡◌, List, map};
-    ghost use Rattle.data_theory.specs.Functions.{Function, functions_of, key_of};
+    ghost use Rattle.std.specs.Prelude.{List};
+    ghost use Rattle.data_theory.specs.Functions.{Function, functions_of};
+    ghost use Rattle.data_theory.specs.NamedFunctions.{IsIndexed};
 
     ghost Value = { List Function };
 
     ghost view = { λ table. functions_of table.entries.items };
 
-    ghost invariant = { λ table. table.keys ≡ map key_of (functions_of table.entries.items) };
+    ghost invariant = { λ table. IsIndexed (functions_of table.entries.items) table.keys table.named };
 }
 
 impl Functions {
@@ -42,6 +45,7 @@ impl Functions {
     ghost use Rattle.std.specs.List.{Contains};
     ghost use Rattle.data_theory.specs.Keys.{key};
     ghost use Rattle.data_theory.specs.Functions.{function_of, functions_of, key_of, HasKey, AreNew};
+    ghost use Rattle.data_theory.specs.NamedFunctions.{functions_named};
 
     /// No functions.
     pub fn new(alloc: Global) -> Functions
@@ -50,6 +54,7 @@ impl Functions {
         Functions {
             entries: Vec::new(alloc),
             keys: Keys::new(alloc),
+            named: NamedFunctions::new(alloc),
         }
     }
 
@@ -85,6 +90,13 @@ impl Functions {
         Some(FunId(place))
     }
 
+    /// The declared functions of a name, in their order.
+    pub fn named(&self, name: NameId) -> &[FunId]
+        ensures { result.now ≡ functions_named self.now name }
+    {
+        self.named.get(name)
+    }
+
     /// Adds a function behind the others.
     pub fn push(&mut self, entry: FunEntry) -> Result<FunId, NoMemory>
         requires { (k : ℕ) → HasKey self.old (key_of (function_of entry)) k → ⊥ }
@@ -92,9 +104,13 @@ impl Functions {
         ensures pushed { IfOk result (λ _. self.new ≡ self.old ++ function_of entry ∷ []) }
         ensures unchanged { OnErr result (self.new ≡ self.old) }
     {
+        let fun = FunId(self.entries.len());
         self.entries.reserve(1)?;
         self.keys.push(entry.name, entry.sorts.as_slice())?;
-        let fun = FunId(self.entries.len());
+        if self.named.enter(entry.name, entry.word, fun).is_err() {
+            self.keys.truncate(fun.0);
+            return Err(NoMemory);
+        }
         let _ = self.entries.push(entry);
         Ok(fun)
     }
@@ -119,7 +135,23 @@ impl Functions {
     pub fn truncate(&mut self, length: usize)
         ensures { self.new ≡ take length self.old }
     {
-        self.entries.truncate(length);
+        cut(&mut self.entries, &mut self.named, length);
         self.keys.truncate(length);
+    }
+}
+
+ghost use Rattle.std.specs.Prelude.{◌≡◌, take};
+ghost use Rattle.data_theory.specs.Functions.{functions_of};
+ghost use Rattle.data_theory.specs.NamedFunctions.{AreNamedLists};
+
+/// Keeps the first functions alone, also in the lists of their names.
+fn cut(entries: &mut Vec<FunEntry>, named: &mut NamedFunctions, length: usize)
+    requires { AreNamedLists (functions_of entries.old.items) named.old }
+    ensures entries { functions_of entries.new.items ≡ take length (functions_of entries.old.items) }
+    ensures named { AreNamedLists (functions_of entries.new.items) named.new }
+{
+    while entries.len() > length {
+        let entry = entries.pop().unwrap();
+        named.forget(entry.name, entry.word);
     }
 }

@@ -18,6 +18,7 @@ pub mod growth;
 mod ids;
 mod keys;
 pub mod meanings;
+mod named_functions;
 mod names;
 mod no_memory;
 mod num;
@@ -39,11 +40,9 @@ pub use ids::{ActId, FunId, NameId, ProcId, SortId, TermId, VarId};
 pub use names::Names;
 pub use no_memory::NoMemory;
 pub use num::Num;
+pub use rows::Row;
 pub use signature::{Signature, Variable};
 pub use sort_table::SortKind;
 pub use structs::ConDecl;
-
-#[cfg(test)]
-mod signature_tests;
-#[cfg(test)]
-mod tests;
+pub use table::rows_of;
+pub use words::{ListWord, NumberWord, Word};

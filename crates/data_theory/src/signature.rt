@@ -12,6 +12,7 @@ use crate::sort_table::{SortKind, SortTable};
 use crate::structs::{ConDecl, numbers_from, struct_entries};
 use crate::table::{first_table, list_table, sort_rows};
 use crate::taken::take_first_names;
+use crate::words::Word;
 use indexmap::IndexSet;
 use std::alloc::Global;
 use std::marker::Model;
@@ -55,6 +56,7 @@ impl Signature {
     ghost use Rattle.std.specs.List.{All, Contains};
     ghost use Rattle.data_theory.specs.Keys.{key};
     ghost use Rattle.data_theory.specs.Functions.{HasKey, AreNew, arguments_of, declared_function};
+    ghost use Rattle.data_theory.specs.NamedFunctions.{functions_named};
     ghost use Rattle.data_theory.specs.Structs.{cons_of, struct_functions, IsConWithin};
     ghost use Rattle.data_theory.specs.Places.{HaveOnePlace};
     ghost use Rattle.data_theory.specs.Sorts.{kind_of, IsBare, IsListOver, IsAnyListOver};
@@ -131,6 +133,36 @@ impl Signature {
         ensures { result.now ≡ self.now.declared }
     {
         self.declared.as_slice()
+    }
+
+    /// How many functions there are, built-in and declared. Their ids are those below it.
+    pub fn fun_count(&self) -> usize
+        ensures { result ≡ length self.now.functions }
+    {
+        self.functions.len()
+    }
+
+    /// The id of a function's name.
+    pub fn fun_name_id(&self, fun: FunId) -> NameId
+        requires { fun.0 < length self.now.functions }
+        ensures { IfSome (slice_get self.now.functions fun.0) (λ f. f.name ≡ result) }
+    {
+        self.functions.get(fun).name
+    }
+
+    /// The declared functions of a name, in their order.
+    pub fn funs_named(&self, name: NameId) -> &[FunId]
+        ensures { result.now ≡ functions_named self.now.functions name }
+    {
+        self.functions.named(name)
+    }
+
+    /// The word of a built-in function; a declared one has none.
+    pub fn word_of(&self, fun: FunId) -> Option<Word>
+        requires { fun.0 < length self.now.functions }
+        ensures { IfSome (slice_get self.now.functions fun.0) (λ f. f.word ≡ result) }
+    {
+        self.functions.get(fun).word
     }
 
     /// The name of a function.

@@ -196,3 +196,36 @@ pub fn list_table(alloc: Global, element: SortId, list: SortId) -> Result<Vec<Ro
     rows.extend_from_slice(&list_rows(element, list))?;
     Ok(rows)
 }
+
+/// The whole table over a sort and its list sort, in the language's order.
+fn language_table(alloc: Global, sort: SortId, list: SortId) -> Result<Vec<Row>, NoMemory>
+    ensures { IfOk result (λ rows. rows.items ≡ table.language_table sort list) }
+{
+    let mut rows = Vec::from_slice(alloc, &truth_rows())?;
+    rows.extend_from_slice(&sort_rows(sort))?;
+    rows.extend_from_slice(&comparison_rows())?;
+    rows.extend_from_slice(&sum_rows())?;
+    rows.extend_from_slice(&first_rows())?;
+    rows.extend_from_slice(&quotient_rows())?;
+    rows.extend_from_slice(&extreme_rows())?;
+    rows.extend_from_slice(&step_rows())?;
+    rows.extend_from_slice(&list_rows(sort, list))?;
+    Ok(rows)
+}
+
+ghost use Rattle.data_theory.specs.RowsOfWords.{rows_of};
+
+/// The rows of a name, in the order of the language's table: the signatures that the built-in functions of this name have, where
+/// "any sort" is the given one, and a list sort that over it.
+pub fn rows_of(alloc: Global, name: &str, sort: SortId, list: SortId) -> Result<Vec<Row>, NoMemory>
+    ensures { IfOk result (λ rows. rows.items ≡ rows_of name.now sort list) }
+{
+    let table = language_table(alloc, sort, list)?;
+    let mut rows = Vec::new(alloc);
+    for row in table.as_slice() {
+        if row.word().text() == name {
+            rows.push(*row)?;
+        }
+    }
+    Ok(rows)
+}

@@ -22,7 +22,7 @@ use Rattle.bisim_laws.specs.LinearProcesses.{sorts}
 use Rattle.bisim_laws.specs.BaseStates.{GreibachCall}
 use Rattle.lps_core.specs.Fitting.{IsVariable, sort_of_variable, IsActionOf}
 use Rattle.lps_core.proofs.Members.{contains_map, mapped_at, all_at}
-use Rattle.lps_core.proofs.Staying.{variables_declared, sorts_of_variables, terms_sorted, condition_sorted, label_is_sorted, variable_stays, term_stays, terms_stay, action_stays}
+use Rattle.lps_core.proofs.Staying.{variables_declared, variables_have_sorts, sorts_of_variables, terms_sorted, condition_sorted, label_is_sorted, variable_stays, term_stays, terms_stay, action_stays}
 use Rattle.greibach.specs.Forms.{FormEquation, FormSummandIsSorted, FormEquationIsSorted}
 use Rattle.greibach.specs.PlainForms.{PlainFormSummand, PlainEquation, PlainForm, call_of, form_summand_of, equation_of, form_of}
 use Rattle.greibach.specs.FittingForms.{CallFits, FormSummandFits, EquationFits, FormFits, FormsThatFitAreSorted, FormsThatFitStay}
@@ -30,7 +30,7 @@ use Rattle.greibach.specs.FittingForms.{CallFits, FormSummandFits, EquationFits,
 some_same : {A : Type 0} {x y : A} → Some x ≡ Some y → x ≡ y
 some_same e = cc
 
-module _ (g : Sig) (ts : List Tree) (f : PlainForm) (table : IsTable g) (equations : All (EquationFits g ts f) f.equations) where
+module _ (g : Sig) (ts : List Tree) (f : PlainForm) (table : IsTable g) (complete : IsComplete g) (equations : All (EquationFits g ts f) f.equations) where
   call_sorted : (c : ℕ × List TermId) → CallFits g ts f c → (q : FormEquation) → slice_get (form_of (entries_of g ts) f) (call_of (entries_of g ts) c).equation ≡ Some q
       → HaveSorts (data_meant g) (variable_sorts g) (terms_of (call_of (entries_of g ts) c).args) (sorts q.params)
   call_sorted c h q at =
@@ -44,6 +44,7 @@ module _ (g : Sig) (ts : List Tree) (f : PlainForm) (table : IsTable g) (equatio
   summand_sorted : (s : PlainFormSummand) → FormSummandFits g ts f s → FormSummandIsSorted (data_meant g) (variable_sorts g) (form_of (entries_of g ts) f) (form_summand_of (entries_of g ts) s)
   summand_sorted s h = record {
     sums = variables_declared g ts s.sums h.sums;
+    sum_sorts = variables_have_sorts g ts s.sums table complete h.sums;
     condition = condition_sorted g ts s.condition table h.condition;
     label = label_is_sorted g ts s.label table h.label;
     next = λ c q i at.
@@ -55,16 +56,17 @@ module _ (g : Sig) (ts : List Tree) (f : PlainForm) (table : IsTable g) (equatio
   equation_sorted : (q : PlainEquation) → EquationFits g ts f q → FormEquationIsSorted (data_meant g) (variable_sorts g) (form_of (entries_of g ts) f) (equation_of (entries_of g ts) q)
   equation_sorted q h = record {
     params = variables_declared g ts q.params h.params;
+    param_sorts = variables_have_sorts g ts q.params table complete h.params;
     summands = λ s i.
         let r = contains_map (form_summand_of (entries_of g ts)) q.summands s i in
         subst (λ z. FormSummandIsSorted (data_meant g) (variable_sorts g) (form_of (entries_of g ts) f) z) (sym r.1.1) (summand_sorted r.0 (All-contains (FormSummandFits g ts f) q.summands r.0 h.summands r.1.0));
   }
 
 pub forms_are_sorted : FormsThatFitAreSorted
-forms_are_sorted g ts f table fits i q at =
+forms_are_sorted g ts f table complete fits i q at =
     let r = mapped_at (equation_of (entries_of g ts)) f.equations i q at in
     subst (λ z. FormEquationIsSorted (data_meant g) (variable_sorts g) (form_of (entries_of g ts) f) z) (sym r.1.1)
-    (equation_sorted g ts f table fits.equations r.0 (all_at (EquationFits g ts f) f.equations i r.0 fits.equations r.1.0))
+    (equation_sorted g ts f table complete fits.equations r.0 (all_at (EquationFits g ts f) f.equations i r.0 fits.equations r.1.0))
 
 -- ---- growth
 module _ (g h : Sig) (ts us : List Tree) (table : IsTable g) (complete : IsComplete g) (grow : BothGrow g h ts us) (f : PlainForm) where

@@ -54,7 +54,7 @@ pub record FormFits (g : Sig) (ts : List Tree) (f : PlainForm) : Type 0 where
 -- ---- laws
 -- what fits is well sorted
 abbrev pub FormsThatFitAreSorted : Type 0
-FormsThatFitAreSorted = (g : Sig) (ts : List Tree) (f : PlainForm) → IsTable g → FormFits g ts f → FormIsSorted (data_meant g) (variable_sorts g) (form_of (entries_of g ts) f)
+FormsThatFitAreSorted = (g : Sig) (ts : List Tree) (f : PlainForm) → IsTable g → IsComplete g → FormFits g ts f → FormIsSorted (data_meant g) (variable_sorts g) (form_of (entries_of g ts) f)
 
 -- where the signature and the pool grow, it means what it meant
 abbrev pub FormsThatFitStay : Type 0

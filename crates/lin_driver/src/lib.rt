@@ -13,6 +13,3 @@ mod system;
 
 pub use fault::LinFault;
 pub use linearising::plain;
-
-#[cfg(test)]
-mod tests;

@@ -7,25 +7,15 @@ use Rattle.data_theory.specs.declared.signature.Variable.{Variable}
 use Rattle.data_theory.specs.Signature.{Sig, with_variable}
 use Rattle.data_theory.specs.Fresh.{IsFreshIn}
 use Rattle.data_theory.specs.IdTerms.{IsGrown}
-use Rattle.data_theory.specs.IdRoles.{AreRoles}
+use Rattle.term_pool.proofs.DeclaredConstants.{grown_itself}
 use Rattle.data_theory.proofs.IdGrowthLemmas.{with_a_text_it_is_grown, with_a_variable_it_is_grown, growth_after_growth_is_growth}
-use Rattle.data_theory.proofs.IdRoleLemmas.{texts_keep_the_roles, variables_keep_the_roles}
-
-pub grown_itself : (g : Sig) → IsGrown g g
-grown_itself g = record { new_texts = []; new_sorts = []; new_functions = []; new_variables = []; texts = sym (append-nil g.texts); sorts = sym (append-nil g.sorts); functions = sym (append-nil g.functions); variables = sym (append-nil g.variables) }
 
 pub grown_same : (g h : Sig) → h ≡ g → IsGrown g h
 grown_same g h e = subst (λ k. IsGrown g k) (sym e) (grown_itself g)
 
-pub roles_same : (g h : Sig) → h ≡ g → AreRoles g → AreRoles h
-roles_same g h e k = subst AreRoles (sym e) k
-
 module _ (g h : Sig) (base : List ℕ) (name : NameId) (f : IsFreshIn g base name h) where
   pub fresh_grown : IsGrown g h
   fresh_grown = subst (λ k. IsGrown g k) (sym f.taken) (with_a_text_it_is_grown g f.text)
-
-  pub fresh_roles : AreRoles g → AreRoles h
-  fresh_roles k = subst AreRoles (sym f.taken) (texts_keep_the_roles g f.text k)
 
   pub fresh_named : name.0 < length h.texts
   fresh_named = slice_get_within h.texts name.0 f.text f.named
@@ -38,9 +28,6 @@ module _ (g h : Sig) (base : List ℕ) (name : NameId) (f : IsFreshIn g base nam
 
 pub variable_grown : (g h k : Sig) (x : Variable) → IsGrown g h → k ≡ with_variable h x → IsGrown g k
 variable_grown g h k x w e = growth_after_growth_is_growth g h k w (subst (λ z. IsGrown h z) (sym e) (with_a_variable_it_is_grown h x))
-
-pub variable_roles : (h k : Sig) (x : Variable) → k ≡ with_variable h x → AreRoles h → AreRoles k
-variable_roles h k x e w = subst AreRoles (sym e) (variables_keep_the_roles h x w)
 
 pub texts_longer : (g h : Sig) (n : ℕ) → IsGrown g h → n < length g.texts → n < length h.texts
 texts_longer g h n w l = let e = ap length w.texts ∙ length-append g.texts w.new_texts in omega (arith, e, l)

@@ -17,3 +17,6 @@ pub mod TreeParts
 pub mod MeantParts
 pub mod MeantTrees
 pub mod NamedSums
+pub mod StayingFits
+pub mod NamedLinears
+pub mod NamingLoops

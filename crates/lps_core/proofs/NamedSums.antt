@@ -29,24 +29,17 @@ use Rattle.process_terms.proofs.MeaningLemmas.{entry_stays}
 use Rattle.bisim_laws.proofs.Firing.{contains_first, contains_later, contains_none, contains_cases}
 use Rattle.lps_core.specs.Fitting.{IsVariable, sort_of_variable, HasTakenName}
 use Rattle.lps_core.specs.TreeSummands.{numbers_of}
-use Rattle.lps_core.specs.Naming.{name_of, names_of, IsUsed, IsNamed, it_stays, it_is_new, AreNamed, no_sum, one_more_sum, SummandsAreNamed, no_summand, one_more_summand}
-use Rattle.lps_core.proofs.GrownSignatures.{grown_itself}
+use Rattle.lps_core.specs.Naming.{name_of, names_of, GrowsByNames, IsNamed, it_stays, it_is_new, AreNamed, no_sum, one_more_sum, SummandsAreNamed, no_summand, one_more_summand}
+use Rattle.term_pool.proofs.DeclaredConstants.{grown_itself}
 use Rattle.lps_core.proofs.Members.{contains_map, map_contains, all_from}
 use Rattle.lps_core.proofs.OverVariables.{distinct_append}
+use Rattle.lps_core.proofs.Staying.{sort_is_within}
 
 -- ---- names that are taken
 pub with_name_keeps : (ns : List NameId) (m n : NameId) → Contains ns n → Contains (with_name ns m) n
 with_name_keeps ns m n h = elim (list_any (λ k. m.0 == k.0) ns) as (λ b. Contains (cond b ns (ns ++ m ∷ [])) n) [ true ↦ h | false ↦ Contains-append_left ns (m ∷ []) n h ]
 
 -- ---- growth by names and variables alone
-pub record GrowsByNames (g h : Sig) : Type 0 where
-  pub stands : IsSignature h
-  pub grown : IsGrown g h
-  pub functions : h.functions ≡ g.functions
-  pub sorts : h.sorts ≡ g.sorts
-  pub actions : h.actions ≡ g.actions
-  pub taken : (n : NameId) → Contains g.taken n → Contains h.taken n
-
 pub names_none : (g : Sig) → IsSignature g → GrowsByNames g g
 names_none g s = record { stands = s; grown = grown_itself g; functions = refl; sorts = refl; actions = refl; taken = λ n i. i }
 
@@ -106,18 +99,18 @@ pub name_taken : (g : Sig) (x : VarId) → IsVariable g x → Contains g.taken (
 name_taken g x l h = subst (λ o. IfSome o (λ (y : Variable). Contains g.taken y.name)) (sym (variable_there g x l (record { name = record { 0 = 0 }; sort = record { 0 = 0 } }))) h
 
 -- ---- one sum
-with_name_has : (ns : List NameId) (m : NameId) → Contains (with_name ns m) m
+pub among : (ns : List NameId) (m : NameId) → list_any (λ k. m.0 == k.0) ns ≡ true → Contains ns m
+among [] m e = cc
+among (n ∷ ns) m e = ⊎_elim
+    (λ q. subst (λ z. Contains (n ∷ ns) z) (ap (λ k. record { 0 = k }) (sym q.1)) (contains_first n ns))
+    (λ q. contains_later n m ns (among ns m (subst (λ b. (b || list_any (λ k. m.0 == k.0) ns) ≡ true) q.0 e)))
+    (eqb_tells m.0 n.0)
+
+pub with_name_has : (ns : List NameId) (m : NameId) → Contains (with_name ns m) m
 with_name_has ns m = by_test (list_any (λ k. m.0 == k.0) ns) refl
   where
-    among : (ns : List NameId) → list_any (λ k. m.0 == k.0) ns ≡ true → Contains ns m
-    among [] e = cc
-    among (n ∷ ns) e = ⊎_elim
-        (λ q. subst (λ z. Contains (n ∷ ns) z) (ap (λ k. record { 0 = k }) (sym q.1)) (contains_first n ns))
-        (λ q. contains_later n m ns (among ns (subst (λ b. (b || list_any (λ k. m.0 == k.0) ns) ≡ true) q.0 e)))
-        (eqb_tells m.0 n.0)
-
     by_test : (b : Bool) → list_any (λ k. m.0 == k.0) ns ≡ b → Contains (with_name ns m) m
-    by_test true e = subst (λ b. Contains (cond b ns (ns ++ m ∷ [])) m) (sym e) (among ns e)
+    by_test true e = subst (λ b. Contains (cond b ns (ns ++ m ∷ [])) m) (sym e) (among ns m e)
     by_test false e = subst (λ b. Contains (cond b ns (ns ++ m ∷ [])) m) (sym e) (Contains-append_right ns (m ∷ []) m (contains_first m []))
 
 -- a name that is taken isn't the one of a text that isn't
@@ -135,9 +128,6 @@ pub record SumStands (g h : Sig) (IsOne : NameId → Type 0) (x y : VarId) : Typ
   pub sort : sort_of_variable h y ≡ sort_of_variable g x
   pub unused : ¬ (IsOne (name_of h y))
 
-sort_within : (g : Sig) (x : VarId) → IsSignature g → IsVariable g x → (sort_of_variable g x).0 < length g.sorts
-sort_within g x s l = (s.complete.within.variables x.0 (record { name = record { 0 = 0 }; sort = bool_sort }) l).1
-
 new_sum : (g h : Sig) (IsOne : NameId → Type 0) (x : VarId) (base : List ℕ) (name : NameId) → IsSignature g → IsVariable g x → ((n : NameId) → IsOne n → Contains g.taken n) → IsFreshIn g base name h
     → SumStands g (with_variable h (record { name = name; sort = sort_of_variable g x })) IsOne x (record { 0 = length h.variables })
 new_sum g h IsOne x base name s l u f =
@@ -145,7 +135,7 @@ new_sum g h IsOne x base name s l u f =
     let k = with_variable h v in
     let by_text : GrowsByNames g h = subst (λ z. GrowsByNames g z) (sym f.taken) (names_text g f.text s) in
     let named : name.0 < length h.texts = slice_get_within h.texts name.0 f.text f.named in
-    let sorted : (sort_of_variable g x).0 < length h.sorts = subst (λ ss. (sort_of_variable g x).0 < length ss) (sym by_text.sorts) (sort_within g x s l) in
+    let sorted : (sort_of_variable g x).0 < length h.sorts = subst (λ ss. (sort_of_variable g x).0 < length ss) (sym by_text.sorts) (sort_is_within g x s.complete l) in
     let place : name ≡ place_in h.texts f.text = place_is h.texts f.text name.0 by_text.stands.table.different f.named in
     let new_name : name_of k (record { 0 = length h.variables }) ≡ name = ap (λ (y : Variable). y.name) (last_variable h v (record { name = record { 0 = 0 }; sort = record { 0 = 0 } })) in
     let has : Contains h.taken name = subst (λ z. Contains h.taken z) (sym place) (subst (λ (z : Sig). Contains z.taken (place_in z.texts f.text)) (sym f.taken) (with_name_has g.taken (place_in (with_text g.texts f.text) f.text))) in
@@ -162,23 +152,28 @@ sum_named IsOne g x _ _ s l t u (it_stays n) = record { on = names_none g s; var
 sum_named IsOne g x _ _ s l t u (it_is_new {h = h} {base = base} {name = name} i r f) = new_sum g h IsOne x base name s l u f
 
 -- ---- the sums of a summand
-pub record SumsStand (g h : Sig) (params xs ys : List VarId) : Type 0 where
+abbrev pub name_numbers : Sig → List VarId → List ℕ
+name_numbers g xs = map (λ (n : NameId). n.0) (names_of g xs)
+
+pub record SumsStand (g h : Sig) (IsOne : NameId → Type 0) (xs ys : List VarId) : Type 0 where
   pub variables : All (IsVariable h) ys
   pub taken : All (λ y. Contains h.taken (name_of h y)) ys
   pub sorts : map (sort_of_variable h) ys ≡ map (sort_of_variable g) xs
-  pub unused : All (λ y. ¬ (IsUsed g params (name_of h y))) ys
+  pub unused : All (λ y. ¬ (IsOne (name_of h y))) ys
   pub distinct : AreDistinct (numbers_of ys)
+  pub names_differ : AreDistinct (name_numbers h ys)
 
 -- a signature that is grown by names
-pub sums_stand_on : (g h k : Sig) (params xs ys : List VarId) → GrowsByNames h k → SumsStand g h params xs ys → SumsStand g k params xs ys
-sums_stand_on g h k params xs ys w s =
+pub sums_stand_on : (g h k : Sig) (IsOne : NameId → Type 0) (xs ys : List VarId) → GrowsByNames h k → SumsStand g h IsOne xs ys → SumsStand g k IsOne xs ys
+sums_stand_on g h k IsOne xs ys w s =
     let kept : (y : VarId) → Contains ys y → name_of k y ≡ name_of h y = λ y i. name_kept h k y w.grown (All-contains (IsVariable h) ys y s.variables i) in
     record {
       variables = All-weaker (IsVariable h) (IsVariable k) (λ y l. variable_kept h k y w.grown l) ys s.variables;
       taken = all_from (λ y. Contains k.taken (name_of k y)) ys (λ y i. subst (λ n. Contains k.taken n) (sym (kept y i)) (w.taken (name_of h y) (All-contains (λ y. Contains h.taken (name_of h y)) ys y s.taken i)));
       sorts = sorts_kept h k ys w.grown s.variables ∙ s.sorts;
-      unused = all_from (λ y. ¬ (IsUsed g params (name_of k y))) ys (λ y i u. All-contains (λ y. ¬ (IsUsed g params (name_of h y))) ys y s.unused i (subst (λ n. IsUsed g params n) (kept y i) u));
+      unused = all_from (λ y. ¬ (IsOne (name_of k y))) ys (λ y i u. All-contains (λ y. ¬ (IsOne (name_of h y))) ys y s.unused i (subst (λ n. IsOne n) (kept y i) u));
       distinct = s.distinct;
+      names_differ = subst AreDistinct (sym (ap (map (λ (n : NameId). n.0)) (names_kept h k ys w.grown s.variables))) s.names_differ;
     }
 
 all_front : {A : Type 0} (P : A → Type 0) (xs : List A) (x : A) → All P (xs ++ x ∷ []) → All P xs
@@ -190,15 +185,21 @@ all_last P [] x h = All-head P x [] h
 all_last P (y ∷ xs) x h = all_last P xs x (All-tail P y (xs ++ x ∷ []) h)
 
 -- one more sum
-one_more : (g h k : Sig) (params xs ys : List VarId) (x y : VarId) → GrowsByNames g h → SumsStand g h params xs ys → IsVariable g x → SumStands h k (λ n. IsUsed g params n ⊎ Contains (names_of h ys) n) x y → SumsStand g k params (xs ++ x ∷ []) (ys ++ y ∷ [])
-one_more g h k params xs ys x y w s l n =
-    let t = sums_stand_on g h k params xs ys n.on s in
+one_more : (g h k : Sig) (IsOne : NameId → Type 0) (xs ys : List VarId) (x y : VarId) → GrowsByNames g h → SumsStand g h IsOne xs ys → IsVariable g x → SumStands h k (λ n. IsOne n ⊎ Contains (names_of h ys) n) x y → SumsStand g k IsOne (xs ++ x ∷ []) (ys ++ y ∷ [])
+one_more g h k IsOne xs ys x y w s l n =
+    let t = sums_stand_on g h k IsOne xs ys n.on s in
     let numbers : numbers_of (ys ++ y ∷ []) ≡ numbers_of ys ++ y.0 ∷ [] = map-append (λ (z : VarId). z.0) ys (y ∷ []) in
     let apart : (v : ℕ) → Contains (numbers_of ys) v → Contains (y.0 ∷ []) v → ⊥ = λ v i j.
         let r = contains_map (λ (z : VarId). z.0) ys v i in
         let same : y.0 ≡ v = ⊎_elim (λ q. q) (λ b. absurd (contains_none v b)) (contains_cases y.0 v [] j) in
         let one : y ≡ r.0 = ap (λ m. record { 0 = m }) (same ∙ r.1.1) in
         n.unused (inr (subst (λ m. Contains (names_of h ys) m) (sym (ap (name_of k) one ∙ name_kept h k r.0 n.on.grown (All-contains (IsVariable h) ys r.0 s.variables r.1.0))) (map_contains (name_of h) ys r.0 r.1.0))) in
+    let names : name_numbers k (ys ++ y ∷ []) ≡ name_numbers h ys ++ (name_of k y).0 ∷ [] =
+    ap (map (λ (m : NameId). m.0)) (map-append (name_of k) ys (y ∷ []) ∙ ap (λ ms. ms ++ name_of k y ∷ []) (names_kept h k ys n.on.grown s.variables)) ∙ map-append (λ (m : NameId). m.0) (names_of h ys) (name_of k y ∷ []) in
+    let names_apart : (v : ℕ) → Contains (name_numbers h ys) v → Contains ((name_of k y).0 ∷ []) v → ⊥ = λ v i j.
+        let r = contains_map (λ (m : NameId). m.0) (names_of h ys) v i in
+        let same : (name_of k y).0 ≡ v = ⊎_elim (λ q. q) (λ b. absurd (contains_none v b)) (contains_cases (name_of k y).0 v [] j) in
+        n.unused (inr (subst (λ m. Contains (names_of h ys) m) (sym (ap (λ m. record { 0 = m }) (same ∙ r.1.1))) r.1.0)) in
     record {
       variables = All-push (IsVariable k) ys y t.variables n.variable;
       taken = All-push (λ z. Contains k.taken (name_of k z)) ys y t.taken n.taken;
@@ -206,21 +207,51 @@ one_more g h k params xs ys x y w s l n =
           map-append (sort_of_variable k) ys (y ∷ [])
           ∙ ap₂ (λ ss r. ss ++ r ∷ []) t.sorts (n.sort ∙ sort_kept g h x w.grown l)
           ∙ sym (map-append (sort_of_variable g) xs (x ∷ []));
-      unused = All-push (λ z. ¬ (IsUsed g params (name_of k z))) ys y t.unused (λ u. n.unused (inl u));
+      unused = All-push (λ z. ¬ (IsOne (name_of k z))) ys y t.unused (λ u. n.unused (inl u));
       distinct = subst AreDistinct (sym numbers) (distinct_append (numbers_of ys) (y.0 ∷ []) t.distinct (λ i. contains_nothing y.0 i, tt) apart);
+      names_differ = subst AreDistinct (sym names) (distinct_append (name_numbers h ys) ((name_of k y).0 ∷ []) s.names_differ (λ i. contains_nothing (name_of k y).0 i, tt) names_apart);
     }
 
 -- the names that no sum may have are taken
 abbrev pub AreTaken : Sig → (NameId → Type 0) → Type 0
 AreTaken g IsOne = (n : NameId) → IsOne n → Contains g.taken n
 
-pub sums_named : (params : List VarId) (g : Sig) → IsSignature g → AreTaken g (IsUsed g params) → (xs : List VarId) (h : Sig) (ys : List VarId) → AreNamed params g xs h ys → All (IsVariable g) xs → All (λ x. Contains g.taken (name_of g x)) xs
-    → GrowsByNames g h × SumsStand g h params xs ys
-sums_named params g s used _ _ _ no_sum l t = (names_none g s, record { variables = All-nil (IsVariable g); taken = All-nil (λ y. Contains g.taken (name_of g y)); sorts = refl; unused = All-nil (λ y. ¬ (IsUsed g params (name_of g y))); distinct = tt })
-sums_named params g s used _ k _ (one_more_sum {xs = xs} {ys = ys} {h = h} {x = x} {y = y} a n) l t =
-    let r = sums_named params g s used xs h ys a (all_front (IsVariable g) xs x l) (all_front (λ x. Contains g.taken (name_of g x)) xs x t) in
+pub sums_named : (IsOne : NameId → Type 0) (g : Sig) → IsSignature g → AreTaken g IsOne → (xs : List VarId) (h : Sig) (ys : List VarId) → AreNamed IsOne g xs h ys → All (IsVariable g) xs → All (λ x. Contains g.taken (name_of g x)) xs
+    → GrowsByNames g h × SumsStand g h IsOne xs ys
+sums_named IsOne g s used _ _ _ no_sum l t = (names_none g s, record { variables = All-nil (IsVariable g); taken = All-nil (λ y. Contains g.taken (name_of g y)); sorts = refl; unused = All-nil (λ y. ¬ (IsOne (name_of g y))); distinct = tt; names_differ = tt })
+sums_named IsOne g s used _ k _ (one_more_sum {xs = xs} {ys = ys} {h = h} {x = x} {y = y} a n) l t =
+    let r = sums_named IsOne g s used xs h ys a (all_front (IsVariable g) xs x l) (all_front (λ x. Contains g.taken (name_of g x)) xs x t) in
     let own = all_last (IsVariable g) xs x l in
-    let m = sum_named (λ n. IsUsed g params n ⊎ Contains (names_of h ys) n) h x k y r.0.stands (variable_kept g h x r.0.grown own)
+    let m = sum_named (λ n. IsOne n ⊎ Contains (names_of h ys) n) h x k y r.0.stands (variable_kept g h x r.0.grown own)
         (subst (λ z. Contains h.taken z) (sym (name_kept g h x r.0.grown own)) (r.0.taken (name_of g x) (all_last (λ x. Contains g.taken (name_of g x)) xs x t)))
         (λ z u. ⊎_elim (λ i. r.0.taken z (used z i)) (λ i. let p = contains_map (name_of h) ys z i in subst (λ w. Contains h.taken w) (sym p.1.1) (All-contains (λ y. Contains h.taken (name_of h y)) ys p.0 r.1.taken p.1.0)) u) n in
-    (names_then g h k r.0 m.on, one_more g h k params xs ys x y r.0 r.1 own m)
+    (names_then g h k r.0 m.on, one_more g h k IsOne xs ys x y r.0 r.1 own m)
+
+-- ---- all summands
+pub zip_push : {A B : Type 0} (R : A → B → Type 0) (xs : List A) (ys : List B) (x : A) (y : B) → AllZip R xs ys → R x y → AllZip R (xs ++ x ∷ []) (ys ++ y ∷ [])
+zip_push R [] [] x y z r = (r, tt)
+zip_push R [] (b ∷ ys) x y z r = absurd z
+zip_push R (a ∷ xs) [] x y z r = absurd z
+zip_push R (a ∷ xs) (b ∷ ys) x y z r = (z.0, zip_push R xs ys x y z.1 r)
+
+pub zip_weaker : {A B : Type 0} (R S : A → B → Type 0) → ((x : A) (y : B) → R x y → S x y) → (xs : List A) (ys : List B) → AllZip R xs ys → AllZip S xs ys
+zip_weaker R S f [] [] z = tt
+zip_weaker R S f [] (b ∷ ys) z = absurd z
+zip_weaker R S f (a ∷ xs) [] z = absurd z
+zip_weaker R S f (a ∷ xs) (b ∷ ys) z = (f a b z.0, zip_weaker R S f xs ys z.1)
+
+module _ (IsOne : NameId → Type 0) (g : Sig) (s : IsSignature g) (used : AreTaken g IsOne) where
+  rebased : (h k : Sig) (xs ys : List VarId) → GrowsByNames g h → All (IsVariable g) xs → SumsStand h k IsOne xs ys → SumsStand g k IsOne xs ys
+  rebased h k xs ys w l z = record { variables = z.variables; taken = z.taken; sorts = z.sorts ∙ sorts_kept g h xs w.grown l; unused = z.unused; distinct = z.distinct; names_differ = z.names_differ }
+
+  pub all_sums_named : (xss : List (List VarId)) (h : Sig) (yss : List (List VarId)) → SummandsAreNamed IsOne g xss h yss → All (All (IsVariable g)) xss → All (All (λ x. Contains g.taken (name_of g x))) xss
+      → GrowsByNames g h × AllZip (SumsStand g h IsOne) xss yss
+  all_sums_named _ _ _ no_summand l t = (names_none g s, tt)
+  all_sums_named _ k _ (one_more_summand {xss = xss} {yss = yss} {h = h} {xs = xs} {ys = ys} a n) l t =
+      let r = all_sums_named xss h yss a (all_front (All (IsVariable g)) xss xs l) (all_front (All (λ x. Contains g.taken (name_of g x))) xss xs t) in
+      let mine = all_last (All (IsVariable g)) xss xs l in
+      let names = all_last (All (λ x. Contains g.taken (name_of g x))) xss xs t in
+      let m = sums_named IsOne h r.0.stands (λ z u. r.0.taken z (used z u)) xs k ys n
+          (All-weaker (IsVariable g) (IsVariable h) (λ x i. variable_kept g h x r.0.grown i) xs mine)
+          (all_from (λ x. Contains h.taken (name_of h x)) xs (λ x i. subst (λ z. Contains h.taken z) (sym (name_kept g h x r.0.grown (All-contains (IsVariable g) xs x mine i))) (r.0.taken (name_of g x) (All-contains (λ x. Contains g.taken (name_of g x)) xs x names i)))) in
+      (names_then g h k r.0 m.0, zip_push (SumsStand g k IsOne) xss yss xs ys (zip_weaker (SumsStand g h IsOne) (SumsStand g k IsOne) (λ a b z. sums_stand_on g h k IsOne a b m.0 z) xss yss r.1) (rebased h k xs ys r.0 mine m.1))

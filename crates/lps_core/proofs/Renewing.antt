@@ -3,13 +3,14 @@ use Rattle.std.proofs.Common.{◌≡◌, ℕ, suc, List, [], ◌∷◌, ◌++◌
 use Rattle.std.specs.Prelude.{Contains}
 use Rattle.std.proofs.lemmas.List.Elements.{Contains-append_cases, Contains-append_left, Contains-append_right}
 use Rattle.data_theory.specs.Terms.{Sort, Term, put}
+use Rattle.data_theory.specs.Declarations.{Data, IsSort}
 use Rattle.data_theory.specs.Environments.{Environment, term_in, bound, bound_variables, Agree, Apart, AreDistinct, IsOver}
 use Rattle.data_theory.proofs.EnvironmentLemmas.{front_is_read, front_is_skipped, bound_are_the_parameters, putting_in_keeps_sorts}
 use Rattle.process_terms.specs.Theories.{Theory, Equals, no_terms, more_terms, IsTrue, IsOfSort, AreOfSorts}
 use Rattle.process_terms.specs.Labels.{Label, put_label}
 use Rattle.process_terms.specs.Processes.{Bound, Process}
 use Rattle.process_terms.proofs.AgreeingLabels.{equals_refl, equals_sym}
-use Rattle.bisim_laws.specs.LinearProcesses.{Summand, Linear, variables, sorts, IsSummand, IsLinear, IsWellSorted, SummandIsSorted, AreDeclared, reading, put_next, NextIsOver, NextIsSorted, NextEquals, both_without, both_with, AreBound, Fires}
+use Rattle.bisim_laws.specs.LinearProcesses.{Summand, Linear, variables, sorts, IsSummand, IsLinear, IsWellSorted, SummandIsSorted, AreDeclared, HaveDataSorts, reading, put_next, NextIsOver, NextIsSorted, NextEquals, both_without, both_with, AreBound, Fires}
 use Rattle.bisim_laws.specs.BaseStates.{AfterDropping, nothing_more, one_kept, DroppedState, dropped_state}
 use Rattle.bisim_laws.specs.Links.{Dropped}
 use Rattle.bisim_laws.proofs.Firing.{contains_none, contains_first, contains_later, contains_cases, reading_same, bound_reads, reading_long, head_same, tail_same}
@@ -43,11 +44,11 @@ reply_alike th vs l k R left right sorted r f ts us m next s e h =
     lands _ _ both_without w = both_end
     lands _ _ (both_with {ts = ts'} e) w = both_go_on (equals_refl th ts') (r ts' (w ts' refl)) e
 
-kept_equal : {th : Theory} (xs : List Bound) {ts us : List Term} → AfterDropping th (all_kept xs) ts us → Equals th ts us
+pub kept_equal : {th : Theory} (xs : List Bound) {ts us : List Term} → AfterDropping th (all_kept xs) ts us → Equals th ts us
 kept_equal [] nothing_more = no_terms
 kept_equal (x ∷ xs) (one_kept h k) = more_terms h (kept_equal xs k)
 
-equal_kept : {th : Theory} (xs : List Bound) {ts us : List Term} → AreOfSorts th (sorts xs) ts → Equals th ts us → AfterDropping th (all_kept xs) ts us
+pub equal_kept : {th : Theory} (xs : List Bound) {ts us : List Term} → AreOfSorts th (sorts xs) ts → Equals th ts us → AfterDropping th (all_kept xs) ts us
 equal_kept [] s no_terms = nothing_more
 equal_kept [] s (more_terms h k) = absurd s
 equal_kept (x ∷ xs) s no_terms = absurd s
@@ -78,6 +79,13 @@ same_progress th vs l k left right sl sk e f = record {
 pub same_long : {xs ys : List Bound} → SameSorts xs ys → length (variables ys) ≡ length (variables xs)
 same_long no_more = refl
 same_long (one_more q k) = ap suc (same_long k)
+
+pub same_data_sorts : (g : Data) {xs ys : List Bound} → SameSorts xs ys → HaveDataSorts g xs → HaveDataSorts g ys
+same_data_sorts g no_more h y i = absurd (contains_none y i)
+same_data_sorts g (one_more {x = x} {y = z} {xs = xs} {ys = ys} q k) h y i = ⊎_elim
+    (λ w. subst (λ a. IsSort g a.sort) w (subst (λ s. IsSort g s) q (h x (contains_first x xs))))
+    (λ j. same_data_sorts g k (λ a l. h a (contains_later x a xs l)) y j)
+    (contains_cases z y ys i)
 
 pub same_turned : {xs ys : List Bound} → SameSorts xs ys → SameSorts ys xs
 same_turned no_more = no_more
@@ -224,6 +232,7 @@ renewed_linear l k is w own = record { distinct = subst (λ z. AreDistinct (vari
 pub renewed_are_sorted : RenewedSumsAreSorted
 renewed_are_sorted g vs l k is w own = record {
   params = subst (λ z. AreDeclared vs z) (sym w.params) is.params;
+  param_sorts = subst (λ z. HaveDataSorts g z) (sym w.params) is.param_sorts;
   summands = λ t i.
       let o = original_of w.summands t i in
       let s = o.summand in
@@ -233,6 +242,7 @@ renewed_are_sorted g vs l k is w own = record {
       let e = renamed_sorted g vs o.same f.sums (subst (λ z. AreDeclared vs z.sums) o.is d) in
       subst (λ z. SummandIsSorted g vs k.params z) (sym o.is) (record {
         sums = subst (λ z. AreDeclared vs z.sums) o.is d;
+        sum_sorts = same_data_sorts g o.same f.sum_sorts;
         condition = putting_in_keeps_sorts g vs vs (term_in r) e s.condition _ f.condition;
         label = label_sorted g vs vs r e s.label f.label;
         next = subst (λ z. NextIsSorted g vs (sorts z) (put_next r s.next)) (sym w.params) (next_sorted_put g vs vs (sorts l.params) r e s.next f.next);

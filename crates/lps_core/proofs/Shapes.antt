@@ -4,7 +4,7 @@ use Rattle.data_theory.specs.Terms.{Sort, Term}
 use Rattle.data_theory.specs.Declarations.{Data, HaveSorts}
 use Rattle.data_theory.specs.Environments.{terms_of, AreOver, Apart, AreDistinct}
 use Rattle.process_terms.specs.Processes.{Bound}
-use Rattle.bisim_laws.specs.LinearProcesses.{variables, sorts, LabelIsOver, LabelIsSorted, AreDeclared, Summand, Linear, NextIsOver, no_next, next_over, NextIsSorted, no_next_to_sort, next_sorted, IsSummand, SummandIsSorted, IsLinear, IsWellSorted}
+use Rattle.bisim_laws.specs.LinearProcesses.{variables, sorts, LabelIsOver, LabelIsSorted, AreDeclared, HaveDataSorts, Summand, Linear, NextIsOver, no_next, next_over, NextIsSorted, no_next_to_sort, next_sorted, IsSummand, SummandIsSorted, IsLinear, IsWellSorted}
 use Rattle.lps_core.specs.Conditions.{IsCondition, AreConditions, no_conditions, more_conditions}
 use Rattle.lps_core.proofs.Members.{In, in_contains}
 use Rattle.lps_core.proofs.OverVariables.{Within, over_more}
@@ -17,6 +17,7 @@ pub data NextFits (g : Data) (vs : List Sort) (xs : List ℕ) (params : List Bou
 
 pub record IsSortedSummand (g : Data) (vs : List Sort) (params : List Bound) (s : Summand) : Type 0 where
   pub declared : AreDeclared vs s.sums
+  pub sorts_of_data : HaveDataSorts g s.sums
   pub condition : IsCondition g vs (variables s.sums ++ variables params) s.condition
   pub label : LabelIsOver (variables s.sums ++ variables params) s.label
   pub label_sorted : LabelIsSorted g vs s.label
@@ -40,11 +41,12 @@ pub summand_is : {g : Data} {vs : List Sort} {params : List Bound} {s : Summand}
 summand_is f = record { condition = f.condition.over; label = f.label; next = next_over_of f.next; apart = f.apart; distinct = f.distinct }
 
 pub summand_sorted : {g : Data} {vs : List Sort} {params : List Bound} {s : Summand} → IsSortedSummand g vs params s → SummandIsSorted g vs params s
-summand_sorted f = record { sums = f.declared; condition = f.condition.sorted; label = f.label_sorted; next = next_sorted_of f.next }
+summand_sorted f = record { sums = f.declared; sum_sorts = f.sorts_of_data; condition = f.condition.sorted; label = f.label_sorted; next = next_sorted_of f.next }
 
 pub fits_of : {g : Data} {vs : List Sort} {params : List Bound} {s : Summand} → IsSummand params s → SummandIsSorted g vs params s → IsSortedSummand g vs params s
 fits_of i k = record {
   declared = k.sums;
+  sorts_of_data = k.sum_sorts;
   condition = record { over = i.condition; sorted = k.condition };
   label = i.label;
   label_sorted = k.label;

@@ -111,18 +111,3 @@ variables_sorted g vs (x ∷ xs) d = (d x (bound_first x xs), variables_sorted g
 
 pub declared_both : (vs : List Sort) (xs ys : List Bound) → AreDeclared vs xs → AreDeclared vs ys → AreDeclared vs (xs ++ ys)
 declared_both vs xs ys h k x i = ⊎_elim (λ j. h x j) (λ j. k x j) (Contains-append_cases xs ys x i)
-
--- ---- over no variables
--- a sorted term over no variables is a closed term of the sort
-mutual
-  pub closed_sorted : (g : Data) (vs : List Sort) (t : Term) (s : Sort) → IsOver [] t → HasSort g vs t s → HasSort g [] t s
-  closed_sorted g vs (variable v) s i h = absurd (contains_nothing v i)
-  closed_sorted g vs (numeral a z) s i h = h
-  closed_sorted g vs (unknown d k) s i h = h
-  closed_sorted g vs (application f ts) s i h = (h.0, closed_are_sorted g vs ts (argument_sorts g f) i h.1, h.2, h.3)
-
-  pub closed_are_sorted : (g : Data) (vs : List Sort) (ts : Terms) (ss : List Sort) → AreOver [] ts → HaveSorts g vs ts ss → HaveSorts g [] ts ss
-  closed_are_sorted g vs none [] i h = tt
-  closed_are_sorted g vs none (s ∷ ss) i h = absurd h
-  closed_are_sorted g vs (more t ts) [] i h = absurd h
-  closed_are_sorted g vs (more t ts) (s ∷ ss) i h = (closed_sorted g vs t s i.0 h.0, closed_are_sorted g vs ts ss i.1 h.1)

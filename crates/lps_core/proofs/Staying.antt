@@ -12,7 +12,7 @@ use Rattle.data_theory.specs.declared.signature.Variable.{Variable}
 use Rattle.data_theory.specs.Table.{bool_sort}
 use Rattle.data_theory.specs.Terms.{Sort, boolean}
 use Rattle.data_theory.specs.Equations.{trueᵗ}
-use Rattle.data_theory.specs.Declarations.{Declares, HasSort, HaveSorts}
+use Rattle.data_theory.specs.Declarations.{IsSort, Declares, HasSort, HaveSorts}
 use Rattle.data_theory.specs.Environments.{terms_of}
 use Rattle.data_theory.specs.Signature.{Sig}
 use Rattle.data_theory.specs.Complete.{IsComplete}
@@ -23,14 +23,14 @@ use Rattle.data_theory.specs.IdTreeSorts.{HaveTreeSorts}
 use Rattle.data_theory.specs.IdTerms.{sort_under, term_under, variable_sorts, IsTreeWithin}
 use Rattle.data_theory.proofs.IdTermLemmas.{growth_keeps_meant_terms, sorted_trees_mean_sorted_terms, sorted_trees_are_within}
 use Rattle.data_theory.specs.IdSorts.{constructions, meaning_of}
-use Rattle.data_theory.proofs.IdSortLemmas.{sorts_mean_their_kinds}
+use Rattle.data_theory.proofs.IdSortLemmas.{sorts_mean_their_kinds, meant_is_sort}
 use Rattle.term_pool.specs.HeadTrees.{tree_at, trees_at, IsIn, AreIn, no_tree}
 use Rattle.process_terms.specs.PlainProcesses.{PlainAction}
 use Rattle.process_terms.specs.Meanings.{Grows, ActionEntry, action_at, bound_at, term_at, action_of, label_of}
 use Rattle.process_terms.specs.SignatureEntries.{entries_of, action_entry, BothGrow}
 use Rattle.process_terms.proofs.MeaningLemmas.{all_same, entry_stays}
 use Rattle.process_terms.proofs.EntryLemmas.{signatures_add_entries}
-use Rattle.bisim_laws.specs.LinearProcesses.{sorts, LabelIsSorted, no_action_to_sort, action_sorted, NextIsSorted, no_next_to_sort, next_sorted, AreDeclared, SummandIsSorted}
+use Rattle.bisim_laws.specs.LinearProcesses.{sorts, LabelIsSorted, no_action_to_sort, action_sorted, NextIsSorted, no_next_to_sort, next_sorted, AreDeclared, HaveDataSorts, SummandIsSorted}
 use Rattle.bisim_laws.proofs.Firing.{contains_none, contains_cases}
 use Rattle.lps_core.specs.PlainLinears.{PlainSummand, summand_of}
 use Rattle.lps_core.specs.Fitting.{IsTermOf, AreTermsOf, IsActionOf, IsVariable, sort_of_variable, SummandFits, WhatFitsIsSorted, WhatFitsStays}
@@ -58,6 +58,20 @@ variables_declared g ts [] h x i = absurd (contains_none x i)
 variables_declared g ts (v ∷ vs) h x i = ⊎_elim
     (λ q. subst (λ z. Declares (variable_sorts g) z.var z.sort) q (declares_at (variable_sorts g) v.0 (subst (λ n. v.0 < n) (sym (length-map g.variables (λ (y : Variable). sort_under g y.sort))) (All-head (IsVariable g) v vs h))))
     (λ j. variables_declared g ts vs (All-tail (IsVariable g) v vs h) x j)
+    (contains_cases (bound_at (entries_of g ts) v) x (map (bound_at (entries_of g ts)) vs) i)
+
+-- the sorts of variables are sorts of the data
+pub sort_is_within : (g : Sig) (x : VarId) → IsComplete g → IsVariable g x → (sort_of_variable g x).0 < length g.sorts
+sort_is_within g x complete l = (complete.within.variables x.0 (record { name = record { 0 = 0 }; sort = bool_sort }) l).1
+
+pub variables_have_sorts : (g : Sig) (ts : List Tree) (vs : List VarId) → IsTable g → IsComplete g → All (IsVariable g) vs → HaveDataSorts (data_meant g) (map (bound_at (entries_of g ts)) vs)
+variables_have_sorts g ts [] table complete h x i = absurd (contains_none x i)
+variables_have_sorts g ts (v ∷ vs) table complete h x i =
+    let l = All-head (IsVariable g) v vs h in
+    let meant : get_or (variable_sorts g) v.0 boolean ≡ sort_under g (sort_of_variable g v) = read_mapped (λ (y : Variable). sort_under g y.sort) g.variables v.0 boolean (record { name = record { 0 = 0 }; sort = bool_sort }) l in
+    ⊎_elim
+    (λ q. subst (λ z. IsSort (data_meant g) z.sort) q (meant_is_sort (data_meant g) g.sorts table.sorts refl (get_or (variable_sorts g) v.0 boolean) (sort_of_variable g v) (sort_is_within g v complete l) (sym meant)))
+    (λ j. variables_have_sorts g ts vs table complete (All-tail (IsVariable g) v vs h) x j)
     (contains_cases (bound_at (entries_of g ts) v) x (map (bound_at (entries_of g ts)) vs) i)
 
 pub sorts_of_variables : (g : Sig) (ts : List Tree) (vs : List VarId) → All (IsVariable g) vs → sorts (map (bound_at (entries_of g ts)) vs) ≡ map (sort_under g) (map (sort_of_variable g) vs)
@@ -109,11 +123,13 @@ mapped_all f P Q w [] h y i = absurd (contains_none y i)
 mapped_all f P Q w (x ∷ xs) h y i = ⊎_elim (λ q. subst Q q (w x (All-head P x xs h))) (λ j. mapped_all f P Q w xs (All-tail P x xs h) y j) (contains_cases (f x) y (map f xs) i)
 
 pub what_fits_is_sorted : WhatFitsIsSorted
-what_fits_is_sorted g ts l table fits = record {
+what_fits_is_sorted g ts l table complete fits = record {
   params = variables_declared g ts l.params fits.params;
+  param_sorts = variables_have_sorts g ts l.params table complete fits.params;
   summands = mapped_all (summand_of (entries_of g ts)) (SummandFits g ts l.params) (SummandIsSorted (data_meant g) (variable_sorts g) (map (bound_at (entries_of g ts)) l.params))
       (λ s h. record {
         sums = variables_declared g ts s.sums h.sums;
+        sum_sorts = variables_have_sorts g ts s.sums table complete h.sums;
         condition = condition_sorted g ts s.condition table h.condition;
         label = label_is_sorted g ts s.label table h.label;
         next = next_is_sorted g ts l.params s.next table fits.params h.next;
@@ -124,7 +140,7 @@ what_fits_is_sorted g ts l table fits = record {
 module _ (g h : Sig) (ts us : List Tree) (table : IsTable g) (complete : IsComplete g) (grow : BothGrow g h ts us) where
   -- all but the terms
   abbrev others : Grows (entries_of g []) (entries_of h us)
-  others = signatures_add_entries g h [] us table complete (λ k d i. absurd (omega (arith, i))) (record { signature = grow.signature; actions = grow.actions; pool = (us, refl) })
+  others = signatures_add_entries g h [] us table complete (λ k d i. absurd (omega (arith, i))) (record { signature = grow.signature; pool = (us, refl) })
 
   pub variable_stays : (v : VarId) → IsVariable g v → bound_at (entries_of h us) v ≡ bound_at (entries_of g ts) v
   variable_stays v k = ap (λ s. record { var = v.0; sort = s }) (entry_stays (variable_sorts g) (variable_sorts h) boolean v.0 others.variables (subst (λ n. v.0 < n) (sym (length-map g.variables (λ (y : Variable). sort_under g y.sort))) k)).0

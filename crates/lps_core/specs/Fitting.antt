@@ -67,10 +67,15 @@ pub record Fits (g : Sig) (ts : List Tree) (l : PlainLinear) : Type 0 where
 -- ---- laws
 -- what fits is well sorted
 abbrev pub WhatFitsIsSorted : Type 0
-WhatFitsIsSorted = (g : Sig) (ts : List Tree) (l : PlainLinear) → IsTable g → Fits g ts l → IsWellSorted (data_meant g) (variable_sorts g) (linear_of (entries_of g ts) l)
+WhatFitsIsSorted = (g : Sig) (ts : List Tree) (l : PlainLinear) → IsTable g → IsComplete g → Fits g ts l → IsWellSorted (data_meant g) (variable_sorts g) (linear_of (entries_of g ts) l)
 
 -- where the signature and the pool grow, it means what it meant
 abbrev pub WhatFitsStays : Type 0
 WhatFitsStays =
     (g h : Sig) (ts us : List Tree) (l : PlainLinear) → IsTable g → IsComplete g → BothGrow g h ts us → Fits g ts l
     → (linear_of (entries_of h us) l ≡ linear_of (entries_of g ts) l) × (initial_of (entries_of h us) l ≡ initial_of (entries_of g ts) l)
+
+-- and it fits still
+abbrev pub WhatFitsFitsStill : Type 0
+WhatFitsFitsStill =
+    (g h : Sig) (ts us : List Tree) (l : PlainLinear) → IsTable g → IsComplete g → IsTable h → BothGrow g h ts us → Fits g ts l → Fits h us l

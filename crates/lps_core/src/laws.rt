@@ -19,7 +19,7 @@ pub fn sums_are_renewed()
     ensures bisimilar { RenewedSumsAreGood }
 {}
 
-ghost use Rattle.lps_core.specs.Fitting.{WhatFitsIsSorted, WhatFitsStays};
+ghost use Rattle.lps_core.specs.Fitting.{WhatFitsFitsStill, WhatFitsIsSorted, WhatFitsStays};
 ghost use Rattle.lps_core.specs.GoingOn.{GoingOnGoesBack, GoodLinksStayGood};
 
 /// Data that go on from a signature's.
@@ -32,6 +32,7 @@ pub fn data_go_on()
 pub fn what_fits_stays()
     ensures sorted { WhatFitsIsSorted }
     ensures stays { WhatFitsStays }
+    ensures still { WhatFitsFitsStill }
 {}
 
 ghost use Rattle.lps_core.specs.MeantConditions.{ChainsMeanChains, NumbersMeanTheirSymbols, PartsMeanParts};

@@ -8,7 +8,9 @@ mod conditions;
 pub mod laws;
 mod linears;
 mod moving;
+mod naming;
 
 pub use conditions::{conjoined, parts_of};
 pub use linears::{Linear, Summand};
 pub use moving::{put_all, put_label, renaming, variable_term};
+pub use naming::name_sums;

@@ -17,6 +17,3 @@ pub use laws::{faults_are_single, faulty_texts_have_no_tokens, tokens_are_single
 pub use lexing::lex;
 pub use numerals::numeral_value;
 pub use token::{LexFault, Token, Tokens};
-
-#[cfg(test)]
-mod tests;

@@ -172,6 +172,10 @@ pub no_last : {text : List ℕ} {s o : Bool} {p : PlainProcess} {ts r : List Tok
 no_last n none (last_sum a) = n (sum_begins a)
 no_last n none (last_cond a) = let g = guard_of a in none g.0 g.1 g.2
 
+pub last_err : (Q : Type 0) {text : List ℕ} {s o : Bool} {p : PlainProcess} {ts r : List Token} → (Begins Sum ts → ⊥) → ((c : PlainData) (us : List Token) → SpellsGuard text c ts us → Q) → SpellsLast text s o p ts r → Q
+last_err Q n f (last_sum a) = absurd (n (sum_begins a))
+last_err Q n f (last_cond a) = let g = guard_of a in f g.0 g.1 g.2
+
 pub no_atom : {text : List ℕ} {c : PlainData} {p : PlainProcess} {ts us r : List Token} → SpellsGuard text c ts us → SpellsAtom text p ts r → NoAction r → (Begins Arrow r → ⊥) → ⊥
 no_atom (spells_guard u k) a n b = unit_atom u k a (record { arrow = b; paren = n.paren; bar = n.bar })
 

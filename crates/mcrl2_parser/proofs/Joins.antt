@@ -1,5 +1,6 @@
 -- The operands of an expression join to what its tokens spell.
-use Rattle.std.proofs.Common.{◌≡◌, ℕ, zero, suc, ◌+◌, ◌<◌, List, [], ◌∷◌, ◌++◌, Some, nat_eq, reverse, refl, ap, sym, ◌∙◌, subst, add-one, arith}
+use Rattle.std.proofs.Common.{◌≡◌, ℕ, zero, suc, ◌+◌, ◌<◌, Bool, true, false, ◌||◌, ◌&&◌, if◌then◌else◌, List, [], ◌∷◌, ◌++◌, Some, nat_eq, reverse, refl, ap, sym, ◌∙◌, subst, add-one, arith}
+use Rattle.std.specs.List.{list_all, list_any}
 use Rattle.std.proofs.lemmas.Bool.{cond_both, eqb-true, eqb-false}
 use Rattle.std.proofs.lemmas.List.{reverse-append}
 use Rattle.mcrl2_lexer.specs.declared.token.Token.{Token}
@@ -126,3 +127,51 @@ pub data_found : {text : List ℕ} {x d : PlainData} {os : List Operand} {ts us 
 data_found {text = text} {d = d} {os = os} {ts = ts} {r = r} is a b =
     let whole = joined_spells 11 a b in
     subst (λ (y : PlainData). SpellsData text y ts r) (sym is) (subst (λ (y : List Token). SpellsLevel text 11 (joined_up_to 11 (d, os)).0 ts y) (nothing_above whole.others) whole.first)
+
+or_false : (a b : Bool) → a || b ≡ false → (a ≡ false) × (b ≡ false)
+or_false true b e = absurd cc
+or_false false b e = (refl, e)
+
+-- One operand is itself at each level.
+either_way : (b : Bool) (x y d : PlainData) → x ≡ d → y ≡ d → (if b then x else y) ≡ d
+either_way true x y d e f = e
+either_way false x y d e f = f
+
+grouped_none : (k : ℕ) (d : PlainData) → grouped k d [] ≡ d
+grouped_none k d =
+    either_way (nat_eq k 1) d _ d refl (either_way (nat_eq k 3) d _ d refl (either_way (nat_eq k 6) d _ d refl (either_way (nat_eq k 9) d _ d refl (either_way (nat_eq k 10) d _ d refl (either_way (nat_eq k 11) d d d refl refl)))))
+
+-- no sign of the level stands between the operands
+parted_none : (k : ℕ) (os : List (InfixSign × DataTree)) → list_any (λ o. nat_eq (level_of o.0) k) os ≡ false → parted k (plain_operands os) ≡ ([], plain_operands os)
+parted_none k [] e = refl
+parted_none k (o ∷ os) e =
+    let both = or_false (nat_eq (level_of o.0) k) (list_any (λ o. nat_eq (level_of o.0) k) os) e in
+    ap (λ (x : List Operand × List Operand). with_operand k (o.0, plain_data o.1) x) (parted_none k os both.1)
+    ∙ with_other k (o.0, plain_data o.1) ([], plain_operands os) (eqb-false (level_of o.0) k both.0)
+    ∙ ap (λ (x : PlainData). ([], (o.0, x) ∷ plain_operands os)) (grouped_none k (plain_data o.1))
+
+and_true : (a b : Bool) → a && b ≡ true → (a ≡ true) × (b ≡ true)
+and_true true b e = (refl, e)
+and_true false b e = absurd cc
+
+all_parted : (k : ℕ) (os : List (InfixSign × DataTree)) → list_all (λ o. nat_eq (level_of o.0) k) os ≡ true → parted k (plain_operands os) ≡ (plain_operands os, [])
+all_parted k [] e = refl
+all_parted k (o ∷ os) e =
+    let both = and_true (nat_eq (level_of o.0) k) (list_all (λ o. nat_eq (level_of o.0) k) os) e in
+    ap (λ (x : List Operand × List Operand). with_operand k (o.0, plain_data o.1) x) (all_parted k os both.1) ∙ with_same k (o.0, plain_data o.1) (plain_operands os, []) (eqb-true (level_of o.0) k both.0)
+
+-- all signs between the operands are of the level
+pub parted_all : (k : ℕ) (os seen others : List (InfixSign × DataTree)) → seen ≡ os → true ≡ list_all (λ o. nat_eq (level_of o.0) k) seen → others ≡ []
+    → (plain_operands os, plain_operands others) ≡ parted k (plain_operands os)
+parted_all k os seen others same e none = rw none (sym (all_parted k os (subst (λ (x : List (InfixSign × DataTree)). list_all (λ o. nat_eq (level_of o.0) k) x ≡ true) same (sym e))))
+
+pub joined_at_none : (k : ℕ) (d : PlainData) (os seen : List (InfixSign × DataTree)) → seen ≡ os → false ≡ list_any (λ o. nat_eq (level_of o.0) k) seen → (d, plain_operands os) ≡ joined_at k (d, plain_operands os)
+joined_at_none k d os seen same e = sym (ap (λ (x : List Operand × List Operand). (grouped k d x.0, x.1)) (parted_none k os (subst (λ (x : List (InfixSign × DataTree)). list_any (λ o. nat_eq (level_of o.0) k) x ≡ false) same (sym e))) ∙ ap (λ (x : PlainData). (x, plain_operands os)) (grouped_none k d))
+
+alone_joins : (k : ℕ) (d : PlainData) → joined_up_to k (d, []) ≡ (d, [])
+unfolding joined_up_to
+alone_joins zero d = refl
+alone_joins (suc k) d = ap (λ (x : PlainData × List Operand). joined_at (suc k) x) (alone_joins k d) ∙ ap (λ (x : PlainData). (x, [])) (grouped_none (suc k) d)
+
+pub alone_joined : (k : ℕ) (d : PlainData) (os : List (InfixSign × DataTree)) → os ≡ [] → d ≡ (joined_up_to k (d, plain_operands os)).0
+alone_joined k d os e = rw e (sym (ap (λ (x : PlainData × List Operand). x.0) (alone_joins k d)))

@@ -7,6 +7,9 @@ pub mod ListLeft
 pub mod Units
 pub mod Operands
 pub mod ItemLists
+mod Rests
+mod GuardLooks
+mod ArrowTables
 mod ProcessGuards
 mod ChainLeft
 mod Atoms

@@ -8,3 +8,4 @@ pub mod DeclarationParts
 pub mod Lists
 pub mod Operands
 pub mod LabelLines
+pub mod Arrows

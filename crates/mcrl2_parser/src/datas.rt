@@ -15,6 +15,7 @@ ghost use Rattle.mcrl2_syntax.specs.SpelledData.{SpellsUnit, SpellsItems, Spells
 ghost use Rattle.mcrl2_parser.specs.Operands.{SpellsSign, SpellsOperands};
 
 use crate::joining::joined;
+use crate::lists::push_sparing;
 use crate::words::{Fault, expect, next, word};
 use mcrl2_lexer::{Kind, Token};
 use mcrl2_syntax::{
@@ -51,6 +52,7 @@ pub fn unit<'a>(
 
 // The expression that a prefix sign begins, and the rest.
 #[cycle(datas)]
+#[inline(never)]
 fn prefixed<'a>(
     alloc: Global,
     text: &[u8],
@@ -72,6 +74,7 @@ fn prefixed<'a>(
 
 // The name, with arguments where a bracket stands behind it, and the rest.
 #[cycle(datas)]
+#[inline(never)]
 fn named<'a>(
     alloc: Global,
     text: &[u8],
@@ -96,6 +99,7 @@ fn named<'a>(
 
 // The list that an opening bracket begins, and the rest.
 #[cycle(datas)]
+#[inline(never)]
 fn listed<'a>(
     alloc: Global,
     text: &[u8],
@@ -120,6 +124,7 @@ fn listed<'a>(
 
 // The expression in brackets that an opening bracket begins, and the rest.
 #[cycle(datas)]
+#[inline(never)]
 fn bracketed<'a>(
     alloc: Global,
     text: &[u8],
@@ -154,7 +159,7 @@ pub fn items<'a>(
     let mut rest = tokens;
     loop {
         let (item, behind) = data(alloc, text, rest)?;
-        list.push(item)?;
+        push_sparing(&mut list, item)?;
         let Ok((_, after)) = expect(behind, Kind::Comma) else {
             list.shrink_to_fit();
             return Ok((list, behind));
@@ -183,6 +188,7 @@ pub fn data<'a>(
 
 // The expressions without infix signs, each behind a sign, that a front of the tokens spells, and the rest.
 #[cycle(datas)]
+#[inline(never)]
 fn operands<'a>(
     alloc: Global,
     text: &[u8],

@@ -10,6 +10,7 @@ ghost use Rattle.mcrl2_syntax.specs.SpelledProcesses.{SpellsProcess};
 ghost use Rattle.mcrl2_syntax.specs.SpelledDeclarations.{SpellsDecl};
 ghost use Rattle.mcrl2_parser.specs.DeclarationParts.{BeginsNamed};
 
+use crate::arrows::arrows_of;
 use crate::datas::data;
 use crate::lists::list;
 use crate::part_spans::{constructors_span, groups_span, names_span, sorts_span};
@@ -38,9 +39,10 @@ fn whole_process(alloc: Global, text: &[u8], tokens: &[Token]) -> Result<ProcTre
     ensures only { (p : PlainProcess) → SpellsProcess text.now p tokens.now []
         → MatchResult result (λ x. plain_process x ≡ p) (λ e. e ≡ Fault.NoMemory) }
 {
-    let (tree, rest) = process(alloc, text, tokens)?;
+    let arrows = arrows_of(alloc, tokens)?;
+    let (tree, rest) = process(alloc, text, &arrows, tokens)?;
     end(rest)?;
-    Ok(tree)
+    Ok(Box::into_inner(tree))
 }
 
 // The names of sorts that all the tokens spell.

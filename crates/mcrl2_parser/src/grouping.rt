@@ -185,6 +185,7 @@ fn or_of(
 }
 
 /// The first operand of a level and the further ones in one tree, as the level groups.
+#[inline(never)]
 pub fn grouped(
     alloc: Global,
     level: u8,

@@ -1,10 +1,11 @@
-//! What decides between two forms of a process term: what stands behind a name, and whether an arrow follows.
+//! What stands in front of the other parts of a process term: the name of a call, and the guard of a condition.
 
-ghost use Rattle.std.specs.Prelude.{◌≡◌, ◌<◌, List, IfOk, IfSome, IsTrue, IsFalse, IsErrOf, MatchOption, MatchResult, length};
+ghost use Rattle.std.specs.Prelude.{◌≡◌, ◌<◌, List, IfOk, IsTrue, IsFalse, MatchResult, length};
 ghost use Rattle.mcrl2_lexer.specs.declared.token.Token.{Token};
 ghost use Rattle.mcrl2_syntax.specs.DataTrees.{PlainData, plain_data};
 ghost use Rattle.mcrl2_parser.specs.ProcessReading.{BeginsCall, SpellsGuard};
 
+use crate::boxes::boxed_data;
 use crate::datas::unit;
 use crate::words::{Fault, expect};
 use mcrl2_lexer::{Kind, Token};
@@ -30,24 +31,22 @@ pub fn begins_call(tokens: &[Token]) -> bool
 
 /// The guard of a condition at the front of the tokens, and the rest behind its arrow.
 ///
-/// It is `None` where no condition stands there. That takes a trial reading, since `(a) -> p` and `(p)` begin alike.
+/// # Errors
+///
+/// `Syntax` where no condition begins there.
+#[inline(never)]
 pub fn guard<'a>(
     alloc: Global,
     text: &[u8],
     tokens: &'a [Token],
-) -> Result<Option<(DataTree, &'a [Token])>, Fault>
-    ensures shorter { IfOk result (λ o. IfSome o (λ x. length x.1.now < length tokens.now)) }
-    ensures found { IfOk result (λ o. IfSome o (λ x. SpellsGuard text.now (plain_data x.0) tokens.now x.1.now)) }
+) -> Result<(Box<DataTree>, &'a [Token]), Fault>
+    ensures shorter { IfOk result (λ x. length x.1.now < length tokens.now) }
+    ensures found { IfOk result (λ x. SpellsGuard text.now (plain_data x.0.value) tokens.now x.1.now) }
     ensures only { (c : PlainData) (r : List Token) → SpellsGuard text.now c tokens.now r
-        → MatchResult result (λ o. MatchOption o ⊥ (λ x. (plain_data x.0 ≡ c) × (x.1.now ≡ r))) (λ e. e ≡ Fault.NoMemory) }
-    ensures syntax { IsErrOf result Fault.Syntax → ⊥ }
+        → MatchResult result (λ x. (plain_data x.0.value ≡ c) × (x.1.now ≡ r)) (λ e. e ≡ Fault.NoMemory) }
 {
-    match unit(alloc, text, tokens) {
-        Ok((tree, rest)) => match expect(rest, Kind::Arrow) {
-            Ok((_, after)) => Ok(Some((tree, after))),
-            Err(_) => Ok(None),
-        },
-        Err(Fault::Syntax) => Ok(None),
-        Err(Fault::NoMemory) => Err(Fault::NoMemory),
-    }
+    let (tree, rest) = unit(alloc, text, tokens)?;
+    let (_, rest) = expect(rest, Kind::Arrow)?;
+    let tree = boxed_data(alloc, tree)?;
+    Ok((tree, rest))
 }

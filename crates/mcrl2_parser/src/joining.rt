@@ -1,13 +1,24 @@
 //! The operands of all levels in one tree.
 
-ghost use Rattle.std.specs.Prelude.{◌≡◌, IfErr, IfOk};
+ghost use Rattle.std.specs.Prelude.{◌≡◌, IfErr, IfOk, nat_eq};
+ghost use Rattle.std.specs.List.{list_all, list_any};
 ghost use Rattle.mcrl2_syntax.specs.DataTrees.{plain_data, plain_operands};
+ghost use Rattle.mcrl2_syntax.specs.InfixSigns.{level_of};
 ghost use Rattle.mcrl2_parser.specs.Operands.{parted, joined_at, joined_up_to};
 
 use crate::grouping::grouped;
 use crate::words::Fault;
 use mcrl2_syntax::{DataTree, InfixSign, sign_level};
 use std::alloc::Global;
+
+// Whether all signs between operands are of the level.
+fn is_level(level: u8, operands: &[(InfixSign, DataTree)]) -> bool
+    ensures { result ≡ list_all (λ operand. nat_eq (level_of operand.0) level) operands.now }
+{
+    operands
+        .iter()
+        .all(|operand| sign_level(operand.0) == level)
+}
 
 // The operands that signs of the level join to what stands in front of them all, and the others, each with those that such
 // signs join to it.
@@ -19,6 +30,9 @@ fn parted(
     ensures parted { IfOk result (λ x. (plain_operands x.0.items, plain_operands x.1.items) ≡ parted level (plain_operands operands.items)) }
     ensures no_memory { IfErr result (λ e. e ≡ Fault.NoMemory) }
 {
+    if is_level(level, &operands) {
+        return Ok((operands, Vec::new(alloc)));
+    }
     let mut operands = operands;
     let mut run = Vec::new(alloc);
     let mut others = Vec::new(alloc);
@@ -37,6 +51,15 @@ fn parted(
     Ok((run, others))
 }
 
+// Whether a sign of the level stands between operands.
+fn has_level(level: u8, operands: &[(InfixSign, DataTree)]) -> bool
+    ensures { result ≡ list_any (λ operand. nat_eq (level_of operand.0) level) operands.now }
+{
+    operands
+        .iter()
+        .any(|operand| sign_level(operand.0) == level)
+}
+
 // The first operand and the further ones, where the signs of the level have joined theirs.
 fn joined_at(
     alloc: Global,
@@ -47,12 +70,16 @@ fn joined_at(
     ensures joined { IfOk result (λ x. (plain_data x.0, plain_operands x.1.items) ≡ joined_at level (plain_data first, plain_operands operands.items)) }
     ensures no_memory { IfErr result (λ e. e ≡ Fault.NoMemory) }
 {
+    if !has_level(level, &operands) {
+        return Ok((first, operands));
+    }
     let (run, others) = parted(alloc, level, operands)?;
     let tree = grouped(alloc, level, first, run)?;
     Ok((tree, others))
 }
 
 /// The first operand and the further ones in one tree, joined from the tightest level on.
+#[inline(never)]
 pub fn joined(
     alloc: Global,
     first: DataTree,
@@ -61,6 +88,9 @@ pub fn joined(
     ensures tree { IfOk result (λ tree. plain_data tree ≡ (joined_up_to 11 (plain_data first, plain_operands operands.items)).0) }
     ensures no_memory { IfErr result (λ e. e ≡ Fault.NoMemory) }
 {
+    if operands.is_empty() {
+        return Ok(first);
+    }
     let mut tree = first;
     let mut further = operands;
     for below in 0..11 {

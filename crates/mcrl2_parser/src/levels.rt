@@ -10,7 +10,7 @@ pub const MAX_LEVEL: usize = 1_000;
 
 /// What a token does to the level.
 #[derive(Clone, Copy, Debug, PartialEq, Eq)]
-enum Effect {
+pub(crate) enum Effect {
     /// It opens a bracket.
     Opens,
     /// It closes the innermost open bracket, if there is one.
@@ -24,7 +24,7 @@ enum Effect {
 }
 
 /// What a token of this kind does to the level.
-fn effect_of(kind: Kind) -> Effect
+pub(crate) fn effect_of(kind: Kind) -> Effect
     ensures { result ≡ effect_of kind }
 {
     match kind {

@@ -6,6 +6,8 @@
 //! Sections and declarations are those of the mCRL2 language reference; the levels and their bound are this program's own.
 #![tactic(auto)]
 
+mod arrows;
+mod boxes;
 mod chains;
 mod constructor_readers;
 mod datas;
@@ -40,22 +42,3 @@ pub use laws::{
 };
 pub use levels::{MAX_LEVEL, level};
 pub use parsing::parse;
-
-#[cfg(test)]
-mod data_tests;
-#[cfg(test)]
-mod declaration_tests;
-#[cfg(test)]
-mod grammar_tests;
-#[cfg(test)]
-mod part_tests;
-#[cfg(test)]
-mod process_tests;
-#[cfg(test)]
-mod reader_tests;
-#[cfg(test)]
-mod shapes;
-#[cfg(test)]
-mod spec_shapes;
-#[cfg(test)]
-mod tests;

@@ -1,6 +1,6 @@
 //! Lists of parts: with a separator between them, and in braces.
 
-ghost use Rattle.std.specs.Prelude.{◌≡◌, ◌<◌, ℕ, List, IfOk, MatchResult, length, map};
+ghost use Rattle.std.specs.Prelude.{◌≡◌, ◌<◌, ◌++◌, ◌∷◌, [], ℕ, List, IfOk, OnOk, MatchResult, length, map};
 ghost use Rattle.mcrl2_lexer.specs.declared.token.Token.{Token};
 ghost use Rattle.mcrl2_syntax.specs.Words.{Begins};
 ghost use Rattle.mcrl2_syntax.specs.SpelledWords.{SpellsList, SpellsBraces};
@@ -8,7 +8,7 @@ ghost use Rattle.mcrl2_parser.specs.Lists.{StopsAt, NeverBegins};
 
 use crate::words::{Fault, expect};
 use mcrl2_lexer::{Kind, Token};
-use std::alloc::Global;
+use std::alloc::{AllocError, Global};
 
 /// A part of the grammar that stands in lists.
 pub trait Part: Drop {
@@ -40,6 +40,17 @@ pub trait Part: Drop {
             → MatchResult result (λ x. (plain x.0 ≡ part) × (x.1.now ≡ r)) (λ e. e ≡ Fault.NoMemory) };
 }
 
+/// Puts an item behind the others. The first one gets room for itself alone, since many lists have one item.
+pub fn push_sparing<T: Drop>(list: &mut Vec<T>, item: T) -> Result<(), AllocError>
+    ensures { OnOk result (list.new.items ≡ list.old.items ++ item ∷ []) }
+{
+    if list.is_empty() {
+        list.reserve_exact(1)?;
+    }
+    list.push(item)?;
+    Ok(())
+}
+
 /// The parts with that separator between them that a front of the tokens spells, and the rest.
 ///
 /// # Errors
@@ -61,7 +72,7 @@ pub fn list<'a, T: Part>(
     let mut rest = tokens;
     'parts: loop {
         let (part, behind) = T::read(alloc, text, rest)?;
-        parts.push(part)?;
+        push_sparing(&mut parts, part)?;
         let Ok((_, next)) = expect(behind, separator) else {
             parts.shrink_to_fit();
             return Ok((parts, behind));

@@ -115,6 +115,7 @@ fn opened<'a, T: Part>(
 /// # Errors
 ///
 /// `Syntax` where no front of them spells one.
+#[inline(never)]
 pub fn operator<'a>(
     alloc: Global,
     text: &[u8],

@@ -143,6 +143,7 @@ pub fn names<'a>(
 /// # Errors
 ///
 /// `Syntax` where no front of them spells any.
+#[inline(never)]
 pub fn vars<'a>(
     alloc: Global,
     text: &[u8],
@@ -218,6 +219,7 @@ fn actions_span(actions: &[ActionTree]) -> Span
 /// # Errors
 ///
 /// `Syntax` where no front of them spells one.
+#[inline(never)]
 pub fn label<'a>(
     alloc: Global,
     text: &[u8],
@@ -237,6 +239,7 @@ pub fn label<'a>(
 /// # Errors
 ///
 /// `Syntax` where no front of them spells one.
+#[inline(never)]
 pub fn call<'a>(
     alloc: Global,
     text: &[u8],

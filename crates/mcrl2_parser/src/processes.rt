@@ -1,7 +1,8 @@
 //! The readers of process terms.
 //!
 //! Each reads as far as it can. So an operand in front of `||` never ends in a sum, nor one in front of `<>` in a condition
-//! without an else part: such a sum or condition would have read on.
+//! without an else part: such a sum or condition would have read on. Whether a condition begins somewhere, a table tells
+//! (`arrows.rt`), so that nothing is read twice.
 
 ghost use Rattle.std.specs.Prelude.{◌≡◌, ◌<◌, Bool, true, List, IfOk, MatchResult, length};
 ghost use Rattle.mcrl2_lexer.specs.declared.token.Token.{Token};
@@ -10,21 +11,27 @@ ghost use Rattle.mcrl2_syntax.specs.DataTrees.{plain_data};
 ghost use Rattle.mcrl2_syntax.specs.ProcessTrees.{PlainProcess, plain_process};
 ghost use Rattle.mcrl2_syntax.specs.Follow.{NoAction, Follows, Stays, Ends};
 ghost use Rattle.mcrl2_syntax.specs.SpelledProcesses.{merged, SpellsAtom, SpellsOperand, SpellsSum, SpellsCond, SpellsMerge, SpellsProcess};
+ghost use Rattle.mcrl2_parser.specs.Arrows.{HasArrows};
 ghost use Rattle.mcrl2_parser.specs.ProcessReading.{SpellsStep, SpellsGuard, SpellsLast, FindsLast, FindsPart, FindsOperand, FindsMerge};
 
-use crate::chains::{in_choice, in_parallel, in_sequence, in_step};
+use crate::arrows::begins_guard;
+use crate::boxes::{
+    boxed_brackets, boxed_choice, boxed_delta, boxed_either, boxed_operator, boxed_parallel,
+    boxed_sequence, boxed_sum, boxed_when, push_part,
+};
+use crate::chains::in_step;
 use crate::guards::{begins_call, guard};
 use crate::operator_parts::operator;
 use crate::parts::{call, label, vars};
 use crate::words::{Fault, expect, next};
 use mcrl2_lexer::{Kind, Token};
-use mcrl2_syntax::{DataTree, ProcTree, joined_spans, token_span};
+use mcrl2_syntax::{DataTree, ProcTree};
 use std::alloc::Global;
 
 /// The process term that a front of the tokens spells, and the rest.
 ///
 /// The rules are those of the mCRL2 language reference: `+` binds least, then `sum`, then `||`, then `->` with its `<>`, and `.`
-/// most.
+/// most. The table tells of each rest of the tokens where the innermost open bracket ends.
 ///
 /// # Errors
 ///
@@ -34,20 +41,28 @@ use std::alloc::Global;
 pub fn process<'a>(
     alloc: Global,
     text: &[u8],
+    arrows: &[bool],
     tokens: &'a [Token],
-) -> Result<(ProcTree, &'a [Token]), Fault>
+) -> Result<(Box<ProcTree>, &'a [Token]), Fault>
+    requires { HasArrows arrows.now tokens.now }
     ensures shorter { IfOk result (λ x. length x.1.now < length tokens.now) }
-    ensures found { IfOk result (λ x. SpellsProcess text.now (plain_process x.0) tokens.now x.1.now) }
+    ensures found { IfOk result (λ x. SpellsProcess text.now (plain_process x.0.value) tokens.now x.1.now) }
     ensures only { (p : PlainProcess) (r : List Token) → SpellsProcess text.now p tokens.now r → Ends r
-        → MatchResult result (λ x. (plain_process x.0 ≡ p) × (x.1.now ≡ r)) (λ e. e ≡ Fault.NoMemory) }
+        → MatchResult result (λ x. (plain_process x.0.value ≡ p) × (x.1.now ≡ r)) (λ e. e ≡ Fault.NoMemory) }
 {
+    let (first, end) = merge(alloc, text, arrows, tokens)?;
+    let Ok((_, after)) = expect(end, Kind::Plus) else {
+        return Ok((first, end));
+    };
     let mut parts = Vec::new(alloc);
-    let mut rest = tokens;
-    loop {
-        let (part, end) = merge(alloc, text, rest)?;
-        parts.push(part)?;
+    push_part(&mut parts, first)?;
+    let mut rest = after;
+    'parts: loop {
+        let (part, end) = merge(alloc, text, arrows, rest)?;
+        push_part(&mut parts, part)?;
         let Ok((_, after)) = expect(end, Kind::Plus) else {
-            return Ok((in_choice(parts), end));
+            let tree = boxed_choice(alloc, parts)?;
+            return Ok((tree, end));
         };
         rest = after;
     }
@@ -58,20 +73,28 @@ pub fn process<'a>(
 fn merge<'a>(
     alloc: Global,
     text: &[u8],
+    arrows: &[bool],
     tokens: &'a [Token],
-) -> Result<(ProcTree, &'a [Token]), Fault>
+) -> Result<(Box<ProcTree>, &'a [Token]), Fault>
+    requires { HasArrows arrows.now tokens.now }
     ensures shorter { IfOk result (λ x. length x.1.now < length tokens.now) }
-    ensures found { IfOk result (λ x. FindsMerge text.now (plain_process x.0) tokens.now x.1.now) }
+    ensures found { IfOk result (λ x. FindsMerge text.now (plain_process x.0.value) tokens.now x.1.now) }
     ensures only { (o : Bool) (ps : List PlainProcess) (r : List Token) → SpellsMerge text.now o ps tokens.now r → Follows r → Stays true o r
-        → MatchResult result (λ x. (plain_process x.0 ≡ merged ps) × (x.1.now ≡ r)) (λ e. e ≡ Fault.NoMemory) }
+        → MatchResult result (λ x. (plain_process x.0.value ≡ merged ps) × (x.1.now ≡ r)) (λ e. e ≡ Fault.NoMemory) }
 {
+    let (first, end) = operand(alloc, text, arrows, tokens)?;
+    let Ok((_, after)) = expect(end, Kind::BarBar) else {
+        return Ok((first, end));
+    };
     let mut parts = Vec::new(alloc);
-    let mut rest = tokens;
-    loop {
-        let (part, end) = operand(alloc, text, rest)?;
-        parts.push(part)?;
+    push_part(&mut parts, first)?;
+    let mut rest = after;
+    'parts: loop {
+        let (part, end) = operand(alloc, text, arrows, rest)?;
+        push_part(&mut parts, part)?;
         let Ok((_, after)) = expect(end, Kind::BarBar) else {
-            return Ok((in_parallel(parts), end));
+            let tree = boxed_parallel(alloc, parts)?;
+            return Ok((tree, end));
         };
         rest = after;
     }
@@ -82,20 +105,28 @@ fn merge<'a>(
 fn operand<'a>(
     alloc: Global,
     text: &[u8],
+    arrows: &[bool],
     tokens: &'a [Token],
-) -> Result<(ProcTree, &'a [Token]), Fault>
+) -> Result<(Box<ProcTree>, &'a [Token]), Fault>
+    requires { HasArrows arrows.now tokens.now }
     ensures shorter { IfOk result (λ x. length x.1.now < length tokens.now) }
-    ensures found { IfOk result (λ x. FindsOperand text.now (plain_process x.0) tokens.now x.1.now) }
+    ensures found { IfOk result (λ x. FindsOperand text.now (plain_process x.0.value) tokens.now x.1.now) }
     ensures only { (s o : Bool) (p : PlainProcess) (r : List Token) → SpellsOperand text.now s o p tokens.now r → Follows r → Stays s o r
-        → MatchResult result (λ x. (plain_process x.0 ≡ p) × (x.1.now ≡ r)) (λ e. e ≡ Fault.NoMemory) }
+        → MatchResult result (λ x. (plain_process x.0.value ≡ p) × (x.1.now ≡ r)) (λ e. e ≡ Fault.NoMemory) }
 {
+    let (first, end) = part(alloc, text, arrows, tokens)?;
+    let Ok((_, after)) = expect(end, Kind::Dot) else {
+        return Ok((first, end));
+    };
     let mut parts = Vec::new(alloc);
-    let mut rest = tokens;
-    loop {
-        let (part, end) = part(alloc, text, rest)?;
-        parts.push(part)?;
+    push_part(&mut parts, first)?;
+    let mut rest = after;
+    'parts: loop {
+        let (part, end) = part(alloc, text, arrows, rest)?;
+        push_part(&mut parts, part)?;
         let Ok((_, after)) = expect(end, Kind::Dot) else {
-            return Ok((in_sequence(parts), end));
+            let tree = boxed_sequence(alloc, parts)?;
+            return Ok((tree, end));
         };
         rest = after;
     }
@@ -103,25 +134,29 @@ fn operand<'a>(
 
 // The part of a sequence that a front of the tokens spells, and the rest.
 #[cycle(process)]
+#[inline(never)]
 fn part<'a>(
     alloc: Global,
     text: &[u8],
+    arrows: &[bool],
     tokens: &'a [Token],
-) -> Result<(ProcTree, &'a [Token]), Fault>
+) -> Result<(Box<ProcTree>, &'a [Token]), Fault>
+    requires { HasArrows arrows.now tokens.now }
     ensures shorter { IfOk result (λ x. length x.1.now < length tokens.now) }
-    ensures found { IfOk result (λ x. FindsPart text.now (plain_process x.0) tokens.now x.1.now) }
+    ensures found { IfOk result (λ x. FindsPart text.now (plain_process x.0.value) tokens.now x.1.now) }
     ensures last { (s o : Bool) (p : PlainProcess) (r : List Token) → SpellsLast text.now s o p tokens.now r → Follows r → Stays s o r
-        → MatchResult result (λ x. (plain_process x.0 ≡ p) × (x.1.now ≡ r)) (λ e. e ≡ Fault.NoMemory) }
+        → MatchResult result (λ x. (plain_process x.0.value ≡ p) × (x.1.now ≡ r)) (λ e. e ≡ Fault.NoMemory) }
     ensures atom { (p : PlainProcess) (r : List Token) → SpellsAtom text.now p tokens.now r → NoAction r → (Begins Kind.Arrow r → ⊥)
-        → MatchResult result (λ x. (plain_process x.0 ≡ p) × (x.1.now ≡ r)) (λ e. e ≡ Fault.NoMemory) }
+        → MatchResult result (λ x. (plain_process x.0.value ≡ p) × (x.1.now ≡ r)) (λ e. e ≡ Fault.NoMemory) }
 {
     if expect(tokens, Kind::Sum).is_ok() {
-        return sum(alloc, text, tokens);
+        return sum(alloc, text, arrows, tokens);
     }
-    match guard(alloc, text, tokens)? {
-        Some((guard, rest)) => condition(alloc, text, guard, rest),
-        None => atom(alloc, text, tokens),
+    if begins_guard(arrows, tokens) {
+        let (guard, rest) = guard(alloc, text, tokens)?;
+        return condition(alloc, text, arrows, guard, rest);
     }
+    atom(alloc, text, arrows, tokens)
 }
 
 // The call or the actions that a front of the tokens spells, and the rest.
@@ -142,51 +177,71 @@ fn step<'a>(
     Ok((in_step(label), rest))
 }
 
-// The sum that a front of the tokens spells, and the rest.
-#[cycle(process)]
-fn sum<'a>(
+// The same in a box.
+#[inline(never)]
+fn boxed_step<'a>(
     alloc: Global,
     text: &[u8],
     tokens: &'a [Token],
-) -> Result<(ProcTree, &'a [Token]), Fault>
+) -> Result<(Box<ProcTree>, &'a [Token]), Fault>
     ensures shorter { IfOk result (λ x. length x.1.now < length tokens.now) }
-    ensures found { IfOk result (λ x. FindsLast text.now (plain_process x.0) tokens.now x.1.now) }
+    ensures found { IfOk result (λ x. SpellsStep text.now (plain_process x.0.value) tokens.now x.1.now) }
+    ensures only { (p : PlainProcess) (r : List Token) → SpellsStep text.now p tokens.now r → NoAction r
+        → MatchResult result (λ x. (plain_process x.0.value ≡ p) × (x.1.now ≡ r)) (λ e. e ≡ Fault.NoMemory) }
+{
+    let (tree, rest) = step(alloc, text, tokens)?;
+    let tree = Box::new(alloc, tree)?;
+    Ok((tree, rest))
+}
+
+// The sum that a front of the tokens spells, and the rest.
+#[cycle(process)]
+#[inline(never)]
+fn sum<'a>(
+    alloc: Global,
+    text: &[u8],
+    arrows: &[bool],
+    tokens: &'a [Token],
+) -> Result<(Box<ProcTree>, &'a [Token]), Fault>
+    requires { HasArrows arrows.now tokens.now }
+    ensures shorter { IfOk result (λ x. length x.1.now < length tokens.now) }
+    ensures found { IfOk result (λ x. FindsLast text.now (plain_process x.0.value) tokens.now x.1.now) }
     ensures only { (o : Bool) (p : PlainProcess) (r : List Token) → SpellsSum text.now o p tokens.now r → Follows r → Stays true o r
-        → MatchResult result (λ x. (plain_process x.0 ≡ p) × (x.1.now ≡ r)) (λ e. e ≡ Fault.NoMemory) }
+        → MatchResult result (λ x. (plain_process x.0.value ≡ p) × (x.1.now ≡ r)) (λ e. e ≡ Fault.NoMemory) }
 {
     let (word, rest) = expect(tokens, Kind::Sum)?;
     let (variables, rest) = vars(alloc, text, rest)?;
     let (_, rest) = expect(rest, Kind::Dot)?;
-    let (inner, rest) = merge(alloc, text, rest)?;
-    let span = joined_spans(token_span(word, word), inner.span());
-    let tree = ProcTree::sum_at(alloc, span, variables, inner)?;
+    let (inner, rest) = merge(alloc, text, arrows, rest)?;
+    let tree = boxed_sum(alloc, word, variables, inner)?;
     Ok((tree, rest))
 }
 
 // The condition with that guard in front of the tokens, and the rest.
 #[cycle(process)]
+#[inline(never)]
 fn condition<'a>(
     alloc: Global,
     text: &[u8],
-    guard: DataTree,
+    arrows: &[bool],
+    guard: Box<DataTree>,
     tokens: &'a [Token],
-) -> Result<(ProcTree, &'a [Token]), Fault>
+) -> Result<(Box<ProcTree>, &'a [Token]), Fault>
+    requires { HasArrows arrows.now tokens.now }
     ensures shorter { IfOk result (λ x. length x.1.now < length tokens.now) }
-    ensures found { IfOk result (λ x. (ts : List Token) → SpellsGuard text.now (plain_data guard) ts tokens.now → FindsLast text.now (plain_process x.0) ts x.1.now) }
-    ensures only { (ts : List Token) (s o : Bool) (p : PlainProcess) (r : List Token) → SpellsGuard text.now (plain_data guard) ts tokens.now → SpellsCond text.now s o p ts r → Follows r
-        → Stays s o r → MatchResult result (λ x. (plain_process x.0 ≡ p) × (x.1.now ≡ r)) (λ e. e ≡ Fault.NoMemory) }
+    ensures found { IfOk result (λ x. (ts : List Token) → SpellsGuard text.now (plain_data guard.value) ts tokens.now → FindsLast text.now (plain_process x.0.value) ts x.1.now) }
+    ensures only { (ts : List Token) (s o : Bool) (p : PlainProcess) (r : List Token) → SpellsGuard text.now (plain_data guard.value) ts tokens.now → SpellsCond text.now s o p ts r → Follows r
+        → Stays s o r → MatchResult result (λ x. (plain_process x.0.value ≡ p) × (x.1.now ≡ r)) (λ e. e ≡ Fault.NoMemory) }
 {
-    let (then, rest) = operand(alloc, text, tokens)?;
+    let (then, rest) = operand(alloc, text, arrows, tokens)?;
     match expect(rest, Kind::Else) {
         Ok((_, after)) => {
-            let (other, rest) = operand(alloc, text, after)?;
-            let span = joined_spans(guard.span(), other.span());
-            let tree = ProcTree::either_at(alloc, span, guard, then, other)?;
+            let (other, rest) = operand(alloc, text, arrows, after)?;
+            let tree = boxed_either(alloc, guard, then, other)?;
             Ok((tree, rest))
         }
         Err(_) => {
-            let span = joined_spans(guard.span(), then.span());
-            let tree = ProcTree::when_at(alloc, span, guard, then)?;
+            let tree = boxed_when(alloc, guard, then)?;
             Ok((tree, rest))
         }
     }
@@ -194,32 +249,38 @@ fn condition<'a>(
 
 // The term without `+`, `||`, `.`, `sum` and `->` outside brackets that a front of the tokens spells, and the rest.
 #[cycle(process)]
+#[inline(never)]
 fn atom<'a>(
     alloc: Global,
     text: &[u8],
+    arrows: &[bool],
     tokens: &'a [Token],
-) -> Result<(ProcTree, &'a [Token]), Fault>
+) -> Result<(Box<ProcTree>, &'a [Token]), Fault>
+    requires { HasArrows arrows.now tokens.now }
     ensures shorter { IfOk result (λ x. length x.1.now < length tokens.now) }
-    ensures found { IfOk result (λ x. SpellsAtom text.now (plain_process x.0) tokens.now x.1.now) }
+    ensures found { IfOk result (λ x. SpellsAtom text.now (plain_process x.0.value) tokens.now x.1.now) }
     ensures only { (p : PlainProcess) (r : List Token) → SpellsAtom text.now p tokens.now r → NoAction r
-        → MatchResult result (λ x. (plain_process x.0 ≡ p) × (x.1.now ≡ r)) (λ e. e ≡ Fault.NoMemory) }
+        → MatchResult result (λ x. (plain_process x.0.value ≡ p) × (x.1.now ≡ r)) (λ e. e ≡ Fault.NoMemory) }
 {
     let (first, rest) = next(tokens)?;
     match first.kind {
-        Kind::Delta => Ok((ProcTree::delta_at(token_span(first, first)), rest)),
+        Kind::Delta => {
+            let tree = boxed_delta(alloc, first)?;
+            Ok((tree, rest))
+        }
         Kind::LeftParen => {
-            let (inner, rest) = process(alloc, text, rest)?;
+            let (inner, rest) = process(alloc, text, arrows, rest)?;
             let (close, rest) = expect(rest, Kind::RightParen)?;
-            let tree = ProcTree::brackets_at(alloc, token_span(first, close), inner)?;
+            let tree = boxed_brackets(alloc, first, close, inner)?;
             Ok((tree, rest))
         }
         Kind::Allow | Kind::Block | Kind::Hide | Kind::Rename | Kind::Comm => {
             let (operator, rest) = operator(alloc, text, tokens)?;
-            let (inner, rest) = process(alloc, text, rest)?;
+            let (inner, rest) = process(alloc, text, arrows, rest)?;
             let (close, rest) = expect(rest, Kind::RightParen)?;
-            let tree = operator.around(alloc, token_span(first, close), inner)?;
+            let tree = boxed_operator(alloc, first, close, operator, inner)?;
             Ok((tree, rest))
         }
-        _ => step(alloc, text, tokens),
+        _ => boxed_step(alloc, text, tokens),
     }
 }

@@ -4,28 +4,18 @@ ghost use Rattle.mcrl2_syntax.specs.Declarations.{PlainSpec, plain_decl, section
 ghost use Rattle.mcrl2_syntax.specs.SpelledDeclarations.{SpellsSpec};
 ghost use Rattle.mcrl2_parser.specs.Sections.{declarations_in, with_last};
 
+use crate::lists::push_sparing;
 use crate::sections::is_semicolon;
 use mcrl2_lexer::Token;
 use mcrl2_syntax::{Decl, Section, Spec, section_of_kind, token_span};
 use std::alloc::{AllocError, Global};
-
-/// Puts a tree behind the others. The first one gets room for itself alone, since many sections have one declaration.
-fn push_tree(trees: &mut Vec<Decl>, tree: Decl) -> Result<(), AllocError>
-    ensures { OnOk result (trees.new.items ≡ trees.old.items ++ tree ∷ []) }
-{
-    if trees.is_empty() {
-        trees.reserve_exact(1)?;
-    }
-    trees.push(tree)?;
-    Ok(())
-}
 
 /// Puts a tree behind those of the last section, if there is one.
 fn put_last(sections: &mut Vec<Section>, tree: Decl) -> Result<(), AllocError>
     ensures { OnOk result (map section_of sections.new.items ≡ with_last (plain_decl tree) (map section_of sections.old.items)) }
 {
     if let Some(last) = sections.last_mut() {
-        push_tree(&mut last.declarations, tree)?;
+        push_sparing(&mut last.declarations, tree)?;
     }
     Ok(())
 }

@@ -1,10 +1,12 @@
 //! Whether the stack has room for a declaration: a reader goes down as deep as its tokens nest, and so does whoever gives its
 //! tree back.
 //!
-//! The level of tokens is no bound of this, since a sign that it stops may go on to nest. What is counted here errs on the safe
-//! side, and no clause speaks of it: where there is no room, there is no memory.
+//! The level of tokens is no bound of this, since a sign that it stops may go on to nest. What is counted here follows the
+//! grammar: what nests in a tree, and how deep, whichever form of the grammar the tokens have. No clause speaks of it: where
+//! there is no room, there is no memory.
 
 use mcrl2_lexer::{Kind, Token};
+use mcrl2_syntax::{infix_sign, sign_level};
 use std::alloc::{AllocError, Global};
 
 /// How deep a reader may go down.
@@ -13,121 +15,203 @@ const MAX_READ: usize = 1_400;
 /// How deep a tree may nest.
 const MAX_TREE: usize = 5_000;
 
-/// What may nest in an open bracket, or outside.
+/// How many levels of infix signs there are.
+const LEVELS: usize = 11;
+
+/// What the infix signs of one level have joined so far, up to the last of them.
 #[derive(Clone, Copy, Debug)]
-struct Nest {
-    /// Whether it is a brace, in which no process term stands.
-    is_brace: bool,
-    /// Conditions and sums, which only a `+` ends.
-    process: usize,
-    /// Signs that bind more tightly than `+`.
-    tight: usize,
-    /// Signs that a `,`, `&&` or `||` ends.
-    loose: usize,
-    /// Implications, which only a `,` ends.
-    implications: usize,
-    /// The depth of the deepest bracket that was closed here.
-    inner: usize,
-    /// The greatest depth so far.
-    deepest: usize,
+struct Chain {
+    /// How deep the tree in front of the last sign is, and 0 where there is no sign.
+    depth: usize,
+    /// How many signs nest all that stands behind them.
+    around: usize,
 }
 
-impl Nest {
-    /// Nothing yet.
-    fn new(is_brace: bool) -> Nest {
-        Nest {
-            is_brace,
-            process: 0,
-            tight: 0,
-            loose: 0,
-            implications: 0,
-            inner: 0,
-            deepest: 1,
+impl Chain {
+    /// No sign yet.
+    fn new() -> Chain {
+        Chain {
+            depth: 0,
+            around: 0,
         }
     }
 
-    /// How deep a reader may go down here: infix signs are read in a row.
-    fn read(&self) -> usize {
-        self.process.saturating_add(self.tight).saturating_add(1)
+    /// How deep the tree is where an operand of that depth ends the chain.
+    fn ended(self, operand: usize) -> usize {
+        if self.depth == 0 {
+            return operand;
+        }
+        let last = operand.saturating_add(self.around);
+        self.depth.max(last).saturating_add(1)
     }
 
-    /// Takes the depth here into account.
-    fn reach(&mut self) {
-        let depth = self
-            .read()
-            .saturating_add(self.loose)
-            .saturating_add(self.implications)
-            .saturating_add(self.inner);
+    /// The chain with an operand of that depth and a sign of the level behind it.
+    fn extended(self, level: u8, operand: usize) -> Chain {
+        match level {
+            1 | 3 | 9 | 10 => Chain {
+                depth: self.depth.max(operand),
+                around: 0,
+            },
+            6 | 11 => Chain {
+                depth: self.depth.max(operand.saturating_add(self.around)),
+                around: self.around.saturating_add(1),
+            },
+            _ => Chain {
+                depth: self.ended(operand),
+                around: 0,
+            },
+        }
+    }
+}
+
+/// What may nest in an open bracket, or outside: operands and infix signs, or process terms.
+#[derive(Clone, Copy, Debug)]
+struct Place {
+    /// Sums, and the conditions that stand in front of one: they go on up to a `+`.
+    sums: usize,
+    /// Conditions behind the last sum, which go on up to a `||` or a `+`.
+    conditions: usize,
+    /// The prefix signs of the operand that is read.
+    prefixes: usize,
+    /// How deep the operand that is read nests, without them, and 0 in front of it.
+    operand: usize,
+    /// What the infix signs of each level have joined, the tightest first.
+    chains: [Chain; LEVELS],
+    /// How deep the deepest tree is that has ended.
+    deepest: usize,
+}
+
+impl Place {
+    /// Nothing yet.
+    fn new() -> Place {
+        Place {
+            sums: 0,
+            conditions: 0,
+            prefixes: 0,
+            operand: 0,
+            chains: [Chain::new(); LEVELS],
+            deepest: 0,
+        }
+    }
+
+    /// How deep a reader goes down here: infix signs are read in a row.
+    fn read(&self) -> usize {
+        self.sums
+            .saturating_add(self.conditions)
+            .saturating_add(self.prefixes)
+            .saturating_add(1)
+    }
+
+    /// Ends the operand, and gives its depth: the signs and conditions in front of it nest it.
+    fn end_operand(&mut self) -> usize {
+        let depth = self.operand.saturating_add(self.prefixes);
+        let nested = depth
+            .saturating_add(self.sums)
+            .saturating_add(self.conditions);
+        self.deepest = self.deepest.max(nested);
+        self.operand = 0;
+        self.prefixes = 0;
+        depth
+    }
+
+    /// Ends the chains of that many levels, from the tightest on, and gives the depth of their tree. The operand ends them.
+    fn end_chains(&mut self, levels: usize, operand: usize) -> usize {
+        let mut depth = operand;
+        for chain in self.chains.iter_mut().take(levels) {
+            depth = chain.ended(depth);
+            *chain = Chain::new();
+        }
+        depth
+    }
+
+    /// Takes an infix sign of that level.
+    fn join(&mut self, level: u8) {
+        let operand = self.end_operand();
+        let tighter = usize::from(level).saturating_sub(1);
+        let depth = self.end_chains(tighter, operand);
+        if let Some(chain) = self.chains.get_mut(tighter) {
+            *chain = chain.extended(level, depth);
+        }
+    }
+
+    /// Ends all infix signs.
+    fn end(&mut self) {
+        let operand = self.end_operand();
+        let depth = self.end_chains(LEVELS, operand);
         self.deepest = self.deepest.max(depth);
     }
 
     /// Takes a token that opens and closes nothing.
     fn take(&mut self, kind: Kind) {
         match kind {
-            Kind::Arrow | Kind::Else | Kind::Sum => {
-                if !self.is_brace {
-                    self.process = self.process.saturating_add(1);
-                }
+            Kind::Identifier | Kind::Numeral | Kind::TrueWord | Kind::FalseWord => {
+                self.operand = self.operand.max(1);
             }
-            Kind::Exclamation | Kind::Hash | Kind::Minus | Kind::Star | Kind::Div | Kind::Mod => {
-                self.tight = self.tight.saturating_add(1);
+            Kind::Exclamation => self.prefixes = self.prefixes.saturating_add(1),
+            Kind::Minus | Kind::Hash if self.operand == 0 => {
+                self.prefixes = self.prefixes.saturating_add(1);
             }
-            Kind::Concat | Kind::Append | Kind::Prepend | Kind::In | Kind::EqualsEquals => {
-                self.loose = self.loose.saturating_add(1);
+            Kind::Arrow => {
+                self.end();
+                self.conditions = self.conditions.saturating_add(1);
             }
-            Kind::NotEquals | Kind::Less | Kind::LessEquals | Kind::Greater | Kind::GreaterEquals =>
-                {
-                    self.loose = self.loose.saturating_add(1);
-                }
-            Kind::Implies => self.implications = self.implications.saturating_add(1),
-            Kind::Plus | Kind::BarBar | Kind::AndAnd | Kind::Comma => self.end(kind),
+            Kind::Sum => {
+                self.end();
+                self.sums = self.sums.saturating_add(self.conditions).saturating_add(1);
+                self.conditions = 0;
+            }
+            _ => self.take_sign(kind),
+        }
+    }
+
+    /// Takes a sign that stands behind an operand, and nests nothing that is no operand.
+    fn take_sign(&mut self, kind: Kind) {
+        match infix_sign(kind) {
+            Some(sign) => self.join(sign_level(sign)),
+            None => self.end(),
+        }
+        match kind {
+            Kind::BarBar | Kind::Comma => self.conditions = 0,
+            Kind::Plus => {
+                self.sums = 0;
+                self.conditions = 0;
+            }
             _ => {}
         }
-        self.reach();
     }
 
-    /// Takes a sign that ends others.
-    fn end(&mut self, kind: Kind) {
-        self.tight = 0;
-        if kind == Kind::Plus {
-            self.process = 0;
-        } else {
-            self.loose = 0;
-        }
-        if kind == Kind::Comma {
-            self.implications = 0;
-        }
-    }
-
-    /// Takes a bracket of that depth, which closes.
-    fn close(&mut self, depth: usize) {
-        self.inner = self.inner.max(depth);
-        self.reach();
+    /// Takes a bracket, in which something of that depth stands.
+    fn take_bracket(&mut self, depth: usize) {
+        self.operand = depth.saturating_add(1);
     }
 }
 
-/// Whether the stack has room for what the tokens spell.
+/// Whether the stack has room for what the tokens spell. Few tokens don't nest deeper than there are of them.
 ///
 /// # Errors
 ///
 /// `AllocError` where no memory is left.
 pub fn has_room(alloc: Global, tokens: &[Token]) -> Result<bool, AllocError> {
-    let mut places: Vec<Nest> = Vec::new(alloc);
-    let mut here = Nest::new(false);
+    if tokens.len() <= MAX_READ {
+        return Ok(true);
+    }
+    let mut places: Vec<Place> = Vec::new(alloc);
+    let mut here = Place::new();
     let mut around: usize = 0;
     for token in tokens {
         match token.kind {
             Kind::LeftParen | Kind::LeftBracket | Kind::LeftBrace => {
                 around = around.saturating_add(here.read());
                 places.push(here)?;
-                here = Nest::new(token.kind == Kind::LeftBrace);
+                here = Place::new();
             }
             Kind::RightParen | Kind::RightBracket | Kind::RightBrace => {
                 if let Some(outer) = places.pop() {
+                    here.end();
                     let depth = here.deepest;
                     here = outer;
-                    here.close(depth);
                     around = around.saturating_sub(here.read());
+                    here.take_bracket(depth);
                 }
             }
             kind => here.take(kind),
@@ -136,5 +220,6 @@ pub fn has_room(alloc: Global, tokens: &[Token]) -> Result<bool, AllocError> {
             return Ok(false);
         }
     }
-    Ok(true)
+    here.end();
+    Ok(here.deepest <= MAX_TREE)
 }

@@ -16,6 +16,3 @@ mod signs;
 pub use num_op::NumOp;
 pub use operations::exact;
 pub use rules::NumberRules;
-
-#[cfg(test)]
-mod tests;

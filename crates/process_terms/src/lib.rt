@@ -22,6 +22,3 @@ pub use components::Component;
 pub use definitions::{Model, ProcDef};
 pub use labels::{Action, Label};
 pub use processes::Proc;
-
-#[cfg(test)]
-mod tests;

@@ -20,5 +20,3 @@ pub use terms::{Equation, Head, Node, Theory};
 
 #[cfg(test)]
 mod closed_term_tests;
-#[cfg(test)]
-mod tests;

@@ -40,16 +40,16 @@ items-returns-in_err-item-clause-only t c = λ ds r d s. let p = err_from_is_err
 
 pub items-returns-in_default-clause-found : goal.items-returns-in_default-clause-found
 items-returns-in_default-clause-found t c =
-    items_of_list (ends_found plain_data (SpellsData c.args.text.now) Comma (Stops 11) c.loop-list.invariant.0 (c.shrink_to_fit.ensures.items ∙ c.in_ok-push.ensures.items) c.in_ok-item.ensures.found)
+    items_of_list (ends_found plain_data (SpellsData c.args.text.now) Comma (Stops 11) c.loop-list.invariant.0 (c.shrink_to_fit.ensures.items ∙ c.in_ok-push_sparing.ensures) c.in_ok-item.ensures.found)
 
 pub items-returns-in_default-clause-only : goal.items-returns-in_default-clause-only
 items-returns-in_default-clause-only t c = λ ds r d s.
-    ends_only plain_data (SpellsData c.args.text.now) Comma (Stops 11) (λ sign after is. stops_comma 11 sign after is) c.loop-list.invariant.0 (c.shrink_to_fit.ensures.items ∙ c.in_ok-push.ensures.items) (c.in_default.ensures.none refl)
+    ends_only plain_data (SpellsData c.args.text.now) Comma (Stops 11) (λ sign after is. stops_comma 11 sign after is) c.loop-list.invariant.0 (c.shrink_to_fit.ensures.items ∙ c.in_ok-push_sparing.ensures) (c.in_default.ensures.none refl)
     c.in_ok-item.ensures.only ds r (list_of_items d) s.stops s.comma
 
 pub items-loop-list-preserved : goal.items-loop-list-preserved
 items-loop-list-preserved t c = (
-  goes_on plain_data (SpellsData c.args.text.now) Comma (Stops 11) (λ sign after is. stops_comma 11 sign after is) c.loop-list.invariant.0 c.in_ok-push.ensures.items c.in-Ok.ensures.found.0 c.in-Ok.ensures.found.1
+  goes_on plain_data (SpellsData c.args.text.now) Comma (Stops 11) (λ sign after is. stops_comma 11 sign after is) c.loop-list.invariant.0 c.in_ok-push_sparing.ensures c.in-Ok.ensures.found.0 c.in-Ok.ensures.found.1
       c.in_ok-item.ensures.found c.in_ok-item.ensures.only,
   grind (arith, common_steps),
 )

@@ -1,5 +1,5 @@
 use Rattle.std.proofs.Common.{sym, ◌∙◌}
-use Rattle.mcrl2_parser.proofs.Joins.{parted_begins, parted_joins, parted_ends}
+use Rattle.mcrl2_parser.proofs.Joins.{parted_all, parted_begins, parted_joins, parted_ends}
 use Rattle.mcrl2_parser.proofs.joining.parted.Goals as goal
 
 pub loop-sign-init : goal.loop-sign-init
@@ -15,3 +15,6 @@ loop-sign-preserved c = rw c.new-run-in-Some.ensures.items (
     parted_ends c.args.level c.args.operands.items c.loop-sign.operands.items c.pop.new.self.items c.loop-sign.run.items c.reverse.new.self.items c.loop-sign.others.items
     c.push-in-Some.new.self.items c.in-Some.sign c.in-Some.operand c.in_ok-tree.tree c.loop-sign.invariant c.in-Some.ensures.items
     (λ e. c.if-sign_level-level.false (c.sign_level.ensures ∙ e)) c.reverse.ensures.items c.in_ok-tree.ensures.tree c.in_ok-push-2.ensures.items)
+
+pub returns-then-is_level-clause-parted : goal.returns-then-is_level-clause-parted
+returns-then-is_level-clause-parted c = parted_all c.args.level c.args.operands.items _ _ c.deref.ensures.value c.if-is_level.ensures c.new.ensures.items

@@ -1,5 +1,6 @@
 use Rattle.std.proofs.Common.{◌+◌, ◌*◌, length, map}
 use Rattle.mcrl2_syntax.specs.ProcessTrees.{plain_process}
+use Rattle.mcrl2_parser.specs.Arrows.{HasArrows}
 use Rattle.mcrl2_parser.proofs.ProcessChains.{ChoicesLeft, MergeLeft, PartsLeft}
 use Rattle.mcrl2_parser.proofs.processes.+process.Given as goal
 
@@ -24,20 +25,20 @@ decreases-merge l = length l.tokens.now * 8 + 3
 abbrev pub decreases-process : goal.decreases-process
 decreases-process l = length l.tokens.now * 8 + 4
 
-abbrev pub invariant-process-loop-parts : goal.invariant-process-loop-parts
-invariant-process-loop-parts l = ChoicesLeft l.text l.tokens (map plain_process l.parts.items) l.rest
+abbrev pub invariant-process-parts : goal.invariant-process-parts
+invariant-process-parts l = ChoicesLeft l.text l.tokens (map plain_process l.parts.items) l.rest × HasArrows l.arrows l.rest
 
-abbrev pub decreases-process-loop-parts : goal.decreases-process-loop-parts
-decreases-process-loop-parts l = length l.rest
+abbrev pub decreases-process-parts : goal.decreases-process-parts
+decreases-process-parts l = length l.rest
 
-abbrev pub invariant-merge-loop-parts : goal.invariant-merge-loop-parts
-invariant-merge-loop-parts l = MergeLeft l.text l.tokens (map plain_process l.parts.items) l.rest
+abbrev pub invariant-merge-parts : goal.invariant-merge-parts
+invariant-merge-parts l = MergeLeft l.text l.tokens (map plain_process l.parts.items) l.rest × HasArrows l.arrows l.rest
 
-abbrev pub decreases-merge-loop-parts : goal.decreases-merge-loop-parts
-decreases-merge-loop-parts l = length l.rest
+abbrev pub decreases-merge-parts : goal.decreases-merge-parts
+decreases-merge-parts l = length l.rest
 
-abbrev pub invariant-operand-loop-parts : goal.invariant-operand-loop-parts
-invariant-operand-loop-parts l = PartsLeft l.text l.tokens (map plain_process l.parts.items) l.rest
+abbrev pub invariant-operand-parts : goal.invariant-operand-parts
+invariant-operand-parts l = PartsLeft l.text l.tokens (map plain_process l.parts.items) l.rest × HasArrows l.arrows l.rest
 
-abbrev pub decreases-operand-loop-parts : goal.decreases-operand-loop-parts
-decreases-operand-loop-parts l = length l.rest
+abbrev pub decreases-operand-parts : goal.decreases-operand-parts
+decreases-operand-parts l = length l.rest

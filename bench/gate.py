@@ -1,0 +1,147 @@
+#!/usr/bin/env python3
+"""Says what a run of the gate takes, crate by crate, in processor-minutes.
+
+  bench/gate.py [COMMAND..]      starts the command at the top of the repository (`rt ci` without one) and prints a table at its end
+
+It looks every quarter of a second at the processes that the command has started, so it costs next to nothing. The processes of
+the prover name their crate on their command line: proofs of the crate, of its tests (with what is built and run of these and of
+programs), and of its edits, which are tried in a folder of their own. What ends between two looks isn't seen: the last row but
+one has the rest of the command's own count. For an exact table run nothing else on the machine. Behind the table stand the
+seconds of each edit in the order of their names, and last those of the crate over what the edits left.
+"""
+import os
+import re
+import resource
+import subprocess
+import sys
+import threading
+import time
+
+TICKS = os.sysconf("SC_CLK_TCK")
+TOP = os.path.dirname(os.path.dirname(os.path.abspath(__file__)))
+KINDS = ("proof", "tests", "edits")
+
+
+def lines_of(crate):
+    """The lines of the crate's src/ and specs/."""
+    count = 0
+    for part in ("src", "specs"):
+        for at, _, files in os.walk(f"{TOP}/crates/{crate}/{part}"):
+            for name in files:
+                if name.endswith((".rt", ".antt")):
+                    with open(f"{at}/{name}", "rb") as file:
+                        count += file.read().count(b"\n")
+    return count
+
+
+def processes():
+    """Each process: its parent and its own processor seconds."""
+    found = {}
+    for name in os.listdir("/proc"):
+        if name.isdigit():
+            try:
+                with open(f"/proc/{name}/stat", "rb") as file:
+                    parts = file.read().rpartition(b")")[2].split()
+            except OSError:
+                continue
+            found[int(name)] = int(parts[1]), (int(parts[11]) + int(parts[12])) / TICKS, parts[19]
+    return found
+
+
+def below(found, root):
+    """The processes that stand below one."""
+    children = {}
+    for pid, (parent, _, _) in found.items():
+        children.setdefault(parent, []).append(pid)
+    left, inside = [root], []
+    while left:
+        for pid in children.get(left.pop(), []):
+            inside.append(pid)
+            left.append(pid)
+    return inside
+
+
+def what(pid):
+    """The crate, the kind and the run that a process works for."""
+    try:
+        with open(f"/proc/{pid}/cmdline", "rb") as file:
+            words = file.read().decode(errors="replace").split("\0")
+        folder = os.readlink(f"/proc/{pid}/cwd")
+    except OSError:
+        return None
+    if "--crate-name" in words:
+        crate = words[words.index("--crate-name") + 1]
+        edit = re.search(r"/rt-edit-[^/]*", folder)
+        if edit:
+            return crate, "edits", edit.group()
+        return crate, "tests" if "--test" in words or "--crate-checked" in words else "proof", ""
+    for word in words:
+        program = re.search(r"/rt-run-[^/]*/bin/(\w+)$", word)
+        if program:
+            return program.group(1).removesuffix("_tests"), "tests", ""
+    return None
+
+
+class Watch(threading.Thread):
+    """Adds up what the processes below one take, until it is told to end."""
+
+    def __init__(self, root):
+        super().__init__(daemon=True)
+        self.root, self.is_over = root, False
+        self.known, self.taken = {}, {}
+
+    def run(self):
+        while not self.is_over:
+            found = processes()
+            for pid in below(found, self.root):
+                key = pid, found[pid][2]
+                if key not in self.known:
+                    told = what(pid)
+                    if told is None:
+                        continue
+                    self.known[key] = told
+                self.taken[key] = found[pid][1]
+            time.sleep(0.25)
+
+
+def table(watch, total):
+    """Prints the table and the edits."""
+    sums, edits = {}, {}
+    for key, seconds in watch.taken.items():
+        crate, kind, run = watch.known[key]
+        sums.setdefault(crate, dict.fromkeys(KINDS, 0.0))[kind] += seconds
+        if run:
+            runs = edits.setdefault(crate, {})
+            runs[run] = runs.get(run, 0.0) + seconds
+    with open(f"{TOP}/crates.txt", encoding="utf-8") as file:
+        order = re.findall(r"^(\w+)(?: staticlib)?:", file.read(), re.M)
+    print("| Crate | Lines | Proof | Tests | Edits | Minutes | per 1,000 lines |")
+    print("|---|---|---|---|---|---|---|")
+    whole, seen = 0, 0.0
+    for crate in [it for it in order if it in sums]:
+        lines, parts = lines_of(crate), [sums[crate][kind] / 60 for kind in KINDS]
+        whole, seen = whole + lines, seen + sum(parts)
+        each = f"{1000 * sum(parts) / lines:.1f}" if lines else "-"
+        print(f"| `{crate}` | {lines:,} | {' | '.join(f'{it:.1f}' for it in parts)} | {sum(parts):.1f} | {each} |")
+    print(f"| the rest | | | | | {total / 60 - seen:.1f} | |")
+    print(f"| all | {whole:,} | | | | {total / 60:.1f} | {1000 * total / 60 / max(whole, 1):.1f} |")
+    for crate, runs in edits.items():
+        print(f"edits of {crate}: {' '.join(f'{it:.0f}' for it in runs.values())} s")
+
+
+def main(words):
+    began = time.time()
+    started = subprocess.Popen(words or ["rt", "ci"], cwd=TOP)
+    watch = Watch(started.pid)
+    watch.start()
+    status = started.wait()
+    watch.is_over = True
+    watch.join()
+    used = resource.getrusage(resource.RUSAGE_CHILDREN)
+    table(watch, used.ru_utime + used.ru_stime)
+    print(f"{(time.time() - began) / 60:.1f} minutes by the clock, status {status}")
+    return status
+
+
+if __name__ == "__main__":
+    sys.exit(main(sys.argv[1:]))

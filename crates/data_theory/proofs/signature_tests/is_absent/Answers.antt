@@ -1,9 +1,0 @@
-use Rattle.std.proofs.Common.{◌≡◌, Some, subst}
-use Rattle.std.specs.Prelude.{slice_get}
-use Rattle.data_theory.proofs.SignatureLemmas.{has_key_is_fun}
-use Rattle.data_theory.proofs.signature_tests.is_absent.Goals as goal
-
-pub returns-in-None : goal.returns-in-None
-returns-in-None g c = λ t k h.
-    c.in-None.ensures k
-    (has_key_is_fun c.args.signature.now.functions c.args.signature.now.texts c.text.result.now c.args.sorts.now c.args.name (subst (λ texts. slice_get texts c.args.name.0 ≡ Some c.text.result.now) c.names-names.ensures.texts c.text.ensures) k h)
