@@ -5,3 +5,5 @@ pub mod Flags
 pub mod Renewing
 pub mod RenewedSides
 pub mod MeantDrafts
+pub mod DraftLists
+pub mod JoinedDrafts

@@ -56,7 +56,7 @@ module _ (g : Entries) where
     no_more : (run : List TermId) → meant run ≡ [] → meant (x.running ++ run) ≡ running_part a.flag
     no_more run q = running_meant run [] q ∙ append-nil (running_part a.flag)
 
-    one : Option ℕ → Option TermId → List TermId → Bool → Option (List Term) → List Summand
+    abbrev one : Option ℕ → Option TermId → List TermId → Bool → Option (List Term) → List Summand
     one h f run e n = summand_of_draft g (behind (x.running ++ (if e then run else [])) m (Some (placed first m.onward y.columns))) ∷ map (summand_of_draft g) (if e then with_flag x m f else [])
 
     by_cases : (n : Option (List Term)) (e : Bool) (h : Option ℕ) (f : Option TermId) (run : List TermId) → e ≡ is_none n → meant m.onward ≡ onward a n → meant run ≡ running_part h → option_map (term_at g) f ≡ option_map variable h → one h f run e n ≡ alone place a (as_terms (columns b)) s n h

@@ -4,3 +4,7 @@
 mod drafts;
 pub mod laws;
 mod sides;
+mod summands;
+
+pub use sides::{Draft, Move, Side};
+pub use summands::summands_of;
