@@ -7,3 +7,5 @@ pub mod RenewedSides
 pub mod MeantDrafts
 pub mod DraftLists
 pub mod JoinedDrafts
+pub mod Framing
+pub mod MeantSides

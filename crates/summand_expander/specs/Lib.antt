@@ -3,3 +3,4 @@ pub mod ProductLaws
 pub mod Renewing
 pub mod Drafts
 pub mod SideMeanings
+pub mod Frames

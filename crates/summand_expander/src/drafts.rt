@@ -11,7 +11,7 @@ use process_terms::Label;
 use std::alloc::Global;
 
 /// Some terms and then others.
-fn joined(alloc: Global, first: &[TermId], second: &[TermId]) -> Result<Vec<TermId>, NoMemory>
+pub fn joined(alloc: Global, first: &[TermId], second: &[TermId]) -> Result<Vec<TermId>, NoMemory>
     ensures { IfOk result (λ all. all.items ≡ first.now ++ second.now) }
 {
     let mut all = first.to_vec(alloc)?;

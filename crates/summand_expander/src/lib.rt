@@ -2,9 +2,11 @@
 #![tactic(auto)]
 
 mod drafts;
+mod frames;
 pub mod laws;
 mod sides;
 mod summands;
 
-pub use sides::{Draft, Move, Side};
+pub use frames::side_of;
+pub use sides::{Move, Side};
 pub use summands::summands_of;

@@ -35,3 +35,17 @@ pub struct Draft {
     pub label: Label,
     pub next: Option<Vec<TermId>>,
 }
+
+/// The terms of a side's parameters and of its flag. The last three lists have one term where there is a flag, and none where
+/// there is none.
+#[derive(Debug, Drop)]
+pub struct Frame {
+    pub params: Vec<TermId>,
+    pub flag: Option<TermId>,
+    /// The flag as a column.
+    pub own: Vec<TermId>,
+    /// The part that the flag isn't set.
+    pub running: Vec<TermId>,
+    /// The flag's column once it is set.
+    pub set: Vec<TermId>,
+}
