@@ -5,24 +5,15 @@ ghost use Rattle.std.specs.List.{All};
 ghost use Rattle.data_theory.specs.IdTrees.{Tree};
 ghost use Rattle.process_terms.specs.PlainProcesses.{items_of_each, plain_label};
 ghost use Rattle.process_terms.specs.PlainProcesses.{allow as allow_sets, block as block_names, hide as hide_names, rename as rename_pairs};
-ghost use Rattle.lps_core.specs.PlainLinears.{plain_linear, plain_next, plain_summand};
+ghost use Rattle.lps_core.specs.PlainLinears.{plain_linear, plain_summand};
 ghost use Rattle.lps_core.specs.Fitting.{Fits};
 ghost use Rattle.action_filters.specs.Filters.{allowed, hidden, labelled, renamed, unblocked, HasActionsIn, HaveTargets, IsGoodAround, IsNameIn, RenamesOnce};
 
 use crate::labels::{allowed_label, renamed_label, shown_label, signature_stands, unblocked_label};
-use data_theory::{NameId, NoMemory, Signature, TermId};
+use data_theory::{NameId, NoMemory, Signature};
 use lps_core::{Linear, Summand};
 use process_terms::Label;
 use std::alloc::Global;
-
-fn copy_next(alloc: Global, next: &Option<Vec<TermId>>) -> Result<Option<Vec<TermId>>, NoMemory>
-    ensures { IfOk result (λ copy. plain_next copy ≡ plain_next next.now) }
-{
-    match next {
-        Some(args) => Ok(Some(args.to_vec(alloc)?)),
-        None => Ok(None),
-    }
-}
 
 /// Adds a summand with another label, if there is one.
 fn add_labelled(
@@ -36,12 +27,9 @@ fn add_labelled(
     let Some(label) = label else {
         return Ok(());
     };
-    found.push(Summand {
-        sums: summand.sums.to_vec(alloc)?,
-        cond: summand.cond,
-        label,
-        next: copy_next(alloc, &summand.next)?,
-    })?;
+    let mut made = summand.copy(alloc)?;
+    made.label = label;
+    found.push(made)?;
     Ok(())
 }
 
