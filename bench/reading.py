@@ -102,7 +102,8 @@ def speed(command, path):
             words, _ = best(["wc", "-w", path])
             rate = size / seconds
             each = memory / 1024 / size
-            print(f"{kind:21} {size:3} MiB {seconds:7.3f} s {rate:7.1f} MiB/s {memory // 1024:5} MiB peak {each:6.1f} a byte {seconds / words:6.2f} x wc -w")
+            peak = f"{memory // 1024:5} MiB peak {each:6.1f} a byte"
+            print(f"{kind:21} {size:3} MiB {seconds:7.3f} s {rate:7.1f} MiB/s {peak} {seconds / words:6.2f} x wc -w")
 
 
 def ends(command, path, kib):

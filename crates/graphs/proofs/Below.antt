@@ -15,12 +15,12 @@ are_true : (a b : Bool) → a ≡ true → b ≡ true → (a && b) ≡ true
 are_true true b is also = also
 are_true false b is also = cc
 
-list_told : (n : ℕ) (xs : List ℕ) → list_below n xs ≡ true → (b : ℕ) → Contains xs b → b < n
+pub list_told : (n : ℕ) (xs : List ℕ) → list_below n xs ≡ true → (b : ℕ) → Contains xs b → b < n
 list_told n [] is b wrong = absurd (none_contained b wrong)
 list_told n (x ∷ xs) is b (zero, within, same) = let less = ltb-true x n (both_true (nat_lt x n) (list_below n xs) is).0 in omega arith
 list_told n (x ∷ xs) is b (suc k, within, same) = list_told n xs (both_true (nat_lt x n) (list_below n xs) is).1 b (k, omega arith, same)
 
-list_tells : (n : ℕ) (xs : List ℕ) → ((b : ℕ) → Contains xs b → b < n) → list_below n xs ≡ true
+pub list_tells : (n : ℕ) (xs : List ℕ) → ((b : ℕ) → Contains xs b → b < n) → list_below n xs ≡ true
 list_tells n [] all = refl
 list_tells n (x ∷ xs) all = are_true (nat_lt x n) (list_below n xs) (lt-ltb x n (all x (0, omega arith, refl))) (list_tells n xs (λ b stands. all b (suc stands.0, omega (arith, stands.1), stands.2)))
 

@@ -13,6 +13,13 @@ pub fn is_graph(edges: &[Vec<usize>]) -> bool
     all_below(edges, edges.len())
 }
 
+/// Whether these are nodes of the graph.
+pub fn are_nodes(edges: &[Vec<usize>], nodes: &[usize]) -> bool
+    ensures { IsTrue result ↔ ((a : ℕ) → Contains nodes.now a → a < length edges.now) }
+{
+    are_below(nodes, edges.len())
+}
+
 /// Whether all successors are below a number.
 fn all_below(edges: &[Vec<usize>], count: usize) -> bool
     ensures { result ≡ lead_below count edges.now }

@@ -10,6 +10,6 @@ mod order;
 mod reach;
 
 pub use cycles::first_cycle;
-pub use edges::{is_graph, reversed};
+pub use edges::{are_nodes, is_graph, reversed};
 pub use order::ranks;
 pub use reach::reachable;

@@ -1,18 +1,18 @@
 -- The steps of a call of a form's equation are its firings.
-use Rattle.std.proofs.Common.{◌≡◌, ℕ, inl, inr, ⊎_elim, List, [], ◌∷◌, ◌++◌, map, length, refl, sym, ap, ap₂, ◌∙◌, subst, Option, Some, None}
+use Rattle.std.proofs.Common.{◌≡◌, ℕ, inl, inr, ⊎_elim, List, [], ◌∷◌, ◌++◌, map, length, refl, sym, ap, ap₂, ◌∙◌, subst, Some}
 use Rattle.std.specs.Prelude.{Contains, slice_get, option_map}
 use Rattle.std.proofs.lemmas.Option.{slice_get-map}
 use Rattle.data_theory.specs.Terms.{Term, put}
-use Rattle.data_theory.specs.Environments.{Environment, term_in, bound, Agree, terms_of, AreOver}
+use Rattle.data_theory.specs.Environments.{Environment, term_in, bound, Agree}
 use Rattle.data_theory.proofs.EnvironmentLemmas.{agreeing_give_the_same_term, agreeing_give_the_same_terms}
 use Rattle.process_terms.specs.Theories.{Theory, IsTrue}
 use Rattle.process_terms.specs.Labels.{Label, put_label}
-use Rattle.process_terms.specs.Processes.{Bound, Body, written_cond, written_delta, choice_of, seq_of, sums_around, Table, close, Definition, Process, BodyOf, the_body, call, seq}
-use Rattle.process_terms.specs.Steps.{Outcome, ended, goes_on, Step, by_act, by_left, by_right, by_seq, by_true, by_false, by_call}
-use Rattle.bisim_laws.specs.LinearProcesses.{variables, reading, LabelIsOver, no_action_left, action_over}
+use Rattle.process_terms.specs.Processes.{written_cond, written_delta, choice_of, seq_of, Table, close, Process, BodyOf, the_body, call, seq}
+use Rattle.process_terms.specs.Steps.{Outcome, goes_on, Step, by_act, by_left, by_right, by_seq, by_true, by_false, by_call}
+use Rattle.bisim_laws.specs.LinearProcesses.{variables, reading}
 use Rattle.bisim_laws.specs.BaseStates.{GreibachCall}
-use Rattle.bisim_laws.proofs.Firing.{contains_first, contains_later, contains_cases, contains_none, reading_same, reading_agrees, bound_reads, reading_long, agree_on_both, label_along, SumsBound, StepInside, step_inside, step_outside, sums_keep, sums_of_sorts, restored}
-use Rattle.greibach.specs.Forms.{FormSummand, FormEquation, Form, call_body, label_and_calls, form_summand_body, form_definition, form_table, CallIsOver, IsFormSummand, IsFormEquation, after_calls, FormFires}
+use Rattle.bisim_laws.proofs.Firing.{contains_first, contains_later, contains_cases, contains_none, reading_same, reading_agrees, bound_reads, reading_long, agree_on_both, label_along, SumsBound, step_inside, step_outside, sums_keep, sums_of_sorts, restored}
+use Rattle.greibach.specs.Forms.{FormSummand, FormEquation, Form, call_body, label_and_calls, form_summand_body, form_definition, form_table, CallIsOver, IsFormEquation, after_calls, FormFires}
 
 label_step : (th : Theory) (d : Table) (e : Environment) (m : Label) (cs : List GreibachCall) {n : Label} {r : Outcome} → Step th (close d e (label_and_calls m cs)) n r → (n ≡ put_label e m) × (r ≡ after_calls d e cs)
 label_step th d e m [] by_act = (refl, refl)

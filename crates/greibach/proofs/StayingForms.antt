@@ -1,8 +1,8 @@
 -- Forms that fit are well sorted, and mean the same as signature and pool grow.
-use Rattle.std.proofs.Common.{◌≡◌, ◌≤◌, ◌-◌, ℕ, List, [], ◌∷◌, map, refl, sym, ap, ap₂, ◌∙◌, subst, Some}
-use Rattle.std.specs.Prelude.{slice_get, Contains}
+use Rattle.std.proofs.Common.{◌≡◌, ◌-◌, ℕ, List, map, sym, ap, ap₂, ◌∙◌, subst, Some}
+use Rattle.std.specs.Prelude.{slice_get}
 use Rattle.std.specs.List.{All}
-use Rattle.std.proofs.lemmas.List.Elements.{All-head, All-tail, All-contains, All-weaker}
+use Rattle.std.proofs.lemmas.List.Elements.{All-contains}
 use Rattle.data_theory.specs.declared.ids.TermId.{TermId}
 use Rattle.data_theory.specs.Table.{bool_sort}
 use Rattle.data_theory.specs.Declarations.{HaveSorts}
@@ -25,7 +25,7 @@ use Rattle.lps_core.proofs.Members.{contains_map, mapped_at, all_at}
 use Rattle.lps_core.proofs.Staying.{variables_declared, variables_have_sorts, sorts_of_variables, terms_sorted, condition_sorted, label_is_sorted, variable_stays, term_stays, terms_stay, action_stays}
 use Rattle.greibach.specs.Forms.{FormEquation, FormSummandIsSorted, FormEquationIsSorted}
 use Rattle.greibach.specs.PlainForms.{PlainFormSummand, PlainEquation, PlainForm, call_of, form_summand_of, equation_of, form_of}
-use Rattle.greibach.specs.FittingForms.{CallFits, FormSummandFits, EquationFits, FormFits, FormsThatFitAreSorted, FormsThatFitStay}
+use Rattle.greibach.specs.FittingForms.{CallFits, FormSummandFits, EquationFits, FormsThatFitAreSorted, FormsThatFitStay}
 
 some_same : {A : Type 0} {x y : A} → Some x ≡ Some y → x ≡ y
 some_same e = cc

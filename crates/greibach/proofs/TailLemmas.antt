@@ -1,14 +1,12 @@
 -- Tail forms, as tests and as what they mean.
-use Rattle.std.proofs.Common.{◌≡◌, ◌≤◌, ◌&&◌, ℕ, zero, suc, Bool, true, false, List, [], ◌∷◌, map, length, refl, sym, ap, ap₂, ◌∙◌, subst, Some}
-use Rattle.std.specs.Prelude.{◌↔◌, leb, slice_get, Contains, IsTrue}
+use Rattle.std.proofs.Common.{◌≡◌, ◌≤◌, ◌&&◌, Bool, true, false, List, [], ◌∷◌, map, length, refl, sym, ap₂, subst}
+use Rattle.std.specs.Prelude.{◌↔◌, Contains}
 use Rattle.std.specs.List.{All, list_all}
 use Rattle.std.proofs.lemmas.Bool.{leb-true, le-leb}
 use Rattle.std.proofs.lemmas.List.{length-map}
 use Rattle.std.proofs.lemmas.List.Elements.{All-nil, All-cons, All-head, All-tail, All-contains}
 use Rattle.lps_core.proofs.Members.{contains_map, mapped_at, all_at}
-use Rattle.process_terms.specs.Meanings.{Entries}
-use Rattle.greibach.specs.Forms.{FormSummand}
-use Rattle.greibach.specs.PlainForms.{PlainEquation, PlainForm, plain_call, plain_form_summand, plain_equation, plain_form, call_of, form_summand_of, equation_of}
+use Rattle.greibach.specs.PlainForms.{PlainEquation, plain_call, plain_form_summand, plain_equation, plain_form, call_of, form_summand_of, equation_of}
 use Rattle.greibach.specs.declared.forms.GreibachSummand.{GreibachSummand}
 use Rattle.greibach.specs.declared.forms.GreibachEquation.{GreibachEquation}
 use Rattle.greibach.specs.declared.forms.Greibach.{Greibach}

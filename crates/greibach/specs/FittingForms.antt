@@ -3,7 +3,6 @@ use Rattle.std.specs.Prelude.{◌≡◌, ◌≤◌, ◌-◌, ℕ, List, [], map,
 use Rattle.std.specs.List.{All}
 use Rattle.data_theory.specs.Declarations.{HaveSorts}
 use Rattle.data_theory.specs.Environments.{terms_of, AreDistinct}
-use Rattle.data_theory.specs.declared.ids.VarId.{VarId}
 use Rattle.data_theory.specs.declared.ids.TermId.{TermId}
 use Rattle.data_theory.specs.Table.{bool_sort}
 use Rattle.data_theory.specs.Signature.{Sig}

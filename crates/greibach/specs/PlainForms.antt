@@ -1,6 +1,5 @@
 -- Greibach forms in code, as plain data, and what they mean. Equations count from 1 in code, and from 0 in what they mean.
-use Rattle.std.specs.Prelude.{◌≤◌, ◌-◌, ℕ, List, map, length, Vec}
-use Rattle.std.specs.List.{All}
+use Rattle.std.specs.Prelude.{◌-◌, ℕ, List, map, Vec}
 use Rattle.std.specs.Global.{Global}
 use Rattle.data_theory.specs.declared.ids.VarId.{VarId}
 use Rattle.data_theory.specs.declared.ids.TermId.{TermId}

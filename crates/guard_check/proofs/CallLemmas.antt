@@ -3,7 +3,7 @@ use Rattle.std.proofs.Common.{◌≡◌, ◌<◌, ◌+◌, ℕ, List, [], ◌∷
 use Rattle.std.proofs.lemmas.Result.{on_ok_weaker}
 use Rattle.std.specs.Result.{OnOk}
 use Rattle.std.proofs.lemmas.List.{append-nil, map-append, append_assoc, take_more}
-use Rattle.process_terms.specs.Processes.{Bound, Body, choice_of, seq_of, merge_of, sums_around}
+use Rattle.process_terms.specs.Processes.{Bound, Body, written_merge, choice_of, seq_of, merged_with, merge_of, sums_around}
 use Rattle.process_terms.specs.declared.processes.Proc.{Proc}
 use Rattle.process_terms.specs.declared.processes.Proc.TheVariants.{Cond, rolls-Cond}
 use Rattle.process_terms.specs.declared.processes.Proc.TheFolds.{fold-roll-Proc}
@@ -62,8 +62,11 @@ mutual
 
   merge_calls : (n : Extent) (g : Entries) (ps : PlainProcesses) → all_calls n ps ≡ calls n (merge_of (bodies_of g ps))
   merge_calls n g no_processes = refl
-  merge_calls n g (more_processes p no_processes) = append-nil (plain_calls n p) ∙ same_calls n g p
-  merge_calls n g (more_processes p (more_processes q ps)) = λ i. same_calls n g p i ++ merge_calls n g (more_processes q ps) i
+  merge_calls n g (more_processes p ps) = (λ i. same_calls n g p i ++ all_calls n ps) ∙ merged_calls n g (body_of g p) ps
+
+  merged_calls : (n : Extent) (g : Entries) (q : Body) (ps : PlainProcesses) → calls n q ++ all_calls n ps ≡ calls n (merged_with q (bodies_of g ps))
+  merged_calls n g q no_processes = append-nil (calls n q)
+  merged_calls n g q (more_processes p ps) = sym (append_assoc (calls n q) (plain_calls n p) (all_calls n ps)) ∙ ((λ i. (calls n q ++ same_calls n g p i) ++ all_calls n ps) ∙ merged_calls n g (written_merge q (body_of g p)) ps)
 
   chain_calls : (g : Entries) (ps : PlainProcesses) → all_calls Everywhere ps ≡ calls Everywhere (seq_of (bodies_of g ps))
   chain_calls g no_processes = refl

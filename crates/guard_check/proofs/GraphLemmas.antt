@@ -1,5 +1,5 @@
 -- Graphs of calls.
-use Rattle.std.proofs.Common.{◌≡◌, ◌<◌, ◌+◌, ◌↔◌, inl, inr, ⊎_elim, Bool, ℕ, zero, suc, List, [], ◌∷◌, ◌++◌, map, take, length, get_or, refl, sym, ap, ◌∙◌, subst, Some, arith, Vec}
+use Rattle.std.proofs.Common.{◌≡◌, ◌<◌, ◌+◌, ◌↔◌, inl, inr, ⊎_elim, Bool, true, false, ℕ, zero, suc, List, [], ◌∷◌, ◌++◌, map, take, length, get_or, refl, sym, ap, ◌∙◌, subst, Some, arith, Vec}
 use Rattle.std.specs.Prelude.{slice_get}
 use Rattle.std.specs.Global.{Global}
 use Rattle.std.specs.List.{Contains}
@@ -97,3 +97,15 @@ module _ (m : PlainModel) (declared : HasDeclaredCalls m) where
     edges_are = λ g x y. (edge_to_call n (table g) edges (are' g) x y, call_to_edge n (table g) edges (are' g) x y);
     reached_are = λ g x. (λ marked. (reached_of g start all (are g) (starts g) x).0 ((so.exact x).0 marked), λ r. (so.exact x).1 ((reached_of g start all (are g) (starts g) x).1 r));
   }
+
+-- ---- the test of declared calls
+pub calls_declared : (m : PlainModel) (edges : List (Vec ℕ Global)) (start : List ℕ) → ((g : Entries) → map (λ (v : Vec ℕ Global). v.items) edges ≡ call_table Everywhere (table_of g m.definitions)) → ((g : Entries) → start ≡ calls Everywhere (body_of g m.init))
+    → IsGraph edges → ((a : ℕ) → Contains start a → a < length edges) → HasDeclaredCalls m
+calls_declared m edges start are starts graph within g = record {
+  start = λ x called. subst (λ k. x < k) (same_size Everywhere (table_of g m.definitions) edges (are g)) (within x (subst (λ l. Contains l x) (sym (starts g)) called));
+  bodies = λ x y link. subst (λ k. y < k) (same_size Everywhere (table_of g m.definitions) edges (are g)) (graph x y (call_to_edge Everywhere (table_of g m.definitions) edges (are g) x y link));
+}
+
+pub not_told : (b : Bool) → b ≡ false → b ≡ true → ⊥
+not_told true e f = cc
+not_told false e f = cc

@@ -1,13 +1,13 @@
 //! Which processes call which, as a graph.
 
-ghost use Rattle.std.specs.Prelude.{◌≡◌, IfOk};
+ghost use Rattle.std.specs.Prelude.{◌≡◌, ◌↔◌, IfOk, IsTrue};
 ghost use Rattle.process_terms.specs.PlainProcesses.{plain_model};
 ghost use Rattle.guard_check.specs.Guards.{HasDeclaredCalls};
 ghost use Rattle.guard_check.specs.CallGraphs.{AreCallLists, IsCallGraph};
 
 use crate::calls::{Extent, calls_of_term};
 use data_theory::NoMemory;
-use graphs::reachable;
+use graphs::{are_nodes, is_graph, reachable};
 use process_terms::{Model, ProcDef};
 use std::alloc::Global;
 
@@ -35,6 +35,22 @@ pub fn call_graph(alloc: Global, extent: Extent, model: &Model) -> Result<CallGr
     let reached = reachable(alloc, all.as_slice(), start.as_slice())?;
     let edges = call_lists(alloc, extent, model.procs.as_slice())?;
     Ok(CallGraph { edges, reached })
+}
+
+/// Whether each name that the specification calls is one of its definitions.
+///
+/// # Errors
+///
+/// `NoMemory` where there is none for the lists of calls.
+pub fn has_declared_calls(alloc: Global, model: &Model) -> Result<bool, NoMemory>
+    ensures { IfOk result (λ declared. IsTrue declared ↔ HasDeclaredCalls (plain_model model.now)) }
+{
+    let lists = call_lists(alloc, Extent::Everywhere, model.procs.as_slice())?;
+    let start = calls_of_term(alloc, Extent::Everywhere, &model.init)?;
+    if !is_graph(lists.as_slice()) {
+        return Ok(false);
+    }
+    Ok(are_nodes(lists.as_slice(), start.as_slice()))
 }
 
 /// The lists of the calls of each definition.

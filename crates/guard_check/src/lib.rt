@@ -10,7 +10,7 @@ mod calls;
 mod checking;
 mod cycle_names;
 
-pub use call_graphs::{CallGraph, call_graph};
+pub use call_graphs::{CallGraph, call_graph, has_declared_calls};
 pub use calls::{Extent, calls_of_term};
 pub use checking::{GuardFault, Guarded, check};
 pub use cycle_names::names_of_cycle;

@@ -1,6 +1,5 @@
 -- Data that go on, and what is sorted over them.
-use Rattle.std.proofs.Common.{◌≡◌, ◌<◌, ◌≤◌, List, [], ◌∷◌, ◌++◌, length, Option, Some, None, ap, sym, ◌∙◌, arith}
-use Rattle.std.specs.Prelude.{Contains}
+use Rattle.std.proofs.Common.{◌≡◌, List, [], ◌∷◌, ◌++◌, length, Option, ap, ◌∙◌, arith}
 use Rattle.std.proofs.lemmas.List.{append_assoc, length-append}
 use Rattle.data_theory.specs.Terms.{Sort, boolean, positive, natural, integer, list, named, Term, Terms, none, more}
 use Rattle.data_theory.specs.Declarations.{Data, IsSort, HaveSorts}
@@ -11,7 +10,7 @@ use Rattle.data_theory.proofs.IdDataLemmas.{growth_keeps_meant_data}
 use Rattle.process_terms.specs.Labels.{Label}
 use Rattle.process_terms.specs.Processes.{Bound}
 use Rattle.bisim_laws.specs.LinearProcesses.{Linear, LabelIsSorted, no_action_to_sort, action_sorted, NextIsSorted, no_next_to_sort, next_sorted, HaveDataSorts, IsWellSorted}
-use Rattle.lps_core.specs.GoingOn.{GoesOn, GoingOnGoesBack, GoodLinksStayGood}
+use Rattle.lps_core.specs.GoingOn.{GoingOnGoesBack, GoodLinksStayGood}
 
 grows_twice : {A : Type 0} (xs ys zs news last : List A) → ys ≡ xs ++ news → zs ≡ ys ++ last → zs ≡ xs ++ (news ++ last)
 grows_twice xs ys zs news last e f = f ∙ ap (λ l. l ++ last) e ∙ append_assoc xs news last

@@ -1,5 +1,5 @@
 -- Naming the sums of a linear process is a link that drops nothing.
-use Rattle.std.proofs.Common.{◌≡◌, ◌<◌, ◌⊎◌, ◌==◌, inl, inr, ⊎_elim, ℕ, Bool, true, false, cond, List, [], ◌∷◌, ◌++◌, map, take, length, get_or, append-nil, refl, sym, ap, ap₂, ◌∙◌, subst, Option, Some, None}
+use Rattle.std.proofs.Common.{◌≡◌, ◌==◌, inl, inr, ⊎_elim, ℕ, Bool, true, false, cond, List, [], ◌∷◌, ◌++◌, map, take, get_or, refl, sym, ap, ap₂, ◌∙◌, subst, Option, Some, None}
 use Rattle.std.specs.Prelude.{◌↔◌, option_map, slice_get, IfSome}
 use Rattle.std.specs.List.{All, AllZip, Contains}
 use Rattle.std.proofs.lemmas.Bool.Decides.{Decides-eqb}
@@ -12,9 +12,9 @@ use Rattle.data_theory.specs.declared.ids.TermId.{TermId}
 use Rattle.data_theory.specs.declared.signature.Variable.{Variable}
 use Rattle.data_theory.specs.Functions.{Function}
 use Rattle.data_theory.specs.Table.{bool_sort}
-use Rattle.data_theory.specs.Terms.{boolean, Term, put}
+use Rattle.data_theory.specs.Terms.{boolean, put}
 use Rattle.process_terms.specs.Labels.{put_label}
-use Rattle.data_theory.specs.Environments.{Environment, term_in, terms_of, Apart, AreDistinct}
+use Rattle.data_theory.specs.Environments.{term_in, terms_of, Apart, AreDistinct}
 use Rattle.data_theory.specs.Signature.{Sig}
 use Rattle.data_theory.specs.Complete.{IsComplete}
 use Rattle.data_theory.specs.IdTables.{IsTable}
@@ -22,26 +22,24 @@ use Rattle.data_theory.specs.IdTrees.{Tree, variable, trees_of, put_tree}
 use Rattle.data_theory.specs.IdTreeSorts.{IsVariableOf, HasTreeSort, HaveTreeSorts}
 use Rattle.data_theory.specs.IdTerms.{sort_under, term_under, variable_sorts}
 use Rattle.data_theory.specs.WholeSignatures.{IsSignature}
-use Rattle.term_pool.specs.HeadTrees.{tree_at, trees_at, IsIn, AreIn}
+use Rattle.term_pool.specs.HeadTrees.{tree_at, trees_at, AreIn}
 use Rattle.term_pool.specs.TermSorts.{HasFirstFunctions}
 use Rattle.term_pool.proofs.KeptSorts.{keeps_put}
-use Rattle.process_terms.specs.Processes.{Bound}
 use Rattle.process_terms.specs.PlainProcesses.{PlainAction}
 use Rattle.process_terms.specs.Meanings.{bound_at, term_at, label_of}
 use Rattle.process_terms.specs.SignatureEntries.{entries_of, BothGrow}
-use Rattle.bisim_laws.specs.LinearProcesses as theory
-use Rattle.bisim_laws.specs.LinearProcesses.{Linear, variables, put_next, IsLinear}
+use Rattle.bisim_laws.specs.LinearProcesses.{variables}
 use Rattle.lps_core.specs.PlainLinears.{PlainSummand, PlainLinear, summand_of, linear_of}
 use Rattle.lps_core.specs.Moving.{SameSorts, no_more, one_more, renaming_to, with_sums, HaveOtherSums, no_summand, one_summand, RenewsSums, HasOwnSums}
-use Rattle.lps_core.specs.Fitting.{IsTermOf, AreTermsOf, IsActionOf, IsVariable, sort_of_variable, SummandFits, HasTakenName, Fits}
-use Rattle.lps_core.specs.TreeSummands.{TreeAction, TreeSummand, trees_of_action, trees_of_label, trees_of_summand, IsActionIn, IsSummandIn, put_in_action, put_actions, put_in_summand, bound_tree, renaming_tree, numbers_of, meant_summand}
+use Rattle.lps_core.specs.Fitting.{AreTermsOf, IsActionOf, IsVariable, sort_of_variable, SummandFits, HasTakenName, Fits}
+use Rattle.lps_core.specs.TreeSummands.{TreeAction, TreeSummand, trees_of_action, trees_of_label, trees_of_summand, IsActionIn, IsSummandIn, put_in_action, put_actions, put_in_summand, renaming_tree, numbers_of, meant_summand}
 use Rattle.lps_core.specs.Naming.{name_of, names_of, IsUsed, GrowsByNames, HasOtherSums, NamesSummands, SumsAreNamed, HasOwnNames, HaveOwnNames, NamingIsGood}
 use Rattle.lps_core.proofs.NamingLoops.{names_summands_along}
 use Rattle.lps_core.proofs.Members.{contains_map, map_contains, all_from}
 use Rattle.lps_core.proofs.KeptSummands.{summand_kept}
-use Rattle.lps_core.proofs.MeantTrees.{Means, put_means, puts_mean, label_means, next_puts_mean, numbers_meant, renaming_means, summand_read}
+use Rattle.lps_core.proofs.MeantTrees.{Means, put_means, label_means, next_puts_mean, numbers_meant, renaming_means, summand_read}
 use Rattle.lps_core.proofs.Staying.{read_mapped, term_is}
-use Rattle.lps_core.proofs.NamedSums.{SumsStand, AreTaken, all_sums_named, variable_kept, name_kept, taken_name, name_taken, sorts_kept, names_kept}
+use Rattle.lps_core.proofs.NamedSums.{SumsStand, AreTaken, all_sums_named, name_kept, taken_name, name_taken, sorts_kept, names_kept}
 use Rattle.lps_core.proofs.StayingFits.{what_fits_fits_still, both_weaker}
 use Rattle.lps_core.proofs.Renewing.{renewed_linear, renewed_good, equal_kept}
 use Rattle.lps_core.proofs.GrowingData.{linear_grown, terms_grown}
@@ -268,9 +266,9 @@ naming_stands g h ts us l k s extends fits named within =
     let grow : BothGrow g h ts us = record { signature = n.0.grown; pool = extends } in
     let before = what_fits_fits_still g h ts us l s.table s.complete n.0.stands.table grow fits in
     let all = all_stand g h ts us l.params n.0.stands.table (first_functions h n.0.stands.complete) grow n.0 fits.params l.summands k.summands
-        (All-weaker (SummandFits g ts l.params) (IsSummandIn ts) (λ s f. fitting_is_in g ts l.params s f) l.summands fits.summands)
-        (All-weaker (SummandFits g ts l.params) (λ (s : PlainSummand). All (IsVariable g) s.sums) (λ s f. f.sums) l.summands fits.summands)
-        before.summands named.summands within n.1 in
+    (All-weaker (SummandFits g ts l.params) (IsSummandIn ts) (λ s f. fitting_is_in g ts l.params s f) l.summands fits.summands)
+    (All-weaker (SummandFits g ts l.params) (λ (s : PlainSummand). All (IsVariable g) s.sums) (λ s f. f.sums) l.summands fits.summands)
+    before.summands named.summands within n.1 in
     let e = entries_of h us in
     let first = first_functions h n.0.stands.complete in
     let renews : RenewsSums (linear_of e l) (linear_of e k) = record {

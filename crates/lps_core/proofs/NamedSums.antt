@@ -1,18 +1,15 @@
 -- What naming sums keeps.
-use Rattle.std.proofs.Common.{◌≡◌, ◌<◌, ◌+◌, ◌==◌, ◌⊎◌, ◌||◌, inl, inr, ⊎_elim, ℕ, Bool, true, false, cond, List, [], ◌∷◌, ◌++◌, map, length, get_or, refl, sym, ap, ap₂, ◌∙◌, subst, arith, append-nil, Some}
+use Rattle.std.proofs.Common.{◌≡◌, ◌<◌, ◌==◌, ◌⊎◌, ◌||◌, inl, inr, ⊎_elim, ℕ, Bool, true, false, cond, List, [], ◌∷◌, ◌++◌, map, length, get_or, refl, sym, ap, ap₂, ◌∙◌, subst, arith, Some}
 use Rattle.std.specs.Prelude.{slice_get, IfSome}
 use Rattle.std.specs.List.{All, AllZip, Contains, list_any}
 use Rattle.std.proofs.lemmas.List.{map-append, length-append}
-use Rattle.std.proofs.lemmas.List.Elements.{All-nil, All-cons, All-push, All-contains, All-weaker, All-head, All-tail, Contains-append_left, Contains-append_right, Contains-append_cases}
+use Rattle.std.proofs.lemmas.List.Elements.{All-nil, All-cons, All-push, All-contains, All-weaker, All-head, All-tail, Contains-append_left, Contains-append_right}
 use Rattle.std.proofs.lemmas.Bool.Decides.{eqb_tells}
 use Rattle.std.proofs.lemmas.Option.{slice_get_within, slice_get-get_or, get_or_from_slice_get}
 use Rattle.data_theory.specs.declared.ids.NameId.{NameId}
 use Rattle.data_theory.specs.declared.ids.VarId.{VarId}
-use Rattle.data_theory.specs.declared.ids.SortId.{SortId}
 use Rattle.data_theory.specs.declared.signature.Variable.{Variable}
 use Rattle.data_theory.specs.Environments.{AreDistinct}
-use Rattle.data_theory.specs.Keys.{Key}
-use Rattle.data_theory.specs.Functions.{Function}
 use Rattle.data_theory.specs.Names.{place_in, with_text}
 use Rattle.data_theory.specs.Taken.{with_name}
 use Rattle.data_theory.specs.Signature.{Sig, IsTaken, with_taken, with_variable}
@@ -190,16 +187,16 @@ one_more g h k IsOne xs ys x y w s l n =
     let t = sums_stand_on g h k IsOne xs ys n.on s in
     let numbers : numbers_of (ys ++ y ∷ []) ≡ numbers_of ys ++ y.0 ∷ [] = map-append (λ (z : VarId). z.0) ys (y ∷ []) in
     let apart : (v : ℕ) → Contains (numbers_of ys) v → Contains (y.0 ∷ []) v → ⊥ = λ v i j.
-        let r = contains_map (λ (z : VarId). z.0) ys v i in
-        let same : y.0 ≡ v = ⊎_elim (λ q. q) (λ b. absurd (contains_none v b)) (contains_cases y.0 v [] j) in
-        let one : y ≡ r.0 = ap (λ m. record { 0 = m }) (same ∙ r.1.1) in
-        n.unused (inr (subst (λ m. Contains (names_of h ys) m) (sym (ap (name_of k) one ∙ name_kept h k r.0 n.on.grown (All-contains (IsVariable h) ys r.0 s.variables r.1.0))) (map_contains (name_of h) ys r.0 r.1.0))) in
+    let r = contains_map (λ (z : VarId). z.0) ys v i in
+    let same : y.0 ≡ v = ⊎_elim (λ q. q) (λ b. absurd (contains_none v b)) (contains_cases y.0 v [] j) in
+    let one : y ≡ r.0 = ap (λ m. record { 0 = m }) (same ∙ r.1.1) in
+    n.unused (inr (subst (λ m. Contains (names_of h ys) m) (sym (ap (name_of k) one ∙ name_kept h k r.0 n.on.grown (All-contains (IsVariable h) ys r.0 s.variables r.1.0))) (map_contains (name_of h) ys r.0 r.1.0))) in
     let names : name_numbers k (ys ++ y ∷ []) ≡ name_numbers h ys ++ (name_of k y).0 ∷ [] =
     ap (map (λ (m : NameId). m.0)) (map-append (name_of k) ys (y ∷ []) ∙ ap (λ ms. ms ++ name_of k y ∷ []) (names_kept h k ys n.on.grown s.variables)) ∙ map-append (λ (m : NameId). m.0) (names_of h ys) (name_of k y ∷ []) in
     let names_apart : (v : ℕ) → Contains (name_numbers h ys) v → Contains ((name_of k y).0 ∷ []) v → ⊥ = λ v i j.
-        let r = contains_map (λ (m : NameId). m.0) (names_of h ys) v i in
-        let same : (name_of k y).0 ≡ v = ⊎_elim (λ q. q) (λ b. absurd (contains_none v b)) (contains_cases (name_of k y).0 v [] j) in
-        n.unused (inr (subst (λ m. Contains (names_of h ys) m) (sym (ap (λ m. record { 0 = m }) (same ∙ r.1.1))) r.1.0)) in
+    let r = contains_map (λ (m : NameId). m.0) (names_of h ys) v i in
+    let same : (name_of k y).0 ≡ v = ⊎_elim (λ q. q) (λ b. absurd (contains_none v b)) (contains_cases (name_of k y).0 v [] j) in
+    n.unused (inr (subst (λ m. Contains (names_of h ys) m) (sym (ap (λ m. record { 0 = m }) (same ∙ r.1.1))) r.1.0)) in
     record {
       variables = All-push (IsVariable k) ys y t.variables n.variable;
       taken = All-push (λ z. Contains k.taken (name_of k z)) ys y t.taken n.taken;
@@ -223,8 +220,8 @@ sums_named IsOne g s used _ k _ (one_more_sum {xs = xs} {ys = ys} {h = h} {x = x
     let r = sums_named IsOne g s used xs h ys a (all_front (IsVariable g) xs x l) (all_front (λ x. Contains g.taken (name_of g x)) xs x t) in
     let own = all_last (IsVariable g) xs x l in
     let m = sum_named (λ n. IsOne n ⊎ Contains (names_of h ys) n) h x k y r.0.stands (variable_kept g h x r.0.grown own)
-        (subst (λ z. Contains h.taken z) (sym (name_kept g h x r.0.grown own)) (r.0.taken (name_of g x) (all_last (λ x. Contains g.taken (name_of g x)) xs x t)))
-        (λ z u. ⊎_elim (λ i. r.0.taken z (used z i)) (λ i. let p = contains_map (name_of h) ys z i in subst (λ w. Contains h.taken w) (sym p.1.1) (All-contains (λ y. Contains h.taken (name_of h y)) ys p.0 r.1.taken p.1.0)) u) n in
+    (subst (λ z. Contains h.taken z) (sym (name_kept g h x r.0.grown own)) (r.0.taken (name_of g x) (all_last (λ x. Contains g.taken (name_of g x)) xs x t)))
+    (λ z u. ⊎_elim (λ i. r.0.taken z (used z i)) (λ i. let p = contains_map (name_of h) ys z i in subst (λ w. Contains h.taken w) (sym p.1.1) (All-contains (λ y. Contains h.taken (name_of h y)) ys p.0 r.1.taken p.1.0)) u) n in
     (names_then g h k r.0 m.on, one_more g h k IsOne xs ys x y r.0 r.1 own m)
 
 -- ---- all summands
@@ -252,6 +249,6 @@ module _ (IsOne : NameId → Type 0) (g : Sig) (s : IsSignature g) (used : AreTa
       let mine = all_last (All (IsVariable g)) xss xs l in
       let names = all_last (All (λ x. Contains g.taken (name_of g x))) xss xs t in
       let m = sums_named IsOne h r.0.stands (λ z u. r.0.taken z (used z u)) xs k ys n
-          (All-weaker (IsVariable g) (IsVariable h) (λ x i. variable_kept g h x r.0.grown i) xs mine)
-          (all_from (λ x. Contains h.taken (name_of h x)) xs (λ x i. subst (λ z. Contains h.taken z) (sym (name_kept g h x r.0.grown (All-contains (IsVariable g) xs x mine i))) (r.0.taken (name_of g x) (All-contains (λ x. Contains g.taken (name_of g x)) xs x names i)))) in
+      (All-weaker (IsVariable g) (IsVariable h) (λ x i. variable_kept g h x r.0.grown i) xs mine)
+      (all_from (λ x. Contains h.taken (name_of h x)) xs (λ x i. subst (λ z. Contains h.taken z) (sym (name_kept g h x r.0.grown (All-contains (IsVariable g) xs x mine i))) (r.0.taken (name_of g x) (All-contains (λ x. Contains g.taken (name_of g x)) xs x names i)))) in
       (names_then g h k r.0 m.0, zip_push (SumsStand g k IsOne) xss yss xs ys (zip_weaker (SumsStand g h IsOne) (SumsStand g k IsOne) (λ a b z. sums_stand_on g h k IsOne a b m.0 z) xss yss r.1) (rebased h k xs ys r.0 mine m.1))

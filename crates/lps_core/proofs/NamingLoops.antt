@@ -18,25 +18,24 @@ use Rattle.data_theory.proofs.SignatureLemmas.{among_names}
 use Rattle.term_pool.specs.HeadTrees.{tree_at, trees_at, IsIn, AreIn}
 use Rattle.term_pool.specs.Pools.{Extends}
 use Rattle.term_pool.specs.Bindings.{listed, listed_terms}
-use Rattle.process_terms.specs.PlainProcesses.{PlainAction}
 use Rattle.bisim_laws.proofs.Firing.{contains_first, contains_none, contains_cases}
 use Rattle.lps_core.specs.declared.linears.Summand.{Summand}
 use Rattle.lps_core.specs.PlainLinears.{PlainSummand, plain_summand}
 use Rattle.lps_core.specs.Fitting.{IsVariable, sort_of_variable}
-use Rattle.lps_core.specs.TreeSummands.{TreeSummand, trees_of_label, trees_of_summand, IsActionIn, IsSummandIn, put_actions, put_in_summand, renaming_tree}
+use Rattle.lps_core.specs.TreeSummands.{trees_of_label, IsActionIn, IsSummandIn, put_actions, put_in_summand, renaming_tree}
 use Rattle.data_theory.specs.declared.ids.SortId.{SortId}
 use Rattle.data_theory.specs.Table.{bool_sort}
 use Rattle.std.proofs.lemmas.Option.{slice_get_within, get_or_from_slice_get}
 use Rattle.lps_core.proofs.Staying.{sort_is_within}
 use Rattle.lps_core.specs.Naming.{name_of, names_of, function_names, IsUsed, GrowsByNames, IsNamed, it_stays, it_is_new, AreNamed, no_sum, one_more_sum, SummandsAreNamed, no_summand, one_more_summand, HasOtherSums, NamesSummands}
-use Rattle.lps_core.proofs.PoolTrees.{extends_itself, extends_on, tree_kept, actions_kept, put_along, args_along, actions_along, trees_kept, all_in_kept, actions_in_kept}
+use Rattle.lps_core.proofs.PoolTrees.{extends_itself, extends_on, tree_kept, actions_kept, put_along, args_along, actions_along}
 use Rattle.lps_core.proofs.KeptSummands.{next_trees_kept, summand_kept, summand_in_kept}
 use Rattle.lps_core.proofs.NamedSums.{names_none, names_then, names_text, names_variable, names_kept, variable_kept, with_name_keeps, with_name_has, among, zip_push, variable_there}
 
 -- ---- sets of names
 with_name_cases : (ns : List NameId) (m n : NameId) → Contains (with_name ns m) n → Contains ns n ⊎ (m ≡ n)
 with_name_cases ns m n = elim (list_any (λ k. m.0 == k.0) ns) as (λ b. Contains (cond b ns (ns ++ m ∷ [])) n → Contains ns n ⊎ (m ≡ n)) [
-  true ↦ (λ i. inl i)
+  | true ↦ (λ i. inl i)
   | false ↦ (λ i. ⊎_elim (λ j. inl j) (λ j. ⊎_elim (λ q. inr q) (λ k. absurd (contains_none n k)) (contains_cases m n [] j)) (Contains-append_cases ns (m ∷ []) n i))
 ]
 
@@ -50,8 +49,7 @@ adding_none f xs old n = (λ i. inl i, λ u. ⊎_elim (λ i. i) (λ i. absurd (c
 pub adding_more : {A : Type 0} (f : A → NameId) (xs : List A) (old : List NameId) (i : ℕ) (keys new : List NameId) (d : A) → Adding f xs old i keys → i < length xs → new ≡ with_name keys (f (get_or xs i d)) → Adding f xs old (i + 1) new
 adding_more f xs old i keys new d a l e n =
     let x = f (get_or xs i d) in
-    let more : map f (take (i + 1) xs) ≡ map f (take i xs) ++ x ∷ [] = ap (map f) (take_more xs i d l) ∙ map-append f (take i xs) (get_or xs i d ∷ []) in
-    (
+    let more : map f (take (i + 1) xs) ≡ map f (take i xs) ++ x ∷ [] = ap (map f) (take_more xs i d l) ∙ map-append f (take i xs) (get_or xs i d ∷ []) in (
       λ j. ⊎_elim
           (λ k. ⊎_elim (λ o. inl o) (λ o. inr (subst (λ z. Contains z n) (sym more) (Contains-append_left (map f (take i xs)) (x ∷ []) n o))) ((a n).0 k))
           (λ q. inr (subst (λ z. Contains z n) (sym more) (Contains-append_right (map f (take i xs)) (x ∷ []) n (subst (λ z. Contains (x ∷ []) z) q (contains_first x [])))))
@@ -216,6 +214,7 @@ names_summands_along A B f g h ts us ss made n = record { names = summands_along
     summands_along : (xss : List (List VarId)) (h : Sig) (yss : List (List VarId)) → SummandsAreNamed A g xss h yss → SummandsAreNamed B g xss h yss
     summands_along _ _ _ no_summand = no_summand
     summands_along _ k _ (one_more_summand {xss = xss} {yss = yss} {h = h} {xs = xs} {ys = ys} a m) = one_more_summand (summands_along xss h yss a) (sums_along h xs k ys m)
+
 pub record IsNamingSummands (IsOne : NameId → Type 0) (g : Sig) (ts : List Tree) (items : List Summand) (i : ℕ) (h : Sig) (us : List Tree) (made : List Summand) : Type 0 where
   pub on : GrowsByNames g h
   pub kept : Extends ts us

@@ -1,37 +1,34 @@
 -- What fits, fits as signature and pool grow.
-use Rattle.std.proofs.Common.{◌≡◌, ◌<◌, ℕ, List, [], ◌∷◌, ◌++◌, map, length, get_or, refl, sym, ap, ap₂, ◌∙◌, subst, Option, Some, None}
+use Rattle.std.proofs.Common.{◌≡◌, ℕ, List, [], ◌∷◌, map, get_or, sym, ap, ◌∙◌, subst, Option, Some, None}
 use Rattle.std.specs.Prelude.{slice_get, IfSome}
 use Rattle.std.specs.List.{All, Contains}
 use Rattle.std.proofs.lemmas.List.Elements.{All-weaker, Contains-append_left}
 use Rattle.std.proofs.lemmas.Option.{slice_get_within, slice_get-get_or, get_or_from_slice_get}
 use Rattle.data_theory.specs.declared.ids.SortId.{SortId}
 use Rattle.data_theory.specs.declared.ids.VarId.{VarId}
-use Rattle.data_theory.specs.declared.ids.NameId.{NameId}
 use Rattle.data_theory.specs.declared.ids.TermId.{TermId}
-use Rattle.data_theory.specs.declared.signature.Variable.{Variable}
-use Rattle.data_theory.specs.Functions.{Function, arguments_of}
+use Rattle.data_theory.specs.Functions.{arguments_of}
 use Rattle.data_theory.specs.Table.{bool_sort}
 use Rattle.data_theory.specs.Terms.{Sort, Term, AreClosed}
 use Rattle.data_theory.specs.Declarations.{Data, HaveSorts}
 use Rattle.data_theory.specs.Environments.{terms_of}
 use Rattle.data_theory.specs.Signature.{Sig}
-use Rattle.data_theory.specs.Complete.{BeginsWith, IsComplete}
+use Rattle.data_theory.specs.Complete.{BeginsWith}
 use Rattle.data_theory.specs.IdTables.{IsTable}
 use Rattle.data_theory.specs.IdData.{data_meant}
 use Rattle.data_theory.specs.IdTrees.{Tree, Trees, variable, numeral, function, none, more, trees_of}
 use Rattle.data_theory.specs.IdTreeSorts.{HasTreeSort, HaveTreeSorts}
 use Rattle.data_theory.specs.IdTerms.{variable_sorts, IsGrown}
 use Rattle.data_theory.proofs.EnvironmentLemmas.{closed_is_closed, closed_lists_need_no_variables}
-use Rattle.term_pool.specs.HeadTrees.{tree_at, trees_at, IsIn, AreIn}
-use Rattle.term_pool.specs.Pools.{Extends}
+use Rattle.term_pool.specs.HeadTrees.{tree_at, trees_at}
 use Rattle.process_terms.specs.PlainProcesses.{PlainAction}
 use Rattle.process_terms.specs.Meanings.{bound_at, term_at}
 use Rattle.process_terms.specs.SignatureEntries.{entries_of, BothGrow}
 use Rattle.process_terms.proofs.MeaningLemmas.{entry_stays}
 use Rattle.bisim_laws.specs.LinearProcesses.{sorts, IsLinear}
-use Rattle.lps_core.specs.PlainLinears.{PlainSummand, PlainLinear, linear_of, initial_of}
+use Rattle.lps_core.specs.PlainLinears.{PlainSummand, linear_of, initial_of}
 use Rattle.lps_core.specs.Naming.{name_of}
-use Rattle.lps_core.specs.Fitting.{IsTermOf, AreTermsOf, IsActionOf, IsVariable, sort_of_variable, SummandFits, HasTakenName, Fits, WhatFitsFitsStill}
+use Rattle.lps_core.specs.Fitting.{IsTermOf, AreTermsOf, IsActionOf, IsVariable, sort_of_variable, SummandFits, HasTakenName, WhatFitsFitsStill}
 use Rattle.lps_core.proofs.PoolTrees.{tree_kept, trees_kept, all_in_kept}
 use Rattle.lps_core.proofs.NamedSums.{variable_kept, name_kept, sorts_kept, taken_name, name_taken}
 use Rattle.lps_core.proofs.Staying.{sorts_of_variables, terms_sorted, what_fits_stays}

@@ -1,5 +1,5 @@
 -- The table of a list of tokens, and the rests that it is for.
-use Rattle.std.proofs.Common.{◌≡◌, ◌≤◌, ◌<◌, ℕ, suc, ◌+◌, ◌-◌, Bool, false, List, [], ◌∷◌, ◌++◌, length, drop, get_or, reverse, refl, ap, sym, ◌∙◌, subst, arith, add-one}
+use Rattle.std.proofs.Common.{◌≡◌, ◌≤◌, ◌<◌, ℕ, suc, ◌+◌, Bool, false, List, [], ◌∷◌, ◌++◌, length, drop, get_or, reverse, refl, ap, sym, ◌∙◌, arith, add-one}
 use Rattle.std.proofs.Math.ListN.{get_or-append}
 use Rattle.std.proofs.Math.Seq.{get_or-append_seam, drop-cons, drop-length}
 use Rattle.std.proofs.lemmas.List.{length_push}
@@ -9,11 +9,10 @@ use Rattle.mcrl2_syntax.specs.DataTrees.{PlainData}
 use Rattle.mcrl2_syntax.specs.ProcessParts.{PlainVarGroup}
 use Rattle.mcrl2_syntax.specs.ProcessTrees.{PlainProcess}
 use Rattle.mcrl2_syntax.specs.SpelledLabels.{SpellsVars, Operation, SpellsOperation}
-use Rattle.mcrl2_syntax.specs.SpelledProcesses.{SpellsProcess, spells_process}
 use Rattle.mcrl2_parser.specs.Levels.{effect_of}
 use Rattle.mcrl2_parser.specs.ProcessReading.{SpellsGuard, spells_guard, SpellsLast, last_sum, last_cond, FindsPart, finds_last, finds_atom, FindsOperand, FindsMerge}
 use Rattle.mcrl2_parser.specs.Arrows.{is_arrow, begins_arrow, with_closer, first_end, ends_of, ends_at_arrow, arrows_of, IsRest, whole, behind, HasArrows}
-use Rattle.mcrl2_parser.proofs.Rests.{rests_join, ends_step, unit_passes, vars_pass, operation_rest, atom_passes, operand_passes, sum_passes, cond_passes, merge_passes, choices_pass}
+use Rattle.mcrl2_parser.proofs.Rests.{rests_join, ends_step, unit_passes, vars_pass, operation_rest, atom_passes, operand_passes, sum_passes, cond_passes, merge_passes}
 
 rest_shorter : {r ts : List Token} → IsRest r ts → length r ≤ length ts
 rest_shorter whole = omega arith
@@ -107,8 +106,8 @@ scan_taken : (t : Token) (ts us : List Token) (k : Kind) (ends later_ends : List
     → now ≡ is_arrow k → (later_arrows ≡ arrows_of us) × (reverse later_ends ≡ ends_of us) × (now ≡ begins_arrow us)
 scan_taken t ts us k ends later_ends {arrow = arrow} {top = top} e i a b c d f g h =
     let closed : reverse later_ends ≡ ends_of (t ∷ ts) =
-        d ∙ ap (λ (x : Kind). with_closer (effect_of x) arrow (reverse ends)) i ∙ ap (λ (x : Bool). with_closer (effect_of t.kind) x (reverse ends)) c
-        ∙ ap (λ (x : List Bool). with_closer (effect_of t.kind) (begins_arrow ts) x) b ∙ sym (ends_step t ts) in
+    d ∙ ap (λ (x : Kind). with_closer (effect_of x) arrow (reverse ends)) i ∙ ap (λ (x : Bool). with_closer (effect_of t.kind) x (reverse ends)) c
+    ∙ ap (λ (x : List Bool). with_closer (effect_of t.kind) (begins_arrow ts) x) b ∙ sym (ends_step t ts) in
     let first : top ≡ ends_at_arrow (t ∷ ts) = f ∙ ap (λ (x : List Bool). first_end x) closed ∙ sym (ends_first (t ∷ ts)) in
     rw e (g ∙ ap (λ (x : List Bool). x ++ top ∷ []) a ∙ ap (λ (x : Bool). arrows_of ts ++ x ∷ []) first ∙ sym (arrows_step t ts), closed, h ∙ ap is_arrow i)
 
@@ -120,5 +119,5 @@ scan_goes_on tokens at next k d ends later_ends so_far less step i e f g h =
     let inside : next < length tokens = omega (arith, within, less) in
     let same : drop at tokens ≡ drop (suc next) tokens = ap (λ (n : ℕ). drop n tokens) (step ∙ add-one next) in
     let all = scan_taken (get_or tokens next d) (drop (suc next) tokens) (drop next tokens) k ends later_ends (drop-cons tokens next d inside) i
-        (so_far.arrows_are ∙ ap (λ (x : List Token). arrows_of x) same) (so_far.ends_are ∙ ap (λ (x : List Token). ends_of x) same) (so_far.arrow_is ∙ ap (λ (x : List Token). begins_arrow x) same) e f g h in
+    (so_far.arrows_are ∙ ap (λ (x : List Token). arrows_of x) same) (so_far.ends_are ∙ ap (λ (x : List Token). ends_of x) same) (so_far.arrow_is ∙ ap (λ (x : List Token). begins_arrow x) same) e f g h in
     record { within = omega (arith, inside); arrows_are = all.0; ends_are = all.1; arrow_is = all.2 }

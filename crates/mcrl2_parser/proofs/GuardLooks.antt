@@ -1,5 +1,5 @@
 -- One look decides whether a condition begins somewhere.
-use Rattle.std.proofs.Common.{◌≡◌, ◌⊎◌, ◌≤◌, ◌<◌, ℕ, suc, Bool, true, false, List, [], ◌∷◌, ◌++◌, Some, length, get_or, refl, ap, sym, ◌∙◌, subst, inl, inr, arith}
+use Rattle.std.proofs.Common.{◌≡◌, ◌⊎◌, ℕ, Bool, true, false, List, [], ◌∷◌, Some, refl, ap, sym, ◌∙◌, inl, inr}
 use Rattle.mcrl2_lexer.specs.declared.kind.Kind.{Kind}
 use Rattle.mcrl2_lexer.specs.declared.kind.Kind.TheVariants.{Identifier, LeftParen, Arrow, Delta, Tau, Allow, Block, Hide, Rename, Comm, Bar}
 use Rattle.mcrl2_lexer.specs.declared.token.Token.{Token}
@@ -18,7 +18,7 @@ use Rattle.mcrl2_parser.specs.declared.levels.Effect.TheVariants.{Closes}
 use Rattle.mcrl2_parser.specs.Levels.{effect_of}
 use Rattle.mcrl2_parser.specs.ProcessReading.{SpellsGuard, spells_guard}
 use Rattle.mcrl2_parser.specs.Arrows.{is_arrow, begins_arrow, first_end, ends_of, ends_at_arrow, begins_guard_behind, names_guard, begins_guard_with, begins_guard}
-use Rattle.mcrl2_parser.proofs.Rests.{Passes, close_step, items_passes, level_passes, assignments_pass, choices_pass}
+use Rattle.mcrl2_parser.proofs.Rests.{close_step, items_passes, level_passes, assignments_pass, choices_pass}
 
 -- what stands behind the bracket that ends what was read
 ends_with : (ts r : List Token) (v : Token) → ends_of ts ≡ ends_of (v ∷ r) → effect_of v.kind ≡ Closes → ends_at_arrow ts ≡ begins_arrow r

@@ -1,5 +1,5 @@
 -- Where a condition begins, and the table that tells it: which brackets close in front of an arrow.
-use Rattle.std.specs.Prelude.{◌≡◌, ℕ, Bool, true, false, List, [], ◌∷◌, ◌++◌, length, drop, get_or}
+use Rattle.std.specs.Prelude.{◌≡◌, Bool, true, false, List, [], ◌∷◌, ◌++◌, length, drop, get_or}
 use Rattle.mcrl2_lexer.specs.declared.kind.Kind.{Kind}
 use Rattle.mcrl2_lexer.specs.declared.kind.Kind.TheVariants.{Identifier, LeftParen, Arrow, Delta, Tau, Allow, Block, Hide, Rename, Comm}
 use Rattle.mcrl2_lexer.specs.declared.token.Token.{Token}

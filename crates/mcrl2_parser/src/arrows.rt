@@ -73,11 +73,7 @@ fn ends_at_arrow(arrows: &[bool], tokens: &[Token]) -> bool
     ensures { result ≡ ends_at_arrow tokens.now }
 {
     let at = tokens.len();
-    if at < arrows.len() {
-        arrows[at]
-    } else {
-        false
-    }
+    if at < arrows.len() { arrows[at] } else { false }
 }
 
 // Whether a condition begins there, behind a name.

@@ -1,6 +1,4 @@
-use Rattle.std.proofs.Common.{◌≡◌, ◌<◌, ◌≤◌, length, get_or, Some, arith, ap, subst, sym, ◌∙◌}
-use Rattle.std.specs.Prelude.{IfSome}
-use Rattle.std.proofs.lemmas.Option.{slice_get-get_or}
+use Rattle.std.proofs.Common.{◌<◌, ◌≤◌, length, arith, ap, sym, ◌∙◌}
 use Rattle.data_theory.specs.Functions.{Function}
 use Rattle.data_theory.specs.Taken.{with_name}
 use Rattle.lps_core.proofs.NamingLoops.{adding_none, adding_more, adding_all, function_name_is}

@@ -1,7 +1,6 @@
 use Rattle.std.proofs.Common.{◌+◌, ◌≤◌, length, arith, ap, subst, sym, ◌∙◌}
 use Rattle.std.specs.List.{Contains}
 use Rattle.data_theory.specs.Taken.{with_name}
-use Rattle.lps_core.specs.Naming.{names_of}
 use Rattle.lps_core.proofs.NamedSums.{names_then, variable_kept}
 use Rattle.lps_core.proofs.NamingLoops.{IsNamingSums, naming_no_sums, naming_one_sum, naming_all_sums, named_variable, name_is}
 use Rattle.lps_core.proofs.naming.name_all.Goals as goal

@@ -1,10 +1,9 @@
-use Rattle.std.proofs.Common.{◌≡◌, ◌<◌, ◌⊎◌, length, subst, sym, ap, ◌∙◌, true, Some}
+use Rattle.std.proofs.Common.{◌≡◌, ◌<◌, ◌⊎◌, length, subst, sym, true, Some}
 use Rattle.std.specs.Prelude.{slice_get}
 use Rattle.std.specs.List.{Contains}
 use Rattle.data_theory.specs.declared.ids.NameId.{NameId}
 use Rattle.data_theory.specs.declared.ids.SortId.{SortId}
-use Rattle.lps_core.specs.Naming.{name_of, it_stays}
-use Rattle.lps_core.specs.Fitting.{sort_of_variable}
+use Rattle.lps_core.specs.Naming.{it_stays}
 use Rattle.lps_core.proofs.Staying.{sort_is_within}
 use Rattle.lps_core.proofs.NamedSums.{names_none}
 use Rattle.lps_core.proofs.NamingLoops.{name_is, sort_is, name_within, fresh_within, new_is_named, new_grows}

@@ -1,7 +1,6 @@
-use Rattle.std.proofs.Common.{◌≡◌, Ok, Err, Result, length, ap, subst, sym, ◌∙◌}
+use Rattle.std.proofs.Common.{Ok, Err, Result, length, ap, subst, sym, ◌∙◌}
 use Rattle.std.specs.Prelude.{IfOk}
 use Rattle.std.specs.List.{Contains}
-use Rattle.data_theory.specs.declared.ids.VarId.{VarId}
 use Rattle.lps_core.specs.Naming.{AreNamed}
 use Rattle.lps_core.proofs.NamingLoops.{as_many_sums}
 use Rattle.lps_core.proofs.naming.name_summand.Goals as goal

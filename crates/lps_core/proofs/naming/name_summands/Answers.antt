@@ -1,10 +1,10 @@
-use Rattle.std.proofs.Common.{◌≡◌, ◌+◌, ◌≤◌, length, map, arith, ap, subst, sym, refl, ◌∙◌}
+use Rattle.std.proofs.Common.{◌+◌, ◌≤◌, length, arith, subst, sym, refl, ◌∙◌}
 use Rattle.std.specs.List.{All, Contains}
 use Rattle.lps_core.specs.PlainLinears.{PlainSummand, plain_summand}
 use Rattle.lps_core.specs.Fitting.{IsVariable}
 use Rattle.lps_core.specs.TreeSummands.{IsSummandIn}
 use Rattle.lps_core.proofs.KeptSummands.{summand_in_kept}
-use Rattle.lps_core.proofs.NamedSums.{names_then, variable_kept}
+use Rattle.lps_core.proofs.NamedSums.{variable_kept}
 use Rattle.lps_core.proofs.NamingLoops.{IsNamingSummands, naming_no_summands, naming_one_summand, naming_all_summands, item_is}
 use Rattle.lps_core.proofs.naming.name_summands.Goals as goal
 
@@ -27,10 +27,10 @@ name_summand-requires-clause-within c =
 pub loop-summand-preserved : goal.loop-summand-preserved
 loop-summand-preserved c = (
   subst (λ z. IsNamingSummands (λ n. Contains c.args.used.now.keys n) c.args.sig.now c.args.pool.now.trees c.args.summands.now (c.loop-summand.summand-index + 1) c.name_summand.new.sig c.name_summand.new.pool.trees z) (sym c.in_ok-push.ensures.items)
-  (naming_one_summand (λ n. Contains c.args.used.now.keys n) c.args.sig.now c.args.pool.now.trees c.args.summands.now c.loop-summand.summand-index c.loop-summand.sig c.loop-summand.pool.trees c.loop-summand.named.items c.summand-item.result
-  c.loop-summand.invariant.0 c.loop-summand-test.true c.summand-item.is
-  (item_is (IsSummandIn c.args.pool.now.trees) c.args.summands.now c.loop-summand.summand-index c.summand-item.result c.loop-summand-test.true c.summand-item.is c.requires.within)
-  c.name_summand.new.sig c.name_summand.new.pool.trees _ c.name_summand.ensures.grown c.name_summand.ensures.kept c.in_ok-name_summand.ensures.named c.in_ok-name_summand.ensures.within c.in_ok-name_summand.ensures.other),
+      (naming_one_summand (λ n. Contains c.args.used.now.keys n) c.args.sig.now c.args.pool.now.trees c.args.summands.now c.loop-summand.summand-index c.loop-summand.sig c.loop-summand.pool.trees c.loop-summand.named.items c.summand-item.result
+      c.loop-summand.invariant.0 c.loop-summand-test.true c.summand-item.is
+      (item_is (IsSummandIn c.args.pool.now.trees) c.args.summands.now c.loop-summand.summand-index c.summand-item.result c.loop-summand-test.true c.summand-item.is c.requires.within)
+      c.name_summand.new.sig c.name_summand.new.pool.trees _ c.name_summand.ensures.grown c.name_summand.ensures.kept c.in_ok-name_summand.ensures.named c.in_ok-name_summand.ensures.within c.in_ok-name_summand.ensures.other),
   c.name_summand.ensures.constants ∙ c.loop-summand.invariant.1,
 )
 

@@ -1,9 +1,9 @@
-use Rattle.std.proofs.Common.{◌≡◌, map, subst, sym, ap, ap₂, ◌∙◌}
+use Rattle.std.proofs.Common.{◌≡◌, map, subst, ap₂, ◌∙◌}
 use Rattle.std.specs.Prelude.{option_map}
 use Rattle.data_theory.specs.declared.ids.VarId.{VarId}
 use Rattle.data_theory.specs.IdTrees.{put_tree}
-use Rattle.term_pool.specs.HeadTrees.{tree_at, trees_at, AreIn}
-use Rattle.term_pool.specs.Bindings.{listed, listed_terms}
+use Rattle.term_pool.specs.HeadTrees.{tree_at, trees_at}
+use Rattle.term_pool.specs.Bindings.{listed}
 use Rattle.process_terms.specs.PlainProcesses.{plain_label}
 use Rattle.lps_core.specs.PlainLinears.{plain_next}
 use Rattle.lps_core.specs.TreeSummands.{trees_of_label, put_actions, renaming_tree}

@@ -7,7 +7,7 @@ use Rattle.mcrl2_syntax.specs.SpelledProcesses.{SpellsMerge}
 use Rattle.mcrl2_parser.specs.ProcessReading.{finds_last, finds_atom}
 use Rattle.mcrl2_parser.proofs.ChainLeft.{chain_begins, chain_goes_on, shorter_behind}
 use Rattle.mcrl2_parser.proofs.ProcessChains.{IsChoices, EndsChoices, EndsMerge, IsParts, EndsParts, next_choice, choices_err, choices_found, choices_only, next_operand, merge_err, merge_found, merge_only, next_part, parts_err, parts_found, parts_only}
-use Rattle.mcrl2_parser.proofs.Conditions.{between, of_sum, dot_err, last_is_sum, last_is_cond, no_last, last_err, no_atom, no_sum, sum_found, sum_only, of_guard, then_err, then_only, then_found, else_err, else_only, else_found}
+use Rattle.mcrl2_parser.proofs.Conditions.{of_sum, dot_err, last_is_sum, last_is_cond, no_last, last_err, no_atom, no_sum, sum_found, sum_only, of_guard, then_err, then_only, then_found, else_err, else_only, else_found}
 use Rattle.mcrl2_parser.proofs.Atoms.{atom_step, by_delta, by_brackets, by_operator, of_brackets, of_operator, of_step, inner_err, close_err, brackets_only, around_err, shut_err, operator_only, is_operation}
 use Rattle.mcrl2_parser.proofs.ArrowTables.{behind_less, has_behind, has_next, has_behind_guard, has_under, part_rest, operand_rest, merge_rest, vars_rest}
 use Rattle.mcrl2_parser.proofs.GuardLooks.{no_atom_guard, not_guard}
@@ -26,10 +26,10 @@ process-returns-in_default-clause-only t c = λ p r. choices_only {all = plain_p
 
 pub process-parts-init : goal.process-parts-init
 process-parts-init t c = let pushed = rw c.new-parts.ensures.items at c.in_ok-push_part.ensures.pushed in (
-      chain_goes_on (IsChoices c.args.text.now) EndsChoices (chain_begins (IsChoices c.args.text.now) EndsChoices c.args.tokens.now) (next_choice c.in_ok-first.ensures.found c.in_ok-first.ensures.only c.in-Ok.ensures.found.0 c.in-Ok.ensures.found.1)
+  chain_goes_on (IsChoices c.args.text.now) EndsChoices (chain_begins (IsChoices c.args.text.now) EndsChoices c.args.tokens.now) (next_choice c.in_ok-first.ensures.found c.in_ok-first.ensures.only c.in-Ok.ensures.found.0 c.in-Ok.ensures.found.1)
       (shorter_behind c.in_ok-first.ensures.shorter c.in-Ok.ensures.found.0) pushed,
-      has_next c.requires (merge_rest c.in_ok-first.ensures.found) c.in-Ok.ensures.found.0,
-    )
+  has_next c.requires (merge_rest c.in_ok-first.ensures.found) c.in-Ok.ensures.found.0,
+)
 
 pub process-returns-in_err-part-clause-only : goal.process-returns-in_err-part-clause-only
 process-returns-in_err-part-clause-only t c = λ p r a e. let x = err_from_is_err_and c.from_residual-in_err-part.result c.from_residual-in_err-part.ensures.1 in
@@ -44,10 +44,10 @@ process-returns-in_default-expect-clause-only t c =
 
 pub process-parts-preserved : goal.process-parts-preserved
 process-parts-preserved t c = (
-      chain_goes_on (IsChoices c.args.text.now) EndsChoices c.parts.invariant.0 (next_choice c.in_ok-part.ensures.found c.in_ok-part.ensures.only c.in-Ok-expect.ensures.found.0 c.in-Ok-expect.ensures.found.1)
+  chain_goes_on (IsChoices c.args.text.now) EndsChoices c.parts.invariant.0 (next_choice c.in_ok-part.ensures.found c.in_ok-part.ensures.only c.in-Ok-expect.ensures.found.0 c.in-Ok-expect.ensures.found.1)
       (shorter_behind c.in_ok-part.ensures.shorter c.in-Ok-expect.ensures.found.0) c.in_ok-push_part-2.ensures.pushed,
-      has_next c.parts.invariant.1 (merge_rest c.in_ok-part.ensures.found) c.in-Ok-expect.ensures.found.0,
-    )
+  has_next c.parts.invariant.1 (merge_rest c.in_ok-part.ensures.found) c.in-Ok-expect.ensures.found.0,
+)
 
 pub merge-returns-in_err-first-clause-only : goal.merge-returns-in_err-first-clause-only
 merge-returns-in_err-first-clause-only t c = λ o ps r a f s. let x = err_from_is_err_and c.from_residual.result c.from_residual.ensures.1 in
@@ -61,10 +61,10 @@ merge-returns-in_default-clause-only t c = λ o ps r. merge_only {all = plain_pr
 
 pub merge-parts-init : goal.merge-parts-init
 merge-parts-init t c = let pushed = rw c.new-parts.ensures.items at c.in_ok-push_part.ensures.pushed in (
-      chain_goes_on (SpellsMerge c.args.text.now) EndsMerge (chain_begins (SpellsMerge c.args.text.now) EndsMerge c.args.tokens.now) (next_operand c.in_ok-first.ensures.found c.in_ok-first.ensures.only c.in-Ok.ensures.found.0 c.in-Ok.ensures.found.1)
+  chain_goes_on (SpellsMerge c.args.text.now) EndsMerge (chain_begins (SpellsMerge c.args.text.now) EndsMerge c.args.tokens.now) (next_operand c.in_ok-first.ensures.found c.in_ok-first.ensures.only c.in-Ok.ensures.found.0 c.in-Ok.ensures.found.1)
       (shorter_behind c.in_ok-first.ensures.shorter c.in-Ok.ensures.found.0) pushed,
-      has_next c.requires (operand_rest c.in_ok-first.ensures.found) c.in-Ok.ensures.found.0,
-    )
+  has_next c.requires (operand_rest c.in_ok-first.ensures.found) c.in-Ok.ensures.found.0,
+)
 
 pub merge-returns-in_err-part-clause-only : goal.merge-returns-in_err-part-clause-only
 merge-returns-in_err-part-clause-only t c = λ o ps r a f s. let x = err_from_is_err_and c.from_residual-in_err-part.result c.from_residual-in_err-part.ensures.1 in
@@ -79,10 +79,10 @@ merge-returns-in_default-expect-clause-only t c =
 
 pub merge-parts-preserved : goal.merge-parts-preserved
 merge-parts-preserved t c = (
-      chain_goes_on (SpellsMerge c.args.text.now) EndsMerge c.parts.invariant.0 (next_operand c.in_ok-part.ensures.found c.in_ok-part.ensures.only c.in-Ok-expect.ensures.found.0 c.in-Ok-expect.ensures.found.1)
+  chain_goes_on (SpellsMerge c.args.text.now) EndsMerge c.parts.invariant.0 (next_operand c.in_ok-part.ensures.found c.in_ok-part.ensures.only c.in-Ok-expect.ensures.found.0 c.in-Ok-expect.ensures.found.1)
       (shorter_behind c.in_ok-part.ensures.shorter c.in-Ok-expect.ensures.found.0) c.in_ok-push_part-2.ensures.pushed,
-      has_next c.parts.invariant.1 (operand_rest c.in_ok-part.ensures.found) c.in-Ok-expect.ensures.found.0,
-    )
+  has_next c.parts.invariant.1 (operand_rest c.in_ok-part.ensures.found) c.in-Ok-expect.ensures.found.0,
+)
 
 pub operand-returns-in_err-first-clause-only : goal.operand-returns-in_err-first-clause-only
 operand-returns-in_err-first-clause-only t c = λ s o p r a f k. let x = err_from_is_err_and c.from_residual.result c.from_residual.ensures.1 in
@@ -96,10 +96,10 @@ operand-returns-in_default-clause-only t c = λ s o p r. parts_only {all = plain
 
 pub operand-parts-init : goal.operand-parts-init
 operand-parts-init t c = let pushed = rw c.new-parts.ensures.items at c.in_ok-push_part.ensures.pushed in (
-      chain_goes_on (IsParts c.args.text.now) EndsParts (chain_begins (IsParts c.args.text.now) EndsParts c.args.tokens.now) (next_part c.in_ok-first.ensures.found c.in_ok-first.ensures.last c.in_ok-first.ensures.atom c.in-Ok.ensures.found.0 c.in-Ok.ensures.found.1)
+  chain_goes_on (IsParts c.args.text.now) EndsParts (chain_begins (IsParts c.args.text.now) EndsParts c.args.tokens.now) (next_part c.in_ok-first.ensures.found c.in_ok-first.ensures.last c.in_ok-first.ensures.atom c.in-Ok.ensures.found.0 c.in-Ok.ensures.found.1)
       (shorter_behind c.in_ok-first.ensures.shorter c.in-Ok.ensures.found.0) pushed,
-      has_next c.requires (part_rest c.in_ok-first.ensures.found) c.in-Ok.ensures.found.0,
-    )
+  has_next c.requires (part_rest c.in_ok-first.ensures.found) c.in-Ok.ensures.found.0,
+)
 
 pub operand-returns-in_err-part-clause-only : goal.operand-returns-in_err-part-clause-only
 operand-returns-in_err-part-clause-only t c = λ s o p r a f k. let x = err_from_is_err_and c.from_residual-in_err-part.result c.from_residual-in_err-part.ensures.1 in
@@ -114,10 +114,10 @@ operand-returns-in_default-expect-clause-only t c =
 
 pub operand-parts-preserved : goal.operand-parts-preserved
 operand-parts-preserved t c = (
-      chain_goes_on (IsParts c.args.text.now) EndsParts c.parts.invariant.0 (next_part c.in_ok-part.ensures.found c.in_ok-part.ensures.last c.in_ok-part.ensures.atom c.in-Ok-expect.ensures.found.0 c.in-Ok-expect.ensures.found.1)
+  chain_goes_on (IsParts c.args.text.now) EndsParts c.parts.invariant.0 (next_part c.in_ok-part.ensures.found c.in_ok-part.ensures.last c.in_ok-part.ensures.atom c.in-Ok-expect.ensures.found.0 c.in-Ok-expect.ensures.found.1)
       (shorter_behind c.in_ok-part.ensures.shorter c.in-Ok-expect.ensures.found.0) c.in_ok-push_part-2.ensures.pushed,
-      has_next c.parts.invariant.1 (part_rest c.in_ok-part.ensures.found) c.in-Ok-expect.ensures.found.0,
-    )
+  has_next c.parts.invariant.1 (part_rest c.in_ok-part.ensures.found) c.in-Ok-expect.ensures.found.0,
+)
 
 pub part-returns-then-is_ok-clause-found : goal.part-returns-then-is_ok-clause-found
 part-returns-then-is_ok-clause-found t c = IfOk-weaker _ _ _ (λ x a. finds_last a) c.sum.ensures.found

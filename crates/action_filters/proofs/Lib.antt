@@ -1,0 +1,9 @@
+pub mod Filtered
+pub mod NamesTold
+pub mod TheoryLabels
+pub mod Along
+pub mod Meant
+pub mod Around
+pub mod Renamed
+pub mod Loops
+pub mod Whole

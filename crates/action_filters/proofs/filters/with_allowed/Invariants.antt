@@ -1,0 +1,10 @@
+use Rattle.std.proofs.Common.{◌≡◌, map, take}
+use Rattle.std.specs.Prelude.{flat_map}
+use Rattle.process_terms.specs.PlainProcesses.{items_of_each}
+use Rattle.lps_core.specs.PlainLinears.{plain_summand}
+use Rattle.action_filters.specs.LabelFilters.{allowed_label}
+use Rattle.action_filters.specs.Filters.{by_label, naming}
+use Rattle.action_filters.proofs.filters.with_allowed.Given as goal
+
+abbrev pub invariant-loop-summand : goal.invariant-loop-summand
+invariant-loop-summand l = map plain_summand l.summands.items ≡ flat_map (by_label (allowed_label (naming l.sig) (items_of_each l.sets))) (map plain_summand (take l.summand-index l.summand-items))

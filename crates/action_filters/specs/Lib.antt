@@ -1,0 +1,3 @@
+pub mod NameTests
+pub mod LabelFilters
+pub mod Filters

@@ -1,0 +1,5 @@
+pub mod UnfoldingLemmas
+pub mod ParallelLemmas
+pub mod ParallelNames
+pub mod WithinLemmas
+pub mod LoopLemmas

@@ -1,0 +1,10 @@
+pub mod Encoded
+pub mod Fitting
+pub mod RegularStates
+pub mod Starting
+pub mod ColumnTrees
+pub mod MeantTrees
+pub mod GoodOver
+pub mod Made
+pub mod EncodedSummands
+pub mod LaidOutColumns

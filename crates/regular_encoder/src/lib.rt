@@ -1,0 +1,11 @@
+//! The linear process of a tail recursive Greibach form: a control number and shared columns.
+//!
+//! The encoding stands in `specs/`, and in plain words in `docs/definitions/linear.md`.
+#![tactic(auto)]
+
+mod encoding;
+pub mod laws;
+mod layouts;
+
+pub use encoding::encode_equation;
+pub use layouts::Layout;

@@ -1,0 +1,5 @@
+pub mod Product
+pub mod ProductLaws
+pub mod Renewing
+pub mod Drafts
+pub mod SideMeanings
