@@ -6,6 +6,8 @@
 #[cfg(test)]
 mod copies;
 #[cfg(test)]
+mod first_values;
+#[cfg(test)]
 mod names;
 #[cfg(test)]
 mod numbers;

@@ -193,7 +193,11 @@ fn the_first_table_is_found(rt: HostRuntime) -> Result<(), Fail> {
 }
 
 /// The list sort over a sort that is there.
-fn list_over(rt: &impl Abort, signature: &mut Signature, element: SortId) -> Result<SortId, Fail> {
+pub fn list_over(
+    rt: &impl Abort,
+    signature: &mut Signature,
+    element: SortId,
+) -> Result<SortId, Fail> {
     assert!(rt; element.0 < signature.next_sort().0);
     Ok(signature.add_list(element)?)
 }
@@ -219,7 +223,7 @@ fn a_list_sort_is_added_once(rt: HostRuntime) -> Result<(), Fail> {
 }
 
 /// The name of a text that is there.
-fn name_of(rt: &impl Abort, signature: &Signature, text: &str) -> NameId
+pub fn name_of(rt: &impl Abort, signature: &Signature, text: &str) -> NameId
     ensures { result.0 < length signature.now.texts }
 {
     let Some(name) = signature.names().find(text) else {
@@ -270,7 +274,7 @@ fn alias(
 }
 
 /// Adds a declared sort.
-fn declared(rt: &impl Abort, signature: &mut Signature, text: &str) -> Result<SortId, Fail> {
+pub fn declared(rt: &impl Abort, signature: &mut Signature, text: &str) -> Result<SortId, Fail> {
     signature.take_name(text)?;
     let name = name_of(rt, signature, text);
     let None = signature.sort(name) else {
@@ -316,7 +320,7 @@ fn sorts_are_found_by_their_names(rt: HostRuntime) -> Result<(), Fail> {
 }
 
 /// Whether no function has a name and sorts.
-fn is_absent(signature: &Signature, name: NameId, sorts: &[SortId]) -> bool
+pub fn is_absent(signature: &Signature, name: NameId, sorts: &[SortId]) -> bool
     requires { name.0 < length signature.now.texts }
     ensures { IsTrue result → (k : ℕ) → HasKey signature.now.functions (key name sorts.now) k → ⊥ }
 {
@@ -327,7 +331,7 @@ fn is_absent(signature: &Signature, name: NameId, sorts: &[SortId]) -> bool
 }
 
 /// Whether a sort is a declared one without constructors.
-fn is_bare(rt: &impl Abort, signature: &Signature, sort: SortId) -> bool
+pub fn is_bare(rt: &impl Abort, signature: &Signature, sort: SortId) -> bool
     ensures { IsTrue result → IsBare signature.now.sorts sort }
 {
     assert!(rt; sort.0 < signature.next_sort().0);
@@ -433,7 +437,7 @@ fn a_struct_has_its_functions(rt: HostRuntime) -> Result<(), Fail> {
 }
 
 /// Makes a function the one constructor of a declared sort.
-fn set_constructor(
+pub fn set_constructor(
     rt: &impl Abort,
     alloc: Global,
     signature: &mut Signature,

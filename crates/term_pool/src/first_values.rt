@@ -1,12 +1,12 @@
 //! The first value of each sort.
 
-ghost use Rattle.std.specs.Prelude.{◌≡◌, ◌<◌, ◌≤◌, ◌↔◌, ℕ, length, map, IfOk, IfSome, Some, slice_get};
+ghost use Rattle.std.specs.Prelude.{◌≡◌, ◌<◌, ◌≤◌, ◌↔◌, ℕ, length, map, IsTrue, IfOk, IfSome, Some, slice_get};
 ghost use Rattle.std.specs.List.{All};
 ghost use Rattle.data_theory.specs.declared.ids.FunId.{FunId};
 ghost use Rattle.data_theory.specs.declared.ids.SortId.{SortId};
 ghost use Rattle.data_theory.specs.Signature.{Sig};
 ghost use Rattle.data_theory.specs.WholeSignatures.{IsSignature};
-ghost use Rattle.term_pool.specs.ConstructorValues.{IsConstructorAt};
+ghost use Rattle.term_pool.specs.ConstructorValues.{HasValue, IsConstructorAt};
 ghost use Rattle.term_pool.specs.FirstValues.{AreFirstValues, AreFirstSoFar, IsWeightOver, IsLightestOf, IsCandidateOf, IsNextOf, OpenWeighAtLeast, open_count};
 
 use crate::weight::Weight;
@@ -41,6 +41,19 @@ pub fn first_values(alloc: Global, sig: &Signature) -> Result<Vec<Option<First>>
         settle_as_light(alloc, sig, &mut entries, &weight)?;
     }
     Ok(entries)
+}
+
+/// Whether a sort has a constructor value, so that it isn't empty. A number that isn't one of the signature's sorts has none.
+///
+/// Each call makes the table of the first values of all sorts. `NoMemory` comes only where memory runs out.
+pub fn has_value(alloc: Global, sig: &Signature, sort: SortId) -> Result<bool, NoMemory>
+    ensures { IfOk result (λ found. IsTrue found ↔ HasValue sig.now sort) }
+{
+    let entries = first_values(alloc, sig)?;
+    if sort.0 >= entries.len() {
+        return Ok(false);
+    }
+    Ok(entries[sort.0].is_some())
 }
 
 /// No entry for each sort.

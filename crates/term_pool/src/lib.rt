@@ -15,8 +15,6 @@ mod pool;
 mod terms;
 mod weight;
 
+pub use first_values::has_value;
 pub use pool::Pool;
 pub use terms::{Equation, Head, Node, Theory};
-
-#[cfg(test)]
-mod closed_term_tests;

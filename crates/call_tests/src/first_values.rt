@@ -1,31 +1,16 @@
-//! Tests of the first constructor value of a sort, by values that were put down by hand.
+//! Which sorts have values, and the first constructor value of a sort, by values that were put down by hand.
 //!
 //! A test lends its pool and its signature to its body, and gives the names of the signature up at its end: to prove that a whole
 //! signature is dropped takes half a minute.
-ghost use Rattle.std.specs.Prelude.{◌≡◌, ◌<◌, [], ℕ, length, IsTrue, IfOk};
-ghost use Rattle.data_theory.specs.Keys.{key};
-ghost use Rattle.data_theory.specs.Functions.{HasKey};
-ghost use Rattle.data_theory.specs.Sorts.{IsBare};
+ghost use Rattle.std.specs.Prelude.{◌≡◌, []};
 ghost use Rattle.term_pool.specs.Constants.{AreConstants};
-ghost use Rattle.term_pool.specs.ConstructorValues.{HasValue};
 
-use super::*;
-use crate::first_values::first_values;
-use data_theory::{ConDecl, NameId, Names, NoMemory, Signature, SortId, SortKind, TermId};
+use crate::signatures::{declared, is_absent, is_bare, list_over, name_of, set_constructor};
+use data_theory::{ConDecl, Names, Signature, SortId, TermId};
 use std::alloc::Global;
 use std::process::Abort;
 use std::test::Fail;
-
-/// Whether a sort has a value.
-fn has_value(alloc: Global, signature: &Signature, sort: SortId) -> Result<bool, NoMemory>
-    ensures { IfOk result (λ found. IsTrue found → HasValue signature.now sort) }
-{
-    let entries = first_values(alloc, signature)?;
-    if sort.0 >= entries.len() {
-        return Ok(false);
-    }
-    Ok(entries[sort.0].is_some())
-}
+use term_pool::{Head, Pool, has_value};
 
 /// The term of the first value of a sort that has one.
 fn closed(
@@ -68,12 +53,6 @@ fn is_numeral(rt: &impl Abort, pool: &Pool, term: TermId, sort: SortId, magnitud
     }
 }
 
-/// The list sort over a sort that is there.
-fn list_over(rt: &impl Abort, signature: &mut Signature, element: SortId) -> Result<SortId, Fail> {
-    assert!(rt; element.0 < signature.next_sort().0);
-    Ok(signature.add_list(element)?)
-}
-
 /// `true`, 1, 0, 0, and `[]` of a list sort and of one of lists.
 fn built_in_sorts_have_values(
     rt: &impl Abort,
@@ -110,66 +89,6 @@ fn built_in_sorts_have_first_values(rt: HostRuntime) -> Result<(), Fail> {
     outcome
 }
 
-/// The name of a text that is there.
-fn name_of(rt: &impl Abort, signature: &Signature, text: &str) -> NameId
-    ensures { result.0 < length signature.now.texts }
-{
-    let Some(name) = signature.names().find(text) else {
-        panic!(rt; "the text isn't there");
-    };
-    name
-}
-
-/// Adds a declared sort.
-fn declared(rt: &impl Abort, signature: &mut Signature, text: &str) -> Result<SortId, Fail> {
-    signature.take_name(text)?;
-    let name = name_of(rt, signature, text);
-    let None = signature.sort(name) else {
-        panic!(rt; "a sort has this name");
-    };
-    Ok(signature.add_sort(name)?)
-}
-
-/// Whether no function has a name and sorts.
-fn is_absent(signature: &Signature, name: NameId, sorts: &[SortId]) -> bool
-    requires { name.0 < length signature.now.texts }
-    ensures { IsTrue result → (k : ℕ) → HasKey signature.now.functions (key name sorts.now) k → ⊥ }
-{
-    match signature.fun(signature.names().text(name), sorts) {
-        Some(_) => false,
-        None => true,
-    }
-}
-
-/// Whether a sort is a declared one without constructors.
-fn is_bare(rt: &impl Abort, signature: &Signature, sort: SortId) -> bool
-    ensures { IsTrue result → IsBare signature.now.sorts sort }
-{
-    assert!(rt; sort.0 < signature.next_sort().0);
-    match signature.kind(sort) {
-        SortKind::Abstract => true,
-        _ => false,
-    }
-}
-
-/// Makes a function the one constructor of a declared sort.
-fn set_constructor(
-    rt: &impl Abort,
-    alloc: Global,
-    signature: &mut Signature,
-    sort: SortId,
-    text: &str,
-) -> Result<(), Fail> {
-    signature.take_name(text)?;
-    let name = name_of(rt, signature, text);
-    assert!(rt; sort.0 < signature.next_sort().0);
-    assert!(rt; is_bare(rt, signature, sort));
-    assert!(rt; is_absent(signature, name, &[]));
-    let fun = signature.add_map(name, sort)?;
-    signature.set_cons(sort, Vec::from_array(alloc, [fun])?);
-    Ok(())
-}
-
 /// A sort without constructors gets one constant, under a name that isn't taken. One with a constructor gets none.
 fn declared_sorts_have_values(
     rt: &impl Abort,
@@ -183,7 +102,7 @@ fn declared_sorts_have_values(
     let other = declared(rt, signature, "E")?;
     let built = declared(rt, signature, "F")?;
     signature.take_name("dc_E")?;
-    set_constructor(rt, alloc, signature, built, "f")?;
+    let _fun = set_constructor(rt, alloc, signature, built, "f")?;
     let constructor = closed(rt, alloc, signature, pool, built)?;
     assert!(rt; is_constant(rt, signature, pool, constructor, "f", &[]));
     assert_eq!(rt; signature.funs().len(), 1);
@@ -337,6 +256,33 @@ fn nested_structs_have_a_first_value(rt: HostRuntime) -> Result<(), Fail> {
     let mut pool = Pool::new(rt.alloc())?;
     let mut signature = Signature::new(rt.alloc(), Names::new(rt.alloc()))?;
     let outcome = nested_structs_have_values(&rt, rt.alloc(), &mut signature, &mut pool);
+    let _names = signature.into_names();
+    outcome
+}
+
+/// `struct pair(D, T)` is empty where T is `struct pair(T, T)`, and a number that no sort has is no sort with a value.
+fn pairs_of_pairs_are_empty(
+    rt: &impl Abort,
+    alloc: Global,
+    signature: &mut Signature,
+) -> Result<(), Fail> {
+    let bare = declared(rt, signature, "D")?;
+    let trees = declared(rt, signature, "T")?;
+    let pairs = declared(rt, signature, "P")?;
+    set_pair(rt, alloc, signature, trees, trees, trees)?;
+    set_pair(rt, alloc, signature, pairs, bare, trees)?;
+    assert!(rt; has_value(alloc, signature, SortId(0))?);
+    assert!(rt; has_value(alloc, signature, bare)?);
+    assert!(rt; !has_value(alloc, signature, trees)?);
+    assert!(rt; !has_value(alloc, signature, pairs)?);
+    assert!(rt; !has_value(alloc, signature, signature.next_sort())?);
+    Ok(())
+}
+
+#[test]
+fn empty_sorts_have_no_value(rt: HostRuntime) -> Result<(), Fail> {
+    let mut signature = Signature::new(rt.alloc(), Names::new(rt.alloc()))?;
+    let outcome = pairs_of_pairs_are_empty(&rt, rt.alloc(), &mut signature);
     let _names = signature.into_names();
     outcome
 }

@@ -6,7 +6,7 @@ use Rattle.data_theory.specs.declared.ids.SortId.{SortId}
 use Rattle.data_theory.specs.Keys.{Key, key}
 use Rattle.data_theory.specs.Functions.{Function, key_of, HasKey, AreNew}
 use Rattle.data_theory.specs.Structs.{Con, cons_of, struct_functions}
-use Rattle.term_pool.proofs.closed_term_tests.set_pair.Goals as goal
+use Rattle.call_tests.proofs.first_values.set_pair.Goals as goal
 
 -- `struct pair(l, r)` as the sort s
 module _ (s l r : SortId) (pair : NameId) where
