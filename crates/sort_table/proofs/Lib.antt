@@ -6,5 +6,6 @@ pub mod Growing
 pub mod GrowingTexts
 pub mod GrowingSignatures
 pub mod Rounds
+pub mod WorkedEmptySorts
 pub mod WorkedFaults
 pub mod SingleRefusals

@@ -5,7 +5,7 @@ use Rattle.sort_table.specs.Expressions.{Name}
 use Rattle.sort_table.specs.BareSorts.{SortExpression, a_name}
 use Rattle.sort_table.specs.SortMeanings.{UnderNames, alone, a_struct, equal_to, StandsFor, for_truth_values, for_positives, for_naturals, for_integers, for_lists, for_plain, for_struct, for_alias}
 use Rattle.sort_table.specs.UnknownSorts.{name_in}
-use Rattle.sort_table.specs.Cycles.{Uses, Leads, at_once, through, CyclesStandForNothing}
+use Rattle.sort_table.specs.CyclesOfAliases.{Uses, Leads, at_once, through, CyclesStandForNothing}
 
 and_on : (u : UnderNames) (n l m : Name) → Leads u n l → Uses u l m → Leads u n m
 and_on u n _ m (at_once _ l h) k = through n l m h (at_once l m k)

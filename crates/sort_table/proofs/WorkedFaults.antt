@@ -11,6 +11,7 @@ use Rattle.sort_table.specs.BareProcesses.{delta}
 use Rattle.sort_table.specs.BareDeclarations.{actions, initial}
 use Rattle.sort_table.specs.SortMeanings.{for_naturals, for_lists, for_alias, no_sorts, and_sort}
 use Rattle.sort_table.specs.Duplicates.{an_action, a_variable, a_function, two_of_them, within_one, built_in, action_again, variable_again, IsBuiltIn, any_sort, lists_of_any}
+use Rattle.sort_table.proofs.WorkedEmptySorts.{first_empty_sort}
 use Rattle.sort_table.specs.WorkedRefusals.{TheseAreRefused}
 use Rattle.std.specs.Prelude.{true}
 
@@ -21,6 +22,7 @@ tail_is_built_in = (rows.One (words.List lists.Tail) lists_of_any lists_of_any, 
 pub these_are_refused : TheseAreRefused
 these_are_refused = (
   record { front = []; declaration = actions (codes "a" ∷ []) (a_name (codes "D") ∷ []); behind = initial delta ∷ []; text = refl; place = refl; known = tt; unknown = refl },
+  first_empty_sort,
   ((a_name (codes "B"), (0, omega arith, refl), refl), (lists_of (a_name (codes "A")), (1, omega arith, refl), refl)),
   within_one 0 0 1 (an_action (codes "a") [] ∷ an_action (codes "a") [] ∷ []) (an_action (codes "a") []) (an_action (codes "a") []) refl (omega arith) refl refl (action_again (codes "a") [] [] ([], no_sorts, no_sorts)),
   built_in 1 (a_function (codes "tail") (a_name (codes "L") ∷ []) ∷ []) (codes "tail") (a_name (codes "L") ∷ []) (lists_of naturals ∷ []) refl (0, omega arith, refl)

@@ -14,7 +14,7 @@ pub mod Duplicates
 pub mod EmptySorts
 pub mod Refusals
 pub mod VocabularyLaws
-pub mod Cycles
+pub mod CyclesOfAliases
 pub mod Growth
 pub mod SignatureGrowth
 pub mod Worked

@@ -8,8 +8,6 @@ use Rattle.data_theory.specs.Places.{HaveOnePlace}
 use Rattle.sort_table.specs.Expressions.{Name}
 use Rattle.sort_table.specs.NamedLists.{all_named, first_named}
 use Rattle.sort_table.specs.BareSorts.{SortExpression, truth_values, positives, naturals, integers, lists_of, a_name}
-use Rattle.sort_table.specs.BareProcesses.{Variables, Process}
-use Rattle.sort_table.specs.BareDeclarations.{Declaration, process}
 use Rattle.sort_table.specs.SortMeanings.{alone, a_struct, equal_to, UnderNames, StandsFor}
 use Rattle.sort_table.specs.TextFunctions as text
 use Rattle.sort_table.specs.TextFunctions.{TextRole, TextFunction}
@@ -111,11 +109,3 @@ pub record IsVocabularyOf (u : UnderNames) (v : Vocabulary) : Type 0 where
   pub functions : HasFunctions u v
   pub each_action : (a : Name) (es : List SortExpression) → Contains (u.actions a) es → (ss : List Sort) × (sorts_in v.sort_names es ≡ Some ss) × Contains v.actions (a, ss)
   pub no_other_action : (a : Name) (ss : List Sort) → Contains v.actions (a, ss) → IsActionOf u v a ss
-
--- ---- processes, which the text itself lists
-abbrev pub parameters_in : List (Name × Sort) → Variables → Option (List (Name × Sort))
-parameters_in ns [] = Some []
-parameters_in ns (x ∷ vs) = option_and_then (λ s. option_map (λ ps. (x.0, s) ∷ ps) (parameters_in ns vs)) (sort_in ns x.1)
-
-abbrev pub IsProcess : List Declaration → Vocabulary → Name → List (Name × Sort) → Process → Type 0
-IsProcess ds v p ps body = (vs : Variables) × Contains ds (process p vs body) × (parameters_in v.sort_names vs ≡ Some ps)

@@ -1,12 +1,13 @@
 -- Worked refusals.
-use Rattle.std.specs.Prelude.{[], ◌∷◌, List, codes}
+use Rattle.std.specs.Prelude.{[], ◌∷◌, List, None, codes}
 use Rattle.mcrl2_syntax.specs.declared.declaration.SectionWord.TheVariants as words
 use Rattle.sort_table.specs.BareSorts.{naturals, lists_of, a_name}
 use Rattle.sort_table.specs.BareProcesses.{delta}
-use Rattle.sort_table.specs.BareDeclarations.{Section, alias, mappings, actions, variables, initial, declarations_in}
-use Rattle.sort_table.specs.UnknownSorts.{UsesUnknownSort}
+use Rattle.sort_table.specs.BareDeclarations.{Section, alias, struct, mappings, actions, variables, initial, declarations_in}
 use Rattle.sort_table.specs.SortCycles.{IsCycle}
 use Rattle.sort_table.specs.Duplicates.{DeclaresAgain}
+use Rattle.sort_table.specs.EmptySorts.{IsFirstEmptySort}
+use Rattle.sort_table.specs.Refusals.{unknown_sort, IsRefusedWith}
 
 abbrev pub end_of_text : Section
 end_of_text = record { word = words.Init; declarations = initial delta ∷ [] }
@@ -34,7 +35,16 @@ built_in_text =
 abbrev pub variable_text : List Section
 variable_text = record { word = words.Var; declarations = variables ((codes "x", naturals) ∷ []) ∷ variables ((codes "x", naturals) ∷ []) ∷ [] } ∷ end_of_text ∷ []
 
+-- sort A = struct c(A); init delta;
+abbrev pub empty_text : List Section
+empty_text =
+    record { word = words.Sort; declarations = struct (codes "A") (record { name = codes "c"; fields = record { name = None; sort = a_name (codes "A") } ∷ []; recogniser = None } ∷ []) ∷ [] }
+    ∷ end_of_text
+    ∷ []
+
+-- Of the first two it is the refusal's own place and name, of the others the condition.
 abbrev pub TheseAreRefused : Type 0
 TheseAreRefused =
-    UsesUnknownSort (declarations_in unknown_text) 1 (codes "D") × IsCycle (declarations_in cyclic_text) (codes "A" ∷ codes "B" ∷ [])
+    IsRefusedWith unknown_text (unknown_sort 1 (codes "D")) × IsFirstEmptySort (declarations_in empty_text) (codes "A")
+    × IsCycle (declarations_in cyclic_text) (codes "A" ∷ codes "B" ∷ [])
     × DeclaresAgain twice_text 1 1 × DeclaresAgain built_in_text 2 2 × DeclaresAgain variable_text 1 2

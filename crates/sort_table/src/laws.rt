@@ -1,7 +1,7 @@
 //! Laws of what a text declares.
 
 ghost use Rattle.sort_table.specs.VocabularyLaws.{ASortStandsForOneSort, WhatStandsForASortHasIt};
-ghost use Rattle.sort_table.specs.Cycles.{CyclesStandForNothing};
+ghost use Rattle.sort_table.specs.CyclesOfAliases.{CyclesStandForNothing};
 ghost use Rattle.sort_table.specs.WorkedRefusals.{TheseAreRefused};
 ghost use Rattle.sort_table.specs.Refusals.{RefusalsAreSingle, SoundDeclarationsAreNotRefused};
 ghost use Rattle.sort_table.specs.SignatureGrowth.{GrownSignaturesHaveMore};
