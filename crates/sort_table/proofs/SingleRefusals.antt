@@ -1,6 +1,6 @@
 -- A text is refused with one fault at most.
-use Rattle.std.proofs.Common.{◌≡◌, ◌<◌, ◌≤◌, ◌⊎◌, inl, inr, ℕ, zero, suc, Bool, true, false, cond, List, [], ◌∷◌, ◌++◌, length, refl, ap, sym, ◌∙◌, subst, arith}
-use Rattle.std.specs.Prelude.{Option, Some, None, bytes_eq}
+use Rattle.std.proofs.Common.{◌≡◌, ◌<◌, ◌≤◌, inl, inr, ℕ, zero, suc, Bool, true, false, cond, List, [], ◌∷◌, ◌++◌, length, refl, ap, sym, ◌∙◌, subst, arith}
+use Rattle.std.specs.Prelude.{Some, bytes_eq}
 use Rattle.std.specs.List.{Contains, AllByRecursion}
 use Rattle.std.proofs.lemmas.Option.{none-some, same_Some}
 use Rattle.std.proofs.lemmas.Slice.Eq.{bytes_eq-Decides}
@@ -12,7 +12,7 @@ use Rattle.sort_table.specs.UnknownSorts.{unknown_in, HasKnownSorts, AllAreKnown
 use Rattle.sort_table.specs.SortCycles.{Refers, ReferOn, IsCycle, ComesFirst, place_of, places, first_of_list, rank_of, IsFirstCycle}
 use Rattle.sort_table.specs.Duplicates.{DeclaresAgain, IsDuplicate}
 use Rattle.sort_table.specs.EmptySorts.{IsEmptySort, IsFirstEmptySort}
-use Rattle.sort_table.specs.Refusals.{DeclarationFault, unknown_sort, sort_cycle, duplicate, empty_sort, IsRefusedWith, RefusalsAreSingle, SoundDeclarationsAreNotRefused}
+use Rattle.sort_table.specs.Refusals.{unknown_sort, sort_cycle, duplicate, empty_sort, RefusalsAreSingle, SoundDeclarationsAreNotRefused}
 use Rattle.sort_table.proofs.Growing.{contains_behind, contains_after}
 
 -- ---- the first of a list

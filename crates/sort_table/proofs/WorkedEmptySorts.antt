@@ -1,8 +1,8 @@
 -- A struct whose one constructor takes the struct itself has no value.
-use Rattle.std.proofs.Common.{◌≡◌, ◌<◌, ℕ, zero, suc, List, [], ◌∷◌, refl, ap, sym, ◌∙◌, subst, arith}
+use Rattle.std.proofs.Common.{◌≡◌, ◌<◌, ℕ, zero, suc, [], ◌∷◌, refl, subst, arith}
 use Rattle.std.specs.Prelude.{Some, codes}
 use Rattle.std.specs.List.{Contains}
-use Rattle.data_theory.specs.Terms.{Sort, named, list, boolean, truth, falsity, empty, cons, function, negation, conjunction, disjunction, implication, equality, inequality, conditional, comparison, arithmetic, minus, upcast, snoc, concatenation, size, element_at, head, rhead, tail, rtail, membership, Term, Terms, variable, numeral, unknown, application, none, more}
+use Rattle.data_theory.specs.Terms.{named, list, boolean, truth, falsity, empty, cons, function, negation, conjunction, disjunction, implication, equality, inequality, conditional, comparison, arithmetic, minus, upcast, snoc, concatenation, size, element_at, head, rhead, tail, rtail, membership, Term, Terms, variable, numeral, unknown, application, none, more}
 use Rattle.data_theory.specs.Declarations as theory
 use Rattle.data_theory.specs.Declarations.{IsConstructed, HasSort, result_sort, HaveSorts, AreConstructed}
 use Rattle.sort_table.specs.Expressions.{Name}
@@ -10,7 +10,7 @@ use Rattle.sort_table.specs.BareSorts.{a_name}
 use Rattle.sort_table.specs.BareDeclarations.{declarations_in}
 use Rattle.sort_table.specs.SortMeanings.{a_struct, UnderNames, under_names, StandsFor, for_struct}
 use Rattle.sort_table.specs.TextFunctions.{functions_in}
-use Rattle.sort_table.specs.Vocabularies.{Vocabulary, IsConstruction, by_struct, declared_as_struct, IsOwn, IsSortNamed, IsFunction, of_struct, IsActionOf, IsVocabularyOf}
+use Rattle.sort_table.specs.Vocabularies.{Vocabulary, IsConstruction, by_struct, declared_as_struct, IsOwn, IsSortNamed, IsFunction, of_struct, IsVocabularyOf}
 use Rattle.sort_table.specs.EmptySorts.{IsFirstEmptySort}
 use Rattle.sort_table.specs.WorkedRefusals.{empty_text}
 use Rattle.sort_table.proofs.ListForms.{have_one_place, each_named, has_sorts}

@@ -4,16 +4,14 @@ use Rattle.std.specs.Prelude.{codes}
 use Rattle.data_theory.specs.declared.words.ListWord.TheVariants as lists
 use Rattle.data_theory.specs.declared.words.Word.TheVariants as words
 use Rattle.data_theory.specs.declared.rows.Row.TheVariants as rows
-use Rattle.data_theory.specs.declared.rows.Row.{Row}
 use Rattle.data_theory.specs.Table.{language_table, truth_rows, sort_rows, comparison_rows, sum_rows, first_rows, quotient_rows, extreme_rows, step_rows, list_rows}
 use Rattle.sort_table.specs.BareSorts.{naturals, lists_of, a_name}
 use Rattle.sort_table.specs.BareProcesses.{delta}
 use Rattle.sort_table.specs.BareDeclarations.{actions, initial}
 use Rattle.sort_table.specs.SortMeanings.{for_naturals, for_lists, for_alias, no_sorts, and_sort}
-use Rattle.sort_table.specs.Duplicates.{an_action, a_variable, a_function, two_of_them, within_one, built_in, action_again, variable_again, IsBuiltIn, any_sort, lists_of_any}
+use Rattle.sort_table.specs.Duplicates.{an_action, a_variable, a_function, two_of_them, within_one, built_in, action_again, variable_again, IsBuiltIn, lists_of_any}
 use Rattle.sort_table.proofs.WorkedEmptySorts.{first_empty_sort}
 use Rattle.sort_table.specs.WorkedRefusals.{TheseAreRefused}
-use Rattle.std.specs.Prelude.{true}
 
 tail_is_built_in : IsBuiltIn (codes "tail") (lists_of naturals ∷ [])
 unfolding language_table truth_rows sort_rows comparison_rows sum_rows first_rows quotient_rows extreme_rows step_rows list_rows

@@ -1,5 +1,5 @@
 -- What a list has under a name.
-use Rattle.std.specs.Prelude.{ℕ, List, [], ◌∷◌, cond, Option, Some, None, bytes_eq}
+use Rattle.std.specs.Prelude.{List, [], ◌∷◌, cond, Option, Some, None, bytes_eq}
 use Rattle.sort_table.specs.Expressions.{Name}
 
 -- all that a list has under a name, in order

@@ -10,7 +10,7 @@ use Rattle.mcrl2_syntax.specs.DataTrees.{PlainData, no_datas, more_datas, no_ope
 use Rattle.mcrl2_syntax.specs.ProcessParts.{PlainVarGroup, tau_action, named_action}
 use Rattle.mcrl2_syntax.specs.ProcessTrees as processes
 use Rattle.mcrl2_syntax.specs.ProcessTrees.{PlainProcess, no_processes, more_processes}
-use Rattle.mcrl2_syntax.specs.Declarations.{PlainDecl, vars_decl, struct_decl, proc_decl}
+use Rattle.mcrl2_syntax.specs.Declarations.{vars_decl, struct_decl, proc_decl}
 use Rattle.sort_table.specs.Expressions.{Name, Expression, numeral, word, none, one, two}
 use Rattle.sort_table.specs.BareSorts.{bare_sort, naturals, lists_of, a_name}
 use Rattle.sort_table.specs.BareData.{bare_data}
@@ -74,7 +74,7 @@ abbrev pub body : PlainProcess
 body =
     processes.choice here
     (more_processes (processes.within here (processes.sequence here (more_processes (processes.acts (named_action here a (datas.named (x here) ∷ []))) (more_processes (processes.within there (processes.acts (tau_action there))) no_processes))))
-      (more_processes (processes.sum here groups (processes.delta there)) no_processes))
+    (more_processes (processes.sum here groups (processes.delta there)) no_processes))
 
 -- ---- what they are
 abbrev pub difference_and_twelve : Expression
@@ -87,7 +87,7 @@ abbrev pub bare_body : bare.Process
 bare_body =
     bare.choice
     (bare.more (bare.sequence (bare.more (bare.acts (bare.act (codes "a") (variable (codes "x") ∷ []) ∷ [])) (bare.more (bare.acts (bare.tau ∷ [])) bare.none)))
-      (bare.more (bare.sum bare_groups bare.delta) bare.none))
+    (bare.more (bare.sum bare_groups bare.delta) bare.none))
 
 -- spans and brackets fall away, sums group to the left and conjunctions to the right, and each variable has its own sort
 pub record TreesAreBare : Type 0 where
