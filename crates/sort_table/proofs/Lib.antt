@@ -1,0 +1,11 @@
+pub mod Choices
+pub mod OneSort
+pub mod ListForms
+pub mod WorkedVocabularies
+pub mod Growing
+pub mod GrowingTexts
+pub mod GrowingSignatures
+pub mod Rounds
+pub mod WorkedEmptySorts
+pub mod WorkedFaults
+pub mod SingleRefusals

@@ -1,0 +1,61 @@
+//! Laws of what a text declares.
+
+ghost use Rattle.sort_table.specs.VocabularyLaws.{ASortStandsForOneSort, WhatStandsForASortHasIt};
+ghost use Rattle.sort_table.specs.CyclesOfAliases.{CyclesStandForNothing};
+ghost use Rattle.sort_table.specs.WorkedRefusals.{TheseAreRefused};
+ghost use Rattle.sort_table.specs.Refusals.{RefusalsAreSingle, SoundDeclarationsAreNotRefused};
+ghost use Rattle.sort_table.specs.SignatureGrowth.{GrownSignaturesHaveMore};
+ghost use Rattle.sort_table.specs.Growth.{VocabulariesGrow, TextsGrow};
+ghost use Rattle.sort_table.specs.WorkedTrees.{TreesAreBare};
+ghost use Rattle.sort_table.specs.Worked.{ATextHasVocabulariesInAnyNumbering};
+
+/// Worked trees and their bare ones: spans and brackets fall away.
+pub fn trees_are_bare()
+    ensures { TreesAreBare }
+{}
+
+/// A sort expression stands for one sort at most.
+pub fn a_sort_stands_for_one_sort()
+    ensures { ASortStandsForOneSort }
+{}
+
+/// In each vocabulary an expression has the sort of what it stands for.
+pub fn what_stands_for_a_sort_has_it()
+    ensures { WhatStandsForASortHasIt }
+{}
+
+/// A name on a cycle of aliases stands for nothing.
+pub fn cycles_stand_for_nothing()
+    ensures { CyclesStandForNothing }
+{}
+
+/// A worked text has vocabularies in two numberings.
+pub fn a_text_has_vocabularies_in_any_numbering()
+    ensures { ATextHasVocabulariesInAnyNumbering }
+{}
+
+/// Worked texts meet the conditions of refusals.
+pub fn these_are_refused()
+    ensures { TheseAreRefused }
+{}
+
+/// A text is refused with one fault of its declarations at most, and with none where no condition of theirs holds.
+pub fn refusals_are_single()
+    ensures single { RefusalsAreSingle }
+    ensures sound { SoundDeclarationsAreNotRefused }
+{}
+
+/// A vocabulary grows with its text, by structs and by functions that aren't constructors of a `cons`.
+pub fn vocabularies_grow()
+    ensures { VocabulariesGrow }
+{}
+
+/// Declarations without actions behind others are more under their names.
+pub fn texts_grow()
+    ensures { TextsGrow }
+{}
+
+/// What a signature gets behind its tables stands behind its vocabulary.
+pub fn grown_signatures_have_more()
+    ensures { GrownSignaturesHaveMore }
+{}
