@@ -1,0 +1,11 @@
+pub mod OneSide
+pub mod Whole
+pub mod Joint
+pub mod Flags
+pub mod Renewing
+pub mod RenewedSides
+pub mod MeantDrafts
+pub mod DraftLists
+pub mod JoinedDrafts
+pub mod Framing
+pub mod MeantSides
