@@ -14,7 +14,7 @@ use Rattle.data_theory.specs.Complete.{IsComplete}
 use Rattle.data_theory.specs.IdTables.{IsTable}
 use Rattle.data_theory.specs.IdTrees.{Tree}
 use Rattle.data_theory.specs.IdTerms.{term_under}
-use Rattle.term_pool.specs.HeadTrees.{tree_at, trees_at, IsIn, AreIn}
+use Rattle.term_pool.specs.HeadTrees.{trees_at, IsIn, AreIn}
 use Rattle.term_pool.specs.Pools.{Extends}
 use Rattle.process_terms.specs.PlainProcesses.{PlainAction}
 use Rattle.process_terms.specs.Labels.{Label}
@@ -27,7 +27,7 @@ use Rattle.lps_core.specs.declared.linears.Summand.{Summand as Made}
 use Rattle.lps_core.specs.PlainLinears.{PlainSummand, plain_summand, summand_of}
 use Rattle.lps_core.specs.TreeConditions.{conjunction_tree}
 use Rattle.lps_core.specs.TreeSummands.{IsActionIn}
-use Rattle.lps_core.proofs.PoolTrees.{extends_itself, tree_kept, trees_kept}
+use Rattle.lps_core.proofs.PoolTrees.{tree_kept, trees_kept}
 use Rattle.lps_core.proofs.Staying.{term_is, terms_are}
 use Rattle.lps_core.proofs.MeantParts.{chains_mean_chains}
 use Rattle.summand_expander.specs.Product.{product}
@@ -108,7 +108,7 @@ module _ (ts : List Tree) where
   next_in m n h k =
       let one = both_in m.onward n.onward h.onward k.onward in
       elim m.ends as (λ b. IfSome (if b then (if n.ends then None else Some (m.onward ++ n.onward)) else Some (m.onward ++ n.onward)) (AreIn ts)) [
-        true ↦ elim n.ends as (λ b. IfSome (if b then None else Some (m.onward ++ n.onward)) (AreIn ts)) [ true ↦ tt | false ↦ one ]
+        | true ↦ elim n.ends as (λ b. IfSome (if b then None else Some (m.onward ++ n.onward)) (AreIn ts)) [ true ↦ tt | false ↦ one ]
         | false ↦ one
       ]
 
@@ -171,6 +171,7 @@ module _ (g : Sig) (table : IsTable g) (complete : IsComplete g) (ts us : List T
     where
       first_same : {x y : Joined} {xs ys : List Joined} → x ∷ xs ≡ y ∷ ys → x ≡ y
       first_same e = cc
+
       rest_same : {x y : Joined} {xs ys : List Joined} → x ∷ xs ≡ y ∷ ys → xs ≡ ys
       rest_same e = cc
 

@@ -1,21 +1,21 @@
 -- What the drafts of a product mean.
-use Rattle.std.proofs.Common.{◌≡◌, ℕ, Bool, true, false, if◌then◌else◌, List, [], ◌∷◌, ◌++◌, map, refl, sym, ap, ap₂, ◌∙◌, subst, is_none, Option, Some, None}
+use Rattle.std.proofs.Common.{◌≡◌, ℕ, Bool, true, false, if◌then◌else◌, List, [], ◌∷◌, ◌++◌, map, refl, sym, ap, ap₂, ◌∙◌, is_none, Option, Some, None}
 use Rattle.std.proofs.lemmas.List.{map-append, append-nil, append_assoc}
 use Rattle.std.specs.Prelude.{flat_map, option_map}
 use Rattle.std.specs.List.{AllZip}
 use Rattle.data_theory.specs.declared.ids.TermId.{TermId}
 use Rattle.data_theory.specs.Terms.{Term, variable}
-use Rattle.data_theory.specs.Equations.{!ᵗ◌}
+use Rattle.data_theory.specs.Equations.{ !ᵗ◌}
 use Rattle.process_terms.specs.Communication.{conjunction_of}
 use Rattle.process_terms.specs.Labels.{Label}
 use Rattle.process_terms.specs.Processes.{Bound}
-use Rattle.process_terms.specs.Meanings.{Entries, bound_at, term_at, action_of, label_of}
+use Rattle.process_terms.specs.Meanings.{Entries, bound_at, term_at, action_of}
 use Rattle.bisim_laws.specs.LinearProcesses.{Summand, is_true}
 use Rattle.bisim_laws.specs.BaseStates.{Side}
 use Rattle.lps_core.specs.Columns.{as_terms}
 use Rattle.lps_core.specs.Conditions.{parts, without_true, conjoined}
 use Rattle.summand_expander.specs.Product.{columns, running_part, onward, guarded, alone, own_first, own_last, lone, together, pair, product}
-use Rattle.summand_expander.specs.Drafts.{PlainMove, PlainSide, PlainDraft, placed, behind, beside, going_alone, with_flag, ending_alone, lone_drafts, next_of_both, both_moves, all_drafts}
+use Rattle.summand_expander.specs.Drafts.{PlainMove, PlainSide, placed, behind, with_flag, lone_drafts, both_moves, all_drafts}
 use Rattle.summand_expander.specs.SideMeanings.{MoveMeans, SideMeans, summand_of_draft}
 
 -- ---- parts that aren't `true`

@@ -9,7 +9,6 @@ use Rattle.data_theory.specs.declared.ids.VarId.{VarId}
 use Rattle.data_theory.specs.Table.{bool_sort}
 use Rattle.data_theory.specs.Terms as terms
 use Rattle.data_theory.specs.Terms.{Term}
-use Rattle.data_theory.specs.Equations.{trueᵗ, !ᵗ◌}
 use Rattle.data_theory.specs.Signature.{Sig}
 use Rattle.data_theory.specs.WholeSignatures.{IsSignature}
 use Rattle.data_theory.specs.IdTrees.{Tree, variable}
@@ -32,7 +31,7 @@ use Rattle.lps_core.proofs.KeptSummands.{summand_in_kept}
 use Rattle.lps_core.proofs.MeantParts.{parts_mean_parts}
 use Rattle.lps_core.proofs.Staying.{term_is, terms_are}
 use Rattle.summand_expander.specs.Product.{flag_of, running_part, set, onward}
-use Rattle.summand_expander.specs.Drafts.{PlainMove, PlainSide}
+use Rattle.summand_expander.specs.Drafts.{PlainMove}
 use Rattle.summand_expander.specs.Frames.{PlainFrame, not_tree, of_flag, in_list, IsFrame, columns_after, IsMoveOf}
 use Rattle.summand_expander.specs.SideMeanings.{IsMoveIn, IsSideIn, MoveMeans, SideMeans}
 

@@ -1,57 +1,28 @@
 -- A linear process with other variables is a linear process, and well sorted.
-use Rattle.std.proofs.Common.{◌≡◌, ℕ, ◌⊎◌, inl, inr, ⊎_elim, Bool, true, false, cond as by_test, List, [], ◌∷◌, ◌++◌, map, length, refl, sym, ap, ◌∙◌, subst, Option, Some, None}
-use Rattle.std.specs.Prelude.{Contains, ℤ, pos}
-use Rattle.std.proofs.lemmas.List.{length-map}
+use Rattle.std.proofs.Common.{◌≡◌, ℕ, ⊎_elim, List, [], ◌∷◌, ◌++◌, refl, sym, ap, ◌∙◌, subst, Option}
+use Rattle.std.specs.Prelude.{Contains}
 use Rattle.std.proofs.lemmas.List.Elements.{Contains-append_cases, Contains-append_left, Contains-append_right}
-use lib.Signed.{lt_z}
-use lib.IntN.{neg_ℤ}
-use Rattle.data_theory.specs.Terms.{Symbol, upcast, minus, positive, natural, integer, Sort, boolean, Term, Terms, variable, numeral, unknown, application, none, more, apply, put, put_all}
+use Rattle.data_theory.specs.Terms.{Sort, boolean, Term, variable, put}
 use Rattle.data_theory.specs.Declarations.{Data, IsSort, Declares, HasSort, HaveSorts}
-use Rattle.data_theory.specs.Environments.{terms_of, IsOver, AreOver, Apart, AreDistinct}
+use Rattle.data_theory.specs.Environments.{terms_of, AreDistinct}
 use Rattle.data_theory.proofs.EnvironmentLemmas.{contains_nothing, contains_cases as number_cases, contains_first as number_first, contains_later as number_later, putting_in_keeps_sorts}
 use Rattle.process_terms.specs.Labels.{Label}
 use Rattle.process_terms.specs.Processes.{Bound}
 use Rattle.bisim_laws.specs.LinearProcesses.{Summand, Linear, variables, sorts, LabelIsOver, no_action_left, action_over, LabelIsSorted, no_action_to_sort, action_sorted, IsLinear, IsWellSorted, AreDeclared, HaveDataSorts}
 use Rattle.bisim_laws.proofs.Firing.{contains_first, contains_later, contains_cases, contains_none}
 use Rattle.lps_core.proofs.Members.{In, in_map, in_contains, contains_in}
+use Rattle.lps_core.proofs.OverVariables.{put_over, puts_over}
+use Rattle.lps_core.proofs.SortedTerms.{puts_sorted}
 use Rattle.lps_core.proofs.Shapes.{NextFits, ends_there, goes_there, IsSortedSummand, summand_is, summand_sorted, summand_fits}
-use Rattle.summand_expander.specs.Renewing.{renewed_bounds, renewed_terms, renewed_label, renewed_next, renewed_summand, renewed, KeepsApart, Renews}
+use Rattle.summand_expander.specs.Renewing.{renewed_bounds, renewed_terms, renewed_label, renewed_next, renewed_summand, renewed, Renews}
 
 module _ (r : ℕ → ℕ) where
   abbrev Image : List ℕ → List ℕ → Type 0
   Image xs ys = (v : ℕ) → Contains xs v → Contains ys (r v)
 
-  negated_over : (ys : List ℕ) (s : Sort) (z : ℤ) (b : Bool) → IsOver ys (by_test b (numeral integer (neg_ℤ z)) (application (minus s) (more (numeral s z) none)))
-  negated_over ys s z true = tt
-  negated_over ys s z false = (tt, tt)
-
-  applied_over : (ys : List ℕ) (f : Symbol) (ts : Terms) → AreOver ys ts → IsOver ys (apply f ts)
-  applied_over ys (upcast positive natural) (more (numeral positive z) none) h = tt
-  applied_over ys (upcast natural integer) (more (numeral natural z) none) h = tt
-  applied_over ys (upcast positive integer) (more (numeral positive z) none) h = tt
-  applied_over ys (minus positive) (more (numeral positive z) none) h = negated_over ys positive z (lt_z (pos 0) z)
-  applied_over ys (minus natural) (more (numeral natural z) none) h = negated_over ys natural z (lt_z (pos 0) z)
-  applied_over ys (minus integer) (more (numeral integer z) none) h = negated_over ys integer z (lt_z (pos 0) z)
-  applied_over ys f ts h = h
-
-  mutual
-    over_renewed : (xs ys : List ℕ) → Image xs ys → (t : Term) → IsOver xs t → IsOver ys (put (λ v. variable (r v)) t)
-    over_renewed xs ys i (variable v) h = i v h
-    over_renewed xs ys i (numeral a z) h = tt
-    over_renewed xs ys i (unknown d k) h = tt
-    over_renewed xs ys i (application f ts) h = applied_over ys f (put_all (λ v. variable (r v)) ts) (all_over_renewed xs ys i ts h)
-
-    all_over_renewed : (xs ys : List ℕ) → Image xs ys → (ts : Terms) → AreOver xs ts → AreOver ys (put_all (λ v. variable (r v)) ts)
-    all_over_renewed xs ys i none h = tt
-    all_over_renewed xs ys i (more t ts) h = (over_renewed xs ys i t h.0, all_over_renewed xs ys i ts h.1)
-
-  list_over : (xs ys : List ℕ) → Image xs ys → (ts : List Term) → AreOver xs (terms_of ts) → AreOver ys (terms_of (renewed_terms r ts))
-  list_over xs ys i [] h = tt
-  list_over xs ys i (t ∷ ts) h = (over_renewed xs ys i t h.0, list_over xs ys i ts h.1)
-
   label_over : (xs ys : List ℕ) → Image xs ys → {m : Label} → LabelIsOver xs m → LabelIsOver ys (renewed_label r m)
   label_over xs ys i no_action_left = no_action_left
-  label_over xs ys i (action_over {a = a} h k) = action_over (list_over xs ys i a.args h) (label_over xs ys i k)
+  label_over xs ys i (action_over {a = a} h k) = action_over (puts_over xs ys (λ v. variable (r v)) i a.args h) (label_over xs ys i k)
 
   image : (xs : List Bound) → Image (variables xs) (variables (renewed_bounds r xs))
   image [] v h = absurd (contains_nothing v h)
@@ -65,7 +36,7 @@ module _ (r : ℕ → ℕ) where
   still_distinct [] h k = tt
   still_distinct (x ∷ xs) h k = (
     λ i. let f = from xs (r x.var) i in
-    h.0 (subst (λ z. Contains (variables xs) z) (k f.0 x.var (number_later x.var f.0 (variables xs) f.1.0) (number_first x.var (variables xs)) f.1.1) f.1.0),
+        h.0 (subst (λ z. Contains (variables xs) z) (k f.0 x.var (number_later x.var f.0 (variables xs) f.1.0) (number_first x.var (variables xs)) f.1.1) f.1.0),
     still_distinct xs h.1 (λ y z i j q. k y z (number_later x.var y (variables xs) i) (number_later x.var z (variables xs) j) q),
   )
 
@@ -79,15 +50,9 @@ module _ (r : ℕ → ℕ) where
     term_sorted : (t : Term) (s : Sort) → HasSort g vs t s → HasSort g vs (put (λ v. variable (r v)) t) s
     term_sorted t s h = putting_in_keeps_sorts g vs vs (λ v. variable (r v)) keeps t s h
 
-    list_sorted : (ts : List Term) (ss : List Sort) → HaveSorts g vs (terms_of ts) ss → HaveSorts g vs (terms_of (renewed_terms r ts)) ss
-    list_sorted [] [] h = tt
-    list_sorted [] (s ∷ ss) h = absurd h
-    list_sorted (t ∷ ts) [] h = absurd h
-    list_sorted (t ∷ ts) (s ∷ ss) h = (term_sorted t s h.0, list_sorted ts ss h.1)
-
     label_sorted : {m : Label} → LabelIsSorted g vs m → LabelIsSorted g vs (renewed_label r m)
     label_sorted no_action_to_sort = no_action_to_sort
-    label_sorted (action_sorted {a = a} h k) = action_sorted (list_sorted a.args a.sorts h) (label_sorted k)
+    label_sorted (action_sorted {a = a} h k) = action_sorted (puts_sorted g vs vs (λ v. variable (r v)) keeps a.args a.sorts h) (label_sorted k)
 
     same_sorts : (xs : List Bound) → sorts xs ≡ sorts (renewed_bounds r xs)
     same_sorts [] = refl
@@ -95,7 +60,7 @@ module _ (r : ℕ → ℕ) where
 
     next_fits : (xs ys : List ℕ) (params : List Bound) → Image xs ys → {n : Option (List Term)} → NextFits g vs xs params n → NextFits g vs ys (renewed_bounds r params) (renewed_next r n)
     next_fits xs ys params i ends_there = ends_there
-    next_fits xs ys params i (goes_there {ts = ts} h k) = goes_there (list_over xs ys i ts h) (subst (λ ss. HaveSorts g vs (terms_of (renewed_terms r ts)) ss) (same_sorts params) (list_sorted ts (sorts params) k))
+    next_fits xs ys params i (goes_there {ts = ts} h k) = goes_there (puts_over xs ys (λ v. variable (r v)) i ts h) (subst (λ ss. HaveSorts g vs (terms_of (renewed_terms r ts)) ss) (same_sorts params) (puts_sorted g vs vs (λ v. variable (r v)) keeps ts (sorts params) k))
 
     declared : (xs : List Bound) → AreDeclared vs xs → AreDeclared vs (renewed_bounds r xs)
     declared [] h x i = absurd (contains_none x i)
@@ -113,7 +78,7 @@ module _ (r : ℕ → ℕ) where
         record {
           declared = declared s.sums f.declared;
           sorts_of_data = of_data s.sums f.sorts_of_data;
-          condition = record { over = over_renewed scope made i s.condition f.condition.over; sorted = term_sorted s.condition boolean f.condition.sorted };
+          condition = record { over = put_over scope made (λ v. variable (r v)) i s.condition f.condition.over; sorted = term_sorted s.condition boolean f.condition.sorted };
           label = label_over scope made i f.label;
           label_sorted = label_sorted f.label_sorted;
           next = next_fits scope made params i f.next;
@@ -125,8 +90,8 @@ module _ (r : ℕ → ℕ) where
 pub renewed_is_linear : (g : Data) (vs : List Sort) (l : Linear) → IsLinear l → IsWellSorted g vs l → (r : ℕ → ℕ) → Renews vs r l → IsLinear (renewed r l) × IsWellSorted g vs (renewed r l)
 renewed_is_linear g vs l is sorted r ok =
     let fits : (s : Summand) → In s (renewed r l).summands → IsSortedSummand g vs (renewed r l).params s = λ s i.
-        let k = in_map (λ z. renewed_summand r z) l.summands i in
-        subst (λ z. IsSortedSummand g vs (renewed_bounds r l.params) z) (sym k.2) (summand_renewed r g vs ok.sorts l.params k.0 (summand_fits g vs l is sorted k.0 k.1) (ok.summands k.0 (in_contains k.1))) in (
+    let k = in_map (λ z. renewed_summand r z) l.summands i in
+    subst (λ z. IsSortedSummand g vs (renewed_bounds r l.params) z) (sym k.2) (summand_renewed r g vs ok.sorts l.params k.0 (summand_fits g vs l is sorted k.0 k.1) (ok.summands k.0 (in_contains k.1))) in (
       record { distinct = still_distinct r l.params is.distinct ok.params; summands = λ s i. summand_is (fits s (contains_in (renewed r l).summands i)) },
       record { params = declared r g vs ok.sorts l.params sorted.params; param_sorts = of_data r g vs ok.sorts l.params sorted.param_sorts; summands = λ s i. summand_sorted (fits s (contains_in (renewed r l).summands i)) },
     )

@@ -30,11 +30,7 @@ const TRUE: FunId = FunId(6);
 const NOT: FunId = FunId(8);
 
 /// The terms of variables.
-fn variable_terms(
-    alloc: Global,
-    pool: &mut Pool,
-    vars: &[VarId],
-) -> Result<Vec<TermId>, NoMemory>
+fn variable_terms(alloc: Global, pool: &mut Pool, vars: &[VarId]) -> Result<Vec<TermId>, NoMemory>
     ensures kept { Extends pool.old.trees pool.new.trees }
     ensures constants { pool.new.constants ≡ pool.old.constants }
     ensures within { IfOk result (λ terms. AreIn pool.new.trees terms.items) }
@@ -108,11 +104,7 @@ fn frame_of(
 }
 
 /// The columns after a summand: it goes on and the flag stays, or it ends and the flag is set.
-fn after(
-    alloc: Global,
-    frame: &Frame,
-    next: &Option<Vec<TermId>>,
-) -> Result<Vec<TermId>, NoMemory>
+fn after(alloc: Global, frame: &Frame, next: &Option<Vec<TermId>>) -> Result<Vec<TermId>, NoMemory>
     ensures { IfOk result (λ all. all.items ≡ columns_after (plain_frame frame.now) (plain_next next.now)) }
 {
     match next {
@@ -122,12 +114,7 @@ fn after(
 }
 
 /// A summand of the side.
-fn move_of(
-    alloc: Global,
-    pool: &Pool,
-    frame: &Frame,
-    summand: &Summand,
-) -> Result<Move, NoMemory>
+fn move_of(alloc: Global, pool: &Pool, frame: &Frame, summand: &Summand) -> Result<Move, NoMemory>
     requires { IsSummandIn pool.now.trees (plain_summand summand.now) }
     ensures { IfOk result (λ made. IsMoveOf pool.now.trees (plain_frame frame.now) (plain_move made) (plain_summand summand.now)) }
 {
