@@ -75,7 +75,7 @@ contains_after (z ∷ zs) ys x h =
     let n : c.0 < length (zs ++ ys) = c.1 in
     (suc c.0, omega (arith, n), c.2)
 
-in_either : {A : Type 0} (xs ys : List A) (x : A) → Contains (xs ++ ys) x → Contains xs x ⊎ Contains ys x
+pub in_either : {A : Type 0} (xs ys : List A) (x : A) → Contains (xs ++ ys) x → Contains xs x ⊎ Contains ys x
 in_either [] ys x c = inr c
 in_either (z ∷ zs) ys x (zero, l, e) = inl (zero, omega arith, e)
 in_either (z ∷ zs) ys x (suc k, l, e) = let m : k < length (zs ++ ys) = omega (arith, l) in step (in_either zs ys x (k, m, e))

@@ -9,3 +9,4 @@ pub mod Rounds
 pub mod WorkedEmptySorts
 pub mod WorkedFaults
 pub mod SingleRefusals
+pub mod StandingNames

@@ -1,11 +1,12 @@
 -- Which sort names the declarations of a text use, and the first that isn't declared.
-use Rattle.std.specs.Prelude.{◌≡◌, ℕ, suc, Bool, not, List, [], ◌∷◌, ◌++◌, length, Option, Some, None, bytes_eq}
-use Rattle.std.specs.List.{list_any, flat_map, find, AllByRecursion}
+use Rattle.std.specs.Prelude.{◌≡◌, ℕ, suc, Bool, not, List, [], ◌∷◌, ◌++◌, length, Option, Some, None, is_some}
+use Rattle.std.specs.List.{flat_map, find, AllByRecursion}
 use Rattle.sort_table.specs.Expressions.{Name}
 use Rattle.sort_table.specs.BareSorts.{SortExpression, truth_values, positives, naturals, integers, lists_of, a_name}
 use Rattle.sort_table.specs.BareProcesses.{Variables, sums_in}
 use Rattle.sort_table.specs.BareDeclarations.{Field, Constructor, Declaration, sorts, alias, struct, constructors, mappings, variables, equation, actions, process, initial}
-use Rattle.sort_table.specs.SortMeanings.{Kind, kinds_in}
+use Rattle.sort_table.specs.NamedLists.{first_named}
+use Rattle.sort_table.specs.SortMeanings.{kinds_in}
 
 -- the name that a sort expression uses
 abbrev pub name_in : SortExpression → List Name
@@ -39,7 +40,7 @@ sorts_used (process p vs body) = names_of_variables vs ++ flat_map names_of_vari
 sorts_used (initial body) = flat_map names_of_variables (sums_in body)
 
 abbrev pub is_declared : List Declaration → Name → Bool
-is_declared ds n = list_any (λ (k : Name × Kind). bytes_eq k.0 n) (kinds_in ds)
+is_declared ds n = is_some (first_named n (kinds_in ds))
 
 -- the first name that isn't declared
 abbrev pub unknown_in : List Declaration → Declaration → Option Name

@@ -1,6 +1,6 @@
 //! Laws of what a text declares.
 
-ghost use Rattle.sort_table.specs.VocabularyLaws.{ASortStandsForOneSort, WhatStandsForASortHasIt};
+ghost use Rattle.sort_table.specs.VocabularyLaws.{ASortStandsForOneSort, DeclaredNamesStand, WhatStandsForASortHasIt};
 ghost use Rattle.sort_table.specs.CyclesOfAliases.{CyclesStandForNothing};
 ghost use Rattle.sort_table.specs.WorkedRefusals.{TheseAreRefused};
 ghost use Rattle.sort_table.specs.Refusals.{RefusalsAreSingle, SoundDeclarationsAreNotRefused};
@@ -27,6 +27,11 @@ pub fn what_stands_for_a_sort_has_it()
 /// A name on a cycle of aliases stands for nothing.
 pub fn cycles_stand_for_nothing()
     ensures { CyclesStandForNothing }
+{}
+
+/// Where all sort names are known and no definitions of sorts go round, each declared name stands for a sort.
+pub fn declared_names_stand()
+    ensures { DeclaredNamesStand }
 {}
 
 /// A worked text has vocabularies in two numberings.
