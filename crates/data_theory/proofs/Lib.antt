@@ -15,11 +15,11 @@ pub mod OrderOfLines
 pub mod GoesToOne
 pub mod LinesOnTerms
 pub mod GoesToIsEqual
-pub mod TextLemmas
 pub mod SameSorts
 pub mod NoNewVariable
 pub mod NormalForms
 pub mod PlaceLemmas
+pub mod IndexLemmas
 pub mod IdLemmas
 pub mod KeyLemmas
 pub mod NamedLemmas

@@ -2,27 +2,30 @@
 
 use crate::ids::NameId;
 use crate::no_memory::NoMemory;
-use indexmap::IndexSet;
 use std::alloc::Global;
+use std::collections::BTreeMap;
 use std::marker::Model;
 
-/// A table of different texts. A text keeps its place, and two places have two texts.
+/// A table of different texts. A text keeps its place, and two places have two texts. The index is ordered, so that no
+/// choice of texts makes a look-up slow. It knows the place of each text, and may still know texts that were cut off.
 #[derive(Drop)]
 pub struct Names {
-    texts: IndexSet<String>,
+    texts: Vec<String>,
+    index: BTreeMap<String, usize>,
     alloc: Global,
 }
 
 impl Model for Names {
     ghost use Rattle.std.specs.Prelude.{List, ℕ, map};
     ghost use Rattle.std.specs.String.{string_bytes};
-    ghost use Rattle.data_theory.specs.Names.{AreDifferent};
+    ghost use Rattle.std.specs.BTreeMap.{get_by_text};
+    ghost use Rattle.data_theory.specs.Places.{KnowsPlaces};
 
     ghost Value = { List (List ℕ) };
 
-    ghost view = { λ table. map string_bytes table.texts.keys };
+    ghost view = { λ table. map string_bytes table.texts.items };
 
-    ghost invariant = { λ table. AreDifferent (map string_bytes table.texts.keys) };
+    ghost invariant = { λ table. KnowsPlaces (get_by_text table.index) (map string_bytes table.texts.items) };
 }
 
 impl Names {
@@ -35,7 +38,8 @@ impl Names {
         ensures { result ≡ [] }
     {
         Names {
-            texts: IndexSet::new(alloc),
+            texts: Vec::new(alloc),
+            index: BTreeMap::new(alloc),
             alloc,
         }
     }
@@ -45,9 +49,11 @@ impl Names {
         ensures found { MatchOption result (¬ (Contains self.now text.now)) (λ name. slice_get self.now name.0 ≡ Some text.now) }
         ensures different { AreDifferent self.now }
     {
-        match self.texts.get_index_of(text) {
-            Some(place) => Some(NameId(place)),
-            None => None,
+        let place = *self.index.get(text)?;
+        if place < self.texts.len() && self.texts[place].as_str() == text {
+            Some(NameId(place))
+        } else {
+            None
         }
     }
 
@@ -69,7 +75,11 @@ impl Names {
         if let Some(name) = self.find(text) {
             return Ok(name);
         }
-        let (place, _) = self.texts.insert_full(String::from_str(self.alloc, text)?)?;
+        let place = self.texts.len();
+        let key = String::from_str(self.alloc, text)?;
+        let stored = String::from_str(self.alloc, text)?;
+        self.index.insert(key, place)?;
+        self.texts.push(stored)?;
         Ok(NameId(place))
     }
 
