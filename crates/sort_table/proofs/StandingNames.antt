@@ -1,6 +1,6 @@
 -- Where all names are known and none go round, each declared name stands for a sort: the way down from it meets no name twice.
 use Rattle.std.proofs.Common.{◌≡◌, ◌<◌, ◌≤◌, ◌⊎◌, inl, inr, ℕ, zero, suc, Bool, true, false, cond, List, [], ◌∷◌, ◌++◌, length, map, refl, ap, sym, ◌∙◌, subst, arith}
-use Rattle.std.specs.Prelude.{Option, Some, None, is_some, not, bytes_eq}
+use Rattle.std.specs.Prelude.{Some, None, not, bytes_eq}
 use Rattle.std.specs.List.{Contains, AllByRecursion, find}
 use Rattle.std.proofs.lemmas.Option.{none-some, same_Some}
 use Rattle.std.proofs.lemmas.Slice.Eq.{bytes_eq-Decides}
@@ -9,7 +9,7 @@ use Rattle.sort_table.specs.NamedLists.{first_named}
 use Rattle.sort_table.specs.BareSorts.{SortExpression, truth_values, positives, naturals, integers, lists_of, a_name}
 use Rattle.sort_table.specs.BareDeclarations.{Declaration, sorts, alias, struct, constructors, mappings, variables, equation, actions, process, initial}
 use Rattle.sort_table.specs.SortMeanings.{Kind, alone, a_struct, equal_to, kinds_by, kinds_in, UnderNames, under_names, StandsFor, for_truth_values, for_positives, for_naturals, for_integers, for_lists, for_plain, for_struct, for_alias}
-use Rattle.sort_table.specs.UnknownSorts.{name_in, is_declared, unknown_in, HasKnownSorts, AllAreKnown}
+use Rattle.sort_table.specs.UnknownSorts.{name_in, is_declared, HasKnownSorts, AllAreKnown}
 use Rattle.sort_table.specs.SortCycles.{Refers, ReferOn, NoCycle}
 use Rattle.sort_table.specs.VocabularyLaws.{DeclaredNamesStand}
 use Rattle.sort_table.proofs.Choices.{chosen}
