@@ -29,15 +29,16 @@ pub returns-else-place-len-clause-found : goal.returns-else-place-len-clause-fou
 returns-else-place-len-clause-found c =
     rw (← c.self.view_is) (not_there (get_by_text c.self.inside.index) (map string_bytes c.self.inside.texts.items) c.self.invariant c.args.text.now c.in_ok-place.field-0.now (sym c.in_ok-place.ensures.value)
     (λ e. elim c.else-place-len.branch [
-      else-place-len-via-then-place-len+else-eq w ↦
-        let within : c.in_ok-place.field-0.now < length c.self.inside.texts.items = omega (arith, w.if-place-len.true, c.len.ensures, c.self.inside.texts.ok.0) in
-        let stored : Some (string_bytes w.index.result.now) ≡ Some c.args.text.now = sym (text_at c.self.inside.texts.items c.in_ok-place.field-0.now w.index.result.now within w.index.ensures) ∙ e in
-        let bytes : string_bytes w.index.result.now ≡ c.args.text.now = cc in
-        let told : bytes_eq w.as_str.result.now c.args.text.now ≡ true = (bytes_eq-Decides w.as_str.result.now c.args.text.now).1 (w.as_str.ensures.value ∙ bytes) in
-        let never : false ≡ true = w.if-eq.ensures ∙ told in cc
-    | else-place-len-via-else-place-len w ↦
-        let within = slice_get_within (map string_bytes c.self.inside.texts.items) c.in_ok-place.field-0.now c.args.text.now e in
-        absurd (omega (arith, within, length-map c.self.inside.texts.items string_bytes, w.if-place-len.false, c.len.ensures, c.self.inside.texts.ok.0)) ]))
+      | else-place-len-via-then-place-len+else-eq w ↦
+          let within : c.in_ok-place.field-0.now < length c.self.inside.texts.items = omega (arith, w.if-place-len.true, c.len.ensures, c.self.inside.texts.ok.0) in
+          let stored : Some (string_bytes w.index.result.now) ≡ Some c.args.text.now = sym (text_at c.self.inside.texts.items c.in_ok-place.field-0.now w.index.result.now within w.index.ensures) ∙ e in
+          let bytes : string_bytes w.index.result.now ≡ c.args.text.now = cc in
+          let told : bytes_eq w.as_str.result.now c.args.text.now ≡ true = (bytes_eq-Decides w.as_str.result.now c.args.text.now).1 (w.as_str.ensures.value ∙ bytes) in
+          let never : false ≡ true = w.if-eq.ensures ∙ told in cc
+      | else-place-len-via-else-place-len w ↦
+          let within = slice_get_within (map string_bytes c.self.inside.texts.items) c.in_ok-place.field-0.now c.args.text.now e in
+          absurd (omega (arith, within, length-map c.self.inside.texts.items string_bytes, w.if-place-len.false, c.len.ensures, c.self.inside.texts.ok.0))
+    ]))
 
 pub returns-else-place-len-clause-different : goal.returns-else-place-len-clause-different
 returns-else-place-len-clause-different c = rw (← c.self.view_is) (known_once (get_by_text c.self.inside.index) (map string_bytes c.self.inside.texts.items) c.self.invariant)
