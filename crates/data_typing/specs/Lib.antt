@@ -1,0 +1,4 @@
+pub mod Typings
+pub mod BuiltIns
+pub mod Meanings
+pub mod WorkedTypings
