@@ -1,1 +1,10 @@
+pub mod Options
+pub mod SortTests
+pub mod NamedParts
+pub mod TypingSorts
+pub mod MeaningSorts
+pub mod TypingWords
+pub mod OtherNames
+pub mod Readings
+pub mod OneTerm
 pub mod TypingsWorked

@@ -1,4 +1,5 @@
 pub mod Typings
 pub mod BuiltIns
 pub mod Meanings
+pub mod TypingLaws
 pub mod WorkedTypings
