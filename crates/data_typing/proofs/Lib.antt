@@ -8,3 +8,9 @@ pub mod OtherNames
 pub mod Readings
 pub mod OneTerm
 pub mod TypingsWorked
+pub mod SortsFirst
+pub mod CallPlans
+pub mod NodeLemmas
+pub mod FlatSortLemmas
+pub mod SortTables
+pub mod SignatureSorts

@@ -3,3 +3,8 @@ pub mod BuiltIns
 pub mod Meanings
 pub mod TypingLaws
 pub mod WorkedTypings
+pub mod Sortings
+pub mod FlatSorts
+pub mod Nodes
+pub mod Plans
+pub mod CodePlans

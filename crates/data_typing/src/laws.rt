@@ -1,6 +1,8 @@
 //! Laws of typing.
 
 ghost use Rattle.data_typing.specs.TypingLaws.{CheckedTermsHaveTheSort, InferredTermsHaveTheirSorts, OneTermAtMost, OtherNamesChangeNothing, TypingHangsOnItsWords, TypingReadsTheExpression};
+ghost use Rattle.data_typing.specs.Plans.{CallsGoByPlan};
+ghost use Rattle.data_typing.specs.Sortings.{SortsGoBeforeTerms};
 ghost use Rattle.data_typing.specs.WorkedTypings.{TheseAreTyped};
 
 /// Worked expressions have the typings that the language says.
@@ -32,4 +34,14 @@ pub fn typing_hangs_on_its_words()
 /// Sorts, and functions under names that don't stand in an expression, change nothing in its typing.
 pub fn other_names_change_nothing()
     ensures { OtherNamesChangeNothing }
+{}
+
+/// The sorts of an expression are found without terms.
+pub fn sorts_go_before_terms()
+    ensures { SortsGoBeforeTerms }
+{}
+
+/// A call is elaborated as its plan says, and the plan is found by sorts alone.
+pub fn calls_go_by_plan()
+    ensures { CallsGoByPlan }
 {}

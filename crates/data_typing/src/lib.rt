@@ -4,4 +4,8 @@
 //! the contract of each is a law of these definitions, so that the crates above can cite it.
 #![tactic(auto)]
 
+pub mod flat_sorts;
 pub mod laws;
+pub mod nodes;
+pub mod plans;
+pub mod sort_tables;
