@@ -7,6 +7,7 @@ pub mod TypingWords
 pub mod OtherNames
 pub mod Readings
 pub mod OneTerm
+pub mod WordLemmas
 pub mod TypingsWorked
 pub mod SortsFirst
 pub mod CallPlans

@@ -1,15 +1,16 @@
 -- What words mean by a vocabulary has the sorts that it says.
 use Rattle.std.proofs.Common.{◌≡◌, ◌<◌, ℕ, zero, suc, Bool, true, false, cond, List, [], ◌∷◌, ◌++◌, length, map, refl, sym, subst, ap, ◌∙◌, arith}
 use Rattle.std.specs.Prelude.{Option, Some, None, slice_get}
-use Rattle.std.specs.List.{All, AllByRecursion, Contains, filter}
+use Rattle.std.specs.List.{All, AllByRecursion, Contains, filter, list_any}
 use Rattle.std.proofs.lemmas.Option.{none-some, same_Some}
 use Rattle.std.proofs.lemmas.List.Elements.{All-append, All-filter, All-weaker, All-contains_itself, Contains-append_left, Contains-append_right, recursion_from_All}
 use Rattle.data_theory.specs.declared.ids.SortId.{SortId}
 use Rattle.data_theory.specs.declared.rows.Row.{Row}
 use Rattle.data_theory.specs.Terms.{Sort, boolean, list}
-use Rattle.data_theory.specs.Declarations.{Data, IsSort, Declares}
+use Rattle.data_theory.specs.Declarations.{Data, IsSort, IsSymbol, argument_sorts, result_sort, Declares}
 use Rattle.data_theory.specs.Sorts.{booleans, positives, naturals, integers, lists_over, without_constructors, SortInfo, first_sorts, abstract_sort, list_sort, IsListOver}
-use Rattle.data_theory.specs.Rows.{row_sorts, row_result, row_is_list_constant}
+use Rattle.data_theory.specs.Rows.{row_word, row_sorts, row_result, row_is_list_constant}
+use Rattle.data_theory.specs.IdSymbols.{word_symbol}
 use Rattle.data_theory.specs.RowsOfWords.{has_name}
 use Rattle.data_theory.specs.Table.{first_rows, truth_rows, comparison_rows, sum_rows, quotient_rows, extreme_rows, step_rows, sort_rows, list_rows, first_table, language_table, bool_sort, pos_sort, nat_sort, int_sort}
 use Rattle.data_theory.specs.IdTables.{IsRow, of_front, over_sort, over_list}
@@ -19,13 +20,16 @@ use Rattle.sort_table.specs.NamedLists.{all_named, first_named}
 use Rattle.sort_table.specs.Duplicates.{any_sort, lists_of_any}
 use Rattle.sort_table.specs.Vocabularies.{Vocabulary}
 use Rattle.data_typing.specs.Typings.{over, Scheme, scheme_at, Meaning, functions}
-use Rattle.data_typing.specs.BuiltIns.{place_numbered, sort_numbered, is_over_any, row_scheme, row_signature, named_rows, built_ins, scheme_named}
+use Rattle.data_typing.specs.BuiltIns.{place_numbered, hangs, row_places, is_over_any, is_settled, row_scheme, row_signature, named_rows, built_ins, scheme_named}
 use Rattle.data_typing.specs.Meanings.{Bound, Scope, bound_row, declared_signature, meaning_or, meaning}
 use Rattle.data_typing.specs.TypingLaws.{IsOverData, IsScope, InferredTermsHaveTheirSorts, CheckedTermsHaveTheSort}
 use Rattle.data_typing.proofs.NamedParts.{all_mapped, all_appended, all_named_are, first_named_is}
 use Rattle.data_typing.proofs.TypingSorts.{IsSoundSignature, IsSoundScheme, IsSoundMeaning, typing_is_sound}
 
 -- ---- the rows of the table over any sort S, as those over a table of sorts with S and the lists over it
+abbrev sort_numbered : Sort → SortId → Sort
+sort_numbered s i = over s (place_numbered i)
+
 any_sorts : List SortInfo
 any_sorts = first_sorts ++ abstract_sort (record { 0 = 0 }) ∷ list_sort any_sort ∷ []
 
@@ -128,48 +132,57 @@ places_numbered : (s : Sort) (is : List SortId) → map (over s) (map place_numb
 places_numbered s [] = refl
 places_numbered s (i ∷ is) = ap (λ ss. sort_numbered s i ∷ ss) (places_numbered s is)
 
-places_if : (s : Sort) (c : Bool) (is : List SortId) → map (over s) (cond c [] (map place_numbered is)) ≡ cond c [] (map (sort_numbered s) is)
-places_if s true is = refl
-places_if s false is = places_numbered s is
-
 are_sorts : (g : Data) (s : Sort) → IsSort g s → (is : List SortId) → AllByRecursion (IsSort g) (map (sort_numbered s) is)
 are_sorts g s h [] = tt
 are_sorts g s h (i ∷ is) = (sort_is g s h i.0, are_sorts g s h is)
 
-are_sorts_if : (g : Data) (c : Bool) (ss : List Sort) → AllByRecursion (IsSort g) ss → AllByRecursion (IsSort g) (cond c [] ss)
-are_sorts_if g true ss h = tt
-are_sorts_if g false ss h = h
-
-row_is_sound : (g : Data) (r : Row) → IsItsRow r → IsSoundScheme g (row_scheme r)
-row_is_sound g r is s h =
+row_is_sound : (g : Data) (r : Row) → IsItsRow r → row_is_list_constant r ≡ false → IsSoundScheme g (row_scheme r)
+row_is_sound g r is called s h =
     let tells : RowTells g (sort_numbered s) r = row_tells g any_sorts (sort_numbered s) refl refl refl refl (list_is s) (λ i less. sort_is g s h i.0) element_is r is in
-    let same : (scheme_at (row_scheme r) s).arguments ≡ cond (row_is_list_constant r) [] (map (sort_numbered s) (row_sorts r)) = places_if s (row_is_list_constant r) (row_sorts r) in
+    let to : Sort = sort_numbered s (row_result r) in
+    let same : map (over s) (row_places r) ≡ map (sort_numbered s) (row_sorts r) = places_numbered s (row_sorts r) in
+    let symbol : word_symbol (row_word r) (map (over s) (row_places r)) to ≡ word_symbol (row_word r) (map (sort_numbered s) (row_sorts r)) to = ap (λ ss. word_symbol (row_word r) ss to) same in
     record {
-      symbol = tells.3;
-      arguments = same ∙ sym tells.4;
-      result = sym tells.5;
-      argument_sorts_are = subst (AllByRecursion (IsSort g)) (sym same) (are_sorts_if g (row_is_list_constant r) (map (sort_numbered s) (row_sorts r)) (are_sorts g s h (row_sorts r)));
+      symbol = subst (IsSymbol g) (sym symbol) tells.3;
+      arguments = same ∙ sym (ap (argument_sorts g) symbol ∙ tells.4 ∙ ap (λ b. cond b [] (map (sort_numbered s) (row_sorts r))) called);
+      result = sym (ap (result_sort g) symbol ∙ tells.5);
+      argument_sorts_are = subst (AllByRecursion (IsSort g)) (sym same) (are_sorts g s h (row_sorts r));
       result_is = sort_is g s h (row_result r).0;
     }
+
+no_constant : (b c : Bool) → cond b false c ≡ true → b ≡ false
+no_constant true c e = cc
+no_constant false c e = refl
+
+if_kept : (P : Row → Type 0) (b : Bool) (x : Row) (xs : List Row) → (b ≡ true → P x) → AllByRecursion P xs → AllByRecursion P (cond b (x ∷ xs) xs)
+if_kept P true x xs k all = (k refl, all)
+if_kept P false x xs k all = all
+
+kept_are : (P Q : Row → Type 0) (p : Row → Bool) → ((r : Row) → P r → p r ≡ true → Q r) → (rs : List Row) → AllByRecursion P rs → AllByRecursion Q (filter p rs)
+kept_are P Q p k [] all = tt
+kept_are P Q p k (r ∷ rs) all = if_kept Q (p r) r (filter p rs) (k r all.0) (kept_are P Q p k rs all.1)
 
 named_are_rows : (f : Name) → All IsItsRow (named_rows f)
 named_are_rows f = All-filter (has_name f) IsItsRow (language_table any_sort lists_of_any) all_rows
 
+named_each : (f : Name) → AllByRecursion IsItsRow (named_rows f)
+named_each f = recursion_from_All IsItsRow (named_rows f) (named_are_rows f)
+
 built_ins_are_sound : (g : Data) (f : Name) → AllByRecursion (IsSoundSignature g) (built_ins f)
 built_ins_are_sound g f =
-    let rs : List Row = filter (λ r. cond (is_over_any r) false true) (named_rows f) in
-    let P : Row → Type 0 = λ r. IsSoundSignature g (row_signature r) in
-    all_mapped (IsSoundSignature g) row_signature rs
-    (recursion_from_All P rs (All-weaker IsItsRow P (λ r is. row_is_sound g r is boolean tt) rs (All-filter (λ r. cond (is_over_any r) false true) IsItsRow (named_rows f) (named_are_rows f))))
+    all_mapped (IsSoundSignature g) row_signature (filter is_settled (named_rows f))
+    (kept_are IsItsRow (λ r. IsSoundSignature g (row_signature r)) is_settled
+    (λ r is e. row_is_sound g r is (no_constant (row_is_list_constant r) (cond (list_any hangs (row_places r)) false true) e) boolean tt) (named_rows f) (named_each f))
 
-first_is_sound : (g : Data) (rs : List Row) → AllByRecursion IsItsRow rs → (c : Scheme) → slice_get (map row_scheme rs) 0 ≡ Some c → IsSoundScheme g c
+first_is_sound : (g : Data) (rs : List Row) → AllByRecursion (λ r. IsSoundScheme g (row_scheme r)) rs → (c : Scheme) → slice_get (map row_scheme rs) 0 ≡ Some c → IsSoundScheme g c
 first_is_sound g [] all c e = absurd (none-some c e)
-first_is_sound g (r ∷ rs) all c e = subst (IsSoundScheme g) (same_Some _ _ e) (row_is_sound g r all.0)
+first_is_sound g (r ∷ rs) all c e = subst (IsSoundScheme g) (same_Some _ _ e) all.0
 
 scheme_is_sound : (g : Data) (f : Name) (c : Scheme) → scheme_named f ≡ Some c → IsSoundScheme g c
 scheme_is_sound g f c e =
-    let rs : List Row = filter is_over_any (named_rows f) in
-    first_is_sound g rs (recursion_from_All IsItsRow rs (All-filter is_over_any IsItsRow (named_rows f) (named_are_rows f))) c e
+    first_is_sound g (filter is_over_any (named_rows f))
+    (kept_are IsItsRow (λ r. IsSoundScheme g (row_scheme r)) is_over_any
+    (λ r is e. row_is_sound g r is (no_constant (row_is_list_constant r) (list_any hangs (row_places r)) e)) (named_rows f) (named_each f)) c e
 
 -- ---- declared functions
 abbrev IsOfFunction : Data → ℕ → Type 0

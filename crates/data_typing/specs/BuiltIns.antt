@@ -6,7 +6,7 @@ use Rattle.data_theory.specs.declared.words.ListWord.TheVariants as lists
 use Rattle.data_theory.specs.declared.words.Word.{Word}
 use Rattle.data_theory.specs.declared.words.Word.TheVariants as words
 use Rattle.data_theory.specs.declared.rows.Row.{Row}
-use Rattle.data_theory.specs.Terms.{Sort, boolean, positive, natural, integer, Symbol}
+use Rattle.data_theory.specs.Terms.{boolean, positive, natural, integer}
 use Rattle.data_theory.specs.Rows.{row_word, row_sorts, row_result, row_is_list_constant}
 use Rattle.data_theory.specs.RowsOfWords.{rows_of}
 use Rattle.data_theory.specs.IdSymbols.{word_symbol}
@@ -18,16 +18,19 @@ use Rattle.data_typing.specs.Typings.{Place, itself, elements, settled, over, Si
 abbrev pub place_numbered : SortId → Place
 place_numbered i = get_or (settled boolean ∷ settled positive ∷ settled natural ∷ settled integer ∷ itself ∷ elements ∷ []) i.0 itself
 
-abbrev pub sort_numbered : Sort → SortId → Sort
-sort_numbered s i = over s (place_numbered i)
-
 abbrev pub hangs : Place → Bool
 hangs (settled s) = false
 hangs _ = true
 
--- whether a row hangs on S
+abbrev pub row_places : Row → List Place
+row_places r = map place_numbered (row_sorts r)
+
+-- whether a row hangs on S, and whether it doesn't; `[]` is no word
 abbrev pub is_over_any : Row → Bool
-is_over_any r = list_any (λ i. hangs (place_numbered i)) (row_sorts r)
+is_over_any r = cond (row_is_list_constant r) false (list_any hangs (row_places r))
+
+abbrev pub is_settled : Row → Bool
+is_settled r = cond (row_is_list_constant r) false (cond (list_any hangs (row_places r)) false true)
 
 -- whether the wanted sort may choose S
 abbrev pub may_go_by_result : Word → Bool
@@ -39,16 +42,12 @@ may_go_by_result (words.List lists.Tail) = true
 may_go_by_result (words.List lists.Rtail) = true
 may_go_by_result _ = false
 
-abbrev pub row_symbol : Row → Sort → Symbol
-row_symbol r s = word_symbol (row_word r) (map (sort_numbered s) (row_sorts r)) (sort_numbered s (row_result r))
+-- the function of a word over any sort S
+abbrev pub word_scheme : Word → List Place → Place → Bool → Scheme
+word_scheme w ps p b = record { symbol = λ s. word_symbol w (map (over s) ps) (over s p); arguments = ps; result = p; by_result = b }
 
 abbrev pub row_scheme : Row → Scheme
-row_scheme r = record {
-  symbol = row_symbol r;
-  arguments = cond (row_is_list_constant r) [] (map place_numbered (row_sorts r));
-  result = place_numbered (row_result r);
-  by_result = may_go_by_result (row_word r);
-}
+row_scheme r = word_scheme (row_word r) (row_places r) (place_numbered (row_result r)) (may_go_by_result (row_word r))
 
 -- of a row that doesn't hang on S it is the same at each S
 abbrev pub row_signature : Row → Signature
@@ -60,7 +59,7 @@ named_rows f = rows_of f any_sort lists_of_any
 
 -- those of fixed sorts
 abbrev pub built_ins : Name → List Signature
-built_ins f = map row_signature (filter (λ r. cond (is_over_any r) false true) (named_rows f))
+built_ins f = map row_signature (filter is_settled (named_rows f))
 
 -- the one over any sort S
 abbrev pub scheme_named : Name → Option Scheme

@@ -6,5 +6,7 @@ pub mod WorkedTypings
 pub mod Sortings
 pub mod FlatSorts
 pub mod Nodes
+pub mod NodeTypings
+pub mod CodeWords
 pub mod Plans
 pub mod CodePlans

@@ -9,3 +9,4 @@ pub mod laws;
 pub mod nodes;
 pub mod plans;
 pub mod sort_tables;
+pub mod words;
