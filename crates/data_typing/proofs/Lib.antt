@@ -1,0 +1,17 @@
+pub mod Options
+pub mod SortTests
+pub mod NamedParts
+pub mod TypingSorts
+pub mod MeaningSorts
+pub mod TypingWords
+pub mod OtherNames
+pub mod Readings
+pub mod OneTerm
+pub mod WordLemmas
+pub mod TypingsWorked
+pub mod SortsFirst
+pub mod CallPlans
+pub mod NodeLemmas
+pub mod FlatSortLemmas
+pub mod SortTables
+pub mod SignatureSorts

@@ -1,0 +1,12 @@
+pub mod Typings
+pub mod BuiltIns
+pub mod Meanings
+pub mod TypingLaws
+pub mod WorkedTypings
+pub mod Sortings
+pub mod FlatSorts
+pub mod Nodes
+pub mod NodeTypings
+pub mod CodeWords
+pub mod Plans
+pub mod CodePlans

@@ -1,0 +1,31 @@
+-- The typing of a node by those of its parts, by what the numbers of functions mean.
+use Rattle.std.specs.Prelude.{List, map, option_map, pos}
+use Rattle.data_theory.specs.declared.ids.FunId.{FunId}
+use Rattle.data_theory.specs.Terms.{Sort, Symbol, variable}
+use Rattle.data_theory.specs.Terms as terms
+use Rattle.data_theory.specs.IdSymbols.{word_symbol}
+use Rattle.data_typing.specs.declared.nodes.Callee.{Callee}
+use Rattle.data_typing.specs.declared.nodes.Callee.TheVariants as callees
+use Rattle.data_typing.specs.declared.nodes.Overload as code
+use Rattle.data_typing.specs.declared.nodes.AnyOverload as code_any
+use Rattle.data_typing.specs.declared.nodes.Kind.{Kind}
+use Rattle.data_typing.specs.declared.nodes.Kind.TheVariants as kinds
+use Rattle.data_typing.specs.Typings.{Signature, Scheme, Typing, flexible, rigid, call_by_sort, call_infers, list_by_sort, list_infers, least_sort}
+use Rattle.data_typing.specs.BuiltIns.{word_scheme}
+use Rattle.data_typing.specs.FlatSorts.{flat_sort, place_of}
+
+abbrev pub callee_symbol : (FunId → Symbol) → Callee → List Sort → Sort → Symbol
+callee_symbol y (callees.Declared i) ss to = y i
+callee_symbol y (callees.BuiltIn w) ss to = word_symbol w ss to
+
+abbrev pub signature_of : (FunId → Symbol) → code.Overload → Signature
+signature_of y f = record { symbol = callee_symbol y f.callee (map flat_sort f.arguments.items) (flat_sort f.result); arguments = map flat_sort f.arguments.items; result = flat_sort f.result }
+
+abbrev pub scheme_of : code_any.AnyOverload → Scheme
+scheme_of c = word_scheme c.word (map place_of c.arguments.items) (place_of c.result) c.by_result
+
+abbrev pub kind_typing : (FunId → Symbol) → Kind → List Typing → Typing
+kind_typing y (kinds.Variable v s) ts = rigid (record { term = variable v.0; sort = flat_sort s })
+kind_typing y (kinds.Numeral n) ts = rigid (record { term = terms.numeral (least_sort n) (pos n); sort = least_sort n })
+kind_typing y (kinds.Call fs c) ts = flexible (call_by_sort (map (signature_of y) fs.items) (option_map scheme_of c) ts) (call_infers (map (signature_of y) fs.items) (option_map scheme_of c) ts)
+kind_typing y kinds.List ts = flexible (list_by_sort ts) (list_infers ts)

@@ -1,0 +1,12 @@
+//! Typing of data expressions: which term an expression is, and of which sort.
+//!
+//! The definitions stand in `specs/`, and in plain words in `docs/definitions/typing.md`. The functions of `laws` have empty bodies:
+//! the contract of each is a law of these definitions, so that the crates above can cite it.
+#![tactic(auto)]
+
+pub mod flat_sorts;
+pub mod laws;
+pub mod nodes;
+pub mod plans;
+pub mod sort_tables;
+pub mod words;
