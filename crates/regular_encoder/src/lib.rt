@@ -8,4 +8,4 @@ pub mod laws;
 mod layouts;
 
 pub use encoding::encode_equation;
-pub use layouts::Layout;
+pub use layouts::{Layout, lay_out};
