@@ -8,3 +8,8 @@ pub mod GoodOver
 pub mod Made
 pub mod EncodedSummands
 pub mod LaidOutColumns
+mod Refused
+mod EncodedEquations
+pub mod FormsInPlace
+mod SortedTrees
+mod EncodedForms
