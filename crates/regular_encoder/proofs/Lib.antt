@@ -8,3 +8,8 @@ pub mod GoodOver
 pub mod Made
 pub mod EncodedSummands
 pub mod LaidOutColumns
+pub mod NewColumns
+pub mod FoundKinds
+pub mod FirstTerms
+pub mod ServingLayouts
+pub mod LaidOutForms

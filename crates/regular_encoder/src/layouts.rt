@@ -1,6 +1,6 @@
 //! Columns, and the place of each equation's parameters among them.
 
-ghost use Rattle.std.specs.Prelude.{◌≡◌, length, IfOk};
+ghost use Rattle.std.specs.Prelude.{◌≡◌, length, IfOk, OnOk};
 ghost use Rattle.data_theory.specs.Declarations.{NoSortIsEmpty};
 ghost use Rattle.data_theory.specs.IdData.{data_meant};
 ghost use Rattle.data_theory.specs.IdTerms.{IsGrown};
@@ -46,7 +46,7 @@ pub fn lay_out(
     ensures laid { IfOk result (λ layout. LaidOut (length sig.old.variables) sig.new (plain_form form.now) (plain_layout layout)) }
     ensures serves { IfOk result (λ layout. ServesTheEncoding sig.new pool.new.trees (plain_form form.now) (plain_layout layout) layout.firsts.items) }
     ensures names { IfOk result (λ layout. ParamsHaveOwnNames sig.new (layout_params (plain_layout layout))) }
-    ensures stands { IsSignature sig.new }
+    ensures stands { OnOk result (IsSignature sig.new) }
     ensures grown { IsGrown sig.old sig.new }
     ensures kept { Extends pool.old.trees pool.new.trees }
     ensures constants { AreConstants sig.new pool.new.constants }
