@@ -1,5 +1,6 @@
 -- The first values of columns.
 use Rattle.std.proofs.Common.{◌≡◌, ◌==◌, ◌<◌, ◌≤◌, ◌+◌, ◌-◌, ℕ, zero, suc, cond, List, [], ◌∷◌, ◌++◌, map, take, length, get_or, refl, sym, ap, ◌∙◌, subst, arith, ⊎_elim, Option, Some, None}
+use Rattle.std.specs.Prelude.{slice_get, IfSome}
 use Rattle.std.specs.List.{All, AllZip}
 use Rattle.std.proofs.lemmas.Bool.Decides.{eqb_tells}
 use Rattle.std.proofs.lemmas.List.{append_assoc, take_more, take_all}
@@ -10,20 +11,24 @@ use Rattle.data_theory.specs.declared.ids.VarId.{VarId}
 use Rattle.data_theory.specs.declared.ids.TermId.{TermId}
 use Rattle.data_theory.specs.Terms.{IsClosed, AreClosed}
 use Rattle.data_theory.specs.Environments.{terms_of}
+use Rattle.data_theory.specs.declared.signature.Variable.{Variable}
+use Rattle.data_theory.specs.IdTreeSorts.{HasTreeSort}
 use Rattle.data_theory.specs.Signature.{Sig}
 use Rattle.data_theory.specs.IdTrees.{Tree, Trees, variable, numeral, function, none, more}
 use Rattle.data_theory.specs.IdTerms.{term_under, terms_under, IsGrown}
 use Rattle.data_theory.proofs.IdGrowthLemmas.{growth_after_growth_is_growth}
 use Rattle.term_pool.specs.HeadTrees.{tree_at, trees_at, IsIn, AreIn}
 use Rattle.term_pool.specs.Pools.{PoolContents, Extends}
-use Rattle.term_pool.specs.ConstructorValues.{ConstructorValue, ConstructorValues, a_number, built, a_constant, no_value, value_then, HasValue}
-use Rattle.term_pool.specs.Constants.{tree_with, trees_with, constant_of, AreConstants, KeepsConstants}
+use Rattle.term_pool.specs.ConstructorValues.{ConstructorValue, ConstructorValues, a_number, built, a_constant, no_value, value_then, HasValue, IsFirstValue}
+use Rattle.term_pool.specs.Constants.{tree_with, trees_with, constant_of, sorts_in_need, AreConstants, KeepsConstants, DeclaresConstants}
+use Rattle.term_pool.proofs.GrownSignatures.{inhabited_sorts_stay_inhabited}
 use Rattle.term_pool.proofs.DeclaredConstants.{grown_itself, constants_kept}
 use Rattle.process_terms.specs.Meanings.{term_at}
 use Rattle.process_terms.specs.SignatureEntries.{entries_of, BothGrow}
 use Rattle.lps_core.specs.Fitting.{IsTermOf, AreTermsOf, IsVariable, sort_of_variable}
 use Rattle.lps_core.proofs.PoolTrees.{extends_itself, extends_on, tree_kept}
 use Rattle.lps_core.proofs.NamedSums.{variable_kept, sort_kept, all_front, all_last, zip_push, zip_weaker}
+use Rattle.lps_core.proofs.NamingLoops.{sort_is}
 use Rattle.lps_core.proofs.Staying.{term_is}
 use Rattle.lps_core.proofs.StayingFits.{term_fits}
 use Rattle.regular_encoder.specs.FormColumns.{argument_of, IsClosedTerm, IsFirstTerm, an_argument, a_closed_term, AreFirstTerms, no_first_term, one_more_first_term}
@@ -203,6 +208,18 @@ finding_one_value place args g p columns i h q firsts d s l k r t n w e c m = re
   constants_kept = keeps_then p.constants q.constants r.constants s.constants_kept m;
 }
 
-pub finding_all_values : (place : List VarId) (args : List TermId) (g : Sig) (p : PoolContents) (columns : List VarId) (i : ℕ) (h : Sig) (q : PoolContents) (firsts : List TermId) → IsFinding place args g p columns i h q firsts → length columns ≤ i
-    → AreFirstTerms place args g p columns h q firsts
-finding_all_values place args g p columns i h q firsts s l = subst (λ z. AreFirstTerms place args g p z h q firsts) (take_all i columns l) s.values
+pub inhabited_as : (g : Sig) (c : VarId) (s : SortId) → IsVariable g c → HasValue g (sort_of_variable g c) → IfSome (slice_get g.variables c.0) (λ (v : Variable). v.sort ≡ s) → HasValue g s
+inhabited_as g c s l k is = subst (λ r. HasValue g r) (sort_is g c s l is) k
+
+pub closed_made : (place : List VarId) (args : List TermId) (c : VarId) (h : Sig) (q : PoolContents) (k : Sig) (r : PoolContents) (t : TermId) (s : SortId) → IsVariable h c → IfSome (slice_get h.variables c.0) (λ (v : Variable). v.sort ≡ s) → argument_of place args c ≡ None
+    → (v : ConstructorValue) × IsFirstValue h s v → ((v : ConstructorValue) → IsFirstValue h s v → tree_at r.trees t ≡ tree_with (constant_of r.constants) v)
+    → ((v : ConstructorValue) → IsFirstValue h s v → DeclaresConstants (sorts_in_need h q.constants v) h q.constants k r.constants) → IsIn r.trees t → HasTreeSort k (tree_at r.trees t) s → IsGrown h k → Extends q.trees r.trees
+    → IsFirstTerm place args h q c k r t
+closed_made place args c h q k r t s l is none_there has first declared within sorted w x =
+    a_closed_term none_there (subst (λ z. IsClosedTerm h q z k r t) (sym (sort_is h c s l is))
+    (record { value = has.0; first = has.1; tree = first has.0 has.1; declared = declared has.0 has.1; stands = record { within = within; sorted = sorted }; grown = w; kept = x }))
+
+pub inhabited_kept : (g h : Sig) (columns : List VarId) (i : ℕ) (d : VarId) → IsGrown g h → i < length columns → All (IsVariable g) columns → All (λ c. HasValue g (sort_of_variable g c)) columns → HasValue h (sort_of_variable h (get_or columns i d))
+inhabited_kept g h columns i d w l vs k =
+    let c = get_or columns i d in
+    inhabited_sorts_stay_inhabited g h w (sort_of_variable h c) (subst (λ s. HasValue g s) (sym (sort_kept g h c w (vs i d l))) (k i d l))

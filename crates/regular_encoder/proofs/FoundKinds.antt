@@ -55,9 +55,6 @@ pub record IsFindingKinds (g : Sig) (params : List VarId) (old : List (NameId ×
   pub found : keys ≡ with_kinds old (map (kind_of g) (take i params))
   pub places_so_far : AreKindsAt g keys (take i params) places
 
-pub finding_none : (g : Sig) (params : List VarId) (old : List (NameId × SortId)) → IsFindingKinds g params old 0 old []
-finding_none g params old = record { found = refl; places_so_far = tt }
-
 pub finding_more : (g : Sig) (params : List VarId) (old : List (NameId × SortId)) (i : ℕ) (keys : List (NameId × SortId)) (places : List ℕ) (d : VarId) → IsFindingKinds g params old i keys places → i < length params
     → (new : List (NameId × SortId)) (n : ℕ) → new ≡ with_kind keys (kind_of g (get_or params i d)) → slice_get new n ≡ Some (kind_of g (get_or params i d)) → IsFindingKinds g params old (i + 1) new (places ++ n ∷ [])
 finding_more g params old i keys places d s l new n e at =
@@ -73,10 +70,6 @@ finding_more g params old i keys places d s l new n e at =
           (zip_weaker (λ y j. slice_get keys j ≡ Some (kind_of g y)) (λ y j. slice_get new j ≡ Some (kind_of g y)) (λ y j p. subst (λ z. slice_get z j ≡ Some (kind_of g y)) (sym e) (kind_stays keys (kind_of g x) (kind_of g y) j p)) (take i params) places s.places_so_far)
           at);
     }
-
-pub finding_all : (g : Sig) (params : List VarId) (old : List (NameId × SortId)) (i : ℕ) (keys : List (NameId × SortId)) (places : List ℕ) → IsFindingKinds g params old i keys places → length params ≤ i
-    → (keys ≡ with_kinds old (map (kind_of g) params)) × AreKindsAt g keys params places
-finding_all g params old i keys places s l = (s.found ∙ ap (λ z. with_kinds old (map (kind_of g) z)) (take_all i params l), subst (λ z. AreKindsAt g keys z places) (take_all i params l) s.places_so_far)
 
 -- ---- all equations
 all_params_more : (qs : List PlainEquation) (q : PlainEquation) → all_params (qs ++ q ∷ []) ≡ all_params qs ++ q.params
@@ -98,9 +91,6 @@ pub record IsFindingAll (g : Sig) (items : List GreibachEquation) (old : List (N
   pub found : keys ≡ with_kinds old (map (kind_of g) (all_params (map plain_equation (take i items))))
   pub places_so_far : AreAllKindsAt g keys (map plain_equation (take i items)) (places_in places)
 
-pub finding_all_none : (g : Sig) (items : List GreibachEquation) (old : List (NameId × SortId)) → IsFindingAll g items old 0 old []
-finding_all_none g items old = record { found = refl; places_so_far = tt }
-
 pub finding_all_more : (g : Sig) (items : List GreibachEquation) (old : List (NameId × SortId)) (i : ℕ) (keys : List (NameId × SortId)) (places : List (Vec ℕ Global)) (q : GreibachEquation) → IsFindingAll g items old i keys places → i < length items → q ≡ get_or items i q
     → (new : List (NameId × SortId)) (at : Vec ℕ Global) → new ≡ with_kinds keys (map (kind_of g) q.params.items) → AreKindsAt g new q.params.items at.items → IsFindingAll g items old (i + 1) new (places ++ at ∷ [])
 finding_all_more g items old i keys places q s l read new at e are =
@@ -120,11 +110,6 @@ finding_all_more g items old i keys places q s l read new at e are =
           front (places_in places) s.places_so_far)
           are));
     }
-
-pub finding_all_done : (g : Sig) (items : List GreibachEquation) (old : List (NameId × SortId)) (i : ℕ) (keys : List (NameId × SortId)) (places : List (Vec ℕ Global)) → IsFindingAll g items old i keys places → length items ≤ i
-    → (keys ≡ with_kinds old (map (kind_of g) (all_params (map plain_equation items)))) × AreAllKindsAt g keys (map plain_equation items) (places_in places)
-finding_all_done g items old i keys places s l =
-    (s.found ∙ ap (λ z. with_kinds old (map (kind_of g) (all_params (map plain_equation z)))) (take_all i items l), subst (λ z. AreAllKindsAt g keys (map plain_equation z) (places_in places)) (take_all i items l) s.places_so_far)
 
 pub equation_at : (P : PlainEquation → Type 0) (items : List GreibachEquation) (i : ℕ) (q : GreibachEquation) → i < length items → q ≡ get_or items i q → All P (map plain_equation items) → P (plain_equation q)
 equation_at P [] i q l e h = absurd (omega (arith, l))
@@ -169,9 +154,6 @@ at_more cs places i found d e h l w =
     subst (λ z. AreAt cs z (found ++ get_or cs (get_or places i d) e ∷ [])) (sym (take_more places i d l))
     (zip_push (λ j c. slice_get cs j ≡ Some c) (take i places) found (get_or places i d) (get_or cs (get_or places i d) e) h (slice_get-get_or cs (get_or places i d) e (w i d l)))
 
-pub at_all : (cs : List VarId) (places : List ℕ) (i : ℕ) (found : List VarId) → AreAt cs (take i places) found → length places ≤ i → AreAt cs places found
-at_all cs places i found h l = subst (λ z. AreAt cs z found) (take_all i places l) h
-
 abbrev pub AreAllAt : List VarId → List (List ℕ) → List (List VarId) → Type 0
 AreAllAt cs = AllZip (AreAt cs)
 
@@ -183,9 +165,6 @@ all_at_more cs places i found at new h l read e =
     subst (λ z. AreAllAt cs z (map plain_place (found ++ new ∷ []))) (sym more)
     (subst (λ z. AreAllAt cs (places_in (take i places) ++ at.items ∷ []) z) (sym (map-append plain_place found (new ∷ [])))
     (zip_push (AreAt cs) (places_in (take i places)) (map plain_place found) at.items new.items h e))
-
-pub all_at_all : (cs : List VarId) (places : List (Vec ℕ Global)) (i : ℕ) (found : List (Vec VarId Global)) → AreAllAt cs (places_in (take i places)) (map plain_place found) → length places ≤ i → AreAllAt cs (places_in places) (map plain_place found)
-all_at_all cs places i found h l = subst (λ z. AreAllAt cs (places_in z) (map plain_place found)) (take_all i places l) h
 
 pub places_at : (P : List ℕ → Type 0) (items : List (Vec ℕ Global)) (i : ℕ) (at : Vec ℕ Global) → i < length items → at ≡ get_or items i at → All P (places_in items) → P at.items
 places_at P [] i at l e h = absurd (omega (arith, l))

@@ -13,3 +13,4 @@ pub mod FoundKinds
 pub mod FirstTerms
 pub mod ServingLayouts
 pub mod LaidOutForms
+pub mod LayingOut

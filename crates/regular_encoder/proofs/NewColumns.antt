@@ -1,6 +1,6 @@
 -- Columns that are added one after another: their names and sorts.
-use Rattle.std.specs.Prelude.{◌↔◌, codes, option_to_list}
-use Rattle.std.proofs.lemmas.Option.{slice_get_within}
+use Rattle.std.specs.Prelude.{◌↔◌, slice_get, codes, option_to_list}
+use Rattle.std.proofs.lemmas.Option.{slice_get_within, get_or_from_slice_get}
 use Rattle.std.proofs.Common.{Option, Some, None, ◌+◌, take, get_or, ◌≡◌, ◌<◌, ◌≤◌, ◌⊎◌, inl, inr, ⊎_elim, ℕ, List, [], ◌∷◌, ◌++◌, map, length, refl, sym, ap, ap₂, ◌∙◌, subst, arith}
 use Rattle.std.specs.List.{All, Contains}
 use Rattle.std.proofs.lemmas.List.{map-append, take_more, take_all, length-append}
@@ -23,11 +23,11 @@ use Rattle.bisim_laws.proofs.Firing.{contains_none, contains_first, contains_cas
 use Rattle.lps_core.specs.Fitting.{IsVariable, sort_of_variable}
 use Rattle.lps_core.specs.TreeSummands.{numbers_of}
 use Rattle.lps_core.specs.Naming.{name_of, names_of, function_names, IsUsed, GrowsByNames}
-use Rattle.lps_core.proofs.Members.{contains_map, all_from}
+use Rattle.lps_core.proofs.Members.{contains_map, all_at, all_from}
 use Rattle.lps_core.proofs.OverVariables.{distinct_append}
 use Rattle.lps_core.proofs.NamedSums.{AreTaken, with_name_keeps, with_name_has, not_taken, names_none, names_then, names_variable, last_variable, variable_kept, name_kept, names_kept, sorts_kept, name_numbers, all_front, all_last}
 use Rattle.lps_core.proofs.NamingLoops.{with_name_cases, fresh_names, fresh_within}
-use Rattle.regular_encoder.specs.FormColumns.{IsOwnName, the_name, a_new_name, IsColumn, a_column, AreColumns, no_column, one_more_column, IsControl, no_control, a_control}
+use Rattle.regular_encoder.specs.FormColumns.{IsOwnName, the_name, a_new_name, IsKindIn, IsColumn, a_column, AreColumns, no_column, one_more_column, IsControl, no_control, a_control}
 
 -- ---- a name
 pub record NameStands (g h : Sig) (IsOne : NameId → Type 0) (n : NameId) : Type 0 where
@@ -195,10 +195,6 @@ pub own_within : (IsOne : NameId → Type 0) (g : Sig) (n : NameId) (h : Sig) (m
 own_within IsOne g n _ _ l (the_name u) = l
 own_within IsOne g n _ _ l (a_new_name {h = h} {base = base} {name = name} i at f) = fresh_within g h base name f
 
-pub added_name : (h i : Sig) (n : NameId) (r : SortId) (c : VarId) → i ≡ with_variable h (record { name = n; sort = r }) → c.0 ≡ length h.variables → name_of i c ≡ n
-added_name h i n r c e l =
-    ap₂ (λ z m. name_of z (record { 0 = m })) e l ∙ ap (λ (y : Variable). y.name) (last_variable h (record { name = n; sort = r }) (record { name = record { 0 = 0 }; sort = record { 0 = 0 } }))
-
 pub column_made : (IsOne : NameId → Type 0) (g : Sig) (k : NameId × SortId) (h i : Sig) (n : NameId) (c : VarId) → IsOwnName IsOne g k.0 h n → i ≡ with_variable h (record { name = n; sort = k.1 }) → c.0 ≡ length h.variables → IsColumn IsOne g k i c
 column_made IsOne g k h i n c o e l = subst (λ z. IsColumn IsOne g k z c) (sym e) (subst (λ (z : VarId). IsColumn IsOne g k (with_variable h (record { name = n; sort = k.1 })) z) (ap (λ m. record { 0 = m }) (sym l)) (a_column o))
 
@@ -260,9 +256,6 @@ adding_one_column g kinds i h columns names d s l k c new w is e =
       );
     }
 
-pub adding_all_columns : (g : Sig) (kinds : List (NameId × SortId)) (i : ℕ) (h : Sig) (columns : List VarId) (names : List NameId) → IsAddingColumns g kinds i h columns names → length kinds ≤ i → AreColumns g kinds h columns
-adding_all_columns g kinds i h columns names s l = subst (λ z. AreColumns g z h columns) (take_all i kinds l) s.added
-
 pub as_many_columns : (g : Sig) (ks : List (NameId × SortId)) (h : Sig) (cs : List VarId) → AreColumns g ks h cs → length cs ≡ length ks
 as_many_columns g _ _ _ no_column = refl
 as_many_columns g _ _ _ (one_more_column {ks = ks} {cs = cs} {h = h} {k = k} {c = c} a n) =
@@ -270,3 +263,18 @@ as_many_columns g _ _ _ (one_more_column {ks = ks} {cs = cs} {h = h} {k = k} {c 
     let x = length-append cs (c ∷ []) in
     let y = length-append ks (k ∷ []) in
     omega (arith, e, x, y)
+
+pub pos_within : (g : Sig) → IsSignature g → pos_sort.0 < length g.sorts
+pos_within g s = let p = (s.table.sorts.positive_second 1).1 refl in slice_get_within g.sorts 1 p.0 p.1
+
+pub kind_in_grown : (g h : Sig) (kinds : List (NameId × SortId)) (i : ℕ) (k : NameId × SortId) → GrowsByNames g h → All (IsKindIn g) kinds → slice_get kinds i ≡ Some k → (k.0.0 < length h.texts) × (k.1.0 < length h.sorts)
+kind_in_grown g h kinds i k w all e =
+    let own = all_at (IsKindIn g) kinds i k all e in
+    let a = own.0 in
+    let t = ap length w.grown.texts ∙ length-append g.texts w.grown.new_texts in
+    (omega (arith, a, t), subst (λ ss. k.1.0 < length ss) (sym w.sorts) own.1)
+
+pub adding_column_at : (g : Sig) (kinds : List (NameId × SortId)) (i : ℕ) (h : Sig) (columns : List VarId) (names : List NameId) (kind : NameId × SortId) → IsAddingColumns g kinds i h columns names → slice_get kinds i ≡ Some kind
+    → (k : Sig) (c : VarId) (new : List NameId) → GrowsByNames h k → IsColumn (λ n. Contains names n) h kind k c → new ≡ with_name names (name_of k c) → IsAddingColumns g kinds (i + 1) k (columns ++ c ∷ []) new
+adding_column_at g kinds i h columns names kind s at k c new w is e =
+    adding_one_column g kinds i h columns names kind s (slice_get_within kinds i kind at) k c new w (subst (λ z. IsColumn (λ n. Contains names n) h z k c) (sym (get_or_from_slice_get kinds i kind kind at)) is) e
