@@ -1,10 +1,10 @@
 -- The first values of columns.
-use Rattle.std.proofs.Common.{◌≡◌, ◌==◌, ◌<◌, ◌≤◌, ◌+◌, ◌-◌, ℕ, zero, suc, cond, List, [], ◌∷◌, ◌++◌, map, take, length, get_or, refl, sym, ap, ◌∙◌, subst, arith, ⊎_elim, Option, Some, None}
+use Rattle.std.proofs.Common.{◌≡◌, ◌<◌, ◌≤◌, ◌+◌, ◌-◌, ℕ, zero, suc, cond, List, [], ◌∷◌, ◌++◌, map, take, length, get_or, refl, sym, ap, ◌∙◌, subst, arith, ⊎_elim, Some, None}
 use Rattle.std.specs.Prelude.{slice_get, IfSome}
 use Rattle.std.specs.List.{All, AllZip}
 use Rattle.std.proofs.lemmas.Bool.Decides.{eqb_tells}
-use Rattle.std.proofs.lemmas.List.{append_assoc, take_more, take_all}
-use Rattle.std.proofs.lemmas.List.Elements.{All-nil, All-cons, All-head, All-tail, All-weaker}
+use Rattle.std.proofs.lemmas.List.{append_assoc, take_more}
+use Rattle.std.proofs.lemmas.List.Elements.{All-nil, All-cons, All-head, All-tail}
 use Rattle.data_theory.specs.declared.ids.SortId.{SortId}
 use Rattle.data_theory.specs.declared.ids.FunId.{FunId}
 use Rattle.data_theory.specs.declared.ids.VarId.{VarId}
@@ -17,7 +17,7 @@ use Rattle.data_theory.specs.Signature.{Sig}
 use Rattle.data_theory.specs.IdTrees.{Tree, Trees, variable, numeral, function, none, more}
 use Rattle.data_theory.specs.IdTerms.{term_under, terms_under, IsGrown}
 use Rattle.data_theory.proofs.IdGrowthLemmas.{growth_after_growth_is_growth}
-use Rattle.term_pool.specs.HeadTrees.{tree_at, trees_at, IsIn, AreIn}
+use Rattle.term_pool.specs.HeadTrees.{tree_at, IsIn, AreIn}
 use Rattle.term_pool.specs.Pools.{PoolContents, Extends}
 use Rattle.term_pool.specs.ConstructorValues.{ConstructorValue, ConstructorValues, a_number, built, a_constant, no_value, value_then, HasValue, IsFirstValue}
 use Rattle.term_pool.specs.Constants.{tree_with, trees_with, constant_of, sorts_in_need, AreConstants, KeepsConstants, DeclaresConstants}

@@ -1,8 +1,8 @@
 -- The columns of a form that fits lay it out, and serve its encoding.
-use Rattle.std.proofs.Common.{◌≡◌, ◌<◌, ◌≤◌, ⊎_elim, ℕ, List, [], ◌∷◌, ◌++◌, map, length, get_or, refl, sym, ap, ap₂, ◌∙◌, subst, arith, Option, Some, None}
+use Rattle.std.proofs.Common.{◌≡◌, ◌<◌, ◌≤◌, ⊎_elim, ℕ, List, [], ◌∷◌, ◌++◌, map, length, get_or, refl, sym, ap, ap₂, ◌∙◌, subst, Option, Some, None}
 use Rattle.std.specs.Prelude.{slice_get, option_to_list, is_some}
 use Rattle.std.specs.List.{All, AllZip, Contains}
-use Rattle.std.proofs.lemmas.List.Elements.{All-nil, All-head, All-tail, All-contains, All-weaker, All-append, All-map, Contains-append_right}
+use Rattle.std.proofs.lemmas.List.Elements.{All-nil, All-head, All-tail, All-contains, All-weaker, All-append, All-map}
 use Rattle.std.proofs.lemmas.Slice.Zip.{AllZip-long}
 use Rattle.data_theory.specs.declared.ids.NameId.{NameId}
 use Rattle.data_theory.specs.declared.ids.SortId.{SortId}
@@ -10,9 +10,8 @@ use Rattle.data_theory.specs.declared.ids.VarId.{VarId}
 use Rattle.data_theory.specs.declared.ids.TermId.{TermId}
 use Rattle.data_theory.specs.declared.signature.Variable.{Variable}
 use Rattle.data_theory.specs.Functions.{Function}
-use Rattle.data_theory.specs.Declarations.{HaveSorts}
-use Rattle.data_theory.specs.Environments.{AreDistinct, bound, terms_of}
-use Rattle.data_theory.specs.Terms.{Sort, boolean, positive}
+use Rattle.data_theory.specs.Environments.{bound}
+use Rattle.data_theory.specs.Terms.{boolean, positive}
 use Rattle.data_theory.specs.Table.{pos_sort, bool_sort}
 use Rattle.data_theory.specs.Signature.{Sig}
 use Rattle.data_theory.specs.IdData.{data_meant}
@@ -20,17 +19,14 @@ use Rattle.data_theory.specs.IdTables.{IsTable}
 use Rattle.data_theory.specs.IdTrees.{Tree}
 use Rattle.data_theory.specs.IdTerms.{sort_under, variable_sorts, IsGrown}
 use Rattle.data_theory.specs.WholeSignatures.{IsSignature}
-use Rattle.term_pool.specs.HeadTrees.{tree_at}
 use Rattle.term_pool.specs.Pools.{PoolContents}
 use Rattle.bisim_laws.proofs.Firing.{contains_first, contains_later}
 use Rattle.data_theory.proofs.IdGrowthLemmas.{growth_after_growth_is_growth}
-use Rattle.process_terms.specs.Processes.{Bound}
 use Rattle.process_terms.specs.Meanings.{bound_at, term_at}
 use Rattle.process_terms.specs.SignatureEntries.{entries_of, BothGrow}
 use Rattle.bisim_laws.specs.LinearProcesses.{variables, reading, AreDeclared, HaveDataSorts}
 use Rattle.bisim_laws.specs.BaseStates.{control_of}
-use Rattle.lps_core.specs.Fitting.{AreTermsOf, IsVariable, sort_of_variable, HasTakenName}
-use Rattle.lps_core.specs.TreeSummands.{numbers_of}
+use Rattle.lps_core.specs.Fitting.{IsVariable, sort_of_variable, HasTakenName}
 use Rattle.lps_core.specs.Naming.{name_of, function_names, GrowsByNames}
 use Rattle.lps_core.proofs.Members.{contains_map, all_at, all_from}
 use Rattle.lps_core.proofs.PoolTrees.{extends_itself}
@@ -38,16 +34,16 @@ use Rattle.lps_core.proofs.MeantParts.{positive_meant}
 use Rattle.lps_core.proofs.NamedSums.{taken_name, name_taken, sort_kept, names_then, name_kept, variable_kept}
 use Rattle.lps_core.proofs.Staying.{read_mapped, sort_is_within, variables_declared, variables_have_sorts}
 use Rattle.lps_core.proofs.StayingFits.{term_fits, closed_terms_fit, lists_are_closed}
-use Rattle.greibach.specs.PlainForms.{PlainEquation, PlainFormSummand, PlainForm}
+use Rattle.greibach.specs.PlainForms.{PlainEquation, PlainForm}
 use Rattle.greibach.specs.FittingForms.{EquationFits, FormSummandFits, FormFits}
 use Rattle.regular_encoder.specs.Encoding.{control_params, encoded_params, place_of}
 use Rattle.regular_encoder.specs.TreeEncoding.{PlainLayout, place_at}
 use Rattle.regular_encoder.specs.MeantEncoding.{HasControl}
 use Rattle.regular_encoder.specs.Layouts.{IsPlaceOf, LaidOut, control_variable}
-use Rattle.regular_encoder.specs.FormColumns.{kind_of, all_params, column_kinds, IsColumnOf, ArePlaces, AreFirstTerms, HasItsColumns, layout_params, layout_meant, meant_firsts, ServesTheEncoding, ParamsHaveOwnNames, WhatIsLaidOutServes}
+use Rattle.regular_encoder.specs.FormColumns.{kind_of, all_params, column_kinds, IsColumnOf, HasItsColumns, layout_params, layout_meant, meant_firsts, ServesTheEncoding, ParamsHaveOwnNames, WhatIsLaidOutServes}
 use Rattle.regular_encoder.proofs.NewColumns.{KindsStand, ColumnsStand, columns_stand, columns_stand_on, control_sorts, control_stands, none_alone}
 use Rattle.regular_encoder.proofs.FoundKinds.{all_with_kinds}
-use Rattle.regular_encoder.proofs.FirstTerms.{HasNoVariable, FirstStands, ArgumentStands, argument_stands, firsts_stand, closed_args, args_closed}
+use Rattle.regular_encoder.proofs.FirstTerms.{FirstStands, ArgumentStands, argument_stands, firsts_stand, closed_args, args_closed}
 use Rattle.regular_encoder.proofs.LaidOutColumns.{numbers, read_numbers, laid_out}
 use Rattle.regular_encoder.proofs.ServingLayouts.{zip_at, place_distinct, place_among, place_sorts, firsts_read, are_terms, are_closed, names_of_firsts}
 

@@ -1,8 +1,8 @@
 -- What the calls of laying out ask of each other.
-use Rattle.std.proofs.Common.{◌≡◌, ◌<◌, ◌≤◌, ℕ, zero, suc, List, [], ◌∷◌, map, length, get_or, refl, sym, ap, ap₂, ◌∙◌, subst, arith, Option, Some}
-use Rattle.std.specs.Prelude.{slice_get, Vec}
+use Rattle.std.proofs.Common.{◌≡◌, ◌<◌, ◌≤◌, ℕ, suc, List, [], ◌∷◌, map, length, get_or, refl, sym, ap, ap₂, ◌∙◌, subst, arith, Option}
+use Rattle.std.specs.Prelude.{Vec}
 use Rattle.std.specs.Global.{Global}
-use Rattle.std.specs.List.{All, AllZip, Contains}
+use Rattle.std.specs.List.{All, AllZip}
 use Rattle.std.proofs.lemmas.List.{length-map}
 use Rattle.std.proofs.lemmas.List.Elements.{All-contains, All-weaker}
 use Rattle.std.proofs.lemmas.Option.{slice_get_within}
@@ -22,7 +22,7 @@ use Rattle.term_pool.specs.Pools.{PoolContents}
 use Rattle.term_pool.specs.ConstructorValues.{HasValue}
 use Rattle.term_pool.proofs.GrownSignatures.{inhabited_sorts_stay_inhabited}
 use Rattle.term_pool.proofs.InhabitedSorts.{sorts_have_values_where_none_is_empty}
-use Rattle.lps_core.specs.Fitting.{AreTermsOf, IsVariable, sort_of_variable}
+use Rattle.lps_core.specs.Fitting.{IsVariable, sort_of_variable}
 use Rattle.lps_core.specs.Naming.{GrowsByNames}
 use Rattle.lps_core.proofs.NamedSums.{variable_kept}
 use Rattle.lps_core.proofs.Staying.{sort_is_within}

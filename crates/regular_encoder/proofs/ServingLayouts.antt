@@ -1,10 +1,10 @@
 -- What is laid out serves the encoding.
-use Rattle.std.proofs.Common.{cond, ◌≡◌, ◌<◌, ◌≤◌, ◌⊎◌, inl, inr, ⊎_elim, ℕ, zero, suc, List, [], ◌∷◌, ◌++◌, map, length, get_or, refl, sym, ap, ap₂, ◌∙◌, subst, arith, Option, Some, None}
-use Rattle.std.specs.Prelude.{slice_get, option_to_list, is_some, codes}
+use Rattle.std.proofs.Common.{cond, ◌≡◌, ◌⊎◌, inl, inr, ⊎_elim, ℕ, zero, suc, List, [], ◌∷◌, ◌++◌, map, length, get_or, refl, sym, ap, ap₂, ◌∙◌, subst, Option, Some, None}
+use Rattle.std.specs.Prelude.{slice_get, codes}
 use Rattle.std.specs.List.{All, AllZip, Contains}
 use Rattle.std.proofs.lemmas.List.{map-append, length-map}
-use Rattle.std.proofs.lemmas.List.Elements.{All-nil, All-cons, All-head, All-tail, All-contains, All-weaker, Contains-append_left, Contains-append_right, Contains-append_cases}
-use Rattle.std.proofs.lemmas.Option.{slice_get_within, slice_get-get_or, get_or_from_slice_get}
+use Rattle.std.proofs.lemmas.List.Elements.{All-nil, All-cons, Contains-append_left, Contains-append_cases}
+use Rattle.std.proofs.lemmas.Option.{slice_get_within, get_or_from_slice_get}
 use Rattle.std.proofs.lemmas.Slice.Zip.{AllZip-long}
 use Rattle.std.proofs.lemmas.Bool.Decides.{eqb_tells}
 use Rattle.data_theory.specs.declared.ids.NameId.{NameId}
@@ -13,9 +13,8 @@ use Rattle.data_theory.specs.declared.ids.FunId.{FunId}
 use Rattle.data_theory.specs.Functions.{Function, declared_function}
 use Rattle.data_theory.specs.declared.ids.VarId.{VarId}
 use Rattle.data_theory.specs.declared.ids.TermId.{TermId}
-use Rattle.data_theory.specs.Terms.{Term, boolean, positive}
+use Rattle.data_theory.specs.Terms.{Term}
 use Rattle.data_theory.specs.Environments.{AreDistinct, term_in, bound, Environment}
-use Rattle.data_theory.specs.Table.{pos_sort, bool_sort}
 use Rattle.data_theory.specs.Signature.{Sig, IsTaken}
 use Rattle.data_theory.proofs.IdGrowthLemmas.{growth_after_growth_is_growth}
 use Rattle.data_theory.proofs.PlaceLemmas.{read_front}
@@ -23,27 +22,19 @@ use Rattle.term_pool.specs.HeadTrees.{tree_at, IsIn}
 use Rattle.term_pool.specs.Pools.{PoolContents}
 use Rattle.term_pool.specs.Constants.{DeclaresConstant, DeclaresConstants, none_left, declares}
 use Rattle.term_pool.proofs.DeclaredConstants.{grown_itself, fresh_grows, constant_grows}
-use Rattle.data_theory.specs.IdTables.{IsTable}
 use Rattle.data_theory.specs.IdTrees.{Tree}
-use Rattle.data_theory.specs.IdTerms.{sort_under, variable_sorts, IsGrown}
+use Rattle.data_theory.specs.IdTerms.{IsGrown}
 use Rattle.data_theory.specs.WholeSignatures.{IsSignature}
 use Rattle.data_theory.proofs.EnvironmentLemmas.{contains_nothing, contains_cases}
 use Rattle.bisim_laws.proofs.Firing.{contains_first, contains_later, contains_none as none_contains, contains_cases as cases_contain, head_same, tail_same, bound_reads}
-use Rattle.process_terms.specs.Meanings.{bound_at, term_at}
-use Rattle.process_terms.specs.SignatureEntries.{entries_of}
-use Rattle.bisim_laws.specs.LinearProcesses.{variables, reading}
-use Rattle.lps_core.specs.Fitting.{AreTermsOf, IsVariable, sort_of_variable, HasTakenName}
+use Rattle.bisim_laws.specs.LinearProcesses.{reading}
+use Rattle.lps_core.specs.Fitting.{AreTermsOf, sort_of_variable}
 use Rattle.lps_core.specs.TreeSummands.{numbers_of}
 use Rattle.lps_core.specs.Naming.{name_of, function_names}
-use Rattle.lps_core.proofs.Members.{contains_map, map_contains, all_at}
-use Rattle.lps_core.proofs.Staying.{read_mapped}
+use Rattle.lps_core.proofs.Members.{map_contains}
 use Rattle.lps_core.proofs.NamedSums.{not_taken, name_numbers}
-use Rattle.greibach.specs.PlainForms.{PlainEquation, PlainForm}
-use Rattle.greibach.specs.FittingForms.{EquationFits, FormFits}
-use Rattle.regular_encoder.specs.FormColumns.{kind_of, all_params, column_kinds, IsColumnOf, ArePlaces, argument_of, IsFirstTerm, an_argument, a_closed_term, AreFirstTerms, no_first_term, one_more_first_term}
-use Rattle.regular_encoder.specs.Layouts.{IsPlaceOf, LaidOut}
+use Rattle.regular_encoder.specs.FormColumns.{kind_of, IsColumnOf, argument_of, IsFirstTerm, an_argument, a_closed_term, AreFirstTerms, no_first_term, one_more_first_term}
 use Rattle.regular_encoder.proofs.FirstTerms.{some_is, no_some, FirstStands, HasNoVariable}
-use Rattle.regular_encoder.specs.TreeEncoding.{PlainLayout}
 
 -- ---- entries of lists side by side
 pub zip_at : {A B : Type 0} (R : A → B → Type 0) (xs : List A) (ys : List B) (i : ℕ) (x : A) (d : B) → AllZip R xs ys → slice_get xs i ≡ Some x → R x (get_or ys i d)

@@ -1,6 +1,6 @@
 use Rattle.std.proofs.Common.{◌+◌, map, sym, ap, subst, ◌∙◌}
 use Rattle.std.specs.List.{All}
-use Rattle.greibach.specs.PlainForms.{PlainEquation, plain_equation}
+use Rattle.greibach.specs.PlainForms.{PlainEquation}
 use Rattle.lps_core.specs.Fitting.{IsVariable}
 use Rattle.regular_encoder.specs.FormColumns.{kind_of, with_kinds, AreKindsAt}
 use Rattle.regular_encoder.proofs.FoundKinds.{IsFindingAll, finding_all_more, equation_at}

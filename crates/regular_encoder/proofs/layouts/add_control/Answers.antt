@@ -1,6 +1,4 @@
-use Rattle.std.proofs.Common.{◌≡◌, ◌<◌, ◌≤◌, subst, sym, arith, None}
-use Rattle.std.specs.Prelude.{codes}
-use Rattle.std.proofs.lemmas.Option.{slice_get_within}
+use Rattle.std.proofs.Common.{subst, sym, arith, None}
 use Rattle.data_theory.specs.Table.{pos_sort}
 use Rattle.lps_core.specs.Naming.{GrowsByNames}
 use Rattle.lps_core.proofs.NamedSums.{names_none}

@@ -1,5 +1,4 @@
 use Rattle.std.proofs.Common.{◌+◌, sym, subst}
-use Rattle.lps_core.proofs.NamedSums.{variable_kept}
 use Rattle.regular_encoder.proofs.FirstTerms.{IsFinding, finding_no_value, finding_one_value, inhabited_kept}
 use Rattle.regular_encoder.proofs.layouts.first_values.Goals as goal
 
