@@ -134,7 +134,7 @@ module _ (g h : Sig) (p q : PoolContents) (f : PlainForm) (l : PlainLayout) (fir
       let r = argument_stands g w.with_control p.trees fits.first.params place f.init c t (place_sorts g kinds l.columns w.with_control fits.first.params place columns_named.sorts place_of_first) fits.init closed e in
       (term_fits g w.with_control p.trees p.trees (record { signature = all_named.grown; pool = extends_itself p.trees }) (sort_of_variable w.with_control c) t r.0, r.1))
 
-  values : BothGrow w.with_control h p.trees q.trees × AllZip (FirstStands place f.init h q.trees) l.columns firsts
+  pub values : BothGrow w.with_control h p.trees q.trees × AllZip (FirstStands place f.init h q.trees) l.columns firsts
   values = firsts_stand place f.init w.with_control p l.columns h q firsts w.values columns_named.variables arguments
 
   grown : IsGrown g h
@@ -143,7 +143,7 @@ module _ (g h : Sig) (p q : PoolContents) (f : PlainForm) (l : PlainLayout) (fir
   params : ColumnsStand g h IsFunction (control_sorts l.control ++ kind_sorts) (layout_params l)
   params = columns_stand_on g w.with_control h IsFunction (control_sorts l.control ++ kind_sorts) (layout_params l) values.0.signature controlled.1
 
-  columns : ColumnsStand g h IsFunction kind_sorts l.columns
+  pub columns : ColumnsStand g h IsFunction kind_sorts l.columns
   columns = columns_stand_on g w.with_control h IsFunction kind_sorts l.columns values.0.signature columns_named
 
   equation_fits : (i : ℕ) (e : PlainEquation) → slice_get f.equations i ≡ Some e → EquationFits g p.trees f e

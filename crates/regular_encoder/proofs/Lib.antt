@@ -19,3 +19,4 @@ mod EncodedEquations
 pub mod FormsInPlace
 mod SortedTrees
 mod EncodedForms
+pub mod OneEquation

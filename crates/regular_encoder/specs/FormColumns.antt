@@ -160,6 +160,12 @@ WhatIsLaidOutServes =
     (g h : Sig) (p q : PoolContents) (f : PlainForm) (l : PlainLayout) (firsts : List TermId) → IsSignature g → IsSignature h → FormFits g p.trees f → length f.equations < 340282366920938463463374607431768211456
     → HasItsColumns g p f h q l firsts → LaidOut (length g.variables) h f l × ServesTheEncoding h q.trees f l firsts × ParamsHaveOwnNames h (layout_params l)
 
+-- with one equation there is no control parameter, and the columns are the equation's parameters with their initial terms
+abbrev pub OneEquationKeepsItsParameters : Type 0
+OneEquationKeepsItsParameters =
+    (g h : Sig) (p q : PoolContents) (f : PlainForm) (l : PlainLayout) (firsts : List TermId) (e : PlainEquation) → IsSignature g → IsSignature h → FormFits g p.trees f → f.equations ≡ e ∷ [] → HasItsColumns g p f h q l firsts
+    → (l.control ≡ None) × (column_kinds g f ≡ map (kind_of g) e.params) × (place_at l 1 ≡ l.columns) × (firsts ≡ f.init)
+
 -- ---- as the code finds them
 -- the places of names and sorts
 abbrev pub AreKindsAt : Sig → List (NameId × SortId) → List VarId → List ℕ → Type 0
