@@ -125,16 +125,16 @@ renaming_sorted g (x ∷ xs) (y ∷ ys) l k e v s i = by_place (x.0 == v.0) refl
     by_place false q r = r
 
 module _ (g : Sig) (ts : List Tree) (e : VarId → Tree) (keeps : (t : Tree) (s : SortId) → HasTreeSort g t s → HasTreeSort g (put_tree e t) s) where
-  trees_keep : (us : List Tree) (ss : List SortId) → HaveTreeSorts g (trees_of us) ss → HaveTreeSorts g (trees_of (map (put_tree e) us)) ss
+  pub trees_keep : (us : List Tree) (ss : List SortId) → HaveTreeSorts g (trees_of us) ss → HaveTreeSorts g (trees_of (map (put_tree e) us)) ss
   trees_keep [] [] k = k
   trees_keep [] (s ∷ ss) k = absurd k
   trees_keep (u ∷ us) [] k = absurd k
   trees_keep (u ∷ us) (s ∷ ss) k = (keeps u s k.0, trees_keep us ss k.1)
 
-  args_fit : (ss : List SortId) (ids made : List TermId) → trees_at ts made ≡ map (put_tree e) (trees_at ts ids) → AreTermsOf g ts ss ids → AreIn ts made → AreTermsOf g ts ss made
+  pub args_fit : (ss : List SortId) (ids made : List TermId) → trees_at ts made ≡ map (put_tree e) (trees_at ts ids) → AreTermsOf g ts ss ids → AreIn ts made → AreTermsOf g ts ss made
   args_fit ss ids made q k w = record { within = w; sorted = subst (λ z. HaveTreeSorts g (trees_of z) ss) (sym q) (trees_keep (trees_at ts ids) ss k.sorted) }
 
-  label_fits : (m n : List PlainAction) → trees_of_label ts n ≡ put_actions e (trees_of_label ts m) → All (IsActionOf g ts) m → All (IsActionIn ts) n → All (IsActionOf g ts) n
+  pub label_fits : (m n : List PlainAction) → trees_of_label ts n ≡ put_actions e (trees_of_label ts m) → All (IsActionOf g ts) m → All (IsActionIn ts) n → All (IsActionOf g ts) n
   label_fits [] [] q k w = All-nil (IsActionOf g ts)
   label_fits [] (b ∷ n) q k w = cc
   label_fits (a ∷ m) [] q k w = cc

@@ -111,7 +111,7 @@ with_name_has ns m = by_test (list_any (λ k. m.0 == k.0) ns) refl
     by_test false e = subst (λ b. Contains (cond b ns (ns ++ m ∷ [])) m) (sym e) (Contains-append_right ns (m ∷ []) m (contains_first m []))
 
 -- a name that is taken isn't the one of a text that isn't
-not_taken : (g : Sig) (text : List ℕ) (texts : List (List ℕ)) (n : NameId) → IsSignature g → ¬ (IsTaken g text) → BeginsWith g.texts texts → slice_get texts n.0 ≡ Some text → Contains g.taken n → ⊥
+pub not_taken : (g : Sig) (text : List ℕ) (texts : List (List ℕ)) (n : NameId) → IsSignature g → ¬ (IsTaken g text) → BeginsWith g.texts texts → slice_get texts n.0 ≡ Some text → Contains g.taken n → ⊥
 not_taken g text texts n s free w e i =
     let l = All-contains (λ (m : NameId). m.0 < length g.texts) g.taken n s.complete.within.taken i in
     let same = (entry_stays g.texts texts [] n.0 w l).0 in
@@ -173,11 +173,11 @@ sums_stand_on g h k IsOne xs ys w s =
       names_differ = subst AreDistinct (sym (ap (map (λ (n : NameId). n.0)) (names_kept h k ys w.grown s.variables))) s.names_differ;
     }
 
-all_front : {A : Type 0} (P : A → Type 0) (xs : List A) (x : A) → All P (xs ++ x ∷ []) → All P xs
+pub all_front : {A : Type 0} (P : A → Type 0) (xs : List A) (x : A) → All P (xs ++ x ∷ []) → All P xs
 all_front P [] x h = All-nil P
 all_front P (y ∷ xs) x h = All-cons P y xs (All-head P y (xs ++ x ∷ []) h) (all_front P xs x (All-tail P y (xs ++ x ∷ []) h))
 
-all_last : {A : Type 0} (P : A → Type 0) (xs : List A) (x : A) → All P (xs ++ x ∷ []) → P x
+pub all_last : {A : Type 0} (P : A → Type 0) (xs : List A) (x : A) → All P (xs ++ x ∷ []) → P x
 all_last P [] x h = All-head P x [] h
 all_last P (y ∷ xs) x h = all_last P xs x (All-tail P y (xs ++ x ∷ []) h)
 

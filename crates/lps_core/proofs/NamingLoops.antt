@@ -33,7 +33,7 @@ use Rattle.lps_core.proofs.KeptSummands.{next_trees_kept, summand_kept, summand_
 use Rattle.lps_core.proofs.NamedSums.{names_none, names_then, names_text, names_variable, names_kept, variable_kept, with_name_keeps, with_name_has, among, zip_push, variable_there}
 
 -- ---- sets of names
-with_name_cases : (ns : List NameId) (m n : NameId) → Contains (with_name ns m) n → Contains ns n ⊎ (m ≡ n)
+pub with_name_cases : (ns : List NameId) (m n : NameId) → Contains (with_name ns m) n → Contains ns n ⊎ (m ≡ n)
 with_name_cases ns m n = elim (list_any (λ k. m.0 == k.0) ns) as (λ b. Contains (cond b ns (ns ++ m ∷ [])) n → Contains ns n ⊎ (m ≡ n)) [
   | true ↦ (λ i. inl i)
   | false ↦ (λ i. ⊎_elim (λ j. inl j) (λ j. ⊎_elim (λ q. inr q) (λ k. absurd (contains_none n k)) (contains_cases m n [] j)) (Contains-append_cases ns (m ∷ []) n i))

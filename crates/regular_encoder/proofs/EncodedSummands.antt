@@ -33,7 +33,7 @@ next_encoded_along l d e ts us (c ∷ cs) x h w =
     ap (λ z. Some (tree_control_of l.control c.0 ++ map (bound_tree (place_at l c.0) z) l.columns))
     (ap (map (put_tree d)) (trees_kept ts us c.1 x (All-head (IsCallIn ts l) c cs w).args) ∙ args_along d e h (trees_at ts c.1))
 
-encoded_along : (l : PlainLayout) (i : ℕ) (d e : VarId → Tree) (ts us : List Tree) (s : PlainFormSummand) → Extends ts us → ((v : VarId) → d v ≡ e v) → IsFormSummandIn ts l s → tree_encoded l i d us s ≡ tree_encoded l i e ts s
+pub encoded_along : (l : PlainLayout) (i : ℕ) (d e : VarId → Tree) (ts us : List Tree) (s : PlainFormSummand) → Extends ts us → ((v : VarId) → d v ≡ e v) → IsFormSummandIn ts l s → tree_encoded l i d us s ≡ tree_encoded l i e ts s
 encoded_along l i d e ts us s x h w =
     ap₂ (λ c m. record { sums = s.sums; condition = conjunction_tree (tree_control_parts l.control i ++ trees_without_true (tree_parts c)); label = m; next = tree_encoded_next l d us s.next })
     (ap (put_tree d) (tree_kept ts us s.condition x w.condition).0 ∙ put_along d e h (tree_at ts s.condition))

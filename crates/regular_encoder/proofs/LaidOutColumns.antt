@@ -18,7 +18,7 @@ use Rattle.regular_encoder.specs.Layouts.{control_variable, LaidOutIsALayout}
 use Rattle.std.proofs.lemmas.List.{length-map}
 use Rattle.lps_core.proofs.Members.{contains_map, map_contains}
 
-numbers : (h : Sig) (ts : List Tree) (xs : List VarId) → variables (map (bound_at (entries_of h ts)) xs) ≡ numbers_of xs
+pub numbers : (h : Sig) (ts : List Tree) (xs : List VarId) → variables (map (bound_at (entries_of h ts)) xs) ≡ numbers_of xs
 numbers h ts [] = refl
 numbers h ts (x ∷ xs) = ap (λ ys. x.0 ∷ ys) (numbers h ts xs)
 
@@ -30,7 +30,7 @@ not_some : (o : Option VarId) → is_some o ≡ false → o ≡ None
 not_some None e = refl
 not_some (Some x) e = cc
 
-read_numbers : (ps : List (List VarId)) (k : ℕ) → get_or (map numbers_of ps) k [] ≡ numbers_of (get_or ps k [])
+pub read_numbers : (ps : List (List VarId)) (k : ℕ) → get_or (map numbers_of ps) k [] ≡ numbers_of (get_or ps k [])
 read_numbers [] k = refl
 read_numbers (p ∷ ps) zero = refl
 read_numbers (p ∷ ps) (suc k) = read_numbers ps k

@@ -8,3 +8,15 @@ pub mod GoodOver
 pub mod Made
 pub mod EncodedSummands
 pub mod LaidOutColumns
+pub mod NewColumns
+pub mod FoundKinds
+pub mod FirstTerms
+pub mod ServingLayouts
+pub mod LaidOutForms
+pub mod LayingOut
+mod Refused
+mod EncodedEquations
+pub mod FormsInPlace
+mod SortedTrees
+mod EncodedForms
+pub mod OneEquation

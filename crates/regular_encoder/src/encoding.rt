@@ -85,7 +85,7 @@ fn column_terms(
 }
 
 /// The control number, where there is a control parameter.
-fn control_terms(
+pub(crate) fn control_terms(
     alloc: Global,
     pool: &mut Pool,
     control: Option<VarId>,

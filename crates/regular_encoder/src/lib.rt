@@ -4,8 +4,12 @@
 #![tactic(auto)]
 
 mod encoding;
+mod faults;
 pub mod laws;
 mod layouts;
+mod linear;
 
 pub use encoding::encode_equation;
-pub use layouts::Layout;
+pub use faults::EncodeFault;
+pub use layouts::{Layout, lay_out};
+pub use linear::encode;
