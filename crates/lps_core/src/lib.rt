@@ -13,4 +13,4 @@ mod naming;
 pub use conditions::{conjoined, parts_of};
 pub use linears::{Linear, Summand};
 pub use moving::{put_all, put_label, renaming, variable_term};
-pub use naming::name_sums;
+pub use naming::{fresh_from, has_name, name_sums, signature_stands, used_names};

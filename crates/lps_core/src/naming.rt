@@ -1,4 +1,4 @@
-//! The names of sum variables.
+//! The names of variables, and those of the sums.
 
 ghost use Rattle.std.specs.Prelude.{◌≡◌, ◌⊎◌, ◌↔◌, ◌<◌, ℕ, List, map, length, option_map, slice_get, Some, IfOk, IfSome, OnOk, IsTrue};
 ghost use Rattle.std.specs.List.{All, Contains};
@@ -47,7 +47,7 @@ fn add_function_names(sig: &Signature, names: &mut IndexSet<NameId>) -> Result<(
 }
 
 /// The names that no sum may have: those of the parameters and of all functions.
-fn used_names(
+pub fn used_names(
     alloc: Global,
     sig: &Signature,
     params: &[VarId],
@@ -62,7 +62,7 @@ fn used_names(
 }
 
 /// Whether a name is among these.
-fn has_name(names: &IndexSet<NameId>, name: NameId) -> bool
+pub fn has_name(names: &IndexSet<NameId>, name: NameId) -> bool
     ensures { IsTrue result ↔ Contains names.now.keys name }
 {
     names.contains(&name)
@@ -79,14 +79,14 @@ fn is_used(used: &IndexSet<NameId>, mine: &IndexSet<NameId>, name: NameId) -> bo
 }
 
 /// States what each signature keeps.
-fn signature_stands(sig: &Signature)
+pub fn signature_stands(sig: &Signature)
     ensures { IsSignature sig.now }
 {
     let _ = sig.names();
 }
 
 /// A fresh name with the text of a name as its base.
-fn fresh_from(alloc: Global, sig: &mut Signature, name: NameId) -> Result<NameId, NoMemory>
+pub fn fresh_from(alloc: Global, sig: &mut Signature, name: NameId) -> Result<NameId, NoMemory>
     requires { name.0 < length sig.old.texts }
     ensures fresh { IfOk result (λ fresh. (base : List ℕ) × (slice_get sig.old.texts name.0 ≡ Some base) × IsFreshIn sig.old base fresh sig.new) }
     ensures grown { GrowsByNames sig.old sig.new }
