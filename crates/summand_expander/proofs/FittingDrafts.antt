@@ -1,7 +1,7 @@
 -- The drafts of sides that fit, fit; and so do the summands that they become.
-use Rattle.std.proofs.Common.{◌≡◌, ◌==◌, ⊎_elim, Bool, true, false, cond, if◌then◌else◌, List, [], ◌∷◌, ◌++◌, map, refl, sym, ap, ap₂, ◌∙◌, subst, Option, Some, None}
+use Rattle.std.proofs.Common.{◌≡◌, ⊎_elim, Bool, true, false, cond, if◌then◌else◌, List, [], ◌∷◌, ◌++◌, map, refl, sym, ap, ◌∙◌, subst, Option, Some, None}
 use Rattle.std.specs.Prelude.{flat_map, IfSome}
-use Rattle.std.specs.List.{All, AllZip}
+use Rattle.std.specs.List.{All}
 use Rattle.std.proofs.lemmas.Bool.Decides.{eqb_tells}
 use Rattle.std.proofs.lemmas.List.{map-append}
 use Rattle.std.proofs.lemmas.List.Elements.{All-nil, All-cons, All-head, All-tail, All-append, All-weaker}
@@ -11,22 +11,20 @@ use Rattle.data_theory.specs.declared.ids.TermId.{TermId}
 use Rattle.data_theory.specs.Functions.{Function, arguments_of}
 use Rattle.data_theory.specs.Table.{bool_sort}
 use Rattle.data_theory.specs.Signature.{Sig}
-use Rattle.data_theory.specs.IdTrees.{Tree, Trees, variable, numeral, function, none, more, trees_of}
+use Rattle.data_theory.specs.IdTrees.{Tree, variable, numeral, function, none, more, trees_of}
 use Rattle.data_theory.specs.IdTreeSorts.{HasTreeSort, HaveTreeSorts}
 use Rattle.data_theory.specs.SignatureLaws.{HasTruthFunctions}
 use Rattle.term_pool.specs.HeadTrees.{tree_at, trees_at, IsIn, AreIn}
-use Rattle.term_pool.specs.Pools.{Extends}
-use Rattle.process_terms.specs.PlainProcesses.{PlainAction}
 use Rattle.process_terms.specs.SignatureEntries.{BothGrow}
-use Rattle.lps_core.specs.Fitting.{IsTermOf, AreTermsOf, IsActionOf, IsVariable, sort_of_variable, SummandFits, HasTakenName}
+use Rattle.lps_core.specs.Fitting.{IsTermOf, AreTermsOf, IsActionOf, IsVariable, sort_of_variable, HasTakenName}
 use Rattle.lps_core.specs.PlainLinears.{PlainSummand}
 use Rattle.lps_core.specs.TreeConditions.{conjunction_tree, tree_parts, trees_without_true, is_true_tree}
 use Rattle.lps_core.proofs.TreeParts.{two_unmerged}
-use Rattle.lps_core.proofs.StayingFits.{term_fits, terms_fit, action_fits}
+use Rattle.lps_core.proofs.StayingFits.{terms_fit, action_fits}
 use Rattle.summand_expander.specs.Drafts.{PlainMove, PlainSide, PlainDraft, placed, behind, beside, going_alone, with_flag, ending_alone, lone_drafts, next_of_both, both_moves, all_drafts}
-use Rattle.summand_expander.specs.Frames.{PlainFrame, not_tree, of_flag, in_list, IsFrame, columns_after, IsMoveOf}
+use Rattle.summand_expander.specs.Frames.{not_tree}
 use Rattle.summand_expander.specs.SideFits.{MoveFits, SideFits, DraftFits, FitsWithNames}
-use Rattle.summand_expander.specs.SideMeanings.{Joined, joined_draft, joined_summand, IsConditionIn, AreJoined}
+use Rattle.summand_expander.specs.SideMeanings.{Joined, joined_draft, joined_summand, IsConditionIn}
 
 -- ---- lists of terms
 pub sorts_append : (g : Sig) (us vs : List Tree) (ss rs : List SortId) → HaveTreeSorts g (trees_of us) ss → HaveTreeSorts g (trees_of vs) rs → HaveTreeSorts g (trees_of (us ++ vs)) (ss ++ rs)

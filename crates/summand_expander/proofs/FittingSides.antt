@@ -1,5 +1,5 @@
 -- The side of a linear process that fits, fits.
-use Rattle.std.proofs.Common.{◌≡◌, List, [], ◌∷◌, ◌++◌, map, get_or, refl, sym, ap, ap₂, ◌∙◌, subst, Option, Some, None}
+use Rattle.std.proofs.Common.{◌≡◌, List, [], ◌∷◌, ◌++◌, map, sym, subst, Option, Some, None}
 use Rattle.std.specs.Prelude.{option_to_list, IfSome}
 use Rattle.std.specs.List.{All, AllZip}
 use Rattle.std.proofs.lemmas.List.{map-append}
@@ -12,13 +12,13 @@ use Rattle.data_theory.specs.Signature.{Sig}
 use Rattle.data_theory.specs.IdTrees.{Tree, variable, trees_of}
 use Rattle.data_theory.specs.IdTreeSorts.{IsVariableOf, HasTreeSort, HaveTreeSorts}
 use Rattle.data_theory.specs.SignatureLaws.{HasTruthFunctions}
-use Rattle.term_pool.specs.HeadTrees.{tree_at, trees_at, IsIn, AreIn}
+use Rattle.term_pool.specs.HeadTrees.{tree_at}
 use Rattle.data_theory.specs.WholeSignatures.{IsSignature}
 use Rattle.data_theory.proofs.StandingLemmas.{signatures_have_truth_functions}
 use Rattle.lps_core.specs.Fitting.{Fits, SummandFits, IsTermOf, AreTermsOf, IsActionOf, IsVariable, sort_of_variable, HasTakenName}
 use Rattle.lps_core.specs.PlainLinears.{PlainSummand, PlainLinear}
 use Rattle.lps_core.proofs.StayingFits.{both_weaker}
-use Rattle.lps_core.specs.TreeConditions.{true_tree, tree_parts, trees_without_true}
+use Rattle.lps_core.specs.TreeConditions.{true_tree, tree_parts}
 use Rattle.summand_expander.specs.Drafts.{PlainMove}
 use Rattle.summand_expander.specs.Frames.{PlainFrame, not_tree, of_flag, in_list, IsFrame, columns_after, IsMoveOf}
 use Rattle.summand_expander.specs.SideFits.{MoveFits, SideFits, FitsWithNames, IsFlagOf}

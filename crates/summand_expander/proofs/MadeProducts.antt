@@ -1,30 +1,27 @@
 -- What a product in code is.
-use Rattle.std.proofs.Common.{◌≡◌, ◌&&◌, ⊎_elim, inl, inr, ℕ, Bool, true, false, List, [], ◌∷◌, ◌++◌, map, length, refl, sym, ap, ap₂, ◌∙◌, subst, is_none, Option, Some, None}
-use Rattle.std.specs.Prelude.{option_map, option_to_list, is_some, flat_map, IfSome}
-use Rattle.std.specs.List.{All, Contains, list_any}
+use Rattle.std.proofs.Common.{◌≡◌, ◌&&◌, ⊎_elim, ℕ, Bool, true, false, List, [], ◌∷◌, ◌++◌, map, length, refl, sym, ap, ap₂, ◌∙◌, subst, Option, Some, None}
+use Rattle.std.specs.Prelude.{option_map, option_to_list, is_some, IfSome}
+use Rattle.std.specs.List.{All}
 use Rattle.std.proofs.lemmas.List.{map-append, append-nil}
 use Rattle.std.proofs.lemmas.List.Elements.{All-nil, All-cons, All-head, All-tail, All-append, All-contains, All-weaker}
-use Rattle.data_theory.specs.declared.ids.SortId.{SortId}
 use Rattle.data_theory.specs.declared.ids.TermId.{TermId}
 use Rattle.data_theory.specs.declared.ids.VarId.{VarId}
 use Rattle.data_theory.specs.Declarations.{Data, HaveSorts}
 use Rattle.data_theory.specs.Environments.{terms_of}
 use Rattle.data_theory.specs.Equations.{falseᵗ}
-use Rattle.data_theory.specs.Table.{bool_sort}
 use Rattle.data_theory.specs.Terms.{Term}
 use Rattle.data_theory.specs.Terms as terms
 use Rattle.data_theory.specs.EqualityLaws.{Grows}
 use Rattle.data_theory.specs.Signature.{Sig}
 use Rattle.data_theory.specs.IdData.{data_meant}
 use Rattle.data_theory.specs.IdTerms.{variable_sorts, term_under}
-use Rattle.data_theory.specs.IdTrees.{Tree, function, none, trees_of}
-use Rattle.data_theory.specs.IdTreeSorts.{HasTreeSort, HaveTreeSorts}
+use Rattle.data_theory.specs.IdTrees.{Tree, function, none}
+use Rattle.data_theory.specs.IdTreeSorts.{HasTreeSort}
 use Rattle.data_theory.specs.WholeSignatures.{IsSignature}
 use Rattle.data_theory.proofs.StandingLemmas.{signatures_have_truth_functions}
-use Rattle.term_pool.specs.HeadTrees.{tree_at, trees_at, IsIn, AreIn}
+use Rattle.term_pool.specs.HeadTrees.{tree_at, IsIn}
 use Rattle.term_pool.specs.Pools.{Extends}
 use Rattle.term_pool.proofs.DeclaredConstants.{grown_itself}
-use Rattle.process_terms.specs.Theories.{Theory, IsConsistent}
 use Rattle.process_terms.specs.Processes.{Bound, merge}
 use Rattle.process_terms.specs.Meanings.{bound_at, term_at}
 use Rattle.process_terms.specs.SignatureEntries.{entries_of, BothGrow}
@@ -33,23 +30,22 @@ use Rattle.bisim_laws.specs.LinearProcesses.{Linear, sorts, state_of, IsLinear}
 use Rattle.bisim_laws.specs.BaseStates.{Side}
 use Rattle.bisim_laws.specs.Links.{Product, Same, IsGood, Pairs}
 use Rattle.bisim_laws.proofs.AlikeProcesses.{alike_refl}
-use Rattle.lps_core.specs.Fitting.{Fits, SummandFits, IsTermOf, AreTermsOf, IsVariable, sort_of_variable, HasTakenName}
-use Rattle.lps_core.specs.GoingOn.{IsGoodOver}
+use Rattle.lps_core.specs.Fitting.{Fits, SummandFits, AreTermsOf, IsVariable, sort_of_variable, HasTakenName}
 use Rattle.lps_core.specs.Naming.{GrowsByNames}
-use Rattle.lps_core.specs.PlainLinears.{PlainSummand, PlainLinear, summand_of, linear_of, initial_of, linear_state}
+use Rattle.lps_core.specs.PlainLinears.{PlainSummand, PlainLinear, summand_of, linear_of, initial_of}
 use Rattle.lps_core.specs.TreeSummands.{IsSummandIn}
 use Rattle.lps_core.proofs.GrowingData.{terms_grown}
 use Rattle.lps_core.proofs.NamedSums.{names_none, names_then, variable_kept}
 use Rattle.lps_core.proofs.NamedLinears.{fitting_is_in}
-use Rattle.lps_core.proofs.PoolTrees.{extends_itself, extends_on, tree_kept}
+use Rattle.lps_core.proofs.PoolTrees.{extends_itself, extends_on}
 use Rattle.lps_core.proofs.SortedTerms.{columns_sorted}
 use Rattle.lps_core.proofs.Staying.{term_is, summand_stays, what_fits_stays}
-use Rattle.lps_core.proofs.StayingFits.{what_fits_fits_still, summand_fits, both_weaker, taken_fits}
+use Rattle.lps_core.proofs.StayingFits.{what_fits_fits_still, summand_fits, taken_fits}
 use Rattle.summand_expander.specs.Product.{flag_of, columns, first_flag, first_columns, product, Separate}
 use Rattle.summand_expander.specs.Renewing.{renewed, KeepsApart}
 use Rattle.summand_expander.specs.Renewals.{IsFlag, GivesWay, all_sums, HasVariable, IsRenewedLinear}
 use Rattle.summand_expander.specs.SideFits.{FitsWithNames, IsFlagOf}
-use Rattle.summand_expander.specs.WholeProducts.{can_end, renewed_number, side_of_linear, renewed_side, AreProductSummands, first_flag_id, AreFirstTerms, IsProduct, IsGoodProduct}
+use Rattle.summand_expander.specs.WholeProducts.{can_end, renewed_number, side_of_linear, AreProductSummands, first_flag_id, AreFirstTerms, IsProduct, IsGoodProduct}
 use Rattle.summand_expander.proofs.Endings.{can_stop, product_stops, meant_stops, renewed_stops}
 use Rattle.summand_expander.proofs.FittingDrafts.{terms_append, false_sorted}
 use Rattle.summand_expander.proofs.GivingWay.{HasGivenWay, has_given_way}

@@ -19,7 +19,7 @@ use Rattle.data_theory.proofs.StandingLemmas.{signatures_have_truth_functions}
 use Rattle.term_pool.specs.HeadTrees.{IsIn, AreIn}
 use Rattle.term_pool.specs.Pools.{Extends}
 use Rattle.term_pool.proofs.DeclaredConstants.{grown_itself}
-use Rattle.process_terms.specs.Meanings.{bound_at, term_at, label_of}
+use Rattle.process_terms.specs.Meanings.{term_at}
 use Rattle.process_terms.specs.SignatureEntries.{entries_of, BothGrow}
 use Rattle.bisim_laws.specs.LinearProcesses as theory
 use Rattle.bisim_laws.specs.BaseStates.{Side}

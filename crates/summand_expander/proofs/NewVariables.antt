@@ -1,37 +1,31 @@
 -- New variables in the place of old ones.
-use Rattle.std.proofs.Common.{◌≡◌, ◌<◌, ◌≤◌, ◌+◌, ◌-◌, ◌==◌, ◌⊎◌, inl, inr, ⊎_elim, ℕ, zero, suc, Bool, true, false, cond, List, [], ◌∷◌, ◌++◌, map, take, length, get_or, refl, sym, ap, ap₂, ◌∙◌, subst, arith, Option, Some, None}
-use Rattle.std.specs.Prelude.{option_map, IfSome}
-use Rattle.std.specs.List.{All, AllZip, Contains}
+use Rattle.std.proofs.Common.{◌≡◌, ◌<◌, ◌≤◌, ◌+◌, ◌-◌, ◌==◌, ◌⊎◌, inl, inr, ⊎_elim, ℕ, zero, suc, true, false, cond, List, [], ◌∷◌, ◌++◌, map, take, length, get_or, refl, sym, ap, ap₂, ◌∙◌, subst, arith}
+use Rattle.std.specs.List.{All, Contains}
 use Rattle.std.proofs.lemmas.Bool.Decides.{eqb_tells}
-use Rattle.std.proofs.lemmas.List.{map-append, take_more, take_all, length-map}
-use Rattle.std.proofs.lemmas.List.Elements.{All-nil, All-cons, All-push, All-head, All-tail, All-contains, All-weaker, Contains-append_left, Contains-append_right, Contains-append_cases}
+use Rattle.std.proofs.lemmas.List.{map-append, take_more, length-map}
+use Rattle.std.proofs.lemmas.List.Elements.{All-nil, All-cons, All-head, All-tail, All-contains, All-weaker}
 use Rattle.data_theory.specs.declared.ids.SortId.{SortId}
 use Rattle.data_theory.specs.declared.ids.VarId.{VarId}
-use Rattle.data_theory.specs.declared.ids.TermId.{TermId}
 use Rattle.data_theory.specs.declared.signature.Variable.{Variable}
-use Rattle.data_theory.specs.Environments.{AreDistinct, term_in, bound}
+use Rattle.data_theory.specs.Environments.{AreDistinct, term_in}
 use Rattle.data_theory.specs.Table.{bool_sort}
-use Rattle.data_theory.specs.Terms.{Sort, boolean, Term, variable as var}
+use Rattle.data_theory.specs.Terms.{Sort, boolean, variable as var}
 use Rattle.data_theory.specs.Declarations.{Declares}
 use Rattle.data_theory.specs.Signature.{Sig}
-use Rattle.data_theory.specs.IdTrees.{Tree, variable}
+use Rattle.data_theory.specs.IdTrees.{variable}
 use Rattle.data_theory.specs.IdTreeSorts.{IsVariableOf, HasTreeSort}
 use Rattle.std.proofs.lemmas.Option.{slice_get_within, slice_get-get_or, get_or_from_slice_get}
 use Rattle.data_theory.specs.IdTerms.{sort_under, variable_sorts}
 use Rattle.bisim_laws.proofs.Firing.{contains_first, contains_later, contains_cases, contains_none}
 use Rattle.lps_core.specs.Fitting.{IsVariable, sort_of_variable, HasTakenName}
 use Rattle.lps_core.specs.Moving.{renaming_to}
-use Rattle.lps_core.specs.Naming.{GrowsByNames}
-use Rattle.lps_core.specs.PlainLinears.{PlainLinear}
-use Rattle.lps_core.specs.TreeSummands.{numbers_of, renaming_tree, bound_tree}
+use Rattle.lps_core.specs.TreeSummands.{numbers_of, renaming_tree}
 use Rattle.lps_core.proofs.Members.{map_contains}
-use Rattle.lps_core.proofs.SortedTerms.{one_sort}
 use Rattle.lps_core.proofs.Staying.{declares_at, read_mapped}
-use Rattle.lps_core.proofs.NamedSums.{variable_kept, sort_kept, sorts_kept}
-use Rattle.lps_core.proofs.StayingFits.{both_weaker}
-use Rattle.summand_expander.specs.Renewals.{HasVariable, renewed_variable, renewed_variables}
+use Rattle.lps_core.proofs.NamedSums.{variable_kept, sorts_kept}
+use Rattle.summand_expander.specs.Renewals.{renewed_variable, renewed_variables}
 use Rattle.summand_expander.specs.WholeProducts.{renewed_number}
-use Rattle.summand_expander.proofs.GivingWay.{decided, NewOnes, HasGivenWay}
+use Rattle.summand_expander.proofs.GivingWay.{decided, NewOnes}
 
 -- ---- which one
 pub found_new : (os ns : List VarId) (x : VarId) → length ns ≡ length os → Contains os x → Contains ns (renewed_variable os ns x)

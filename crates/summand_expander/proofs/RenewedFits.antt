@@ -1,50 +1,49 @@
 -- A linear process with new variables fits, and means the renewed one.
-use Rattle.std.proofs.Common.{◌≡◌, ◌<◌, ◌+◌, ◌==◌, ⊎_elim, inl, inr, ℕ, zero, suc, List, [], ◌∷◌, ◌++◌, map, take, length, get_or, refl, sym, ap, ap₂, ◌∙◌, subst, arith, Option, Some, None}
-use Rattle.std.specs.Prelude.{option_map, flat_map, IfSome}
+use Rattle.std.proofs.Common.{◌≡◌, ◌<◌, ◌+◌, ⊎_elim, ℕ, List, [], ◌∷◌, ◌++◌, map, take, length, get_or, refl, sym, ap, ap₂, ◌∙◌, subst, arith, Option, Some, None}
+use Rattle.std.specs.Prelude.{option_map, IfSome}
 use Rattle.std.specs.List.{All, AllZip, Contains}
-use Rattle.std.proofs.lemmas.List.{map-append, take_more, take_all}
-use Rattle.std.proofs.lemmas.List.Elements.{All-nil, All-cons, All-push, All-head, All-tail, All-append, All-contains, All-weaker, Contains-append_left, Contains-append_right, Contains-append_cases}
+use Rattle.std.proofs.lemmas.List.{map-append, take_more}
+use Rattle.std.proofs.lemmas.List.Elements.{All-nil, All-cons, All-push, All-head, All-tail, All-contains, All-weaker, Contains-append_cases}
 use Rattle.data_theory.specs.declared.ids.SortId.{SortId}
 use Rattle.data_theory.specs.declared.ids.VarId.{VarId}
 use Rattle.data_theory.specs.declared.ids.TermId.{TermId}
 use Rattle.data_theory.specs.Environments.{Environment, term_in, terms_of}
-use Rattle.data_theory.specs.Terms.{Term, boolean, variable as var, put}
+use Rattle.data_theory.specs.Terms.{Term, variable as var, put}
 use Rattle.data_theory.specs.Declarations.{HaveSorts}
-use Rattle.data_theory.specs.Table.{bool_sort}
 use Rattle.data_theory.specs.Signature.{Sig}
 use Rattle.data_theory.specs.IdData.{data_meant}
 use Rattle.data_theory.specs.IdTables.{IsTable}
-use Rattle.data_theory.specs.IdTrees.{Tree, variable, put_tree}
+use Rattle.data_theory.specs.IdTrees.{Tree, put_tree}
 use Rattle.data_theory.specs.IdTreeSorts.{HasTreeSort}
 use Rattle.data_theory.specs.IdTerms.{variable_sorts, term_under}
 use Rattle.data_theory.specs.WholeSignatures.{IsSignature}
-use Rattle.term_pool.specs.HeadTrees.{tree_at, trees_at, IsIn, AreIn}
+use Rattle.term_pool.specs.HeadTrees.{tree_at, trees_at, IsIn}
 use Rattle.term_pool.specs.Pools.{Extends}
 use Rattle.term_pool.specs.Bindings.{listed, listed_terms}
 use Rattle.term_pool.proofs.KeptSorts.{keeps_put}
 use Rattle.process_terms.specs.Labels.{Label, put_label}
 use Rattle.process_terms.specs.Processes.{Bound}
 use Rattle.process_terms.specs.Meanings.{Entries, bound_at, term_at, label_of}
-use Rattle.process_terms.specs.SignatureEntries.{entries_of, BothGrow}
+use Rattle.process_terms.specs.SignatureEntries.{entries_of}
 use Rattle.bisim_laws.specs.LinearProcesses.{Linear, sorts, variables, put_next, IsLinear}
 use Rattle.bisim_laws.specs.LinearProcesses as theory
 use Rattle.lps_core.specs.declared.linears.Summand.{Summand}
-use Rattle.lps_core.specs.Fitting.{Fits, SummandFits, AreTermsOf, IsActionOf, IsVariable, sort_of_variable, HasTakenName}
+use Rattle.lps_core.specs.Fitting.{Fits, SummandFits, AreTermsOf, IsVariable, sort_of_variable, HasTakenName}
 use Rattle.lps_core.specs.Moving.{renaming_to}
 use Rattle.lps_core.specs.PlainLinears.{PlainSummand, PlainLinear, plain_summand, summand_of, linear_of, initial_of}
 use Rattle.lps_core.specs.TreeSummands.{TreeSummand, trees_of_label, trees_of_summand, IsActionIn, IsSummandIn, put_actions, put_in_summand, renaming_tree, numbers_of, meant_action, meant_summand}
 use Rattle.lps_core.proofs.PoolTrees.{extends_itself, extends_on, tree_kept, actions_kept, put_along, args_along, actions_along, listed_kept, all_in_kept}
 use Rattle.lps_core.proofs.KeptSummands.{next_trees_kept, summand_kept, summand_in_kept}
-use Rattle.lps_core.proofs.Members.{contains_map, all_from}
+use Rattle.lps_core.proofs.Members.{contains_map}
 use Rattle.lps_core.proofs.MeantTrees.{Means, put_pointwise, put_means, label_means, next_puts_mean, numbers_meant, renaming_means, summand_read}
-use Rattle.lps_core.proofs.Staying.{term_is, sorts_of_variables, what_fits_is_sorted}
+use Rattle.lps_core.proofs.Staying.{term_is, what_fits_is_sorted}
 use Rattle.lps_core.proofs.NamedSums.{zip_push}
 use Rattle.lps_core.proofs.NamedLinears.{fitting_is_in, put_summand_fits, first_functions}
 use Rattle.summand_expander.specs.Renewing.{renewed_bounds, renewed_terms, renewed_label, renewed_next, renewed_summand, renewed, Renews}
-use Rattle.summand_expander.specs.Renewals.{all_sums, HasVariable, renewed_variable, renewed_variables, AreListed, IsRenewedSummand, AreRenewedSummands, IsRenewedLinear}
+use Rattle.summand_expander.specs.Renewals.{renewed_variable, renewed_variables, AreListed, IsRenewedSummand, AreRenewedSummands, IsRenewedLinear}
 use Rattle.summand_expander.specs.WholeProducts.{renewed_number}
 use Rattle.summand_expander.proofs.GivingWay.{NewOnes}
-use Rattle.summand_expander.proofs.NewVariables.{renaming_is, renaming_is_term, long, tree_renewed, variable_renewed, taken_renewed, sort_renewed, sorts_renewed, meant_renewed, declared_renewed, all_renewed, renewed_apart}
+use Rattle.summand_expander.proofs.NewVariables.{renaming_is_term, tree_renewed, variable_renewed, taken_renewed, sorts_renewed, meant_renewed, declared_renewed, all_renewed, renewed_apart}
 use Rattle.summand_expander.proofs.RenewedSides.{renewed_is_linear}
 
 -- ---- one summand, as the pool grows

@@ -1,9 +1,9 @@
 -- Two linear processes with flags are separate, once the right one has given way.
-use Rattle.std.proofs.Common.{◌≡◌, ◌<◌, ◌≤◌, ◌+◌, ◌⊎◌, ◌||◌, ◌&&◌, inl, inr, ⊎_elim, ℕ, Bool, true, false, List, [], ◌∷◌, ◌++◌, map, length, refl, sym, ap, ap₂, ◌∙◌, subst, arith, is_none, Option, Some, None}
-use Rattle.std.specs.Prelude.{option_map, option_to_list, flat_map, codes, slice_get, IfSome}
+use Rattle.std.proofs.Common.{◌≡◌, ◌<◌, ◌≤◌, ◌||◌, inl, inr, ⊎_elim, ℕ, Bool, true, false, List, [], ◌∷◌, ◌++◌, map, length, refl, sym, ap, ap₂, ◌∙◌, subst, arith, is_none, Option, Some, None}
+use Rattle.std.specs.Prelude.{option_map, option_to_list, codes, IfSome}
 use Rattle.std.specs.List.{All, AllZip, Contains, list_any}
 use Rattle.std.proofs.lemmas.List.{length-append}
-use Rattle.std.proofs.lemmas.List.Elements.{All-nil, All-cons, All-head, All-tail, All-append, All-contains, All-weaker, Contains-append_left, Contains-append_right, Contains-append_cases}
+use Rattle.std.proofs.lemmas.List.Elements.{All-nil, All-cons, Contains-append_cases}
 use Rattle.std.proofs.lemmas.Option.{slice_get_within}
 use Rattle.data_theory.specs.declared.ids.NameId.{NameId}
 use Rattle.data_theory.specs.declared.ids.VarId.{VarId}
@@ -14,7 +14,7 @@ use Rattle.data_theory.specs.EqualityLaws.{Grows}
 use Rattle.data_theory.specs.Environments.{Apart, AreDistinct}
 use Rattle.data_theory.specs.Names.{place_in, with_text}
 use Rattle.data_theory.specs.Table.{bool_sort}
-use Rattle.data_theory.specs.Terms.{Sort, boolean, Term}
+use Rattle.data_theory.specs.Terms.{boolean, Term}
 use Rattle.data_theory.specs.Signature.{Sig, with_variable}
 use Rattle.data_theory.specs.Fresh.{IsFreshIn}
 use Rattle.data_theory.specs.IdData.{data_meant}
@@ -23,21 +23,19 @@ use Rattle.data_theory.specs.IdTrees.{Tree}
 use Rattle.data_theory.specs.WholeSignatures.{IsSignature}
 use Rattle.data_theory.proofs.EnvironmentLemmas.{contains_nothing}
 use Rattle.data_theory.proofs.NameLemmas.{place_is}
-use Rattle.term_pool.specs.HeadTrees.{trees_at}
-use Rattle.process_terms.specs.Processes.{Bound}
 use Rattle.process_terms.specs.Meanings.{bound_at, term_at}
 use Rattle.process_terms.specs.SignatureEntries.{entries_of}
 use Rattle.bisim_laws.specs.LinearProcesses as theory
 use Rattle.bisim_laws.specs.LinearProcesses.{Linear, variables, AreDeclared, IsLinear, IsWellSorted}
 use Rattle.bisim_laws.specs.BaseStates.{Side}
 use Rattle.bisim_laws.proofs.Firing.{contains_first, contains_later, contains_cases, contains_none}
-use Rattle.lps_core.specs.Fitting.{Fits, SummandFits, IsVariable, sort_of_variable, HasTakenName}
+use Rattle.lps_core.specs.Fitting.{Fits, IsVariable, HasTakenName}
 use Rattle.lps_core.specs.Naming.{GrowsByNames}
 use Rattle.lps_core.specs.PlainLinears.{PlainSummand, PlainLinear, summand_of, linear_of}
 use Rattle.lps_core.specs.TreeSummands.{TreeSummand, numbers_of}
 use Rattle.lps_core.proofs.Environments.{variables_append}
 use Rattle.lps_core.proofs.GrowingData.{linear_grown}
-use Rattle.lps_core.proofs.Members.{contains_map, map_contains, all_from, In, in_contains, contains_in, each_in}
+use Rattle.lps_core.proofs.Members.{contains_map, map_contains, in_contains, contains_in, each_in}
 use Rattle.lps_core.proofs.MeantTrees.{numbers_meant}
 use Rattle.lps_core.proofs.NamedSums.{names_none, names_then, names_text, names_variable, variable_kept, sort_kept, last_variable, with_name_has, name_taken}
 use Rattle.lps_core.proofs.NamingLoops.{fresh_names, fresh_within}

@@ -1,6 +1,6 @@
 -- Variables of one linear process that give way to those of another one, in code.
 use Rattle.std.specs.Prelude.{◌≡◌, ◌⊎◌, ◌==◌, ℕ, List, [], ◌∷◌, ◌++◌, Bool, true, false, map, flat_map, length, cond, slice_get, codes, Option, Some, None}
-use Rattle.std.specs.List.{All, AllZip, Contains, list_any}
+use Rattle.std.specs.List.{All, AllZip, Contains}
 use Rattle.data_theory.specs.declared.ids.NameId.{NameId}
 use Rattle.data_theory.specs.declared.ids.VarId.{VarId}
 use Rattle.data_theory.specs.Table.{bool_sort}

@@ -1,12 +1,9 @@
-use Rattle.std.proofs.Common.{◌≡◌, ◌<◌, Some, None, true, false, length, subst, sym, ap, ◌∙◌}
-use Rattle.data_theory.specs.declared.ids.VarId.{VarId}
-use Rattle.data_theory.specs.Table.{bool_sort}
-use Rattle.data_theory.specs.Signature.{Sig, with_variable}
+use Rattle.std.proofs.Common.{◌≡◌, None, true, false, subst, sym, ◌∙◌}
 use Rattle.lps_core.specs.Naming.{GrowsByNames}
 use Rattle.lps_core.specs.PlainLinears.{plain_linear}
-use Rattle.lps_core.proofs.NamedSums.{names_none, names_then, names_variable}
+use Rattle.lps_core.proofs.NamedSums.{names_none}
 use Rattle.lps_core.proofs.NamingLoops.{fresh_names, fresh_within}
-use Rattle.summand_expander.specs.Renewals.{IsFlag, no_flag, new_flag}
+use Rattle.summand_expander.specs.Renewals.{IsFlag, no_flag}
 use Rattle.summand_expander.specs.WholeProducts.{can_end}
 use Rattle.summand_expander.proofs.Endings.{plain_ends}
 use Rattle.summand_expander.proofs.Separating.{bool_within, flag_made, flag_grown}

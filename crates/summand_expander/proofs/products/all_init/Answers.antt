@@ -1,4 +1,4 @@
-use Rattle.std.proofs.Common.{◌≡◌, ◌++◌, ap, ap₂, ◌∙◌}
+use Rattle.std.proofs.Common.{◌++◌, ap, ap₂, ◌∙◌}
 use Rattle.summand_expander.specs.WholeProducts.{first_flag_id}
 use Rattle.summand_expander.proofs.products.all_init.Goals as goal
 

@@ -1,5 +1,4 @@
-use Rattle.std.proofs.Common.{map, Ok, Err}
-use Rattle.lps_core.specs.PlainLinears.{plain_linear, plain_summand}
+use Rattle.lps_core.specs.PlainLinears.{plain_linear}
 use Rattle.summand_expander.specs.Drafts.{plain_side}
 use Rattle.summand_expander.proofs.MadeSummands.{side_in_still, product_summands_made}
 use Rattle.summand_expander.proofs.RenewedFits.{all_in_still}

@@ -1,4 +1,4 @@
-use Rattle.std.proofs.Common.{◌<◌, ◌≡◌, length, subst, sym, ap, ◌∙◌, ◌++◌, [], ◌∷◌}
+use Rattle.std.proofs.Common.{◌<◌, length, subst, sym, ap, ◌∙◌, ◌++◌, [], ◌∷◌}
 use Rattle.data_theory.specs.declared.ids.SortId.{SortId}
 use Rattle.data_theory.specs.declared.ids.VarId.{VarId}
 use Rattle.data_theory.specs.Signature.{with_variable}

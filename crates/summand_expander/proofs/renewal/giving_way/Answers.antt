@@ -1,8 +1,6 @@
-use Rattle.std.proofs.Common.{◌⊎◌, subst, sym, ◌∙◌}
-use Rattle.std.specs.Prelude.{◌↔◌}
-use Rattle.std.specs.List.{All, Contains}
+use Rattle.std.proofs.Common.{subst, sym, ◌∙◌}
+use Rattle.std.specs.List.{All}
 use Rattle.std.proofs.lemmas.List.Elements.{All-weaker}
-use Rattle.data_theory.specs.declared.ids.NameId.{NameId}
 use Rattle.lps_core.specs.Fitting.{IsVariable}
 use Rattle.lps_core.specs.PlainLinears.{plain_linear}
 use Rattle.lps_core.proofs.NamedSums.{names_none, variable_kept}

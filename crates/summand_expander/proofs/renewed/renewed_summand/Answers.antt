@@ -1,8 +1,4 @@
-use Rattle.std.proofs.Common.{◌≡◌, map, subst, ap, ◌∙◌}
-use Rattle.std.specs.Prelude.{option_map}
-use Rattle.data_theory.specs.IdTrees.{put_tree}
-use Rattle.term_pool.specs.HeadTrees.{tree_at, trees_at}
-use Rattle.term_pool.specs.Bindings.{listed}
+use Rattle.std.proofs.Common.{ap, ◌∙◌}
 use Rattle.summand_expander.specs.Renewals.{renewed_variables}
 use Rattle.summand_expander.proofs.RenewedFits.{summand_renewed}
 use Rattle.summand_expander.proofs.renewed.renewed_summand.Goals as goal
