@@ -22,7 +22,7 @@ use std::alloc::Global;
 use term_pool::Pool;
 
 /// Adds the names of variables.
-fn add_variable_names(
+pub fn add_variable_names(
     sig: &Signature,
     vars: &[VarId],
     names: &mut IndexSet<NameId>,
@@ -141,7 +141,7 @@ fn name_all(
 }
 
 /// Next terms with those listed put in.
-fn put_next(
+pub fn put_next(
     alloc: Global,
     pool: &mut Pool,
     next: &Option<Vec<TermId>>,

@@ -129,14 +129,14 @@ module _ (ts : List Tree) where
 
 -- ---- what they mean
 module _ (g : Sig) (table : IsTable g) (complete : IsComplete g) (ts us : List Tree) (e : Extends ts us) where
-  ids_meant : (ids : List TermId) → AreIn ts ids → map (term_at (entries_of g us)) ids ≡ map (term_at (entries_of g ts)) ids
+  pub ids_meant : (ids : List TermId) → AreIn ts ids → map (term_at (entries_of g us)) ids ≡ map (term_at (entries_of g ts)) ids
   ids_meant [] h = refl
   ids_meant (id ∷ ids) h =
       let i = All-head (IsIn ts) id ids h in
       let k = tree_kept ts us id e i in
       ap₂ (λ t zs. t ∷ zs) (term_is g us id k.1 ∙ ap (term_under g) k.0 ∙ sym (term_is g ts id i)) (ids_meant ids (All-tail (IsIn ts) id ids h))
 
-  label_meant : (m : List PlainAction) → All (IsActionIn ts) m → label_of (entries_of g us) m ≡ label_of (entries_of g ts) m
+  pub label_meant : (m : List PlainAction) → All (IsActionIn ts) m → label_of (entries_of g us) m ≡ label_of (entries_of g ts) m
   label_meant [] h = refl
   label_meant (a ∷ m) h = ap₂ (λ (args : List Term) (zs : Label). record { name = (action_of (entries_of g ts) a).name; sorts = (action_of (entries_of g ts) a).sorts; args = args } ∷ zs) (ids_meant a.args (All-head (IsActionIn ts) a m h)) (label_meant m (All-tail (IsActionIn ts) a m h))
 

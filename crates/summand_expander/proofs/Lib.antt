@@ -9,3 +9,12 @@ pub mod DraftLists
 pub mod JoinedDrafts
 pub mod Framing
 pub mod MeantSides
+pub mod GivingWay
+pub mod NewVariables
+pub mod RenewedFits
+pub mod FittingDrafts
+pub mod FittingSides
+pub mod MadeSummands
+pub mod Separating
+pub mod Endings
+pub mod MadeProducts

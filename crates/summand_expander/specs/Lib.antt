@@ -4,3 +4,6 @@ pub mod Renewing
 pub mod Drafts
 pub mod SideMeanings
 pub mod Frames
+pub mod Renewals
+pub mod WholeProducts
+pub mod SideFits

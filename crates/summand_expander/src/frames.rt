@@ -1,6 +1,6 @@
 //! A side of a product from a linear process and its flag.
 
-ghost use Rattle.std.specs.Prelude.{◌≡◌, [], ◌∷◌, map, option_map, IfOk, Some};
+ghost use Rattle.std.specs.Prelude.{◌≡◌, ◌++◌, [], ◌∷◌, map, option_map, option_to_list, IfOk, IfSome, Some};
 ghost use Rattle.std.specs.List.{All, AllZip};
 ghost use Rattle.data_theory.specs.declared.ids.VarId.{VarId as MeantVariable};
 ghost use Rattle.data_theory.specs.IdTrees.{variable};
@@ -9,11 +9,12 @@ ghost use Rattle.data_theory.specs.WholeSignatures.{IsSignature};
 ghost use Rattle.term_pool.specs.HeadTrees.{trees_at, AreIn};
 ghost use Rattle.term_pool.specs.Pools.{Extends};
 ghost use Rattle.process_terms.specs.SignatureEntries.{entries_of};
-ghost use Rattle.lps_core.specs.Fitting.{Fits};
+ghost use Rattle.lps_core.specs.Fitting.{sort_of_variable, Fits};
 ghost use Rattle.lps_core.specs.PlainLinears.{linear_of, plain_linear, plain_next, plain_summand};
 ghost use Rattle.lps_core.specs.TreeSummands.{IsSummandIn};
 ghost use Rattle.summand_expander.specs.Drafts.{plain_move, plain_side};
 ghost use Rattle.summand_expander.specs.Frames.{columns_after, plain_frame, IsFrame, IsMoveOf};
+ghost use Rattle.summand_expander.specs.SideFits.{IsFlagOf, SideFits};
 ghost use Rattle.summand_expander.specs.SideMeanings.{IsSideIn, SideMeans};
 
 use crate::drafts::joined;
@@ -162,6 +163,7 @@ pub fn side_of(
     ensures constants { pool.new.constants ≡ pool.old.constants }
     ensures within { IfOk result (λ side. IsSideIn pool.new.trees (plain_side side)) }
     ensures means { IfOk result (λ side. (g : Sig) → IsSignature g → Fits g pool.new.trees (plain_linear lin.now) → SideMeans (entries_of g pool.new.trees) (plain_side side) (record { process = linear_of (entries_of g pool.new.trees) (plain_linear lin.now); flag = option_map (λ (v : MeantVariable). v.0) flag })) }
+    ensures fits { IfOk result (λ side. (g : Sig) → IsSignature g → Fits g pool.new.trees (plain_linear lin.now) → IfSome flag (IsFlagOf g) → SideFits g pool.new.trees (map (sort_of_variable g) (lin.now.params.items ++ option_to_list flag)) (plain_side side)) }
 {
     let frame = frame_of(alloc, pool, lin.params.as_slice(), flag)?;
     let moves = moves_of(alloc, pool, &frame, lin.summands.as_slice())?;

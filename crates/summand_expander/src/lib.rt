@@ -1,12 +1,16 @@
 //! The product of two linear processes.
+//!
+//! What it is stands in `specs/Product.antt` and `specs/WholeProducts.antt`, and in plain words in `docs/definitions/product.md`.
 #![tactic(auto)]
 
 mod drafts;
+mod flag;
 mod frames;
 pub mod laws;
+mod products;
+mod renewal;
+mod renewed;
 mod sides;
 mod summands;
 
-pub use frames::side_of;
-pub use sides::{Move, Side};
-pub use summands::summands_of;
+pub use products::product;

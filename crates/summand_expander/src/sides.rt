@@ -1,6 +1,7 @@
 //! What a product is made of: its two sides, and its summands before their conditions are joined.
 
 use data_theory::{TermId, VarId};
+use indexmap::IndexSet;
 use process_terms::Label;
 
 /// A summand of one side.
@@ -48,4 +49,11 @@ pub struct Frame {
     pub running: Vec<TermId>,
     /// The flag's column once it is set.
     pub set: Vec<TermId>,
+}
+
+/// Variables of the side that gives way, in their order, and the new ones in their places.
+#[derive(Drop)]
+pub struct Renewal {
+    pub from: IndexSet<VarId>,
+    pub to: Vec<VarId>,
 }

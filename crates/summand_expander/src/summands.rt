@@ -1,17 +1,22 @@
 //! The summands of a product, once its sides are known.
 
-ghost use Rattle.std.specs.Prelude.{◌≡◌, [], map, IfOk};
+ghost use Rattle.std.specs.Prelude.{◌≡◌, ◌++◌, List, [], map, IfOk};
 ghost use Rattle.std.specs.List.{All};
+ghost use Rattle.data_theory.specs.declared.ids.SortId.{SortId};
+ghost use Rattle.data_theory.specs.declared.ids.VarId.{VarId};
 ghost use Rattle.data_theory.specs.Signature.{Sig};
+ghost use Rattle.data_theory.specs.WholeSignatures.{IsSignature};
 ghost use Rattle.data_theory.specs.Complete.{IsComplete};
 ghost use Rattle.data_theory.specs.IdTables.{IsTable};
 ghost use Rattle.term_pool.specs.HeadTrees.{AreIn, IsIn};
 ghost use Rattle.term_pool.specs.Pools.{Extends};
 ghost use Rattle.process_terms.specs.SignatureEntries.{entries_of};
 ghost use Rattle.bisim_laws.specs.BaseStates.{Side as MeantSide};
+ghost use Rattle.lps_core.specs.Fitting.{sort_of_variable};
 ghost use Rattle.lps_core.specs.PlainLinears.{plain_summand, summand_of};
 ghost use Rattle.summand_expander.specs.Drafts.{plain_draft, plain_side};
 ghost use Rattle.summand_expander.specs.Product.{product};
+ghost use Rattle.summand_expander.specs.SideFits.{FitsWithNames, SideFits};
 ghost use Rattle.summand_expander.specs.SideMeanings.{joined_draft, joined_summand, AreJoined, IsDraftIn, IsSideIn, SideMeans};
 
 use crate::drafts::drafts_of;
@@ -73,6 +78,7 @@ pub fn summands_of(
     ensures kept { Extends pool.old.trees pool.new.trees }
     ensures constants { pool.new.constants ≡ pool.old.constants }
     ensures means { IfOk result (λ made. (g : Sig) → IsTable g → IsComplete g → (a b : MeantSide) → SideMeans (entries_of g pool.old.trees) (plain_side left.now) a → SideMeans (entries_of g pool.old.trees) (plain_side right.now) b → map (summand_of (entries_of g pool.new.trees)) (map plain_summand made.items) ≡ (product a b).summands) }
+    ensures fits { IfOk result (λ made. (g : Sig) → IsSignature g → (params : List VarId) (ps qs : List SortId) → SideFits g pool.old.trees ps (plain_side left.now) → SideFits g pool.old.trees qs (plain_side right.now) → map (sort_of_variable g) params ≡ ps ++ qs → All (FitsWithNames g pool.new.trees params) (map plain_summand made.items)) }
 {
     let drafts = drafts_of(alloc, left, right)?;
     all_finished(alloc, pool, drafts)
