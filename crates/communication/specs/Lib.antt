@@ -1,0 +1,3 @@
+pub mod Ways
+pub mod Communicated
+pub mod CommunicationLaws
