@@ -4,3 +4,6 @@ pub mod Listed
 pub mod Parted
 pub mod Communicating
 pub mod CommunicationWhole
+pub mod Rounds
+pub mod Mapped
+pub mod Stepping

@@ -4,3 +4,11 @@
 #![tactic(auto)]
 
 pub mod laws;
+mod places;
+mod plans;
+mod starts;
+mod ways;
+
+pub use places::{Group, Item, Place, Way, places_of};
+pub use plans::{Equality, Plan, plan_of};
+pub use ways::ways_of;
