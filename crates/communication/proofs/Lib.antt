@@ -7,3 +7,5 @@ pub mod CommunicationWhole
 pub mod Rounds
 pub mod Mapped
 pub mod Stepping
+pub mod MeantPlaces
+pub mod MeantWays

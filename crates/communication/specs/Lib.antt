@@ -5,3 +5,4 @@ pub mod Rounds
 pub mod Places
 pub mod Plans
 pub mod PlaceConditions
+pub mod WayMeanings

@@ -7,3 +7,11 @@ pub fn ways_are_communication()
     ensures linear { CommunicatingIsLinear }
     ensures good { CommunicatingIsGood }
 {}
+
+ghost use Rattle.communication.specs.WayMeanings.{FurtherGroupsMeanFurtherGroups, WaysMeanWays};
+
+/// What the ways of a label's places mean are the ways of the label, with the same further groups.
+pub fn ways_mean_ways()
+    ensures ways { WaysMeanWays }
+    ensures further { FurtherGroupsMeanFurtherGroups }
+{}
