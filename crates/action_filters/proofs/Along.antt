@@ -12,7 +12,7 @@ pub record IsAlong {A B N M : Type 0} (w : Naming A N) (v : Naming B M) (h : A �
   pub same : (x y : N) → Q x → Q y → v.same (f x) (f y) ≡ w.same x y
 
 module _ {A B N M : Type 0} (w : Naming A N) (v : Naming B M) (h : A → B) (f : N → M) (P : A → Type 0) (Q : N → Type 0) (along : IsAlong w v h f P Q) where
-  names_along : (m : List A) → All P m → (map v.name (map h m) ≡ map f (map w.name m)) × All Q (map w.name m)
+  pub names_along : (m : List A) → All P m → (map v.name (map h m) ≡ map f (map w.name m)) × All Q (map w.name m)
   names_along [] k = (refl, All-nil Q)
   names_along (a ∷ m) k =
       let first = along.named a (All-head P a m k) in
@@ -53,7 +53,7 @@ module _ {A B N M : Type 0} (w : Naming A N) (v : Naming B M) (h : A → B) (f :
       by false None i = tt
       by false (Some zs) i = All-cons Q y zs (All-head Q y ys k) i
 
-  permuted_along : (xs ys : List N) → All Q xs → All Q ys → is_permuted v.same (map f xs) (map f ys) ≡ is_permuted w.same xs ys
+  pub permuted_along : (xs ys : List N) → All Q xs → All Q ys → is_permuted v.same (map f xs) (map f ys) ≡ is_permuted w.same xs ys
   unfolding AllWhere
   permuted_along [] [] j k = refl
   permuted_along [] (y ∷ ys) j k = refl

@@ -46,7 +46,7 @@ fn is_among(names: &[NameId], name: NameId) -> bool
 }
 
 /// Takes the first one of a name out, if there is one.
-fn take_one(unmatched: &mut Vec<NameId>, name: NameId) -> bool
+pub fn take_one(unmatched: &mut Vec<NameId>, name: NameId) -> bool
     ensures { without_one same_name name unmatched.old.items ≡ (if result then Some unmatched.new.items else None) }
 {
     for place in 0..unmatched.len() {

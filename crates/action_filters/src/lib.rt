@@ -7,3 +7,4 @@ mod filters;
 mod labels;
 
 pub use filters::{allow, block, hide, rename};
+pub use labels::take_one;

@@ -1,0 +1,11 @@
+pub mod SortsTold
+pub mod Picks
+pub mod Listed
+pub mod Parted
+pub mod Communicating
+pub mod CommunicationWhole
+pub mod Rounds
+pub mod Mapped
+pub mod Stepping
+pub mod MeantPlaces
+pub mod MeantWays

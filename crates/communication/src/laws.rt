@@ -1,0 +1,17 @@
+//! The laws of communication. The functions do nothing: each contract is a law.
+
+ghost use Rattle.communication.specs.CommunicationLaws.{CommunicatingIsGood, CommunicatingIsLinear};
+
+/// The listed ways of each summand are a linear process, well sorted, which does what the process does under `comm`.
+pub fn ways_are_communication()
+    ensures linear { CommunicatingIsLinear }
+    ensures good { CommunicatingIsGood }
+{}
+
+ghost use Rattle.communication.specs.WayMeanings.{FurtherGroupsMeanFurtherGroups, WaysMeanWays};
+
+/// What the ways of a label's places mean are the ways of the label, with the same further groups.
+pub fn ways_mean_ways()
+    ensures ways { WaysMeanWays }
+    ensures further { FurtherGroupsMeanFurtherGroups }
+{}

@@ -1,0 +1,160 @@
+//! The groups that an action of a label begins.
+
+ghost use Rattle.std.specs.Prelude.{◌≡◌, ◌++◌, map, flat_map, IfOk, OnOk};
+ghost use Rattle.process_terms.specs.PlainProcesses.{plain_rule, plain_rules};
+ghost use Rattle.communication.specs.Places.{joining_of, placed, plain_draft, plain_group, plain_start};
+ghost use Rattle.communication.specs.Rounds.{drafts, grown, grown_by, if_whole, passing, taking};
+ghost use Rattle.communication.specs.Ways.{starts, starts_by};
+
+use crate::places::{Draft, Group, Place, Start};
+use action_filters::take_one;
+use data_theory::{NameId, NoMemory};
+use process_terms::{CommRule, CommSet};
+use std::alloc::Global;
+
+/// Adds the draft with the next action, where it has a name that is wanted and the first one's sorts.
+fn add_taking(
+    alloc: Global,
+    first: Place,
+    next: Place,
+    draft: &Draft,
+    found: &mut Vec<Draft>,
+) -> Result<(), NoMemory>
+    ensures { OnOk result (map plain_draft found.new.items ≡ map plain_draft found.old.items ++ taking placed first next (plain_draft draft.now)) }
+{
+    if first.class != next.class {
+        return Ok(());
+    }
+    let mut wanted = draft.wanted.to_vec(alloc)?;
+    if !take_one(&mut wanted, next.name) {
+        return Ok(());
+    }
+    let mut chosen = draft.chosen.to_vec(alloc)?;
+    chosen.push(next)?;
+    found.push(Draft {
+        wanted,
+        chosen,
+        passed: draft.passed.to_vec(alloc)?,
+    })?;
+    Ok(())
+}
+
+/// The draft without the next action.
+fn passed_by(alloc: Global, next: Place, draft: &Draft) -> Result<Draft, NoMemory>
+    ensures { IfOk result (λ made. plain_draft made ≡ passing next (plain_draft draft.now)) }
+{
+    let mut passed = draft.passed.to_vec(alloc)?;
+    passed.push(next)?;
+    Ok(Draft {
+        wanted: draft.wanted.to_vec(alloc)?,
+        chosen: draft.chosen.to_vec(alloc)?,
+        passed,
+    })
+}
+
+/// The drafts with the next action and without it.
+fn grown(alloc: Global, first: Place, next: Place, drafts: &[Draft]) -> Result<Vec<Draft>, NoMemory>
+    ensures { IfOk result (λ found. map plain_draft found.items ≡ flat_map (grown placed first next) (map plain_draft drafts.now)) }
+{
+    let mut found = Vec::new(alloc);
+    for draft in drafts {
+        add_taking(alloc, first, next, draft, &mut found)?;
+        found.push(passed_by(alloc, next, draft)?)?;
+    }
+    Ok(found)
+}
+
+/// The drafts with some of the later actions.
+fn grown_by(
+    alloc: Global,
+    first: Place,
+    later: &[Place],
+    drafts: Vec<Draft>,
+) -> Result<Vec<Draft>, NoMemory>
+    ensures { IfOk result (λ found. map plain_draft found.items ≡ grown_by placed first later.now (map plain_draft drafts.items)) }
+{
+    let mut found = drafts;
+    for next in later {
+        found = grown(alloc, first, *next, found.as_slice())?;
+    }
+    Ok(found)
+}
+
+/// The drafts for a left side, from its first action on.
+fn drafts_of(
+    alloc: Global,
+    left: &[NameId],
+    first: Place,
+    later: &[Place],
+) -> Result<Vec<Draft>, NoMemory>
+    ensures { IfOk result (λ found. map plain_draft found.items ≡ drafts placed left.now first later.now) }
+{
+    let mut wanted = left.to_vec(alloc)?;
+    let mut found = Vec::new(alloc);
+    if take_one(&mut wanted, first.name) {
+        found.push(Draft {
+            wanted,
+            chosen: Vec::new(alloc),
+            passed: Vec::new(alloc),
+        })?;
+    }
+    grown_by(alloc, first, later, found)
+}
+
+/// Adds the start of a complete draft.
+fn add_start(
+    alloc: Global,
+    result_name: NameId,
+    first: Place,
+    draft: &Draft,
+    found: &mut Vec<Start>,
+) -> Result<(), NoMemory>
+    ensures { OnOk result (map plain_start found.new.items ≡ map plain_start found.old.items ++ if_whole result_name first (plain_draft draft.now)) }
+{
+    if !draft.wanted.is_empty() {
+        return Ok(());
+    }
+    let group = Group {
+        result: result_name,
+        first,
+        others: draft.chosen.to_vec(alloc)?,
+    };
+    found.push(Start {
+        group,
+        behind: draft.passed.to_vec(alloc)?,
+    })?;
+    Ok(())
+}
+
+/// Adds the groups of a rule that an action begins.
+fn add_starts_by(
+    alloc: Global,
+    rule: &CommRule,
+    first: Place,
+    later: &[Place],
+    found: &mut Vec<Start>,
+) -> Result<(), NoMemory>
+    ensures { OnOk result (map plain_start found.new.items ≡ map plain_start found.old.items ++ starts_by placed first later.now (joining_of (plain_rule rule.now))) }
+{
+    let drafts = drafts_of(alloc, rule.left.as_slice(), first, later)?;
+    for draft in &drafts {
+        add_start(alloc, rule.result, first, draft, found)?;
+    }
+    Ok(())
+}
+
+/// The groups that an action begins: the rules in their order, and for each the choices of later actions.
+pub(crate) fn starts_of(
+    alloc: Global,
+    rules: &CommSet,
+    first: Place,
+    later: &[Place],
+) -> Result<Vec<Start>, NoMemory>
+    ensures { IfOk result (λ found. map plain_start found.items ≡ starts placed (map joining_of (plain_rules rules.now)) first later.now) }
+{
+    let mut found = Vec::new(alloc);
+    for rule in &rules.rules {
+        add_starts_by(alloc, rule, first, later, &mut found)?;
+    }
+    Ok(found)
+}
