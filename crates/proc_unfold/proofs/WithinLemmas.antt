@@ -21,7 +21,7 @@ use Rattle.proc_unfold.proofs.ParallelNames.{no_recursion}
 sequential_fewer : (P Q : ℕ → Type 0) → ((x : ℕ) → Q x → P x) → (p : Body) → IsSequentialBut P p → IsSequentialBut Q p
 sequential_fewer P Q f p h = (h.0, λ x stands q. h.1 x stands (f x q))
 
-outside_fewer : (P Q : ℕ → Type 0) → ((x : ℕ) → Q x → P x) → (p : Body) → IsOutsideBut P p → IsOutsideBut Q p
+pub outside_fewer : (P Q : ℕ → Type 0) → ((x : ℕ) → Q x → P x) → (p : Body) → IsOutsideBut P p → IsOutsideBut Q p
 outside_fewer P Q f written_delta h = tt
 outside_fewer P Q f (written_act m) h = tt
 outside_fewer P Q f (written_choice p q) h = sequential_fewer P Q f (written_choice p q) h
