@@ -1,5 +1,5 @@
 -- What is opened in code unfolds what it means, and its components are well formed.
-use Rattle.std.proofs.Common.{◌≡◌, ◌∙◌, ◌==◌, ◌⊎◌, ◌↔◌, inl, inr, ⊎_elim, ℕ, zero, suc, Bool, true, false, not, ◌&&◌, cond as by_test, List, [], ◌∷◌, map, length, refl, sym, ap, ap₂, subst, Some}
+use Rattle.std.proofs.Common.{◌≡◌, ◌∙◌, ◌==◌, ◌⊎◌, ◌↔◌, inl, inr, ⊎_elim, ℕ, suc, Bool, true, false, not, ◌&&◌, cond as by_test, List, [], ◌∷◌, map, length, refl, sym, ap, subst, Some}
 use Rattle.std.specs.Prelude.{slice_get, Contains}
 use Rattle.std.specs.Option.{option_map}
 use Rattle.std.specs.List.{All, zip}
@@ -30,9 +30,9 @@ use Rattle.term_pool.specs.HeadTrees.{tree_at, trees_at, IsIn, AreIn}
 use Rattle.term_pool.specs.Bindings.{listed_terms}
 use Rattle.term_pool.specs.TermSorts.{HaveVariableSorts}
 use Rattle.process_terms.specs.Theories.{Theory}
-use Rattle.process_terms.specs.Processes.{Body, written_merge, written_call, merged_with, merge_of, Definition, Table}
-use Rattle.process_terms.specs.PlainProcesses.{PlainAround, PlainProcess, PlainProcesses, call, no_processes, more_processes, PlainDefinition, PlainModel, PlainComponent}
-use Rattle.process_terms.specs.Meanings.{Entries, ReadsOnly, term_at, body_of, bodies_of, component_body, definition_of, table_of}
+use Rattle.process_terms.specs.Processes.{Body, written_call, merged_with, merge_of, Table}
+use Rattle.process_terms.specs.PlainProcesses.{PlainProcess, PlainProcesses, call, no_processes, more_processes, PlainDefinition, PlainModel}
+use Rattle.process_terms.specs.Meanings.{Entries, ReadsOnly, term_at, body_of, bodies_of, definition_of, table_of}
 use Rattle.process_terms.specs.SignatureEntries.{entries_of}
 use Rattle.bisim_laws.specs.Sameness.{same_delta}
 use Rattle.guard_check.specs.declared.calls.Extent.TheVariants.{Everywhere}
@@ -40,22 +40,21 @@ use Rattle.guard_check.specs.Calls.{calls, Calls, Reaches}
 use Rattle.guard_check.specs.CallGraphs.{plain_calls, all_calls}
 use Rattle.guard_check.proofs.CallLemmas.{same_calls}
 use Rattle.guard_check.proofs.GuardLemmas.{reaches_on}
-use Rattle.lps_core.specs.Fitting.{IsTermOf, AreTermsOf, sort_of_variable}
+use Rattle.lps_core.specs.Fitting.{IsTermOf, sort_of_variable}
 use Rattle.lps_core.specs.TreeSummands.{numbers_of}
 use Rattle.lps_core.proofs.Staying.{term_is}
 use Rattle.lps_core.proofs.Members.{all_at}
-use Rattle.proc_unfold.specs.Parallel.{IsParallelName, IsSequential, IsSequentialBut}
-use Rattle.proc_unfold.specs.ParallelTests.{has_one, has_parallel, none_marked, is_sequential}
+use Rattle.proc_unfold.specs.Parallel.{IsParallelName, IsSequential}
+use Rattle.proc_unfold.specs.ParallelTests.{none_marked, is_sequential}
 use Rattle.proc_unfold.specs.Unfolding.{Unfolds, kept, opened, merged, under as unfolds_under}
 use Rattle.proc_unfold.specs.Networks.{PlainNetwork, PlainNetworks, network_body, network_bodies, AllComponents, AllComponentsOfEach}
-use Rattle.proc_unfold.specs.PutTerms.{ArePut, IsPutIn, put_call}
+use Rattle.proc_unfold.specs.PutTerms.{IsPutIn, put_call}
 use Rattle.proc_unfold.specs.FittingModels.{TermsFit, CallFits, ProcessFits, ProcessesFit, DefinitionFits, ModelFits}
 use Rattle.proc_unfold.specs.Unfolded.{IsComponentOf}
 use Rattle.proc_unfold.specs.Opening.{Opens, AllOpen, term_kept, call_kept, call_opened, beside, one_choice, one_step, no_sum, within, none_open, more_open}
 use Rattle.proc_unfold.proofs.ParallelLemmas.{sequential_tells}
 use Rattle.proc_unfold.proofs.PutBodies.{env_of, IsFixed, AreFixedOrOpen, through_first, terms_mean, put_same}
 use Rattle.proc_unfold.proofs.PutFits.{Covers, put_calls, put_parallel, terms_fit, put_fits}
-use Rattle.proc_unfold.proofs.OpeningLemmas.{bound_in}
 
 -- ---- networks of chains
 data AllUnfold (th : Theory) (d : Table) (e : Environment) : List Body → List Body → Type 0 where

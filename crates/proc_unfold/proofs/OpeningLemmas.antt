@@ -1,41 +1,39 @@
 -- What process terms unfold to, step by step.
-use Rattle.std.proofs.Common.{◌≡◌, ◌∙◌, ◌<◌, ◌≤◌, ◌+◌, ◌*◌, ◌&&◌, ◌⊎◌, inl, inr, Bool, true, false, not, ℕ, zero, suc, List, [], ◌∷◌, ◌++◌, map, take, length, get_or, refl, sym, ap, subst, Some, None, arith, Vec, max}
-use Rattle.std.specs.Prelude.{slice_get, Option, Result, IfOk}
+use Rattle.std.proofs.Common.{◌≡◌, ◌∙◌, ◌<◌, ◌+◌, ◌&&◌, Bool, true, false, ℕ, zero, suc, List, [], ◌∷◌, ◌++◌, map, take, length, get_or, refl, sym, ap, subst, Some, arith, Vec}
+use Rattle.std.specs.Prelude.{slice_get, Result, IfOk}
 use Rattle.std.proofs.lemmas.Result.{IfOk-weaker}
-use Rattle.std.specs.Option.{option_map}
 use Rattle.std.specs.List.{Contains, zip}
 use Rattle.std.specs.Global.{Global, Box}
-use Rattle.std.proofs.lemmas.List.{map-append, take_more, length-map}
+use Rattle.std.proofs.lemmas.List.{map-append, take_more}
 use Rattle.std.proofs.lemmas.List.Elements.{Contains-append_left, Contains-append_right, All-nil, All-cons, All-head, All-tail}
-use Rattle.std.proofs.lemmas.Option.{slice_get-map, slice_get-get_or, slice_get_within}
 use Rattle.data_theory.specs.declared.ids.ProcId.{ProcId}
 use Rattle.data_theory.specs.declared.ids.VarId.{VarId}
 use Rattle.data_theory.specs.declared.ids.TermId.{TermId}
 use Rattle.data_theory.specs.IdTrees.{Tree}
 use Rattle.graphs.specs.Graphs.{IsMarked}
-use Rattle.graphs.proofs.Marks.{contains_last, only_one}
+use Rattle.graphs.proofs.Marks.{contains_last}
 use Rattle.term_pool.specs.HeadTrees.{IsIn, AreIn}
 use Rattle.term_pool.specs.Bindings.{listed_terms}
 use Rattle.term_pool.specs.Pools.{Extends}
-use Rattle.process_terms.specs.declared.definitions.ProcDef.{ProcDef}
 use Rattle.process_terms.specs.declared.components.Component.TheVariants as components
 use Rattle.process_terms.specs.declared.processes.Proc.{Proc}
 use Rattle.process_terms.specs.declared.processes.Proc.TheVariants as procs
-use Rattle.process_terms.specs.PlainProcesses.{PlainAround, PlainProcess, PlainProcesses, call, choice, seq, sum, merge, around, PlainDefinition, PlainModel, plain_definition, processes_of, plain_process}
+use Rattle.process_terms.specs.PlainProcesses.{PlainProcess, call, sum, around, PlainDefinition, PlainModel, processes_of, plain_process}
 use Rattle.guard_check.specs.declared.calls.Extent.TheVariants.{Everywhere}
 use Rattle.guard_check.specs.CallGraphs.{plain_calls, all_calls}
-use Rattle.lps_core.proofs.PoolTrees.{extends_itself, extends_on, all_in_kept}
+use Rattle.lps_core.proofs.PoolTrees.{extends_on, all_in_kept}
 use Rattle.proc_unfold.specs.declared.outside.Parallelism.{Parallelism}
 use Rattle.proc_unfold.specs.declared.networks.NetOp.{NetOp}
 use Rattle.proc_unfold.specs.declared.networks.Network.{Network}
 use Rattle.proc_unfold.specs.declared.networks.Network.TheVariants as nets
 use Rattle.proc_unfold.specs.declared.opening.Entered.{Entered}
-use Rattle.proc_unfold.specs.ParallelTests.{has_one, is_sequential, is_outside, all_outside}
-use Rattle.proc_unfold.specs.Networks.{PlainNetwork, leaf, side_by_side, under, networks_of, plain_network, plain_operator}
-use Rattle.proc_unfold.specs.PutTerms.{IsProcessIn, ArePut, PutsTerms, PutsIn}
-use Rattle.proc_unfold.specs.Opening.{Opens, AllOpen, term_kept, call_kept, call_opened, beside, one_choice, one_step, no_sum, within, none_open, more_open, OpensTo, AllOpenTo, AreReached, AreBelow, IsReady, HasReadyBodies, is_parallel_call, Enters, IsSettled, EntersOnce, EntersFully}
+use Rattle.proc_unfold.specs.ParallelTests.{is_sequential, is_outside, all_outside}
+use Rattle.proc_unfold.specs.Networks.{PlainNetwork, networks_of, plain_network, plain_operator}
+use Rattle.proc_unfold.specs.PutTerms.{ArePut, PutsTerms, PutsIn}
+use Rattle.proc_unfold.specs.Opening.{Opens, AllOpen, term_kept, call_kept, call_opened, beside, one_choice, one_step, no_sum, within, none_open, more_open, OpensTo, AllOpenTo, AreReached, IsReady, HasReadyBodies, is_parallel_call, Enters, IsSettled}
+use Rattle.proc_unfold.proofs.LoopLemmas.{one_is}
 use Rattle.proc_unfold.proofs.ProcessSteps.{call_step, choice_step, seq_step, sum_step, merge_step, leaf_step, side_step, under_step}
-use Rattle.proc_unfold.proofs.PuttingLemmas.{process_kept, terms_put}
+use Rattle.proc_unfold.proofs.PuttingLemmas.{process_kept}
 
 -- ---- what is known stays as the pool grows
 pub ready_kept : (m : PlainModel) (found : Parallelism) (ts us : List Tree) → Extends ts us → (rank : ℕ) (p : PlainProcess) → IsReady m found ts rank p → IsReady m found us rank p
@@ -85,11 +83,6 @@ module _ (m : PlainModel) (found : Parallelism) (new : List Tree) (by : List (Va
   merge_opens p parts items ns is e all =
       let all' : AllOpenTo m found new by (processes_of (map plain_process parts.items)) ns = subst (λ l. AllOpenTo m found new by (processes_of (map plain_process l)) ns) e all in
       opens_at (ap plain_process is ∙ merge_step parts) (side_step ns) (λ ts k. beside (all'.later ts k))
-
-  one_is : (ps : List Proc) → length ps ≡ 1 → has_one (processes_of (map plain_process ps)) ≡ true
-  one_is [] l = absurd (omega (arith, l))
-  one_is (p ∷ []) l = refl
-  one_is (p ∷ q ∷ ps) l = absurd (omega (arith, l))
 
   pub choice_opens : (p : Proc) (parts : Vec Proc Global) (items : List Proc) (ns : Vec Network Global) → p ≡ procs.Choice parts → items ≡ parts.items → length parts.items ≡ 1
       → AllOpenTo m found new by (processes_of (map plain_process items)) ns → OpensTo m found new by (plain_process p) (nets.Merge ns)
@@ -143,9 +136,6 @@ pub bound_in : (ts : List Tree) (xs : List VarId) (ids : List TermId) → AreIn 
 bound_in ts [] ids h = All-nil (IsIn ts)
 bound_in ts (x ∷ xs) [] h = All-nil (IsIn ts)
 bound_in ts (x ∷ xs) (id ∷ ids) h = All-cons (IsIn ts) id (listed_terms (zip xs ids)) (All-head (IsIn ts) id ids h) (bound_in ts xs ids (All-tail (IsIn ts) id ids h))
-
-pub definition_there : (ds : List ProcDef) (x : ℕ) (d : ProcDef) → x < length ds → d ≡ get_or ds x d → slice_get (map plain_definition ds) x ≡ Some (plain_definition d)
-definition_there ds x d l e = slice_get-map plain_definition ds x ∙ ap (option_map plain_definition) (slice_get-get_or ds x d l ∙ ap Some (sym e))
 
 same_definition : (ds : List PlainDefinition) (x : ℕ) (c f : PlainDefinition) → slice_get ds x ≡ Some c → slice_get ds x ≡ Some f → c ≡ f
 same_definition ds x c f e h = let both : Some c ≡ Some f = sym e ∙ h in cc

@@ -1,6 +1,6 @@
 -- What process terms with terms put in mean.
 use Rattle.std.proofs.Common.{◌≡◌, ◌==◌, ◌||◌, ◌⊎◌, inl, inr, ⊎_elim, ℕ, Bool, true, false, not, cond as by_test, List, [], ◌∷◌, map, refl, sym, ap, ap₂, ◌∙◌, subst}
-use Rattle.std.specs.List.{All, Contains, filter, list_any}
+use Rattle.std.specs.List.{Contains}
 use Rattle.std.proofs.lemmas.List.Elements.{All-head, All-tail, All-nil, All-cons}
 use Rattle.std.proofs.lemmas.Bool.Decides.{eqb_tells}
 use Rattle.data_theory.specs.declared.ids.VarId.{VarId}
@@ -15,15 +15,15 @@ use Rattle.data_theory.specs.IdTerms.{term_under}
 use Rattle.data_theory.proofs.EnvironmentLemmas.{putting_in_twice, contains_first, contains_later, contains_cases, contains_nothing}
 use Rattle.term_pool.specs.HeadTrees.{tree_at, trees_at, IsIn, AreIn}
 use Rattle.term_pool.specs.Bindings.{listed, listed_terms}
-use Rattle.process_terms.specs.Theories.{Theory, Equal, Equals, no_terms, more_terms}
-use Rattle.process_terms.specs.Labels.{Action, Label, put_label, AgreeInOrder}
-use Rattle.process_terms.specs.Processes.{Body, written_choice, written_seq, written_merge, chain_of, merged_with, merge_of, sums_around}
+use Rattle.process_terms.specs.Theories.{Theory, Equal, Equals}
+use Rattle.process_terms.specs.Labels.{Label, put_label, AgreeInOrder}
+use Rattle.process_terms.specs.Processes.{Body, written_choice, written_seq, chain_of, merged_with, merge_of, sums_around}
 use Rattle.process_terms.specs.PlainProcesses.{PlainAction, PlainProcess, PlainProcesses}
 use Rattle.process_terms.specs.Meanings.{Entries, term_at, bound_at, label_of, body_of, bodies_of}
 use Rattle.process_terms.specs.SignatureEntries.{entries_of}
-use Rattle.process_terms.proofs.AgreeingLabels.{agree_refl}
+use Rattle.process_terms.proofs.AgreeingLabels.{equals_refl, agree_refl}
 use Rattle.bisim_laws.specs.Sameness.{SameBody, same_delta, same_act, same_choice, same_seq, same_cond, same_sum, same_call, same_merge, same_around}
-use Rattle.lps_core.specs.TreeSummands.{trees_of_label, numbers_of, meant_action}
+use Rattle.lps_core.specs.TreeSummands.{numbers_of, meant_action}
 use Rattle.lps_core.proofs.Staying.{term_is, terms_are}
 use Rattle.lps_core.proofs.MeantTrees.{Means, put_pointwise, put_means, puts_mean, label_means, label_read}
 use Rattle.proc_unfold.specs.PutTerms.{is_among, without, ArePut, IsTermPut, IsLabelPut, IsPutIn, ArePutIn, put_delta, put_act, put_call, put_choice, put_seq, put_cond, put_sum, put_merge, put_around, none_put, more_put}
@@ -151,10 +151,6 @@ merged_same h (more_same i k) = merged_same (same_merge h i) k
 merge_same : {th : Theory} {d e : Environment} {ps qs : List Body} → AllSame th d e ps qs → SameBody th d (merge_of ps) e (merge_of qs)
 merge_same none_same = same_delta
 merge_same (more_same h k) = merged_same h k
-
-equals_refl : (th : Theory) (ts : List Term) → Equals th ts ts
-equals_refl th [] = no_terms
-equals_refl th (t ∷ ts) = more_terms reflexive (equals_refl th ts)
 
 -- a sum binds the same term on both sides
 sums_same : (th : Theory) (g : Entries) (xs : List VarId) (e : Environment) → AreFixedOrOpen e → ((v : ℕ) → Contains (numbers_of xs) v → term_in e v ≡ variable v) → (p q : Body)

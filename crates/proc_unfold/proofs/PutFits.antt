@@ -1,13 +1,13 @@
 -- Process terms with terms put in are well formed.
-use Rattle.std.proofs.Common.{◌≡◌, ◌∙◌, ◌⊎◌, inl, inr, ⊎_elim, ℕ, List, [], ◌∷◌, ◌++◌, map, not, refl, sym, ap, subst, Some}
-use Rattle.std.specs.Prelude.{slice_get, Contains, Bool, ◌||◌}
+use Rattle.std.proofs.Common.{◌≡◌, ◌∙◌, inl, inr, ⊎_elim, ℕ, List, [], ◌∷◌, ◌++◌, map, not, refl, sym, ap, subst}
+use Rattle.std.specs.Prelude.{slice_get, Contains, ◌||◌}
 use Rattle.std.specs.List.{All}
 use Rattle.std.proofs.lemmas.List.{map-append}
 use Rattle.std.proofs.lemmas.List.Elements.{All-head, All-tail, All-nil, All-cons, All-filter, Contains-append_cases, Contains-append_left, Contains-append_right}
 use Rattle.data_theory.specs.declared.ids.SortId.{SortId}
 use Rattle.data_theory.specs.declared.ids.VarId.{VarId}
 use Rattle.data_theory.specs.declared.ids.TermId.{TermId}
-use Rattle.data_theory.specs.Terms.{Term, variable, put}
+use Rattle.data_theory.specs.Terms.{put}
 use Rattle.data_theory.specs.Environments.{term_in, IsOver}
 use Rattle.data_theory.specs.Signature.{Sig}
 use Rattle.data_theory.specs.WholeSignatures.{IsSignature}
@@ -27,7 +27,7 @@ use Rattle.lps_core.proofs.OverVariables.{over_more, put_over}
 use Rattle.lps_core.proofs.NamedLinears.{first_functions}
 use Rattle.proc_unfold.specs.ParallelTests.{has_two, has_parallel, any_parallel}
 use Rattle.proc_unfold.specs.PutTerms.{is_among, without, ArePut, IsTermPut, IsLabelPut, IsPutIn, ArePutIn, put_delta, put_act, put_call, put_choice, put_seq, put_cond, put_sum, put_merge, put_around, none_put, more_put}
-use Rattle.proc_unfold.specs.FittingModels.{TermFits, TermsFit, ActionFits, CallFits, ProcessFits, ProcessesFit}
+use Rattle.proc_unfold.specs.FittingModels.{TermFits, TermsFit, ActionFits, ProcessFits, ProcessesFit}
 use Rattle.proc_unfold.proofs.PutBodies.{env_of, read_without, listed_without, term_means, terms_mean}
 
 -- ---- calls and operators stay

@@ -13,10 +13,10 @@ use Rattle.term_pool.specs.Pools.{Extends}
 use Rattle.process_terms.specs.declared.labels.Label.{Label}
 use Rattle.process_terms.specs.declared.processes.Proc.{Proc}
 use Rattle.process_terms.specs.declared.processes.Proc.TheVariants as procs
-use Rattle.process_terms.specs.PlainProcesses.{PlainAction, PlainAround, PlainProcess, PlainProcesses, delta, act, call, choice, seq, cond, sum, merge, around, no_processes, more_processes, processes_of, plain_label, plain_process}
+use Rattle.process_terms.specs.PlainProcesses.{PlainAround, PlainProcess, PlainProcesses, delta, act, call, choice, seq, cond, sum, merge, around, no_processes, more_processes, processes_of, plain_label, plain_process}
 use Rattle.lps_core.specs.TreeSummands.{IsActionIn, trees_of_label, put_actions}
-use Rattle.lps_core.proofs.PoolTrees.{extends_itself, extends_on, tree_kept, all_in_kept, trees_kept, listed_kept, put_along, args_along, actions_in_kept, actions_kept, actions_along}
-use Rattle.proc_unfold.specs.PutTerms.{IsProcessIn, AreProcessesIn, without, ArePut, IsTermPut, IsLabelPut, IsPutIn, ArePutIn, put_delta, put_act, put_call, put_choice, put_seq, put_cond, put_sum, put_merge, put_around, none_put, more_put, PutsTerms, PutsIn, PutsAllIn}
+use Rattle.lps_core.proofs.PoolTrees.{extends_on, tree_kept, all_in_kept, trees_kept, listed_kept, put_along, args_along, actions_in_kept, actions_kept, actions_along}
+use Rattle.proc_unfold.specs.PutTerms.{IsProcessIn, AreProcessesIn, without, ArePut, IsTermPut, IsPutIn, ArePutIn, put_delta, put_act, put_call, put_choice, put_seq, put_cond, put_sum, put_merge, put_around, none_put, more_put, PutsTerms, PutsIn, PutsAllIn}
 use Rattle.proc_unfold.proofs.ProcessSteps.{delta_step, act_step, call_step, choice_step, seq_step, cond_step, sum_step, merge_step}
 
 -- ---- ids of the pool stay so

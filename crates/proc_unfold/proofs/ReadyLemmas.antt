@@ -1,5 +1,5 @@
 -- What is found of a well-formed specification is what opening it asks for.
-use Rattle.std.proofs.Common.{◌≡◌, ◌∙◌, ◌<◌, inl, true, ℕ, List, [], length, ap, subst, Some}
+use Rattle.std.proofs.Common.{◌≡◌, ◌∙◌, inl, true, ℕ, List, [], length, ap, subst, Some}
 use Rattle.std.specs.Prelude.{slice_get, slice_index, Contains}
 use Rattle.std.specs.Option.{option_map}
 use Rattle.std.proofs.lemmas.Option.{slice_get-map}

@@ -1,7 +1,6 @@
 -- What is known of process terms that are well formed.
-use Rattle.std.proofs.Common.{◌≡◌, ◌∙◌, ◌<◌, ◌⊎◌, ⊎_elim, ℕ, zero, suc, List, [], ◌∷◌, ◌++◌, map, length, refl, sym, ap, subst, Some, arith}
+use Rattle.std.proofs.Common.{◌≡◌, ◌∙◌, ◌<◌, ⊎_elim, ℕ, zero, suc, List, [], ◌∷◌, ◌++◌, length, refl, sym, ap, subst, Some}
 use Rattle.std.specs.Prelude.{slice_get, Contains}
-use Rattle.std.specs.List.{All}
 use Rattle.std.proofs.lemmas.List.{length-map}
 use Rattle.std.proofs.lemmas.List.Elements.{All-weaker, Contains-append_cases}
 use Rattle.std.proofs.lemmas.Option.{slice_get_within}
@@ -11,16 +10,16 @@ use Rattle.data_theory.specs.IdTrees.{Tree}
 use Rattle.graphs.proofs.Marks.{only_one, none_contained}
 use Rattle.process_terms.specs.Processes.{Definition}
 use Rattle.process_terms.specs.PlainProcesses.{PlainProcess, PlainProcesses, delta, act, call, choice, seq, cond, sum, merge, around, no_processes, more_processes, PlainDefinition, PlainModel}
-use Rattle.process_terms.specs.Meanings.{Entries, body_of, table_of, definition_of}
+use Rattle.process_terms.specs.Meanings.{Entries, table_of, definition_of}
 use Rattle.guard_check.specs.declared.calls.Extent.TheVariants.{Everywhere}
-use Rattle.guard_check.specs.Calls.{calls, Calls}
+use Rattle.guard_check.specs.Calls.{calls}
 use Rattle.guard_check.specs.Guards.{HasDeclaredCalls}
 use Rattle.guard_check.specs.CallGraphs.{plain_calls, all_calls}
 use Rattle.guard_check.proofs.CallLemmas.{same_calls}
 use Rattle.lps_core.specs.TreeSummands.{IsActionIn}
 use Rattle.lps_core.proofs.Members.{all_at}
 use Rattle.proc_unfold.specs.PutTerms.{IsProcessIn, AreProcessesIn}
-use Rattle.proc_unfold.specs.FittingModels.{ActionFits, ProcessFits, ProcessesFit, DefinitionFits, ModelFits, IsWellFormed}
+use Rattle.proc_unfold.specs.FittingModels.{ActionFits, ProcessFits, ProcessesFit, DefinitionFits, IsWellFormed}
 
 -- ---- the definitions of a table
 pub body_at : (g : Entries) (ds : List PlainDefinition) (x : ℕ) (f : Definition) → slice_get (table_of g ds) x ≡ Some f → (c : PlainDefinition) × (slice_get ds x ≡ Some c) × (f ≡ definition_of g c)

@@ -1,5 +1,5 @@
 -- Process terms in code with terms put in for their variables.
-use Rattle.std.specs.Prelude.{◌≡◌, ◌==◌, Bool, not, List, [], ◌∷◌, map}
+use Rattle.std.specs.Prelude.{◌≡◌, ◌==◌, Bool, not, List, map}
 use Rattle.std.specs.List.{All, filter, list_any}
 use Rattle.data_theory.specs.declared.ids.ProcId.{ProcId}
 use Rattle.data_theory.specs.declared.ids.VarId.{VarId}

@@ -1,10 +1,9 @@
 use Rattle.std.proofs.Common.{◌∙◌, arith, rules, refl, sym, ap, map, subst}
-use Rattle.term_pool.specs.HeadTrees.{AreIn, trees_at}
-use Rattle.term_pool.specs.Bindings.{listed, listed_terms}
-use Rattle.data_theory.specs.IdTrees.{put_tree}
+use Rattle.term_pool.specs.HeadTrees.{AreIn}
+use Rattle.term_pool.specs.Bindings.{listed_terms}
 use Rattle.process_terms.specs.PlainProcesses.{plain_process, processes_of}
 use Rattle.lps_core.proofs.PoolTrees.{extends_itself, extends_on, all_in_kept}
-use Rattle.proc_unfold.specs.PutTerms.{IsProcessIn, AreProcessesIn, without}
+use Rattle.proc_unfold.specs.PutTerms.{IsProcessIn, AreProcessesIn}
 use Rattle.proc_unfold.proofs.ProcessSteps.{act_step, call_step, choice_step, seq_step, cond_step, sum_step, merge_step, allow_step, block_step, hide_step, rename_step, comm_step}
 use Rattle.proc_unfold.proofs.PutBodies.{listed_without}
 use Rattle.proc_unfold.proofs.Sizes.{then_smaller, other_smaller, summed_smaller, around_smaller, choices_smaller, steps_smaller, merged_smaller, operand_no_larger}

@@ -16,7 +16,8 @@ use Rattle.proc_unfold.specs.PutTerms.{IsProcessIn, AreProcessesIn}
 use Rattle.proc_unfold.specs.Opening.{EntersFully, AreBelow, OpensTo}
 use Rattle.proc_unfold.proofs.Sizes.{nodes, deepest, body_depth, rank_falls, summed_smaller, around_smaller, choices_smaller, steps_smaller, merged_smaller, operand_no_larger}
 use Rattle.proc_unfold.proofs.PuttingLemmas.{process_kept, part_in, terms_put}
-use Rattle.proc_unfold.proofs.OpeningLemmas.{bodies_kept, definition_there, body_opens, all_open_none, all_open_more, under_opens, call_opens, choice_opens, seq_opens, merge_opens, sum_opens, no_variables, part_outside, part_calls}
+use Rattle.proc_unfold.proofs.WithinLemmas.{definition_at}
+use Rattle.proc_unfold.proofs.OpeningLemmas.{bodies_kept, body_opens, all_open_none, all_open_more, under_opens, call_opens, choice_opens, seq_opens, merge_opens, sum_opens, no_variables, part_outside, part_calls}
 use Rattle.proc_unfold.specs.ParallelTests.{is_outside, all_outside}
 use Rattle.proc_unfold.proofs.LoopLemmas.{choice_of_one, choice_of_others, seq_of_one, seq_of_others}
 use Rattle.proc_unfold.proofs.ProcessSteps.{call_step, choice_step, seq_step, merge_step, allow_step, block_step, hide_step, rename_step, comm_step}
@@ -42,7 +43,7 @@ open-open_settled-requires-2 t c =
     let h = subst (EntersFully m found c.entered.new.pool.trees c.args.by.now (plain_process c.args.process.now)) c.in-Some.is c.in_ok-entered.ensures.enters in
     let place = c.in-Some.entered.process.0 in
     let below : place < length c.args.self.now.model.now.procs.items = omega (arith, h.0.there, length-map c.args.self.now.model.now.procs.items plain_definition) in
-    let at = definition_there c.args.self.now.model.now.procs.items place c.index.result.now below c.index.ensures in
+    let at = definition_at c.args.self.now.model.now.procs.items place c.index.result.now below c.index.ensures in
     let ready = c.requires.bodies.bodies place (plain_definition c.index.result.now) at h.0.reached h.0.parallel in
     let ranked : place < length found.ranks.items = omega (arith, h.0.there, c.requires.bodies.ranks) in
     let rank_is : slice_index found.ranks.items place ≡ c.index-2.result.now = get_or_from_slice_get found.ranks.items place (get_or found.ranks.items place c.index-2.result.now) 0 (slice_get-get_or found.ranks.items place c.index-2.result.now ranked) ∙ sym c.index-2.ensures in
@@ -77,7 +78,7 @@ open-returns-clause-opens t c =
     let h = subst (EntersFully m found c.entered.new.pool.trees c.args.by.now (plain_process c.args.process.now)) c.in-Some.is c.in_ok-entered.ensures.enters in
     let place = c.in-Some.entered.process.0 in
     let below : place < length c.args.self.now.model.now.procs.items = omega (arith, h.0.there, length-map c.args.self.now.model.now.procs.items plain_definition) in
-    let at = definition_there c.args.self.now.model.now.procs.items place c.index.result.now below c.index.ensures in
+    let at = definition_at c.args.self.now.model.now.procs.items place c.index.result.now below c.index.ensures in
     body_opens c.open_settled-2.result m found c.entered.new.pool.trees c.open_settled-2.new.pool.trees c.args.by.now c.as_slice.result.now (plain_process c.args.process.now) c.in-Some.entered (plain_definition c.index.result.now) h.0 at c.open_settled-2.ensures.kept c.as_slice.ensures.value c.open_settled-2.ensures.opens
 
 pub open_all-loop-part-init : goal.open_all-loop-part-init
