@@ -7,8 +7,7 @@ use Rattle.graphs.specs.Graphs.{IsMarked}
 use Rattle.graphs.proofs.Marks.{same_or_not, marked_below, read_any}
 use Rattle.process_terms.specs.declared.processes.Proc.{Proc}
 use Rattle.process_terms.specs.declared.processes.Proc.TheVariants as procs
-use Rattle.process_terms.specs.declared.processes.Proc.TheFolds.{fold-roll-Proc}
-use Rattle.process_terms.specs.PlainProcesses.{PlainProcess, PlainProcesses, choice, seq, merge, processes_of, plain_process, plain_process_step}
+use Rattle.process_terms.specs.PlainProcesses.{PlainProcess, PlainProcesses, processes_of, plain_process}
 use Rattle.std.specs.Prelude.{Result, IfOk}
 use Rattle.std.proofs.lemmas.Result.{IfOk-weaker}
 use Rattle.process_terms.specs.Meanings.{Entries, body_of}
@@ -18,10 +17,7 @@ use Rattle.guard_check.specs.CallGraphs.{plain_calls}
 use Rattle.guard_check.proofs.CallLemmas.{same_calls}
 use Rattle.proc_unfold.specs.ParallelTests.{has_one, has_two, has_parallel, any_parallel, none_marked, is_outside, all_outside, is_sequential}
 use Rattle.proc_unfold.specs.ParallelMarks.{MarksBoth}
-
--- ---- one level of what code holds
-pub merge_step : (parts : Vec Proc Global) → plain_process (procs.Merge parts) ≡ merge (processes_of (map plain_process parts.items))
-merge_step parts = ap plain_process (sym (procs.rolls-Merge parts)) ∙ fold-roll-Proc PlainProcess plain_process_step _
+use Rattle.proc_unfold.proofs.ProcessSteps.{choice_step, seq_step, merge_step}
 
 -- ---- operands with a parallel operator
 two_are : (ps : List Proc) → 2 ≤ length ps → has_two (processes_of (map plain_process ps)) ≡ true
@@ -87,7 +83,7 @@ outside_not marks (q ∷ ps) (suc k) p l e i = and_false (is_outside marks (plai
     and_false false b h = refl
 
 -- ---- chains of one operand and others
-one_is : (ps : List Proc) → length ps ≡ 1 → has_one (processes_of (map plain_process ps)) ≡ true
+pub one_is : (ps : List Proc) → length ps ≡ 1 → has_one (processes_of (map plain_process ps)) ≡ true
 one_is [] l = absurd (omega arith)
 one_is (p ∷ []) l = refl
 one_is (p ∷ q ∷ ps) l = absurd (omega arith)
@@ -96,12 +92,6 @@ one_is_not : (ps : List Proc) → (length ps ≡ 1 → ⊥) → has_one (process
 one_is_not [] l = refl
 one_is_not (p ∷ []) l = absurd (l refl)
 one_is_not (p ∷ q ∷ ps) l = refl
-
-choice_step : (parts : Vec Proc Global) → plain_process (procs.Choice parts) ≡ choice (processes_of (map plain_process parts.items))
-choice_step parts = ap plain_process (sym (procs.rolls-Choice parts)) ∙ fold-roll-Proc PlainProcess plain_process_step _
-
-seq_step : (parts : Vec Proc Global) → plain_process (procs.Seq parts) ≡ seq (processes_of (map plain_process parts.items))
-seq_step parts = ap plain_process (sym (procs.rolls-Seq parts)) ∙ fold-roll-Proc PlainProcess plain_process_step _
 
 chosen : (marks : List Bool) (a b : Bool) (ps : PlainProcesses) → has_one ps ≡ a → (if has_one ps then all_outside marks ps else b) ≡ (if a then all_outside marks ps else b)
 chosen marks a b ps e = ap (λ c. if c then all_outside marks ps else b) e

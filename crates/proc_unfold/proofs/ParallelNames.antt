@@ -1,6 +1,6 @@
 -- Names that have or reach a parallel operator, and calls among them.
 use Rattle.std.proofs.Common.{◌≡◌, ◌<◌, ◌≤◌, ◌+◌, ◌↔◌, inl, inr, Bool, ℕ, zero, suc, List, [], ◌∷◌, ◌++◌, map, length, get_or, refl, sym, ◌∙◌, subst, Some, arith, Vec}
-use Rattle.std.specs.Prelude.{slice_get}
+use Rattle.std.specs.Prelude.{slice_get, slice_index}
 use Rattle.std.specs.Global.{Global}
 use Rattle.std.specs.List.{Contains}
 use Rattle.std.proofs.lemmas.List.Elements.{Contains-append_left, Contains-append_right, Contains-append_cases}
@@ -123,7 +123,7 @@ module _ (m : PlainModel) (edges : List (Vec ℕ Global)) (reached parallel amon
   on_cycle cycle first x stands = subst (λ k. x < k) so.size (cycle_below edges among cycle first x stands)
 
   pub parallelism_is : (ranks : List ℕ) → AreRanks edges among ranks → IsParallelismOf m reached parallel ranks
-  parallelism_is ranks r = record { sizes = (so.marks ∙ so.size, are.size); reached_are = so.reached_are; parallel_are = are.exact; no_recursion = has_no_recursion ranks r }
+  parallelism_is ranks r = record { sizes = (so.marks ∙ so.size, are.size); reached_are = so.reached_are; parallel_are = are.exact; no_recursion = has_no_recursion ranks r; ranks_below = λ x l. subst (λ n. slice_index ranks x < n) so.size (r.below x (subst (λ n. x < n) (sym so.size) l)) }
 
 -- ---- the places of marks
 pub places_more : (marks : List Bool) (k : ℕ) (places places' : List ℕ) → ((x : ℕ) → Contains places x ↔ ((x < k) × IsMarked marks x)) → IsMarked marks k → places' ≡ places ++ k ∷ [] → (x : ℕ) → Contains places' x ↔ ((x < k + 1) × IsMarked marks x)

@@ -1,14 +1,14 @@
 -- The first declaration in which something parallel stands where it may not.
-use Rattle.std.proofs.Common.{◌≡◌, ◌<◌, ◌≤◌, ◌+◌, ◌↔◌, ◌⊎◌, inl, inr, Bool, true, false, ℕ, zero, suc, List, [], ◌∷◌, map, length, get_or, refl, sym, ap, ◌∙◌, subst, Some, arith}
+use Rattle.std.proofs.Common.{◌≡◌, ◌<◌, ◌≤◌, ◌+◌, ◌↔◌, ◌⊎◌, inl, inr, Bool, true, false, ℕ, List, map, length, get_or, refl, sym, ap, ◌∙◌, subst, Some, arith}
 use Rattle.std.specs.Prelude.{slice_get, Option, None, MatchOption}
 use Rattle.std.specs.Option.{option_map}
-use Rattle.std.proofs.lemmas.Option.{slice_get-map, slice_get-get_or}
+use Rattle.std.proofs.lemmas.Option.{slice_get-map, slice_get-get_or, slice_get_within}
 use Rattle.graphs.specs.Graphs.{IsMarked}
 use Rattle.graphs.proofs.Marks.{same_or_not}
 use Rattle.process_terms.specs.Processes.{Body, written_delta, written_act, written_choice, written_seq, written_cond, written_sum, written_call, written_merge, written_around, Definition}
 use Rattle.process_terms.specs.declared.definitions.ProcDef.{ProcDef}
 use Rattle.process_terms.specs.PlainProcesses.{PlainDefinition, PlainProcess, PlainModel, plain_definition}
-use Rattle.process_terms.specs.Meanings.{Entries, table_of, body_of, definition_of}
+use Rattle.process_terms.specs.Meanings.{Entries, table_of, body_of}
 use Rattle.guard_check.specs.Calls.{Reaches}
 use Rattle.proc_unfold.specs.Parallel.{IsParallelName, IsSequentialBut, IsOutsideBut, IsOutside}
 use Rattle.proc_unfold.specs.ParallelTests.{is_outside}
@@ -16,12 +16,13 @@ use Rattle.proc_unfold.specs.ParallelMarks.{AreParallelNames, FailsAt, IsLeastWi
 use Rattle.proc_unfold.specs.Parallelism.{StandsWithin, StandsFirstWithin, HasNoParallelRecursion, StandsOutsideRecursion}
 use Rattle.proc_unfold.proofs.ParallelLemmas.{outside_tells, outside_told}
 use Rattle.proc_unfold.proofs.ParallelNames.{no_recursion}
+use Rattle.proc_unfold.proofs.WellFormed.{body_at}
 
 -- ---- fewer names
 sequential_fewer : (P Q : ℕ → Type 0) → ((x : ℕ) → Q x → P x) → (p : Body) → IsSequentialBut P p → IsSequentialBut Q p
 sequential_fewer P Q f p h = (h.0, λ x stands q. h.1 x stands (f x q))
 
-outside_fewer : (P Q : ℕ → Type 0) → ((x : ℕ) → Q x → P x) → (p : Body) → IsOutsideBut P p → IsOutsideBut Q p
+pub outside_fewer : (P Q : ℕ → Type 0) → ((x : ℕ) → Q x → P x) → (p : Body) → IsOutsideBut P p → IsOutsideBut Q p
 outside_fewer P Q f written_delta h = tt
 outside_fewer P Q f (written_act m) h = tt
 outside_fewer P Q f (written_choice p q) h = sequential_fewer P Q f (written_choice p q) h
@@ -51,11 +52,6 @@ module _ (m : PlainModel) (parallel : List Bool) (are : AreParallelNames m paral
   pub failed : (p : PlainProcess) → (IsOutside (table_of g m.definitions) (body_of g p) → ⊥) → is_outside parallel p ≡ false
   failed p h = elim (true_or_false (is_outside parallel p)) [ inl e ↦ absurd (h (passes p e)) | inr e ↦ e ]
 
-get_below : {A : Type 0} (xs : List A) (x : ℕ) (a : A) → slice_get xs x ≡ Some a → x < length xs
-get_below [] x a e = let no : ⊥ = cc in absurd no
-get_below (y ∷ xs) zero a e = omega arith
-get_below (y ∷ xs) (suc x) a e = let less = get_below xs x a e in omega arith
-
 module _ (m : PlainModel) (reached parallel : List Bool) (are : AreParallelNames m parallel) (reached_are : (g : Entries) (x : ℕ) → IsMarked reached x ↔ Reaches (table_of g m.definitions) (body_of g m.init) x) where
   fails_within : (g : Entries) (n : ℕ) → FailsAt m reached parallel (length m.definitions) n → StandsWithin g m n
   fails_within g n (inl h) = inl (h.0, fails m parallel are g m.init h.1)
@@ -63,7 +59,7 @@ module _ (m : PlainModel) (reached parallel : List Bool) (are : AreParallelNames
 
   within_fails : (g : Entries) (n : ℕ) → StandsWithin g m n → FailsAt m reached parallel (length m.definitions) n
   within_fails g n (inl h) = inl (h.0, failed m parallel are g m.init h.1)
-  within_fails g n (inr (x, f, r, at, is, h)) = inr (x, f, get_below m.definitions x f at, (reached_are g x).1 r, at, is, failed m parallel are g f.body h)
+  within_fails g n (inr (x, f, r, at, is, h)) = inr (x, f, slice_get_within m.definitions x f at, (reached_are g x).1 r, at, is, failed m parallel are g f.body h)
 
   pub first_stands : (n : ℕ) → IsLeastWithin m reached parallel (length m.definitions) (Some n) → (g : Entries) → StandsFirstWithin g m n
   first_stands n least g = record { stands = fails_within g n least.0; first = λ k within. least.1 k (within_fails g k within) }
@@ -71,18 +67,13 @@ module _ (m : PlainModel) (reached parallel : List Bool) (are : AreParallelNames
   pub init_stands_outside : IsLeastWithin m reached parallel (length m.definitions) None → (g : Entries) → IsOutside (table_of g m.definitions) (body_of g m.init)
   init_stands_outside none g = passes m parallel are g m.init (elim (true_or_false (is_outside parallel m.init)) [ inl e ↦ e | inr e ↦ absurd (none m.init_declaration (inl (refl, e))) ])
 
-  body_at : (g : Entries) (ds : List PlainDefinition) (x : ℕ) (f : Definition) → slice_get (table_of g ds) x ≡ Some f → (c : PlainDefinition) × (slice_get ds x ≡ Some c) × (f ≡ definition_of g c)
-  body_at g [] x f e = let no : ⊥ = cc in absurd no
-  body_at g (c ∷ ds) zero f e = let same : Some (definition_of g c) ≡ Some f = e in (c, refl, (let is : definition_of g c ≡ f = cc in sym is))
-  body_at g (c ∷ ds) (suc x) f e = body_at g ds x f e
-
   pub all_stand_outside : IsLeastWithin m reached parallel (length m.definitions) None → (g : Entries) (x : ℕ) (f : Definition) → Reaches (table_of g m.definitions) (body_of g m.init) x → slice_get (table_of g m.definitions) x ≡ Some f → IsOutside (table_of g m.definitions) f.body
   all_stand_outside none g x f r at =
       let c = body_at g m.definitions x f at in
       subst (λ d. IsOutside (table_of g m.definitions) d.body) (sym c.2)
       (passes m parallel are g c.0.body (elim (true_or_false (is_outside parallel c.0.body)) [
         | inl e ↦ e
-        | inr e ↦ absurd (none c.0.declaration (inr (x, c.0, get_below m.definitions x c.0 c.1, (reached_are g x).1 r, c.1, refl, e)))
+        | inr e ↦ absurd (none c.0.declaration (inr (x, c.0, slice_get_within m.definitions x c.0 c.1, (reached_are g x).1 r, c.1, refl, e)))
       ]))
 
   pub stands_outside : (ranks : List ℕ) → HasNoParallelRecursion m ranks → IsLeastWithin m reached parallel (length m.definitions) None → StandsOutsideRecursion m

@@ -3,3 +3,8 @@ pub mod ParallelTests
 pub mod ParallelMarks
 pub mod Parallelism
 pub mod Unfolding
+pub mod Networks
+pub mod FittingModels
+pub mod Unfolded
+pub mod PutTerms
+pub mod Opening

@@ -1,5 +1,5 @@
 -- What a specification's parallelism is found to be.
-use Rattle.std.specs.Prelude.{◌≡◌, ◌≤◌, ◌↔◌, ◌⊎◌, ℕ, Bool, List, length, Some, slice_get}
+use Rattle.std.specs.Prelude.{◌≡◌, ◌<◌, ◌≤◌, ◌↔◌, ◌⊎◌, ℕ, Bool, List, length, Some, slice_get, slice_index}
 use Rattle.graphs.specs.Graphs.{IsMarked}
 use Rattle.process_terms.specs.PlainProcesses.{PlainDefinition, PlainModel}
 use Rattle.process_terms.specs.Meanings.{Entries, table_of, body_of}
@@ -35,9 +35,11 @@ IsNetFaultOf m (ParallelRecursion names) = AreOfFirstCycle m ParallelCalls names
 IsNetFaultOf m (ParallelUnderSequential n) = ((g : Entries) → StandsFirstWithin g m n) × ((ranks : List ℕ) × HasNoParallelRecursion m ranks)
 IsNetFaultOf m NoMemory = Unit {0}
 
--- exactly the parallel names are marked, and exactly the reached ones; numbers fall along calls among the reached parallel ones
+-- exactly the parallel names are marked, and exactly the reached ones; numbers below that of the definitions fall along calls among
+-- the reached parallel ones
 pub record IsParallelismOf (m : PlainModel) (reached parallel : List Bool) (ranks : List ℕ) : Type 0 where
   pub sizes : (length reached ≡ length m.definitions) × (length parallel ≡ length m.definitions)
   pub reached_are : (g : Entries) (x : ℕ) → IsMarked reached x ↔ Reaches (table_of g m.definitions) (body_of g m.init) x
   pub parallel_are : (g : Entries) (x : ℕ) → IsMarked parallel x ↔ IsParallelName (table_of g m.definitions) x
   pub no_recursion : HasNoParallelRecursion m ranks
+  pub ranks_below : (x : ℕ) → x < length m.definitions → slice_index ranks x < length m.definitions

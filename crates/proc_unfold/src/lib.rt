@@ -6,8 +6,14 @@
 
 mod faults;
 pub mod laws;
+mod networks;
+mod opening;
 mod outside;
 mod places;
+mod putting;
+mod unfolding;
 
 pub use faults::NetFault;
+pub use networks::{NetOp, Network};
 pub use outside::{Parallelism, outside_recursion};
+pub use unfolding::unfold;

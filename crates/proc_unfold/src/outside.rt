@@ -25,7 +25,7 @@ pub struct Parallelism {
     pub reached: Vec<bool>,
     /// Whether each process has or reaches a parallel operator.
     pub parallel: Vec<bool>,
-    /// A number for each process: a reached parallel one calls only parallel ones with smaller numbers.
+    /// A number for each process, below that of the processes: a reached parallel one calls only parallel ones with smaller numbers.
     pub ranks: Vec<usize>,
 }
 
