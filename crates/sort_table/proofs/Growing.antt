@@ -53,7 +53,7 @@ pairs_with Q R f (x ∷ xs) (y ∷ ys) h = (f x y h.0, pairs_with Q R f xs ys h.
 pairs_with Q R f [] (y ∷ ys) h = absurd h
 pairs_with Q R f (x ∷ xs) [] h = absurd h
 
-paired : {A B : Type 0} (Q : A → B → Type 0) (xs : List A) (ys : List B) (x : A) → EachPair Q xs ys → Contains xs x → (y : B) × Q x y
+pub paired : {A B : Type 0} (Q : A → B → Type 0) (xs : List A) (ys : List B) (x : A) → EachPair Q xs ys → Contains xs x → (y : B) × Q x y
 paired Q [] ys x h (k, l, e) = let never : ⊥ = omega (arith, l) in absurd never
 paired Q (z ∷ zs) [] x h c = absurd h
 paired Q (z ∷ zs) (y ∷ ys) x h (zero, l, e) = (y, subst (λ a. Q a y) e h.0)
@@ -142,7 +142,7 @@ sorts_behind ns ms (e ∷ es) ss h = through (sorts_behind ns ms es) (sort_in ns
     through f (Some s) q k = ap (option_and_then (λ r. option_map (λ rs. r ∷ rs) (sorts_in (ns ++ ms) es))) (sort_behind ns ms e s q) ∙ rest f s (sorts_in ns es) refl k
 
 -- what has a sort stands for one
-has_stood : (u : UnderNames) (v : Vocabulary) → HasSorts u v → (e : SortExpression) (s : Sort) → sort_in v.sort_names e ≡ Some s → (r : SortExpression) × StandsFor u e r
+pub has_stood : (u : UnderNames) (v : Vocabulary) → HasSorts u v → (e : SortExpression) (s : Sort) → sort_in v.sort_names e ≡ Some s → (r : SortExpression) × StandsFor u e r
 has_stood u v is truth_values s h = (truth_values, for_truth_values)
 has_stood u v is positives s h = (positives, for_positives)
 has_stood u v is naturals s h = (naturals, for_naturals)

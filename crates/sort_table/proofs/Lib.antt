@@ -10,3 +10,4 @@ pub mod WorkedEmptySorts
 pub mod WorkedFaults
 pub mod SingleRefusals
 pub mod StandingNames
+pub mod SameEmptiness

@@ -12,6 +12,7 @@ pub mod UnknownSorts
 pub mod SortCycles
 pub mod Duplicates
 pub mod EmptySorts
+pub mod EmptinessLaws
 pub mod Refusals
 pub mod VocabularyLaws
 pub mod CyclesOfAliases

@@ -1,6 +1,7 @@
 //! Laws of what a text declares.
 
 ghost use Rattle.sort_table.specs.VocabularyLaws.{ASortStandsForOneSort, DeclaredNamesStand, WhatStandsForASortHasIt};
+ghost use Rattle.sort_table.specs.EmptinessLaws.{EmptySortsAreEmptyInEachVocabulary};
 ghost use Rattle.sort_table.specs.CyclesOfAliases.{CyclesStandForNothing};
 ghost use Rattle.sort_table.specs.WorkedRefusals.{TheseAreRefused};
 ghost use Rattle.sort_table.specs.Refusals.{RefusalsAreSingle, SoundDeclarationsAreNotRefused};
@@ -63,4 +64,9 @@ pub fn texts_grow()
 /// What a signature gets behind its tables stands behind its vocabulary.
 pub fn grown_signatures_have_more()
     ensures { GrownSignaturesHaveMore }
+{}
+
+/// A sort that is empty in one vocabulary of a text is empty in each.
+pub fn empty_sorts_are_empty_in_each_vocabulary()
+    ensures { EmptySortsAreEmptyInEachVocabulary }
 {}
