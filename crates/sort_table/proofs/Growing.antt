@@ -89,7 +89,7 @@ front_entry [] ys k z h = let no_way : ⊥ = omega arith in absurd no_way
 front_entry (x ∷ xs) ys zero z h = refl
 front_entry (x ∷ xs) ys (suc k) z h = let l : k < length xs = omega arith in front_entry xs ys k z l
 
-near_or_far : (i n : ℕ) → (i < n) ⊎ (n ≤ i)
+pub near_or_far : (i n : ℕ) → (i < n) ⊎ (n ≤ i)
 near_or_far i zero = inr (omega arith)
 near_or_far zero (suc n) = inl (omega arith)
 near_or_far (suc i) (suc n) = step (near_or_far i n)

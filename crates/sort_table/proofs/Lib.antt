@@ -11,3 +11,5 @@ pub mod WorkedFaults
 pub mod SingleRefusals
 pub mod StandingNames
 pub mod SameEmptiness
+pub mod NamesFound
+pub mod FirstEmpty

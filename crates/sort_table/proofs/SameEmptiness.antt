@@ -10,11 +10,9 @@ use Rattle.data_theory.specs.Declarations.{Data, Role, Construction, function_at
 use Rattle.sort_table.specs.Expressions.{Name}
 use Rattle.sort_table.specs.NamedLists.{all_named, first_named}
 use Rattle.sort_table.specs.BareSorts.{SortExpression, truth_values, positives, naturals, integers, lists_of, a_name}
-use Rattle.sort_table.specs.SortMeanings.{alone, a_struct, equal_to, UnderNames, StandsFor, for_truth_values, for_positives, for_naturals, for_integers, for_lists, for_plain, for_struct, for_alias}
-use Rattle.sort_table.specs.TextFunctions as text
+use Rattle.sort_table.specs.SortMeanings.{alone, UnderNames, StandsFor, for_truth_values, for_positives, for_naturals, for_integers, for_lists, for_plain, for_struct, for_alias}
 use Rattle.sort_table.specs.TextFunctions.{TextFunction, TextRole}
-use Rattle.sort_table.specs.Vocabularies.{Vocabulary, sort_in, sorts_in, HasConstructor, IsConstruction, by_struct, by_cons, by_none, IsOwn, declared_alone, declared_as_struct, IsSortNamed, HasSorts, GivesPlain, IsRole, of_struct, of_cons, of_no_cons, of_place, of_test, of_map, IsFunction, EachPair, HasFunctions}
-use Rattle.sort_table.specs.EmptySorts.{IsEmpty}
+use Rattle.sort_table.specs.Vocabularies.{Vocabulary, sort_in, sorts_in, HasConstructor, IsConstruction, by_struct, by_cons, by_none, IsOwn, declared_alone, declared_as_struct, IsSortNamed, HasSorts, IsRole, of_struct, of_cons, of_no_cons, of_place, of_test, of_map, IsFunction, EachPair, HasFunctions}
 use Rattle.sort_table.specs.EmptinessLaws.{EmptySortsAreEmptyInEachVocabulary}
 use Rattle.sort_table.proofs.OneSort.{what_stands_for_a_sort_has_it}
 use Rattle.sort_table.proofs.Growing.{paired, has_stood}
@@ -80,11 +78,11 @@ no_list_named None d k = none-some (named d) k
 no_list_named (Some s) d k = let same : list s ≡ named d = same_Some (list s) (named d) k in cc
 
 -- ---- names
-record IsOwnOf (u : UnderNames) (v : Vocabulary) (n : Name) (d : ℕ) : Type 0 where
-  own : Name
-  stands : StandsFor u (a_name n) (a_name own)
-  is_own : IsOwn u own
-  has : IsSortNamed u v own d
+pub record IsOwnOf (u : UnderNames) (v : Vocabulary) (n : Name) (d : ℕ) : Type 0 where
+  pub own : Name
+  pub stands : StandsFor u (a_name n) (a_name own)
+  pub is_own : IsOwn u own
+  pub has : IsSortNamed u v own d
 
 last_name : (u : UnderNames) (ns : List (Name × Sort)) (x e : SortExpression) (d : ℕ) → StandsFor u x e → sort_in ns e ≡ Some (named d) → (m : Name) × (e ≡ a_name m) × IsOwn u m
 last_name u ns _ _ d for_truth_values h = let same : boolean ≡ named d = same_Some boolean (named d) h in cc
@@ -99,7 +97,7 @@ last_name u ns _ _ d (for_alias n e s k r) h = last_name u ns e s d r h
 same_number : (a b : ℕ) → named a ≡ named b → a ≡ b
 same_number a b e = cc
 
-own_of : (u : UnderNames) (v : Vocabulary) → HasSorts u v → (n : Name) (d : ℕ) → first_named n v.sort_names ≡ Some (named d) → IsOwnOf u v n d
+pub own_of : (u : UnderNames) (v : Vocabulary) → HasSorts u v → (n : Name) (d : ℕ) → first_named n v.sort_names ≡ Some (named d) → IsOwnOf u v n d
 own_of u v is n d h =
     let stood = (is.named n).0 (named d, h) in
     let its : sort_in v.sort_names stood.0 ≡ Some (named d) = sym (what_stands_for_a_sort_has_it u v is (a_name n) stood.0 stood.1) ∙ h in

@@ -4,4 +4,7 @@
 //! bodies: the contract of each is a law of these definitions, so that the crates above can cite it.
 #![tactic(auto)]
 
+mod empty_sorts;
 pub mod laws;
+
+pub use empty_sorts::empty_sort;

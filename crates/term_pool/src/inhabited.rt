@@ -22,7 +22,8 @@ pub struct Candidate {
 ///
 /// The time is linear in the sorts and in the arguments of their constructors. `NoMemory` comes only where memory runs out.
 pub fn inhabited_sorts(alloc: Global, sig: &Signature) -> Result<Vec<bool>, NoMemory>
-    ensures { IfOk result (λ marks. AreInhabited sig.now marks.items) }
+    ensures stands { IsSignature sig.now }
+    ensures marks { IfOk result (λ marks. AreInhabited sig.now marks.items) }
 {
     let mut marks = sorts_at_once(alloc, sig)?;
     let mut ready = Vec::new(alloc);
@@ -96,7 +97,8 @@ fn first_unmarked(marks: &[bool], sorts: &[SortId], from: usize) -> Option<usize
 
 /// The sorts without declared constructors, which all have a value.
 fn sorts_at_once(alloc: Global, sig: &Signature) -> Result<Vec<bool>, NoMemory>
-    ensures { IfOk result (λ marks. marks.items ≡ marks_at_once sig.now.sorts) }
+    ensures stands { IsSignature sig.now }
+    ensures marks { IfOk result (λ marks. marks.items ≡ marks_at_once sig.now.sorts) }
 {
     let mut marks = Vec::new(alloc);
     for number in 0..sig.next_sort().0 {

@@ -7,7 +7,7 @@ use Rattle.term_pool.proofs.inhabited.inhabited_sorts.Goals as goal
 
 pub place_all-requires-clause-search : goal.place_all-requires-clause-search
 place_all-requires-clause-search c =
-    search_begun c.args.sig.now c.in_ok-all.ensures.stands _ _ _ _ c.in_ok-marks.ensures c.new-ready.ensures.items (omega (arith, c.in_ok-waiting.ensures.size, c.len.ensures, c.in_ok-marks.marks.ok.0)) c.in_ok-waiting.ensures.none (c.as_slice.ensures.value ∙ c.in_ok-all.ensures.all)
+    search_begun c.args.sig.now c.in_ok-all.ensures.stands _ _ _ _ c.in_ok-marks.ensures.marks c.new-ready.ensures.items (omega (arith, c.in_ok-waiting.ensures.size, c.len.ensures, c.in_ok-marks.marks.ok.0)) c.in_ok-waiting.ensures.none (c.as_slice.ensures.value ∙ c.in_ok-all.ensures.all)
 
 pub index_mut-requires : goal.index_mut-requires
 index_mut-requires c = omega (arith, taken_below _ _ _ _ c.in-Some.sort _ c.in-Some.ensures.items c.loop-sort.invariant, c.loop-sort.waiting.ok.0)
@@ -20,5 +20,5 @@ place_all-requires-in-Some-clause-search c =
     waiting_read c.loop-sort.waiting.items c.in-Some.sort.0 c.index_mut.result.now below c.index_mut.ensures.value ∙ ap (λ v. v.items) (sym c.replace-candidates.ensures.value) ∙ sym c.as_slice-in-Some.ensures.value in
     subst (IsSearch c.args.sig.now c.loop-sort.marks.items c.pop.new.self.items (set c.loop-sort.waiting.items c.in-Some.sort.0 c.replace-candidates.new.dest)) read so
 
-pub returns : goal.returns
-returns c = search_ended c.args.sig.now c.in_ok-all.ensures.stands _ _ _ (no_sort_left c.loop-sort.ready.items (λ some. let wrong = c.in_default.ensures.variant.1 (omega (arith, some, c.loop-sort.ready.ok.0)) in cc)) c.loop-sort.invariant
+pub returns-clause-marks : goal.returns-clause-marks
+returns-clause-marks c = search_ended c.args.sig.now c.in_ok-all.ensures.stands _ _ _ (no_sort_left c.loop-sort.ready.items (λ some. let wrong = c.in_default.ensures.variant.1 (omega (arith, some, c.loop-sort.ready.ok.0)) in cc)) c.loop-sort.invariant
