@@ -279,7 +279,8 @@ fn pairs_of_pairs_are_empty(
     assert!(rt; !has_value(alloc, signature, pairs)?);
     assert!(rt; !has_value(alloc, signature, signature.next_sort())?);
     let inhabited = inhabited_sorts(alloc, signature)?;
-    assert_eq!(rt; inhabited.as_slice(), &[true, true, true, true, true, false, false]);
+    let expected = [true, true, true, true, true, false, false];
+    assert_eq!(rt; inhabited.as_slice(), expected.as_slice());
     let names = [
         name_of(rt, signature, "D"),
         name_of(rt, signature, "P"),

@@ -13,3 +13,4 @@ pub mod StandingNames
 pub mod SameEmptiness
 pub mod NamesFound
 pub mod FirstEmpty
+pub mod SortsOfLists

@@ -45,14 +45,14 @@ under_its_name f (r ∷ rs) x (suc k, l, e) =
     by_test false c = c
 
 -- the sorts of a list, one by one
-record SortsThen (ns : List (Name × Sort)) (x : SortExpression) (xs : List SortExpression) (ss : List Sort) : Type 0 where
-  first : Sort
-  rest : List Sort
-  head : sort_in ns x ≡ Some first
-  tail : sorts_in ns xs ≡ Some rest
-  whole : ss ≡ first ∷ rest
+pub record SortsThen (ns : List (Name × Sort)) (x : SortExpression) (xs : List SortExpression) (ss : List Sort) : Type 0 where
+  pub first : Sort
+  pub rest : List Sort
+  pub head : sort_in ns x ≡ Some first
+  pub tail : sorts_in ns xs ≡ Some rest
+  pub whole : ss ≡ first ∷ rest
 
-sorts_then : (ns : List (Name × Sort)) (x : SortExpression) (xs : List SortExpression) (ss : List Sort) → sorts_in ns (x ∷ xs) ≡ Some ss → SortsThen ns x xs ss
+pub sorts_then : (ns : List (Name × Sort)) (x : SortExpression) (xs : List SortExpression) (ss : List Sort) → sorts_in ns (x ∷ xs) ≡ Some ss → SortsThen ns x xs ss
 sorts_then ns x xs ss h = by_first (sort_in ns x) refl (sorts_in ns xs) refl h
   where
     by_first : (o : Option Sort) → sort_in ns x ≡ o → (p : Option (List Sort)) → sorts_in ns xs ≡ p → option_and_then (λ s. option_map (λ rs. s ∷ rs) p) o ≡ Some ss → SortsThen ns x xs ss

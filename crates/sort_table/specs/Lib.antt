@@ -13,6 +13,7 @@ pub mod SortCycles
 pub mod Duplicates
 pub mod EmptySorts
 pub mod EmptinessLaws
+pub mod SameSorts
 pub mod DeclaredNames
 pub mod Refusals
 pub mod VocabularyLaws

@@ -1,6 +1,7 @@
 //! Laws of what a text declares.
 
 ghost use Rattle.sort_table.specs.VocabularyLaws.{ASortStandsForOneSort, DeclaredNamesStand, WhatStandsForASortHasIt};
+ghost use Rattle.sort_table.specs.SameSorts.{SameSortsAreThoseOfAVocabulary};
 ghost use Rattle.sort_table.specs.EmptinessLaws.{EmptySortsAreEmptyInEachVocabulary};
 ghost use Rattle.sort_table.specs.CyclesOfAliases.{CyclesStandForNothing};
 ghost use Rattle.sort_table.specs.WorkedRefusals.{TheseAreRefused};
@@ -69,4 +70,10 @@ pub fn grown_signatures_have_more()
 /// A sort that is empty in one vocabulary of a text is empty in each.
 pub fn empty_sorts_are_empty_in_each_vocabulary()
     ensures { EmptySortsAreEmptyInEachVocabulary }
+{}
+
+/// Lists of sort expressions stand for the same sorts exactly where a vocabulary of the text gives them the same ones. So sorts may be
+/// compared by their numbers in a signature.
+pub fn same_sorts_are_those_of_a_vocabulary()
+    ensures { SameSortsAreThoseOfAVocabulary }
 {}
