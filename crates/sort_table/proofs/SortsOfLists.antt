@@ -1,10 +1,9 @@
 -- Sort expressions stand for the same sorts where a vocabulary gives them the same ones.
 use Rattle.std.proofs.Common.{◌≡◌, ◌<◌, ◌≤◌, ◌⊎◌, inl, inr, ℕ, List, [], ◌∷◌, length, refl, ap, sym, ◌∙◌, subst, arith}
-use Rattle.std.specs.Prelude.{Option, Some, None, option_map, option_and_then}
-use Rattle.std.proofs.lemmas.Option.{none-some, same_Some}
+use Rattle.std.specs.Prelude.{Option, Some, option_map, option_and_then}
+use Rattle.std.proofs.lemmas.Option.{same_Some}
 use Rattle.data_theory.specs.Terms.{Sort, boolean, positive, natural, integer, list, named}
 use Rattle.sort_table.specs.Expressions.{Name}
-use Rattle.sort_table.specs.NamedLists.{first_named}
 use Rattle.sort_table.specs.BareSorts.{SortExpression, truth_values, positives, naturals, integers, lists_of, a_name}
 use Rattle.sort_table.specs.SortMeanings.{UnderNames, StandsFor, for_truth_values, for_positives, for_naturals, for_integers, for_lists, for_plain, for_struct, for_alias, StandForEach, no_sorts, and_sort}
 use Rattle.sort_table.specs.Vocabularies.{Vocabulary, sort_in, sorts_in, IsOwn, declared_alone, declared_as_struct, IsSortNamed, HasSorts}
@@ -12,7 +11,7 @@ use Rattle.sort_table.specs.Duplicates.{SameSorts}
 use Rattle.sort_table.specs.SameSorts.{SameSortsAreThoseOfAVocabulary}
 use Rattle.sort_table.proofs.OneSort.{what_stands_for_a_sort_has_it}
 use Rattle.sort_table.proofs.Growing.{has_stood, near_or_far}
-use Rattle.sort_table.proofs.SameEmptiness.{SortsThen, sorts_then}
+use Rattle.sort_table.proofs.SameEmptiness.{sorts_then}
 
 -- an expression without aliases
 abbrev IsFinal : UnderNames → SortExpression → Type 0
