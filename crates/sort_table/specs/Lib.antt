@@ -5,10 +5,15 @@ pub mod BareProcesses
 pub mod BareDeclarations
 pub mod NamedLists
 pub mod TextFunctions
+pub mod DeclarationTrees
 pub mod SortMeanings
 pub mod Vocabularies
 pub mod SignatureVocabularies
+pub mod NamedSorts
+pub mod SortIndexes
+pub mod IndexedKinds
 pub mod UnknownSorts
+pub mod UsedNames
 pub mod SortCycles
 pub mod Duplicates
 pub mod EmptySorts

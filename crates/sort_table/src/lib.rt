@@ -4,4 +4,14 @@
 //! bodies: the contract of each is a law of these definitions, so that the crates above can cite it.
 #![tactic(auto)]
 
+mod declaration_lists;
 pub mod laws;
+mod sort_cycles;
+mod sort_declaring;
+mod sort_entries;
+mod sort_indexes;
+mod unknown_sorts;
+
+pub use sort_cycles::sort_cycle;
+
+pub use unknown_sorts::unknown_sort;
