@@ -10,3 +10,11 @@ pub mod WorkedEmptySorts
 pub mod WorkedFaults
 pub mod SingleRefusals
 pub mod StandingNames
+pub mod IndexPlaces
+pub mod Searches
+pub mod UsedNameLemmas
+pub mod AliasPlaces
+pub mod AliasCycles
+pub mod NamingSorts
+pub mod AliasEdges
+pub mod NamedSignatures

@@ -50,7 +50,7 @@ alias_by (actions as_ es) n e (i, l, q) = let never : ⊥ = omega (arith, l) in 
 alias_by (process p vs b) n e (i, l, q) = let never : ⊥ = omega (arith, l) in absurd never
 alias_by (initial b) n e (i, l, q) = let never : ⊥ = omega (arith, l) in absurd never
 
-alias_stands : (ds : List Declaration) (n : Name) (e : SortExpression) → Contains (kinds_in ds) (n, equal_to e) → Contains ds (alias n e)
+pub alias_stands : (ds : List Declaration) (n : Name) (e : SortExpression) → Contains (kinds_in ds) (n, equal_to e) → Contains ds (alias n e)
 alias_stands [] n e (i, l, q) = let never : ⊥ = omega (arith, l) in absurd never
 alias_stands (d ∷ ds) n e h = step (alias_stands ds n e) (in_either (kinds_by d) (kinds_in ds) (n, equal_to e) h)
   where

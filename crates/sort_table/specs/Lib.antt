@@ -15,6 +15,8 @@ pub mod IndexedKinds
 pub mod UnknownSorts
 pub mod UsedNames
 pub mod SortCycles
+pub mod AliasGraphs
+pub mod DeclaringSorts
 pub mod Duplicates
 pub mod EmptySorts
 pub mod Refusals

@@ -1,20 +1,27 @@
 //! The declared sorts in a signature.
 
-ghost use Rattle.std.specs.Prelude.{◌≡◌, ◌<◌, List, [], length, map, Some, IfOk, OnOk, IsSome};
-ghost use Rattle.std.specs.List.{All, Contains};
+ghost use Rattle.std.specs.Prelude.{◌≡◌, ◌<◌, List, ℕ, [], length, map, Some, IfOk, OnOk, OnErr, MatchOption, Contains, slice_get, slice_index};
+ghost use Rattle.std.specs.List.{All};
 ghost use Rattle.std.specs.Str.{IsUtf8};
+ghost use Rattle.graphs.specs.Graphs.{HasEdge};
 ghost use Rattle.mcrl2_syntax.specs.SortTrees.{plain_sort};
-ghost use Rattle.data_theory.specs.Names.{with_texts};
+ghost use Rattle.data_theory.specs.Terms.{Sort};
+ghost use Rattle.data_theory.specs.Names.{Enters, with_texts};
 ghost use Rattle.data_theory.specs.IdTerms.{sort_under};
+ghost use Rattle.data_theory.specs.Signature.{Sig};
+ghost use Rattle.sort_table.specs.Expressions.{Name};
+ghost use Rattle.sort_table.specs.NamedLists.{first_named};
 ghost use Rattle.sort_table.specs.BareSorts.{bare_sort};
 ghost use Rattle.sort_table.specs.BareDeclarations.{Declaration};
-ghost use Rattle.sort_table.specs.SortMeanings.{kinds_in, under_names};
-ghost use Rattle.sort_table.specs.DeclarationTrees.{declarations_under};
+ghost use Rattle.sort_table.specs.SortMeanings.{Kind, equal_to, kinds_in, under_names};
 ghost use Rattle.sort_table.specs.Vocabularies.{sort_in};
+ghost use Rattle.sort_table.specs.SortIndexes.{first_place, kind_of};
 ghost use Rattle.sort_table.specs.IndexedKinds.{kinds_of_index};
-ghost use Rattle.sort_table.specs.NamedSorts.{AreIdsOf, AreSoundKinds, HaveSortNames, AddsLists, AddsSorts, sort_names_of, sort_count};
+ghost use Rattle.sort_table.specs.NamedSorts.{AreIdsOf, AreSoundKinds, HaveSortNames, AddsLists, AddsSorts, IsNamed, IsOwnKind, ReadsSorts, sort_names_of, sort_count};
+ghost use Rattle.sort_table.specs.DeclaringSorts.{IsFirst, IsDeclaring, GoesOn, OwnIsNamed, AliasIsNamed, IsReady, AreLevels};
 
-use crate::sort_entries::SortIndex;
+use crate::alias_levels::alias_levels;
+use crate::sort_entries::{Definition, SortIndex};
 use data_theory::{NameId, Names, NoMemory, Signature, SortId};
 use mcrl2_syntax::SortTree;
 use std::alloc::Global;
@@ -52,19 +59,129 @@ impl<'a> SortNames<'a> {
     /// # Errors
     ///
     /// `NoMemory` where there is none for them.
-    pub(crate) fn declare(
-        &self,
-        alloc: Global,
-        signature: &mut Signature,
-    ) -> Result<(), NoMemory>
+    pub(crate) fn declare(&self, alloc: Global, signature: &mut Signature) -> Result<(), NoMemory>
         requires ids { AreIdsOf signature.old.texts (kinds_of_index self.now.index) self.now.ids.items }
         requires no_names { signature.old.sort_names ≡ [] }
         requires no_sorts { sort_count signature.old ≡ 0 }
         requires sound { AreSoundKinds (kinds_of_index self.now.index) }
         ensures sorts { OnOk result ((ds : List Declaration) → kinds_of_index self.now.index ≡ kinds_in ds → HaveSortNames (under_names ds) (sort_names_of signature.new) (sort_count signature.new)) }
         ensures added { OnOk result (AddsSorts signature.old signature.new) }
+        ensures reads { OnOk result (ReadsSorts (kinds_of_index self.now.index) self.now.ids.items signature.new) }
     {
-        Err(NoMemory)
+        self.add_own_sorts(signature)?;
+        let levels = alias_levels(alloc, &self.index)?;
+        self.add_levels(signature, levels.as_slice())
+    }
+
+    /// Adds the sorts whose names are no aliases, in the order of the text.
+    fn add_own_sorts(&self, signature: &mut Signature) -> Result<(), NoMemory>
+        requires { IsDeclaring (kinds_of_index self.now.index) self.now.ids.items signature.old }
+        ensures goes_on { OnOk result (GoesOn (kinds_of_index self.now.index) self.now.ids.items signature.old signature.new) }
+        ensures named { OnOk result ((place : ℕ) → place < length (kinds_of_index self.now.index) → OwnIsNamed (kinds_of_index self.now.index) place signature.new) }
+    {
+        for place in 0..self.index.len() {
+            self.add_own_sort(signature, place)?;
+        }
+        Ok(())
+    }
+
+    /// Adds the sort whose name is declared first at a place, where that is no alias.
+    fn add_own_sort(&self, signature: &mut Signature, place: usize) -> Result<(), NoMemory>
+        requires place { place < length (kinds_of_index self.now.index) }
+        requires state { IsDeclaring (kinds_of_index self.now.index) self.now.ids.items signature.old }
+        ensures goes_on { OnOk result (GoesOn (kinds_of_index self.now.index) self.now.ids.items signature.old signature.new) }
+        ensures named { OnOk result (OwnIsNamed (kinds_of_index self.now.index) place signature.new) }
+    {
+        match self.index.definition_at(place) {
+            None | Some(Definition::Alias(_)) => Ok(()),
+            Some(Definition::Alone) => self.add_missing_sort(signature, place),
+            Some(Definition::Struct) => self.add_missing_sort(signature, place),
+        }
+    }
+
+    /// Adds the sort whose name is declared at a place, where the name has none.
+    fn add_missing_sort(&self, signature: &mut Signature, place: usize) -> Result<(), NoMemory>
+        requires own { (n : Name) × (k : Kind) × IsFirst (kinds_of_index self.now.index) place n k × IsOwnKind k }
+        requires state { IsDeclaring (kinds_of_index self.now.index) self.now.ids.items signature.old }
+        ensures goes_on { OnOk result (GoesOn (kinds_of_index self.now.index) self.now.ids.items signature.old signature.new) }
+        ensures named { OnOk result ((n : Name) (k : Kind) → IsFirst (kinds_of_index self.now.index) place n k → IsNamed signature.new n) }
+    {
+        let _ = signature.names();
+        let id = self.ids[place];
+        match signature.sort(id) {
+            Some(_) => Ok(()),
+            None => {
+                signature.add_sort(id)?;
+                Ok(())
+            }
+        }
+    }
+
+    /// Adds the aliases, level by level.
+    fn add_levels(&self, signature: &mut Signature, levels: &[Vec<usize>]) -> Result<(), NoMemory>
+        requires state { IsDeclaring (kinds_of_index self.now.index) self.now.ids.items signature.old }
+        requires own { (place : ℕ) → place < length (kinds_of_index self.now.index) → OwnIsNamed (kinds_of_index self.now.index) place signature.old }
+        requires sound { AreSoundKinds (kinds_of_index self.now.index) }
+        requires levels { AreLevels (kinds_of_index self.now.index) levels.now }
+        ensures goes_on { OnOk result (GoesOn (kinds_of_index self.now.index) self.now.ids.items signature.old signature.new) }
+        ensures named { OnOk result ((place : ℕ) → place < length (kinds_of_index self.now.index) → AliasIsNamed (kinds_of_index self.now.index) place signature.new) }
+    {
+        for level in levels {
+            self.add_level(signature, level.as_slice())?;
+        }
+        Ok(())
+    }
+
+    /// Adds the aliases that are declared first at these places.
+    fn add_level(&self, signature: &mut Signature, level: &[usize]) -> Result<(), NoMemory>
+        requires within { (place : ℕ) → Contains level.now place → place < length (kinds_of_index self.now.index) }
+        requires state { IsDeclaring (kinds_of_index self.now.index) self.now.ids.items signature.old }
+        requires ready { (place : ℕ) → Contains level.now place → IsReady (kinds_of_index self.now.index) place signature.old }
+        ensures goes_on { OnOk result (GoesOn (kinds_of_index self.now.index) self.now.ids.items signature.old signature.new) }
+        ensures named { OnOk result ((place : ℕ) → Contains level.now place → AliasIsNamed (kinds_of_index self.now.index) place signature.new) }
+    {
+        for place in level {
+            self.add_alias(signature, *place)?;
+        }
+        Ok(())
+    }
+
+    /// Adds the alias that is declared first at a place, where there is one.
+    fn add_alias(&self, signature: &mut Signature, place: usize) -> Result<(), NoMemory>
+        requires place { place < length (kinds_of_index self.now.index) }
+        requires state { IsDeclaring (kinds_of_index self.now.index) self.now.ids.items signature.old }
+        requires ready { IsReady (kinds_of_index self.now.index) place signature.old }
+        ensures goes_on { OnOk result (GoesOn (kinds_of_index self.now.index) self.now.ids.items signature.old signature.new) }
+        ensures named { OnOk result (AliasIsNamed (kinds_of_index self.now.index) place signature.new) }
+    {
+        match self.index.definition_at(place) {
+            None | Some(Definition::Alone) | Some(Definition::Struct) => Ok(()),
+            Some(Definition::Alias(tree)) => self.add_missing_alias(signature, place, tree),
+        }
+    }
+
+    /// Adds an alias that is declared at a place, where its name has no sort.
+    fn add_missing_alias(
+        &self,
+        signature: &mut Signature,
+        place: usize,
+        tree: &'a SortTree,
+    ) -> Result<(), NoMemory>
+        requires alias { (n : Name) × IsFirst (kinds_of_index self.now.index) place n (equal_to (bare_sort (plain_sort tree.now))) }
+        requires state { IsDeclaring (kinds_of_index self.now.index) self.now.ids.items signature.old }
+        requires ready { IsReady (kinds_of_index self.now.index) place signature.old }
+        ensures goes_on { OnOk result (GoesOn (kinds_of_index self.now.index) self.now.ids.items signature.old signature.new) }
+        ensures named { OnOk result (AliasIsNamed (kinds_of_index self.now.index) place signature.new) }
+    {
+        let _ = signature.names();
+        let id = self.ids[place];
+        match signature.sort(id) {
+            Some(_) => Ok(()),
+            None => {
+                let sort = self.sort_of_tree(signature, tree)?;
+                signature.add_alias(id, sort)
+            }
+        }
     }
 
     /// The sort of a sort expression whose name has one. The list sorts that it needs are added.
@@ -77,12 +194,66 @@ impl<'a> SortNames<'a> {
         signature: &mut Signature,
         tree: &'a SortTree,
     ) -> Result<SortId, NoMemory>
-        requires ids { AreIdsOf signature.old.texts (kinds_of_index self.now.index) self.now.ids.items }
-        requires has_sort { IsSome (sort_in (sort_names_of signature.old) (bare_sort (plain_sort tree.now))) }
+        requires reads { ReadsSorts (kinds_of_index self.now.index) self.now.ids.items signature.old }
+        requires has_sort { (s : Sort) × (sort_in (sort_names_of signature.old) (bare_sort (plain_sort tree.now)) ≡ Some s) }
         ensures sort { IfOk result (λ sort. sort_in (sort_names_of signature.new) (bare_sort (plain_sort tree.now)) ≡ Some (sort_under signature.new sort)) }
         ensures within { IfOk result (λ sort. sort.0 < length signature.new.sorts) }
         ensures added { OnOk result (AddsLists signature.old signature.new) }
+        ensures names { OnOk result (sort_names_of signature.new ≡ sort_names_of signature.old) }
+        ensures reads { OnOk result (ReadsSorts (kinds_of_index self.now.index) self.now.ids.items signature.new) }
     {
-        Err(NoMemory)
+        match tree {
+            SortTree::Bool(_) => Ok(built_in(signature, 0)),
+            SortTree::Pos(_) => Ok(built_in(signature, 1)),
+            SortTree::Nat(_) => Ok(built_in(signature, 2)),
+            SortTree::Int(_) => Ok(built_in(signature, 3)),
+            SortTree::Name(name) => Ok(self.sort_named(signature, name.bytes.as_slice())),
+            SortTree::Brackets(_, inner) => self.sort_of_tree(signature, inner),
+            SortTree::List(_, inner) => {
+                let element = self.sort_of_tree(signature, inner)?;
+                list_over(signature, element)
+            }
+        }
     }
+
+    /// The sort of a name that has one.
+    fn sort_named(&self, signature: &Signature, name: &'a [u8]) -> SortId
+        requires reads { ReadsSorts (kinds_of_index self.now.index) self.now.ids.items signature.now }
+        requires named { IsNamed signature.now name.now }
+        ensures sort { first_named name.now (sort_names_of signature.now) ≡ Some (sort_under signature.now result) }
+        ensures within { result.0 < length signature.now.sorts }
+    {
+        let _ = signature.names();
+        let Some(place) = self.index.find(name) else {
+            unreachable!();
+        };
+        let Some(sort) = signature.sort(self.ids[place]) else {
+            unreachable!();
+        };
+        sort
+    }
+}
+
+/// Bool, Pos, Nat or Int.
+fn built_in(signature: &Signature, number: usize) -> SortId
+    requires { number < 4 }
+    ensures sort { Some (sort_under signature.now result) ≡ slice_get first_four number }
+    ensures within { result.0 < length signature.now.sorts }
+{
+    let _ = signature.names();
+    SortId(number)
+}
+
+/// The list sort over a sort.
+fn list_over(signature: &mut Signature, element: SortId) -> Result<SortId, NoMemory>
+    requires { element.0 < length signature.old.sorts }
+    ensures sort { IfOk result (λ sort. sort_under signature.new sort ≡ list (sort_under signature.old element)) }
+    ensures within { IfOk result (λ sort. sort.0 < length signature.new.sorts) }
+    ensures added { OnOk result (AddsLists signature.old signature.new) }
+    ensures names { OnOk result (sort_names_of signature.new ≡ sort_names_of signature.old) }
+{
+    let _ = signature.names();
+    let sort = signature.add_list(element)?;
+    let _ = signature.names();
+    Ok(sort)
 }

@@ -1,9 +1,11 @@
 //! The sort names that declarations declare, by an index.
 
-ghost use Rattle.std.specs.Prelude.{◌≡◌, ◌<◌, ◌++◌, ◌∷◌, [], length, map, IfOk, OnOk, OnErr, slice_get, Some};
-ghost use Rattle.sort_table.specs.SortMeanings.{alone, kinds_in, kinds_by};
+ghost use Rattle.std.specs.Prelude.{◌≡◌, ◌<◌, ◌++◌, ◌∷◌, [], length, map, IfOk, OnOk, OnErr, slice_get, option_map, Some, IfSome};
+ghost use Rattle.sort_table.specs.Expressions.{Name};
+ghost use Rattle.sort_table.specs.SortMeanings.{Kind, alone, kinds_in, kinds_by};
 ghost use Rattle.sort_table.specs.DeclarationTrees.{declarations_under, declaration_of};
-ghost use Rattle.sort_table.specs.SortIndexes.{entry_of, kind_of, first_place};
+ghost use Rattle.sort_table.specs.SortIndexes.{entry_of, kind_of, first_place, place_under, GetsPlace};
+ghost use Rattle.sort_table.specs.DeclaringSorts.{IsFirst};
 ghost use Rattle.sort_table.specs.IndexedKinds.{kinds_of_index};
 
 use crate::sort_entries::{Definition, SortIndex};
@@ -48,18 +50,48 @@ impl<'a> SortIndex<'a> {
         }
     }
 
+    /// What is declared at a place, where that is the first place of its name.
+    pub(crate) fn definition_at(&self, place: usize) -> Option<Definition<'a>>
+        requires { place < length (kinds_of_index self.now) }
+        ensures first { (n : Name) (k : Kind) → IsFirst (kinds_of_index self.now) place n k → option_map kind_of result ≡ Some k }
+        ensures only { IfSome result (λ definition. (n : Name) × IsFirst (kinds_of_index self.now) place n (kind_of definition)) }
+    {
+        let (name, definition) = self.get(place);
+        let Some(first) = self.find(name) else {
+            return None;
+        };
+        if first != place {
+            return None;
+        }
+        Some(definition)
+    }
+
     /// Adds a declaration of a name behind the others.
     pub(crate) fn push(&mut self, name: &'a [u8], definition: Definition<'a>) -> Result<(), NoMemory>
         ensures pushed { OnOk result (kinds_of_index self.new ≡ kinds_of_index self.old ++ (name.now, kind_of definition.entry) ∷ []) }
         ensures unchanged { OnErr result (kinds_of_index self.new ≡ kinds_of_index self.old) }
     {
         self.entries.reserve(1)?;
-        if self.find(name).is_none() {
-            self.places.insert(name, self.entries.len())?;
-        }
+        add_place(&mut self.places, name, self.entries.len())?;
         let _ = self.entries.push((name, definition));
         Ok(())
     }
+}
+
+/// Puts a place under a name that has none.
+fn add_place<'a>(
+    places: &mut BTreeMap<&'a [u8], usize>,
+    name: &'a [u8],
+    place: usize,
+) -> Result<(), NoMemory>
+    ensures added { OnOk result (GetsPlace places.old name.now place places.new) }
+    ensures unchanged { OnErr result ((n : Name) → place_under places.new n ≡ place_under places.old n) }
+{
+    if places.get(&name).is_some() {
+        return Ok(());
+    }
+    places.insert(name, place)?;
+    Ok(())
 }
 
 /// The sort names that these declarations declare.

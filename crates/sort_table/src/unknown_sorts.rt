@@ -1,6 +1,6 @@
 //! The first sort name that isn't declared.
 
-ghost use Rattle.std.specs.Prelude.{◌≡◌, ℕ, map, option_map, MatchOption, IfOk};
+ghost use Rattle.std.specs.Prelude.{◌≡◌, ◌++◌, ◌∷◌, [], map, option_map, MatchOption, IfOk};
 ghost use Rattle.mcrl2_syntax.specs.SortTrees.{plain_sort};
 ghost use Rattle.mcrl2_syntax.specs.ProcessParts.{var_group_of};
 ghost use Rattle.mcrl2_syntax.specs.ProcessTrees.{plain_process, processes_of};
@@ -66,19 +66,40 @@ fn unknown_in_declaration<'a>(
         Decl::Struct(_, _, constructors) => {
             unknown_in_constructors(index, constructors.as_slice())
         }
-        Decl::Cons(_, _, domain, sort) | Decl::Map(_, _, domain, sort) => {
-            match unknown_in_sorts(index, domain.as_slice()) {
-                Some(name) => Some(name),
-                None => unknown_in_sort(index, sort),
-            }
-        }
+        Decl::Cons(_, _, domain, sort) => unknown_in_type(index, domain.as_slice(), sort),
+        Decl::Map(_, _, domain, sort) => unknown_in_type(index, domain.as_slice(), sort),
         Decl::Vars(_, groups) => unknown_in_groups(index, groups.as_slice()),
         Decl::Act(_, _, domain) => unknown_in_sorts(index, domain.as_slice()),
-        Decl::Proc(_, _, groups, body) => match unknown_in_groups(index, groups.as_slice()) {
-            Some(name) => Some(name),
-            None => unknown_in_process(index, body),
-        },
+        Decl::Proc(_, _, groups, body) => unknown_in_definition(index, groups.as_slice(), body),
         Decl::Init(_, body) => unknown_in_process(index, body),
+    }
+}
+
+/// The first name in the sorts of a function that isn't declared.
+fn unknown_in_type<'a>(
+    index: &SortIndex<'a>,
+    domain: &'a [SortTree],
+    sort: &'a SortTree,
+) -> Option<&'a [u8]>
+    ensures { option_map (λ name. name.now) result ≡ unknown_among (kinds_of_index index.now) (names_of_trees domain.now ++ name_in (bare_sort (plain_sort sort.now))) }
+{
+    match unknown_in_sorts(index, domain) {
+        Some(name) => Some(name),
+        None => unknown_in_sort(index, sort),
+    }
+}
+
+/// The first name in the sorts of parameters and of a body's sum variables that isn't declared.
+fn unknown_in_definition<'a>(
+    index: &SortIndex<'a>,
+    parameters: &'a [VarGroup],
+    body: &'a ProcTree,
+) -> Option<&'a [u8]>
+    ensures { option_map (λ name. name.now) result ≡ unknown_among (kinds_of_index index.now) (names_of_groups parameters.now ++ names_of_sums (plain_process body.now)) }
+{
+    match unknown_in_groups(index, parameters) {
+        Some(name) => Some(name),
+        None => unknown_in_process(index, body),
     }
 }
 
@@ -86,7 +107,16 @@ fn unknown_in_declaration<'a>(
 fn unknown_in_sort<'a>(index: &SortIndex<'a>, tree: &'a SortTree) -> Option<&'a [u8]>
     ensures { option_map (λ name. name.now) result ≡ unknown_among (kinds_of_index index.now) (name_in (bare_sort (plain_sort tree.now))) }
 {
-    let name = tree_name(tree)?;
+    match tree_name(tree) {
+        Some(name) => unknown_name(index, name),
+        None => None,
+    }
+}
+
+/// The name, where it isn't declared.
+fn unknown_name<'a>(index: &SortIndex<'a>, name: &'a [u8]) -> Option<&'a [u8]>
+    ensures { option_map (λ name. name.now) result ≡ unknown_among (kinds_of_index index.now) (name.now ∷ []) }
+{
     match index.find(name) {
         Some(_) => None,
         None => Some(name),
