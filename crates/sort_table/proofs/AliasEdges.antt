@@ -3,7 +3,7 @@ use Rattle.std.proofs.Common.{◌≡◌, ◌<◌, ◌+◌, ◌⊎◌, inl, inr, 
 use Rattle.std.specs.Prelude.{Option, Some, None, slice_get}
 use Rattle.std.specs.List.{Contains}
 use Rattle.std.specs.Global.{Vec}
-use Rattle.std.proofs.lemmas.Option.{none-some, same_Some, slice_get_within}
+use Rattle.std.proofs.lemmas.Option.{none-some, same_Some}
 use Rattle.std.proofs.lemmas.List.Elements.{Contains-append_left, Contains-append_right, Contains-append_cases}
 use Rattle.graphs.specs.Graphs.{HasEdge, HasEdgeAmong, IsGraph, IsMarked, IsPath, HasCycle}
 use Rattle.graphs.specs.Cycles as graph
@@ -16,13 +16,9 @@ use Rattle.sort_table.specs.Expressions.{Name}
 use Rattle.sort_table.specs.BareDeclarations.{Declaration}
 use Rattle.sort_table.specs.SortMeanings.{Kind, alone, a_struct, equal_to, kinds_in}
 use Rattle.sort_table.specs.SortCycles.{IsFirstCycle, NoCycle}
-use Rattle.sort_table.specs.SortIndexes.{first_place}
 use Rattle.sort_table.specs.AliasGraphs.{edge_by, HasAliasEdge, AddsDefinition, IsAliasGraph, AreNamesAt}
-use Rattle.sort_table.proofs.AliasPlaces.{EdgeTold, edge_told, entry_at}
+use Rattle.sort_table.proofs.AliasPlaces.{EdgeTold, edge_told, place_within}
 use Rattle.sort_table.proofs.AliasCycles.{first_of_names, no_name_cycle}
-
-place_within : (n : Name) (ks : List (Name × Kind)) (i : ℕ) → first_place n ks ≡ Some i → i < length ks
-place_within n ks i h = let e : (k : Kind) × (slice_get ks i ≡ Some (n, k)) = entry_at n ks i h in slice_get_within ks i (n, e.0) e.1
 
 pub edge_within : (ks : List (Name × Kind)) (n : Name) (k : Kind) (a b : ℕ) → edge_by ks n k ≡ Some (a, b) → (a < length ks) × (b < length ks)
 edge_within ks n alone a b h = absurd (none-some (a, b) h)
@@ -40,26 +36,25 @@ pub adds_edge : (ks : List (Name × Kind)) (place : ℕ) (old new : List (Vec �
 adds_edge ks place old new n k from to at edge turns = record {
   size = turns.size;
   exact = λ r e a b.
-    let it : (n, k) ≡ r = same_Some (n, k) r (sym at ∙ e) in
-    let its : edge_by ks r.0 r.1 ≡ Some (from, to) = subst (λ (s : Name × Kind). edge_by ks s.0 s.1 ≡ Some (from, to)) it edge in
-    (
-      λ h. ⊎_elim (λ before. inl before) (λ one. inr (its ∙ (λ i. Some (sym (only_one from a one.1) i, sym one.0 i)))) ((turns.exact b a).0 h),
-      λ h. (turns.exact b a).1 (⊎_elim (λ before. inl before) (λ one.
-        let pair : (from, to) ≡ (a, b) = same_Some (from, to) (a, b) (sym its ∙ one) in
-        inr (sym (ap (λ (p : ℕ × ℕ). p.1) pair), subst (λ (c : ℕ). Contains (from ∷ []) c) (ap (λ (p : ℕ × ℕ). p.0) pair) (contains_last from))) h),
-    );
+      let it : (n, k) ≡ r = same_Some (n, k) r (sym at ∙ e) in
+      let its : edge_by ks r.0 r.1 ≡ Some (from, to) = subst (λ (s : Name × Kind). edge_by ks s.0 s.1 ≡ Some (from, to)) it edge in (
+        λ h. ⊎_elim (λ before. inl before) (λ one. inr (its ∙ (λ i. Some (sym (only_one from a one.1) i, sym one.0 i)))) ((turns.exact b a).0 h),
+        λ h. (turns.exact b a).1 (⊎_elim (λ before. inl before) (λ one.
+            let pair : (from, to) ≡ (a, b) = same_Some (from, to) (a, b) (sym its ∙ one) in
+            inr (sym (ap (λ (p : ℕ × ℕ). p.1) pair), subst (λ (c : ℕ). Contains (from ∷ []) c) (ap (λ (p : ℕ × ℕ). p.0) pair) (contains_last from))) h),
+      );
 }
 
 pub adds_none : (ks : List (Name × Kind)) (place : ℕ) (old : List (Vec ℕ)) (n : Name) (k : Kind) → slice_get ks place ≡ Some (n, k) → edge_by ks n k ≡ None → AddsDefinition ks place old old
 adds_none ks place old n k at edge = record {
   size = refl;
   exact = λ r e a b.
-    let it : (n, k) ≡ r = same_Some (n, k) r (sym at ∙ e) in
-    let its : edge_by ks r.0 r.1 ≡ None = subst (λ (s : Name × Kind). edge_by ks s.0 s.1 ≡ None) it edge in
-    (λ h. inl h, λ h. ⊎_elim (λ before. before) (λ one. absurd (none-some (a, b) (sym its ∙ one))) h);
+      let it : (n, k) ≡ r = same_Some (n, k) r (sym at ∙ e) in
+      let its : edge_by ks r.0 r.1 ≡ None = subst (λ (s : Name × Kind). edge_by ks s.0 s.1 ≡ None) it edge in
+      (λ h. inl h, λ h. ⊎_elim (λ before. before) (λ one. absurd (none-some (a, b) (sym its ∙ one))) h);
 }
 
-take_read : {A : Type 0} (xs : List A) (i : ℕ) (x : A) → slice_get xs i ≡ Some x → take (suc i) xs ≡ take i xs ++ x ∷ []
+pub take_read : {A : Type 0} (xs : List A) (i : ℕ) (x : A) → slice_get xs i ≡ Some x → take (suc i) xs ≡ take i xs ++ x ∷ []
 take_read [] i x h = absurd (none-some x h)
 take_read (y ∷ xs) zero x h = ap (λ z. z ∷ []) (same_Some y x h)
 take_read (y ∷ xs) (suc i) x h = ap (λ zs. y ∷ zs) (take_read xs i x h)
@@ -72,9 +67,9 @@ graph_more ks i old new l so adds =
       size = adds.size ∙ so.size;
       exact = λ a b. (
         λ h. subst (λ (rs : List (Name × Kind)). HasAliasEdge ks rs a b) (sym more) (⊎_elim
-          (λ before. let e : HasAliasEdge ks (take i ks) a b = (so.exact a b).0 before in (e.0, Contains-append_left (take i ks) (r.0 ∷ []) e.0 e.1, e.2))
-          (λ one. (r.0, Contains-append_right (take i ks) (r.0 ∷ []) r.0 (0, omega arith, refl), one))
-          ((adds.exact r.0 r.1 a b).0 h)),
+            (λ before. let e : HasAliasEdge ks (take i ks) a b = (so.exact a b).0 before in (e.0, Contains-append_left (take i ks) (r.0 ∷ []) e.0 e.1, e.2))
+            (λ one. (r.0, Contains-append_right (take i ks) (r.0 ∷ []) r.0 (0, omega arith, refl), one))
+            ((adds.exact r.0 r.1 a b).0 h)),
         λ h. (adds.exact r.0 r.1 a b).1 (of_edge r.0 a b (subst (λ (rs : List (Name × Kind)). HasAliasEdge ks rs a b) more h)),
       );
     }
@@ -85,9 +80,9 @@ graph_more ks i old new l so adds =
 
     of_edge : (r : Name × Kind) (a b : ℕ) → HasAliasEdge ks (take i ks ++ r ∷ []) a b → HasEdge old a b ⊎ (edge_by ks r.0 r.1 ≡ Some (a, b))
     of_edge r a b (s, there, edge) = ⊎_elim
-      (λ before. inl ((so.exact a b).1 (s, before, edge)))
-      (λ last. inr (subst (λ (t : Name × Kind). edge_by ks t.0 t.1 ≡ Some (a, b)) (sym (of_last r s last)) edge))
-      (Contains-append_cases (take i ks) (r ∷ []) s there)
+        (λ before. inl ((so.exact a b).1 (s, before, edge)))
+        (λ last. inr (subst (λ (t : Name × Kind). edge_by ks t.0 t.1 ≡ Some (a, b)) (sym (of_last r s last)) edge))
+        (Contains-append_cases (take i ks) (r ∷ []) s there)
 
 pub graph_none : (ks : List (Name × Kind)) (edges : List (Vec ℕ)) → length edges ≡ length ks → ((a b : ℕ) → ¬ (HasEdge edges a b)) → IsAliasGraph ks [] edges
 graph_none ks edges size none = record {

@@ -2,7 +2,7 @@
 use Rattle.std.proofs.Common.{◌≡◌, ◌<◌, ℕ, zero, suc, Bool, true, false, cond, List, [], ◌∷◌, ◌++◌, length, map, get_or, refl, ap, sym, ◌∙◌, subst, arith}
 use Rattle.std.specs.Prelude.{Option, Some, None, is_some, option_map, option_and_then, slice_get, bytes_eq}
 use Rattle.std.specs.List.{Contains}
-use Rattle.std.proofs.lemmas.Option.{none-some, same_Some}
+use Rattle.std.proofs.lemmas.Option.{none-some, same_Some, slice_get_within}
 use Rattle.std.proofs.lemmas.Slice.Eq.{bytes_eq-Decides}
 use Rattle.sort_table.specs.Expressions.{Name}
 use Rattle.sort_table.specs.NamedLists.{first_named}
@@ -57,6 +57,9 @@ entry_at n (r ∷ ks) i h = by_test (bytes_eq r.0 n) refl h (entry_at n ks)
         let rest : (k : Kind) × (slice_get ks below.0 ≡ Some (n, k)) = f below.0 below.1 in
         (rest.0, subst (λ (j : ℕ). slice_get (r ∷ ks) j ≡ Some (n, rest.0)) (sym below.2) rest.1)
 
+pub place_within : (n : Name) (ks : List (Name × Kind)) (i : ℕ) → first_place n ks ≡ Some i → i < length ks
+place_within n ks i h = let e : (k : Kind) × (slice_get ks i ≡ Some (n, k)) = entry_at n ks i h in slice_get_within ks i (n, e.0) e.1
+
 pub contained_is_declared : (n : Name) (k : Kind) (ks : List (Name × Kind)) → Contains ks (n, k) → is_some (first_named n ks) ≡ true
 contained_is_declared n k [] (i, l, e) = let never : ⊥ = omega (arith, l) in absurd never
 contained_is_declared n k (r ∷ ks) (zero, l, e) =
@@ -85,17 +88,17 @@ leaf_from : (e : SortExpression) (o : Option Name) (m : Name) → leaf_of e ≡ 
 leaf_from e None m h q = let never : [] ≡ m ∷ [] = sym (no_leaf e h) ∙ q in cc
 leaf_from e (Some n) m h q = let same : n ∷ [] ≡ m ∷ [] = sym (its_leaf e n h) ∙ q in let one : n ≡ m = cc in h ∙ ap (λ (k : Name). Some k) one
 
-edge_is : (ks : List (Name × Kind)) (n : Name) (e : SortExpression) (m : Name) (a b : ℕ) → leaf_of e ≡ Some m → first_place n ks ≡ Some a → first_place m ks ≡ Some b → edge_through ks n e ≡ Some (a, b)
+pub edge_is : (ks : List (Name × Kind)) (n : Name) (e : SortExpression) (m : Name) (a b : ℕ) → leaf_of e ≡ Some m → first_place n ks ≡ Some a → first_place m ks ≡ Some b → edge_through ks n e ≡ Some (a, b)
 edge_is ks n e m a b h i j =
     ap (λ (o : Option Name). option_and_then (λ l. option_and_then (λ c. option_map (λ d. (c, d)) (first_place l ks)) (first_place n ks)) o) h
     ∙ (ap (λ (o : Option ℕ). option_and_then (λ c. option_map (λ d. (c, d)) (first_place m ks)) o) i ∙ ap (λ (o : Option ℕ). option_map (λ d. (a, d)) o) j)
 
 pub edge_of_refer : (ds : List Declaration) (n m : Name) → Refers ds n m → is_some (first_named m (kinds_in ds)) ≡ true → HasAliasEdge (kinds_in ds) (kinds_in ds) (place_of n (kinds_in ds)) (place_of m (kinds_in ds))
 edge_of_refer ds n m r declared = (
-    (n, equal_to r.0),
-    alias_is_kind ds n r.0 r.1,
-    edge_is (kinds_in ds) n r.0 m (place_of n (kinds_in ds)) (place_of m (kinds_in ds)) (leaf_from r.0 (leaf_of r.0) m refl r.2) (declared_place n (kinds_in ds) (refers_from_declared ds n m r)) (declared_place m (kinds_in ds) declared),
-  )
+  (n, equal_to r.0),
+  alias_is_kind ds n r.0 r.1,
+  edge_is (kinds_in ds) n r.0 m (place_of n (kinds_in ds)) (place_of m (kinds_in ds)) (leaf_from r.0 (leaf_of r.0) m refl r.2) (declared_place n (kinds_in ds) (refers_from_declared ds n m r)) (declared_place m (kinds_in ds) declared),
+)
 
 abbrev pub from_start : ℕ → ℕ → ℕ × ℕ
 from_start c d = (c, d)

@@ -90,13 +90,13 @@ rank_more ranks i old new so turns = record {
   size = turns.size ∙ so.size;
   exact = λ r p. (
     λ h. ⊎_elim
-      (λ before. let b : (p < i) × (slice_index ranks p ≡ r) = (so.exact r p).0 before in let l : p < i = b.0 in (omega (arith, l), b.1))
-      (λ one. let same : p ≡ i = one.0 in (omega (arith, same), ap (slice_index ranks) same ∙ sym (only_one (slice_index ranks i) r one.1)))
-      ((turns.exact p r).0 h),
+        (λ before. let b : (p < i) × (slice_index ranks p ≡ r) = (so.exact r p).0 before in let l : p < i = b.0 in (omega (arith, l), b.1))
+        (λ one. let same : p ≡ i = one.0 in (omega (arith, same), ap (slice_index ranks) same ∙ sym (only_one (slice_index ranks i) r one.1)))
+        ((turns.exact p r).0 h),
     λ h. let l : p < i + 1 = h.0 in ⊎_elim
-      (λ before. (turns.exact p r).1 (inl ((so.exact r p).1 (before, h.1))))
-      (λ same. (turns.exact p r).1 (inr (same, subst (λ (q : ℕ). Contains (slice_index ranks i ∷ []) q) (ap (slice_index ranks) (sym same) ∙ h.1) (contains_last (slice_index ranks i)))))
-      (less_or_same p i (omega (arith, l))),
+        (λ before. (turns.exact p r).1 (inl ((so.exact r p).1 (before, h.1))))
+        (λ same. (turns.exact p r).1 (inr (same, subst (λ (q : ℕ). Contains (slice_index ranks i ∷ []) q) (ap (slice_index ranks) (sym same) ∙ h.1) (contains_last (slice_index ranks i)))))
+        (less_or_same p i (omega (arith, l))),
   );
 }
 
@@ -112,9 +112,9 @@ module _ (ds : List Declaration) (ks : List (Name × Kind)) (edges : List (Vec �
         each = λ p l. (slice_index ranks p, (by.exact (slice_index ranks p) p).1 (omega (arith, l, size), refl));
         within = λ r p h. let l : p < length ranks = ((by.exact r p).0 h).0 in omega (arith, l, size);
         down = λ r p b h e.
-          let edge : HasEdgeAmong edges among p b = from_alias ds ks edges among same are all p b e in
-          let less : slice_index ranks b < slice_index ranks p = ranked.smaller p b edge in
-          let at : slice_index ranks p ≡ r = ((by.exact r p).0 h).1 in
-          let w : b < length ks = alias_edge_within ks p b e in
-          (slice_index ranks b, omega (arith, less, at), (by.exact (slice_index ranks b) b).1 (omega (arith, w, size), refl));
+            let edge : HasEdgeAmong edges among p b = from_alias ds ks edges among same are all p b e in
+            let less : slice_index ranks b < slice_index ranks p = ranked.smaller p b edge in
+            let at : slice_index ranks p ≡ r = ((by.exact r p).0 h).1 in
+            let w : b < length ks = alias_edge_within ks p b e in
+            (slice_index ranks b, omega (arith, less, at), (by.exact (slice_index ranks b) b).1 (omega (arith, w, size), refl));
       }

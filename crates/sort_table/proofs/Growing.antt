@@ -103,7 +103,7 @@ longer [] ys = omega arith
 longer (x ∷ xs) ys = let l : length xs ≤ length (xs ++ ys) = longer xs ys in omega (arith, l)
 
 -- ---- sorts
-stands_after : (u w : UnderNames) → ((n : Name) (k : Kind) → u.sort n ≡ Some k → w.sort n ≡ Some k) → (e s : SortExpression) → StandsFor u e s → StandsFor w e s
+pub stands_after : (u w : UnderNames) → ((n : Name) (k : Kind) → u.sort n ≡ Some k → w.sort n ≡ Some k) → (e s : SortExpression) → StandsFor u e s → StandsFor w e s
 stands_after u w kept _ _ for_truth_values = for_truth_values
 stands_after u w kept _ _ for_positives = for_positives
 stands_after u w kept _ _ for_naturals = for_naturals

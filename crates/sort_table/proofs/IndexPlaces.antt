@@ -48,21 +48,6 @@ placed {A} n (r ∷ rs) = by_test (bytes_eq r.0 n) (first_place n rs) (first_nam
     by_test false (Some i) p h = h
 
 -- ---- a place is put under a name that has none
-pub kept_first : (old : BTreeMap (Bor Name) ℕ) (m : Name) (place : ℕ) → is_some (place_under old m) ≡ true → GetsPlace old m place old
-kept_first old m place there n = by_test (bytes_eq m n) refl
-  where
-    some_stays : (o p : Option ℕ) → is_some o ≡ true → o ≡ option_or o p
-    some_stays None p h = cc
-    some_stays (Some i) p h = refl
-
-    none_behind : (o : Option ℕ) → o ≡ option_or o None
-    none_behind None = refl
-    none_behind (Some i) = refl
-
-    by_test : (b : Bool) → bytes_eq m n ≡ b → place_under old n ≡ option_or (place_under old n) (cond b (Some place) None)
-    by_test true e = some_stays (place_under old n) (Some place) (ap (λ (k : Name). is_some (place_under old k)) (sym ((bytes_eq-Decides m n).0 e)) ∙ there)
-    by_test false e = none_behind (place_under old n)
-
 pub put_first : (old new : BTreeMap (Bor Name) ℕ) (m : Name) (place : ℕ) → is_some (place_under old m) ≡ false
     → ((n : Name) → place_under new n ≡ cond (bytes_eq m n) (Some place) (place_under old n)) → GetsPlace old m place new
 put_first old new m place absent put n = put n ∙ by_test (bytes_eq m n) refl

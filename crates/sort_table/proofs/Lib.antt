@@ -18,3 +18,5 @@ pub mod AliasCycles
 pub mod NamingSorts
 pub mod AliasEdges
 pub mod NamedSignatures
+pub mod FirstPlaces
+pub mod DeclaringLemmas

@@ -1,19 +1,21 @@
 -- The names of a signature's sorts, after sorts are added.
 use Rattle.std.proofs.Common.{◌≡◌, ◌<◌, ◌+◌, ℕ, zero, suc, Bool, true, false, cond, List, [], ◌∷◌, ◌++◌, length, map, take, get_or, refl, ap, sym, ◌∙◌, subst, arith, append_assoc}
 use Rattle.std.specs.Prelude.{Option, Some, None, slice_get, bytes_eq, option_map}
-use Rattle.std.specs.List.{Contains}
+use Rattle.std.specs.List.{Contains, list_any}
 use Rattle.std.proofs.lemmas.Option.{none-some, same_Some}
 use Rattle.std.proofs.lemmas.List.{map-append, length-append, length-map, append-nil}
 use Rattle.std.proofs.lemmas.Slice.Eq.{bytes_eq-Decides}
 use Rattle.std.proofs.Math.Seq.{take-append_seam}
 use Rattle.std.proofs.lemmas.List.Elements.{All-head, All-tail}
 use Rattle.std.specs.List.{All}
+use Rattle.std.specs.Str.{IsUtf8}
 use Rattle.data_theory.specs.declared.ids.NameId.{NameId}
 use Rattle.data_theory.specs.declared.ids.SortId.{SortId}
 use Rattle.data_theory.specs.Terms.{Sort, boolean, positive, natural, integer, list, named}
 use Rattle.data_theory.specs.Declarations.{Construction}
+use Rattle.data_theory.specs.FirstNames.{first_names}
 use Rattle.data_theory.specs.Places.{HaveOnePlace}
-use Rattle.data_theory.specs.Names.{AreDifferent}
+use Rattle.data_theory.specs.Names.{with_text, with_texts}
 use Rattle.data_theory.specs.Sorts as sorts
 use Rattle.data_theory.specs.Sorts.{SortInfo, abstract_sort, list_sort, IsListOver, IsAnyListOver}
 use Rattle.data_theory.specs.SortNames.{IsName}
@@ -22,7 +24,7 @@ use Rattle.data_theory.specs.IdTerms.{sort_under, IsGrown}
 use Rattle.data_theory.specs.IdTables.{IsTable}
 use Rattle.data_theory.specs.Complete.{IsComplete}
 use Rattle.data_theory.specs.WholeSignatures.{IsSignature}
-use Rattle.data_theory.specs.Signature.{Sig, with_sort, with_alias, with_list}
+use Rattle.data_theory.specs.Signature.{Sig, first_signature, with_sort, with_alias, with_list}
 use Rattle.data_theory.proofs.PlaceLemmas.{read_last}
 use Rattle.data_theory.proofs.IdSortLemmas.{sorts_mean_their_kinds, growth_keeps_meant_sorts}
 use Rattle.data_theory.proofs.IdGrowthLemmas.{with_a_sort_it_is_grown, with_a_list_sort_it_is_grown}
@@ -31,8 +33,10 @@ use Rattle.sort_table.specs.Expressions.{Name}
 use Rattle.sort_table.specs.NamedLists.{first_named}
 use Rattle.sort_table.specs.SortMeanings.{Kind}
 use Rattle.sort_table.specs.SignatureVocabularies.{text_under, sort_name_under}
+use Rattle.sort_table.specs.DeclaringSorts.{first_four}
 use Rattle.sort_table.specs.NamedSorts.{sort_names_of, sort_count, IsNamed, AreIdsOf}
 use Rattle.sort_table.proofs.Choices.{chosen}
+use Rattle.sort_table.proofs.AliasEdges.{take_read}
 use Rattle.sort_table.proofs.GrowingSignatures.{map_as, same_sort_name}
 
 -- ---- what was there stays
@@ -59,11 +63,15 @@ pub list_meaning : (h : Sig) (e l : SortId) → IsTable h → IsListOver h.sorts
 list_meaning h e l table over = sorts_mean_their_kinds h.sorts table.sorts l over.0 over.1 ∙ ap (meaning_of (sort_meant h.sorts) (length (constructions (take l.0 h.sorts)))) over.2
 
 -- ---- the sorts that are always there
-kind_meaning : (g : Sig) (i : ℕ) (k : sorts.Kind) → IsTable g → HasKind g.sorts i k → sort_under g (record { 0 = i }) ≡ meaning_of (sort_meant g.sorts) (length (constructions (take i g.sorts))) k
+pub kind_meaning : (g : Sig) (i : ℕ) (k : sorts.Kind) → IsTable g → HasKind g.sorts i k → sort_under g (record { 0 = i }) ≡ meaning_of (sort_meant g.sorts) (length (constructions (take i g.sorts))) k
 kind_meaning g i k table has = sorts_mean_their_kinds g.sorts table.sorts (record { 0 = i }) has.0 has.1 ∙ ap (meaning_of (sort_meant g.sorts) (length (constructions (take i g.sorts)))) has.2
 
-abbrev pub first_four : List Sort
-first_four = boolean ∷ positive ∷ natural ∷ integer ∷ []
+pub built_in_sort : (g : Sig) → IsTable g → (i : ℕ) → i < 4 → Some (sort_under g (record { 0 = i })) ≡ slice_get first_four i
+built_in_sort g table zero l = ap (λ (s : Sort). Some s) (kind_meaning g 0 sorts.booleans table ((table.sorts.boolean_first 0).1 refl))
+built_in_sort g table (suc zero) l = ap (λ (s : Sort). Some s) (kind_meaning g 1 sorts.positives table ((table.sorts.positive_second 1).1 refl))
+built_in_sort g table (suc (suc zero)) l = ap (λ (s : Sort). Some s) (kind_meaning g 2 sorts.naturals table ((table.sorts.natural_third 2).1 refl))
+built_in_sort g table (suc (suc (suc zero))) l = ap (λ (s : Sort). Some s) (kind_meaning g 3 sorts.integers table ((table.sorts.integer_fourth 3).1 refl))
+built_in_sort g table (suc (suc (suc (suc i)))) l = absurd (omega (arith, l))
 
 -- ---- a declared sort more
 pub count_with_sort : (g : Sig) (n : NameId) → sort_count (with_sort g n) ≡ suc (sort_count g)
@@ -98,7 +106,7 @@ text_is [] i t h = absurd (none-some t h)
 text_is (x ∷ xs) zero t h = same_Some x t h
 text_is (x ∷ xs) (suc i) t h = text_is xs i t h
 
-text_read : (texts : List (List ℕ)) (i : ℕ) → i < length texts → slice_get texts i ≡ Some (get_or texts i [])
+pub text_read : (texts : List (List ℕ)) (i : ℕ) → i < length texts → slice_get texts i ≡ Some (get_or texts i [])
 text_read [] i l = absurd (omega (arith, l))
 text_read (x ∷ xs) zero l = refl
 text_read (x ∷ xs) (suc i) l = let m : i < length xs = omega (arith, l) in text_read xs i m
@@ -150,9 +158,9 @@ module _ (g : Sig) (stands : IsSignature g) (i : NameId) (n : Name) (at : slice_
       let rest : first_named n (map (sort_name_under g) es) ≡ Some (sort_under g s) = among_named es (All-tail P d es all) (tail_once d es once) s (j, m, e) in
       let first : P d = All-head P d es all in
       let not_here : bytes_eq (text_under g d.0) n ≡ true → ⊥ = λ same.
-        let id : d.0 ≡ i = same_id d.0 first.0 ((bytes_eq-Decides (text_under g d.0) n).0 same) in
-        let twice : 0 ≡ suc j = once 0 (suc j) i (ap (λ (x : NameId). Some x) id) (id_at es j s m e) in
-        omega (arith, twice) in
+      let id : d.0 ≡ i = same_id d.0 first.0 ((bytes_eq-Decides (text_under g d.0) n).0 same) in
+      let twice : 0 ≡ suc j = once 0 (suc j) i (ap (λ (x : NameId). Some x) id) (id_at es j s m e) in
+      omega (arith, twice) in
       by_test (bytes_eq (text_under g d.0) n) (λ same. absurd (not_here same)) rest
     where
       by_test : (b : Bool) → (b ≡ true → sort_under g d.1 ≡ sort_under g s) → first_named n (map (sort_name_under g) es) ≡ Some (sort_under g s) → cond b (Some (sort_under g d.1)) (first_named n (map (sort_name_under g) es)) ≡ Some (sort_under g s)
@@ -184,3 +192,68 @@ id_of_place texts (r ∷ ks) (j ∷ ids) (suc place) n k i are h e =
 
 pub as_many_ids : (texts : List (List ℕ)) (ks : List (Name × Kind)) (ids : List NameId) → AreIdsOf texts ks ids → length ids ≡ length ks
 as_many_ids texts ks ids are = sym (length-map ids (λ (i : NameId). slice_get texts i.0)) ∙ (ap length are ∙ length-map ks (λ (r : Name × Kind). Some r.0))
+
+-- ---- texts are entered one after the other
+read_behind : (texts more : List (List ℕ)) (i : ℕ) (t : List ℕ) → slice_get texts i ≡ Some t → slice_get (texts ++ more) i ≡ Some t
+read_behind [] more i t h = absurd (none-some t h)
+read_behind (x ∷ xs) more zero t h = h
+read_behind (x ∷ xs) more (suc i) t h = read_behind xs more i t h
+
+read_with : (texts : List (List ℕ)) (u : List ℕ) (i : ℕ) (t : List ℕ) → slice_get texts i ≡ Some t → slice_get (with_text texts u) i ≡ Some t
+read_with texts u i t h = by_test (list_any (bytes_eq u) texts)
+  where
+    by_test : (b : Bool) → slice_get (cond b texts (texts ++ u ∷ [])) i ≡ Some t
+    by_test true = h
+    by_test false = read_behind texts (u ∷ []) i t h
+
+ids_stay : (texts : List (List ℕ)) (u : List ℕ) (ks : List (Name × Kind)) (ids : List NameId) → AreIdsOf texts ks ids → AreIdsOf (with_text texts u) ks ids
+ids_stay texts u [] [] are = refl
+ids_stay texts u [] (j ∷ ids) are = let never : ⊥ = cc in absurd never
+ids_stay texts u (r ∷ ks) [] are = let never : ⊥ = cc in absurd never
+ids_stay texts u (r ∷ ks) (j ∷ ids) are =
+    let head : slice_get texts j.0 ≡ Some r.0 = cc in
+    let tail : AreIdsOf texts ks ids = cc in
+    let here : slice_get (with_text texts u) j.0 ≡ Some r.0 = read_with texts u j.0 r.0 head in
+    let rest : AreIdsOf (with_text texts u) ks ids = ids_stay texts u ks ids tail in
+    λ i. here i ∷ rest i
+
+ids_stay_all : (texts ts : List (List ℕ)) (ks : List (Name × Kind)) (ids : List NameId) → AreIdsOf texts ks ids → AreIdsOf (with_texts texts ts) ks ids
+ids_stay_all texts [] ks ids are = are
+ids_stay_all texts (t ∷ ts) ks ids are = ids_stay_all (with_text texts t) ts ks ids (ids_stay texts t ks ids are)
+
+-- ---- the first signature
+pub first_ids : (given : List (List ℕ)) (ks : List (Name × Kind)) (ids : List NameId) → AreIdsOf given ks ids → AreIdsOf (first_signature given).texts ks ids
+unfolding first_signature
+first_ids given ks ids are = ids_stay_all given first_names ks ids are
+
+pub first_has_no_names : (given : List (List ℕ)) → (first_signature given).sort_names ≡ []
+unfolding first_signature
+first_has_no_names given = refl
+
+pub first_has_no_sorts : (given : List (List ℕ)) → sort_count (first_signature given) ≡ 0
+unfolding first_signature
+first_has_no_sorts given = refl
+
+pub ids_more : (texts new : List (List ℕ)) (ks : List (Name × Kind)) (i : ℕ) (n : Name) (k : Kind) (ids more : List NameId) (j : NameId) → slice_get ks i ≡ Some (n, k) → AreIdsOf texts (take i ks) ids → new ≡ with_text texts n → slice_get new j.0 ≡ Some n → more ≡ ids ++ j ∷ []
+    → AreIdsOf new (take (i + 1) ks) more
+ids_more texts new ks i n k ids more j at are is there pushed =
+    let kept : AreIdsOf new (take i ks) ids = subst (λ (ts : List (List ℕ)). AreIdsOf ts (take i ks) ids) (sym is) (ids_stay texts n (take i ks) ids are) in
+    let rows : take (i + 1) ks ≡ take i ks ++ (n, k) ∷ [] = let s : i + 1 ≡ suc i = omega arith in ap (λ (m : ℕ). take m ks) s ∙ take_read ks i (n, k) at in
+    ap (map (λ (m : NameId). slice_get new m.0)) pushed ∙ (map-append (λ (m : NameId). slice_get new m.0) ids (j ∷ [])
+    ∙ ((λ m. kept m ++ there m ∷ []) ∙ (sym (map-append (λ (r : Name × Kind). Some r.0) (take i ks) ((n, k) ∷ [])) ∙ ap (map (λ (r : Name × Kind). Some r.0)) (sym rows))))
+
+texts_more : (texts ts : List (List ℕ)) (t : List ℕ) → with_texts texts (ts ++ t ∷ []) ≡ with_text (with_texts texts ts) t
+texts_more texts [] t = refl
+texts_more texts (u ∷ ts) t = texts_more (with_text texts u) ts t
+
+pub entered_more : (old texts new : List (List ℕ)) (ks : List (Name × Kind)) (i : ℕ) (n : Name) (k : Kind) → slice_get ks i ≡ Some (n, k) → texts ≡ with_texts old (map (λ (r : Name × Kind). r.0) (take i ks)) → new ≡ with_text texts n
+    → new ≡ with_texts old (map (λ (r : Name × Kind). r.0) (take (i + 1) ks))
+entered_more old texts new ks i n k at so is =
+    let rows : take (i + 1) ks ≡ take i ks ++ (n, k) ∷ [] = let s : i + 1 ≡ suc i = omega arith in ap (λ (m : ℕ). take m ks) s ∙ take_read ks i (n, k) at in
+    is ∙ (ap (λ (ts : List (List ℕ)). with_text ts n) so ∙ (sym (texts_more old (map (λ (r : Name × Kind). r.0) (take i ks)) n)
+    ∙ ap (with_texts old) (sym (map-append (λ (r : Name × Kind). r.0) (take i ks) ((n, k) ∷ [])) ∙ ap (map (λ (r : Name × Kind). r.0)) (sym rows))))
+
+pub utf8_at : (ks : List (Name × Kind)) (i : ℕ) (n : Name) (k : Kind) → All (λ (r : Name × Kind). IsUtf8 r.0) ks → slice_get ks i ≡ Some (n, k) → IsUtf8 n
+utf8_at [] i n k all h = absurd (none-some (n, k) h)
+utf8_at (r ∷ ks) zero n k all h = subst (λ (s : Name × Kind). IsUtf8 s.0) (same_Some r (n, k) h) (All-head (λ (s : Name × Kind). IsUtf8 s.0) r ks all)
+utf8_at (r ∷ ks) (suc i) n k all h = utf8_at ks i n k (All-tail (λ (s : Name × Kind). IsUtf8 s.0) r ks all) h

@@ -9,15 +9,13 @@ use Rattle.sort_table.specs.NamedLists.{first_named}
 use Rattle.sort_table.specs.BareSorts.{SortExpression, a_name}
 use Rattle.sort_table.specs.BareDeclarations.{Declaration}
 use Rattle.sort_table.specs.SortMeanings.{Kind, alone, a_struct, equal_to, kinds_in, under_names, StandsFor}
-use Rattle.sort_table.specs.UnknownSorts.{AllAreKnown}
-use Rattle.sort_table.specs.SortCycles.{NoCycle}
+use Rattle.sort_table.specs.Growth.{AllStand}
 use Rattle.sort_table.specs.Vocabularies.{sort_in, IsOwn, declared_alone, declared_as_struct}
 use Rattle.sort_table.specs.NamedSorts.{HasSortNumber, HaveSortNames, IsOwnKind, NamesSorts, no_names, own_name, alias_name}
 use Rattle.sort_table.proofs.Choices.{chosen}
 use Rattle.sort_table.proofs.AliasCycles.{less_or_same}
 use Rattle.sort_table.proofs.Growing.{first_behind, first_of_two, sort_behind}
 use Rattle.sort_table.proofs.ListForms.{is_declared}
-use Rattle.sort_table.proofs.StandingNames.{declared_names_stand}
 
 abbrev OwnIn : List (Name × Kind) → Name → Type 0
 OwnIn ks n = (k : Kind) × (first_named n ks ≡ Some k) × IsOwnKind k
@@ -153,21 +151,21 @@ of_own ds n (equal_to e) h o = absurd o
 pub named_by_name : (ks : List (Name × Kind)) (ns : List (Name × Sort)) (count : ℕ) → NamesSorts ks ns count → (n : Name) (s : Sort) → first_named n ns ≡ Some s → (k : Kind) × (first_named n ks ≡ Some k)
 named_by_name ks ns count r = (are_named ks ns count r).declared
 
-pub have_sort_names : (ds : List Declaration) (ns : List (Name × Sort)) (count : ℕ) → AllAreKnown ds → NoCycle ds → NamesSorts (kinds_in ds) ns count
+pub have_sort_names : (ds : List Declaration) (ns : List (Name × Sort)) (count : ℕ) → AllStand (under_names ds) → NamesSorts (kinds_in ds) ns count
     → ((n : Name) (k : Kind) → first_named n (kinds_in ds) ≡ Some k → (s : Sort) × (first_named n ns ≡ Some s)) → HaveSortNames (under_names ds) ns count
-have_sort_names ds ns count known no_cycle r all =
+have_sort_names ds ns count stands r all =
     let are : AreNamed (kinds_in ds) ns count = are_named (kinds_in ds) ns count r in
     record {
       named = λ n. (
-        λ s. let k : (k : Kind) × (first_named n (kinds_in ds) ≡ Some k) = are.declared n s.0 s.1 in declared_names_stand ds known no_cycle n k.0 k.1,
+        λ s. let k : (k : Kind) × (first_named n (kinds_in ds) ≡ Some k) = are.declared n s.0 s.1 in stands n k.0 k.1,
         λ e. let k : (k : Kind) × (first_named n (kinds_in ds) ≡ Some k) = is_declared (under_names ds) n e.0 e.1 in all n k.0 k.1,
       );
       aliases = λ n e h. let s : (s : Sort) × (first_named n ns ≡ Some s) = all n (equal_to e) h in s.1 ∙ sym (are.aliases n e s.0 h s.1);
       others = λ n own.
-        let o : OwnIn (kinds_in ds) n = own_of ds n own in
-        let s : (s : Sort) × (first_named n ns ≡ Some s) = all n o.0 o.1 in
-        let d : (d : ℕ) × (s.0 ≡ named d) × (d < count) = are.own n s.0 o s.1 in
-        (d.0, s.1 ∙ ap (λ (t : Sort). Some t) d.1, d.2);
+          let o : OwnIn (kinds_in ds) n = own_of ds n own in
+          let s : (s : Sort) × (first_named n ns ≡ Some s) = all n o.0 o.1 in
+          let d : (d : ℕ) × (s.0 ≡ named d) × (d < count) = are.own n s.0 o s.1 in
+          (d.0, s.1 ∙ ap (λ (t : Sort). Some t) d.1, d.2);
       different = λ n m d p q h k. are.different n m d (own_of ds n p) (own_of ds m q) h k;
       no_more = λ d l. let o : (n : Name) × OwnIn (kinds_in ds) n × HasSortNumber ns n d = are.no_more d l in (o.0, of_own ds o.0 o.1.0 o.1.1 o.1.2, o.2);
     }

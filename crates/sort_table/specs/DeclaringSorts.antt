@@ -1,8 +1,9 @@
 -- How the declared sorts come into a signature.
-use Rattle.std.specs.Prelude.{◌≡◌, ◌<◌, ◌↔◌, ℕ, List, length, Some, slice_index}
+use Rattle.std.specs.Prelude.{◌≡◌, ◌<◌, ◌↔◌, ℕ, List, [], ◌∷◌, length, Some, slice_index}
 use Rattle.std.specs.Global.{Vec}
 use Rattle.graphs.specs.Graphs.{HasEdge}
 use Rattle.data_theory.specs.declared.ids.NameId.{NameId}
+use Rattle.data_theory.specs.Terms.{Sort, boolean, positive, natural, integer}
 use Rattle.data_theory.specs.Signature.{Sig}
 use Rattle.sort_table.specs.Expressions.{Name}
 use Rattle.sort_table.specs.NamedLists.{first_named}
@@ -12,6 +13,10 @@ use Rattle.sort_table.specs.SortIndexes.{first_place}
 use Rattle.sort_table.specs.UsedNames.{leaf_of}
 use Rattle.sort_table.specs.AliasGraphs.{HasAliasEdge}
 use Rattle.sort_table.specs.NamedSorts.{AreIdsOf, IsNamed, IsOwnKind, NamesSorts, AddsSorts, sort_names_of, sort_count}
+
+-- the sorts that are always there, in the order of their numbers
+abbrev pub first_four : List Sort
+first_four = boolean ∷ positive ∷ natural ∷ integer ∷ []
 
 -- a name is declared first at this place, as this
 pub record IsFirst (ks : List (Name × Kind)) (place : ℕ) (n : Name) (k : Kind) : Type 0 where

@@ -5,8 +5,8 @@ ghost use Rattle.std.specs.List.{All};
 ghost use Rattle.std.specs.Str.{IsUtf8};
 ghost use Rattle.graphs.specs.Graphs.{HasEdge};
 ghost use Rattle.mcrl2_syntax.specs.SortTrees.{plain_sort};
-ghost use Rattle.data_theory.specs.Terms.{Sort};
-ghost use Rattle.data_theory.specs.Names.{Enters, with_texts};
+ghost use Rattle.data_theory.specs.Terms.{Sort, list};
+ghost use Rattle.data_theory.specs.Names.{with_text, with_texts};
 ghost use Rattle.data_theory.specs.IdTerms.{sort_under};
 ghost use Rattle.data_theory.specs.Signature.{Sig};
 ghost use Rattle.sort_table.specs.Expressions.{Name};
@@ -15,10 +15,12 @@ ghost use Rattle.sort_table.specs.BareSorts.{bare_sort};
 ghost use Rattle.sort_table.specs.BareDeclarations.{Declaration};
 ghost use Rattle.sort_table.specs.SortMeanings.{Kind, equal_to, kinds_in, under_names};
 ghost use Rattle.sort_table.specs.Vocabularies.{sort_in};
-ghost use Rattle.sort_table.specs.SortIndexes.{first_place, kind_of};
+ghost use Rattle.data_theory.specs.Sorts.{IsAnyListOver};
+ghost use Rattle.data_theory.specs.SortNames.{IsName};
+ghost use Rattle.sort_table.specs.UsedNames.{leaf_of};
 ghost use Rattle.sort_table.specs.IndexedKinds.{kinds_of_index};
 ghost use Rattle.sort_table.specs.NamedSorts.{AreIdsOf, AreSoundKinds, HaveSortNames, AddsLists, AddsSorts, IsNamed, IsOwnKind, ReadsSorts, sort_names_of, sort_count};
-ghost use Rattle.sort_table.specs.DeclaringSorts.{IsFirst, IsDeclaring, GoesOn, OwnIsNamed, AliasIsNamed, IsReady, AreLevels};
+ghost use Rattle.sort_table.specs.DeclaringSorts.{first_four, IsFirst, IsDeclaring, GoesOn, OwnIsNamed, AliasIsNamed, IsReady, AreLevels};
 
 use crate::alias_levels::alias_levels;
 use crate::sort_entries::{Definition, SortIndex};
@@ -50,7 +52,24 @@ pub(crate) fn enter_sort_names<'a>(
     ensures ids { IfOk result (λ sorts. AreIdsOf names.new (kinds_of_index index.entry) sorts.ids.items) }
     ensures entered { OnOk result (names.new ≡ with_texts names.old (map (λ r. r.0) (kinds_of_index index.entry))) }
 {
-    Err(NoMemory)
+    let mut ids = Vec::new(alloc);
+    for place in 0..index.len() {
+        let (name, _) = index.get(place);
+        ids.push(enter_bytes(names, name)?)?;
+    }
+    Ok(SortNames { index, ids })
+}
+
+/// Enters a text that is given by its bytes.
+fn enter_bytes(names: &mut Names, bytes: &[u8]) -> Result<NameId, NoMemory>
+    requires { IsUtf8 bytes.now }
+    ensures entered { OnOk result (names.new ≡ with_text names.old bytes.now) }
+    ensures place { IfOk result (λ name. slice_get names.new name.0 ≡ Some bytes.now) }
+{
+    match str::from_utf8(bytes) {
+        Ok(text) => names.enter(text),
+        Err(_) => unreachable!(),
+    }
 }
 
 impl<'a> SortNames<'a> {
@@ -70,7 +89,8 @@ impl<'a> SortNames<'a> {
     {
         self.add_own_sorts(signature)?;
         let levels = alias_levels(alloc, &self.index)?;
-        self.add_levels(signature, levels.as_slice())
+        self.add_levels(signature, levels.as_slice())?;
+        Ok(())
     }
 
     /// Adds the sorts whose names are no aliases, in the order of the text.
@@ -104,7 +124,7 @@ impl<'a> SortNames<'a> {
         requires own { (n : Name) × (k : Kind) × IsFirst (kinds_of_index self.now.index) place n k × IsOwnKind k }
         requires state { IsDeclaring (kinds_of_index self.now.index) self.now.ids.items signature.old }
         ensures goes_on { OnOk result (GoesOn (kinds_of_index self.now.index) self.now.ids.items signature.old signature.new) }
-        ensures named { OnOk result ((n : Name) (k : Kind) → IsFirst (kinds_of_index self.now.index) place n k → IsNamed signature.new n) }
+        ensures named { OnOk result (OwnIsNamed (kinds_of_index self.now.index) place signature.new) }
     {
         let _ = signature.names();
         let id = self.ids[place];
@@ -177,11 +197,28 @@ impl<'a> SortNames<'a> {
         let id = self.ids[place];
         match signature.sort(id) {
             Some(_) => Ok(()),
-            None => {
-                let sort = self.sort_of_tree(signature, tree)?;
-                signature.add_alias(id, sort)
-            }
+            None => self.put_alias(signature, id, tree),
         }
+    }
+
+    /// Gives a name that has no sort that of an expression.
+    fn put_alias(
+        &self,
+        signature: &mut Signature,
+        id: NameId,
+        tree: &'a SortTree,
+    ) -> Result<(), NoMemory>
+        requires state { IsDeclaring (kinds_of_index self.now.index) self.now.ids.items signature.old }
+        requires alias { (n : Name) → slice_get signature.old.texts id.0 ≡ Some n → first_named n (kinds_of_index self.now.index) ≡ Some (equal_to (bare_sort (plain_sort tree.now))) }
+        requires text { id.0 < length signature.old.texts }
+        requires absent { ¬ (IsName signature.old.sort_names id) }
+        requires named { (n : Name) → leaf_of (bare_sort (plain_sort tree.now)) ≡ Some n → IsNamed signature.old n }
+        ensures goes_on { OnOk result (GoesOn (kinds_of_index self.now.index) self.now.ids.items signature.old signature.new) }
+        ensures named { OnOk result ((n : Name) → slice_get signature.old.texts id.0 ≡ Some n → IsNamed signature.new n) }
+    {
+        let _ = signature.names();
+        let sort = self.sort_of_tree(signature, tree)?;
+        signature.add_alias(id, sort)
     }
 
     /// The sort of a sort expression whose name has one. The list sorts that it needs are added.
@@ -195,7 +232,7 @@ impl<'a> SortNames<'a> {
         tree: &'a SortTree,
     ) -> Result<SortId, NoMemory>
         requires reads { ReadsSorts (kinds_of_index self.now.index) self.now.ids.items signature.old }
-        requires has_sort { (s : Sort) × (sort_in (sort_names_of signature.old) (bare_sort (plain_sort tree.now)) ≡ Some s) }
+        requires named { (n : Name) → leaf_of (bare_sort (plain_sort tree.now)) ≡ Some n → IsNamed signature.old n }
         ensures sort { IfOk result (λ sort. sort_in (sort_names_of signature.new) (bare_sort (plain_sort tree.now)) ≡ Some (sort_under signature.new sort)) }
         ensures within { IfOk result (λ sort. sort.0 < length signature.new.sorts) }
         ensures added { OnOk result (AddsLists signature.old signature.new) }
@@ -253,7 +290,22 @@ fn list_over(signature: &mut Signature, element: SortId) -> Result<SortId, NoMem
     ensures names { OnOk result (sort_names_of signature.new ≡ sort_names_of signature.old) }
 {
     let _ = signature.names();
-    let sort = signature.add_list(element)?;
+    match signature.list_of(element) {
+        Some(sort) => Ok(sort),
+        None => add_list(signature, element),
+    }
+}
+
+/// Adds the list sort over a sort that has none.
+fn add_list(signature: &mut Signature, element: SortId) -> Result<SortId, NoMemory>
+    requires within { element.0 < length signature.old.sorts }
+    requires absent { ¬ (IsAnyListOver signature.old.sorts element) }
+    ensures sort { IfOk result (λ sort. sort_under signature.new sort ≡ list (sort_under signature.old element)) }
+    ensures within { IfOk result (λ sort. sort.0 < length signature.new.sorts) }
+    ensures added { OnOk result (AddsLists signature.old signature.new) }
+    ensures names { OnOk result (sort_names_of signature.new ≡ sort_names_of signature.old) }
+{
     let _ = signature.names();
+    let sort = signature.add_list(element)?;
     Ok(sort)
 }

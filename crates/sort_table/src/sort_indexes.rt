@@ -67,7 +67,11 @@ impl<'a> SortIndex<'a> {
     }
 
     /// Adds a declaration of a name behind the others.
-    pub(crate) fn push(&mut self, name: &'a [u8], definition: Definition<'a>) -> Result<(), NoMemory>
+    pub(crate) fn push(
+        &mut self,
+        name: &'a [u8],
+        definition: Definition<'a>,
+    ) -> Result<(), NoMemory>
         ensures pushed { OnOk result (kinds_of_index self.new ≡ kinds_of_index self.old ++ (name.now, kind_of definition.entry) ∷ []) }
         ensures unchanged { OnErr result (kinds_of_index self.new ≡ kinds_of_index self.old) }
     {

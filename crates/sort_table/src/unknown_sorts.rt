@@ -36,10 +36,7 @@ pub fn unknown_sort<'a>(
 }
 
 /// The first of these declarations that uses a name that isn't declared, with the name.
-fn first_unknown<'a>(
-    index: &SortIndex<'a>,
-    declarations: &[&'a Decl],
-) -> Option<(usize, &'a [u8])>
+fn first_unknown<'a>(index: &SortIndex<'a>, declarations: &[&'a Decl]) -> Option<(usize, &'a [u8])>
     requires { kinds_of_index index.now ≡ kinds_in (declarations_under declarations.now) }
     ensures { MatchOption result (AllAreKnown (declarations_under declarations.now)) (λ found. UsesUnknownSort (declarations_under declarations.now) found.0 found.1.now) }
 {
@@ -54,10 +51,7 @@ fn first_unknown<'a>(
 }
 
 /// The first name that a declaration uses and that isn't declared.
-fn unknown_in_declaration<'a>(
-    index: &SortIndex<'a>,
-    declaration: &'a Decl,
-) -> Option<&'a [u8]>
+fn unknown_in_declaration<'a>(index: &SortIndex<'a>, declaration: &'a Decl) -> Option<&'a [u8]>
     ensures { option_map (λ name. name.now) result ≡ unknown_among (kinds_of_index index.now) (sorts_used (declaration_of declaration.now)) }
 {
     match declaration {
@@ -212,18 +206,14 @@ fn unknown_in_process<'a>(index: &SortIndex<'a>, process: &'a ProcTree) -> Optio
             Some(name) => Some(name),
             None => unknown_in_process(index, other),
         },
-        ProcTree::Sequence(_, parts)
-        | ProcTree::Parallel(_, parts)
-        | ProcTree::Choice(_, parts) => unknown_in_processes(index, parts.as_slice()),
+        ProcTree::Sequence(_, parts) | ProcTree::Parallel(_, parts) | ProcTree::Choice(_, parts) =>
+            unknown_in_processes(index, parts.as_slice()),
     }
 }
 
 /// The first name in the sorts of these process terms' sum variables that isn't declared.
 #[cycle(sums)]
-fn unknown_in_processes<'a>(
-    index: &SortIndex<'a>,
-    processes: &'a [ProcTree],
-) -> Option<&'a [u8]>
+fn unknown_in_processes<'a>(index: &SortIndex<'a>, processes: &'a [ProcTree]) -> Option<&'a [u8]>
     ensures { option_map (λ name. name.now) result ≡ unknown_among (kinds_of_index index.now) (names_of_all_sums (processes_of (map plain_process processes.now))) }
 {
     for process in processes {

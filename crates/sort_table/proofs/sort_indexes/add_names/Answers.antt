@@ -25,6 +25,6 @@ pub returns-in-Sorts : goal.returns-in-Sorts
 unfolding one_alone name_alone
 returns-in-Sorts c =
     on_ok_weaker c.add_sorts.result (λ (added : kinds_of_index c.add_sorts.new.index ≡ kinds_of_index c.args.index.now ++ map one_alone c.as_slice.result.now).
-        added ∙ (ap (λ (ws : List Word). kinds_of_index c.args.index.now ++ map one_alone ws) c.as_slice.ensures.value
-        ∙ (ap (λ (ks : List (Name × Kind)). kinds_of_index c.args.index.now ++ ks) (bare_alone c.in-Sorts.names.items)
-        ∙ ap (λ (d : Decl). kinds_of_index c.args.index.now ++ kinds_by (declaration_of d)) (sym c.in-Sorts.is)))) c.add_sorts.ensures
+    added ∙ (ap (λ (ws : List Word). kinds_of_index c.args.index.now ++ map one_alone ws) c.as_slice.ensures.value
+    ∙ (ap (λ (ks : List (Name × Kind)). kinds_of_index c.args.index.now ++ ks) (bare_alone c.in-Sorts.names.items)
+    ∙ ap (λ (d : Decl). kinds_of_index c.args.index.now ++ kinds_by (declaration_of d)) (sym c.in-Sorts.is)))) c.add_sorts.ensures

@@ -27,7 +27,7 @@ returns-in-Some c =
       place = omega (arith, c.loop-declaration.invariant.counted, length-map (take i ds) (λ (d : Bor Decl). declaration_of d.now), length-take-le i ds (omega (arith, c.loop-declaration-test.true)));
       known = c.loop-declaration.invariant.known;
       unknown = ap (λ (ks : List (Name × Kind)). unknown_among ks (sorts_used (declaration_of c.declaration-item.result.now))) (sym c.requires)
-        ∙ (sym c.unknown_in_declaration.ensures ∙ ap (option_map (λ (n : Bor Name). n.now)) c.in-Some.is);
+          ∙ (sym c.unknown_in_declaration.ensures ∙ ap (option_map (λ (n : Bor Name). n.now)) c.in-Some.is);
     }
 
 pub loop-declaration-preserved : goal.loop-declaration-preserved
@@ -36,6 +36,6 @@ loop-declaration-preserved c =
     record {
       counted = omega (arith, c.loop-declaration.invariant.counted);
       known = all_more (λ (d : Bor Decl). declaration_of d.now) (HasKnownSorts (declarations_under ds)) ds c.loop-declaration.declaration-index c.declaration-item.result c.loop-declaration-test.true c.declaration-item.is c.loop-declaration.invariant.known
-        (ap (λ (ks : List (Name × Kind)). unknown_among ks (sorts_used (declaration_of c.declaration-item.result.now))) (sym c.requires)
-        ∙ (sym c.unknown_in_declaration.ensures ∙ ap (option_map (λ (n : Bor Name). n.now)) c.in_default.is));
+          (ap (λ (ks : List (Name × Kind)). unknown_among ks (sorts_used (declaration_of c.declaration-item.result.now))) (sym c.requires)
+          ∙ (sym c.unknown_in_declaration.ensures ∙ ap (option_map (λ (n : Bor Name). n.now)) c.in_default.is));
     }
