@@ -17,7 +17,7 @@ use Rattle.sort_table.proofs.OneSort.{one_sort}
 use Rattle.sort_table.proofs.ListForms.{found_entry, is_declared}
 
 -- ---- lists
-first_behind : {A : Type 0} (n : Name) (rs qs : List (Name × A)) (x : A) → first_named n rs ≡ Some x → first_named n (rs ++ qs) ≡ Some x
+pub first_behind : {A : Type 0} (n : Name) (rs qs : List (Name × A)) (x : A) → first_named n rs ≡ Some x → first_named n (rs ++ qs) ≡ Some x
 first_behind n [] qs x h = absurd (none-some x h)
 first_behind n (r ∷ rs) qs x h = by_test (bytes_eq r.0 n) (first_behind n rs qs x) h
   where
@@ -25,7 +25,7 @@ first_behind n (r ∷ rs) qs x h = by_test (bytes_eq r.0 n) (first_behind n rs q
     by_test true f k = k
     by_test false f k = f k
 
-first_of_two : {A : Type 0} (n : Name) (rs qs : List (Name × A)) (x : A) → first_named n (rs ++ qs) ≡ Some x → (first_named n rs ≡ Some x) ⊎ (first_named n qs ≡ Some x)
+pub first_of_two : {A : Type 0} (n : Name) (rs qs : List (Name × A)) (x : A) → first_named n (rs ++ qs) ≡ Some x → (first_named n rs ≡ Some x) ⊎ (first_named n qs ≡ Some x)
 first_of_two n [] qs x h = inr h
 first_of_two n (r ∷ rs) qs x h = by_test (bytes_eq r.0 n) (first_of_two n rs qs x) h
   where
@@ -103,7 +103,7 @@ longer [] ys = omega arith
 longer (x ∷ xs) ys = let l : length xs ≤ length (xs ++ ys) = longer xs ys in omega (arith, l)
 
 -- ---- sorts
-stands_after : (u w : UnderNames) → ((n : Name) (k : Kind) → u.sort n ≡ Some k → w.sort n ≡ Some k) → (e s : SortExpression) → StandsFor u e s → StandsFor w e s
+pub stands_after : (u w : UnderNames) → ((n : Name) (k : Kind) → u.sort n ≡ Some k → w.sort n ≡ Some k) → (e s : SortExpression) → StandsFor u e s → StandsFor w e s
 stands_after u w kept _ _ for_truth_values = for_truth_values
 stands_after u w kept _ _ for_positives = for_positives
 stands_after u w kept _ _ for_naturals = for_naturals
@@ -117,7 +117,7 @@ stands_after u w kept _ _ (for_alias n e s h r) = for_alias n e s (kept n (equal
 stands_before : (u w : UnderNames) → ((n : Name) (k : Kind) → u.sort n ≡ Some k → w.sort n ≡ Some k) → (e r s : SortExpression) → StandsFor u e r → StandsFor w e s → StandsFor u e s
 stands_before u w kept e r s h k = subst (StandsFor u e) (one_sort w e r s (stands_after u w kept e r h) k) h
 
-sort_behind : (ns ms : List (Name × Sort)) (e : SortExpression) (s : Sort) → sort_in ns e ≡ Some s → sort_in (ns ++ ms) e ≡ Some s
+pub sort_behind : (ns ms : List (Name × Sort)) (e : SortExpression) (s : Sort) → sort_in ns e ≡ Some s → sort_in (ns ++ ms) e ≡ Some s
 sort_behind ns ms truth_values s h = h
 sort_behind ns ms positives s h = h
 sort_behind ns ms naturals s h = h

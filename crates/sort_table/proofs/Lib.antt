@@ -14,3 +14,13 @@ pub mod SameEmptiness
 pub mod NamesFound
 pub mod FirstEmpty
 pub mod SortsOfLists
+pub mod IndexPlaces
+pub mod Searches
+pub mod UsedNameLemmas
+pub mod AliasPlaces
+pub mod AliasCycles
+pub mod NamingSorts
+pub mod AliasEdges
+pub mod NamedSignatures
+pub mod FirstPlaces
+pub mod DeclaringLemmas
