@@ -7,10 +7,11 @@ ghost use Rattle.term_pool.specs.Constants.{AreConstants};
 
 use crate::signatures::{declared, is_absent, is_bare, list_over, name_of, set_constructor};
 use data_theory::{ConDecl, Names, Signature, SortId, TermId};
+use sort_table::empty_sort;
 use std::alloc::Global;
 use std::process::Abort;
 use std::test::Fail;
-use term_pool::{Head, Pool, has_value};
+use term_pool::{Head, Pool, has_value, inhabited_sorts};
 
 /// The term of the first value of a sort that has one.
 fn closed(
@@ -260,7 +261,8 @@ fn nested_structs_have_a_first_value(rt: HostRuntime) -> Result<(), Fail> {
     outcome
 }
 
-/// `struct pair(D, T)` is empty where T is `struct pair(T, T)`, and a number that no sort has is no sort with a value.
+/// `struct pair(D, T)` is empty where T is `struct pair(T, T)`, and a number that no sort has is no sort with a value. All sorts at
+/// once are told so too, and the first of these names that has an empty sort.
 fn pairs_of_pairs_are_empty(
     rt: &impl Abort,
     alloc: Global,
@@ -276,6 +278,16 @@ fn pairs_of_pairs_are_empty(
     assert!(rt; !has_value(alloc, signature, trees)?);
     assert!(rt; !has_value(alloc, signature, pairs)?);
     assert!(rt; !has_value(alloc, signature, signature.next_sort())?);
+    let inhabited = inhabited_sorts(alloc, signature)?;
+    let expected = [true, true, true, true, true, false, false];
+    assert_eq!(rt; inhabited.as_slice(), expected.as_slice());
+    let names = [
+        name_of(rt, signature, "D"),
+        name_of(rt, signature, "P"),
+        name_of(rt, signature, "T"),
+    ];
+    assert_eq!(rt; empty_sort(alloc, signature, &names[..1])?, None);
+    assert_eq!(rt; empty_sort(alloc, signature, &names)?, Some(names[1]));
     Ok(())
 }
 

@@ -1,4 +1,4 @@
-//! Tests of the calls of `mcrl2_text`, `data_theory`, `number_rules`, `term_pool` and `process_terms`.
+//! Tests of the calls of `mcrl2_text`, `data_theory`, `number_rules`, `term_pool`, `sort_table` and `process_terms`.
 //!
 //! They stand here, since a crate with tests is proved twice: once for the crates above it and once for its tests.
 #![tactic(auto)]

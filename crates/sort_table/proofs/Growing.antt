@@ -17,7 +17,7 @@ use Rattle.sort_table.proofs.OneSort.{one_sort}
 use Rattle.sort_table.proofs.ListForms.{found_entry, is_declared}
 
 -- ---- lists
-first_behind : {A : Type 0} (n : Name) (rs qs : List (Name × A)) (x : A) → first_named n rs ≡ Some x → first_named n (rs ++ qs) ≡ Some x
+pub first_behind : {A : Type 0} (n : Name) (rs qs : List (Name × A)) (x : A) → first_named n rs ≡ Some x → first_named n (rs ++ qs) ≡ Some x
 first_behind n [] qs x h = absurd (none-some x h)
 first_behind n (r ∷ rs) qs x h = by_test (bytes_eq r.0 n) (first_behind n rs qs x) h
   where
@@ -25,7 +25,7 @@ first_behind n (r ∷ rs) qs x h = by_test (bytes_eq r.0 n) (first_behind n rs q
     by_test true f k = k
     by_test false f k = f k
 
-first_of_two : {A : Type 0} (n : Name) (rs qs : List (Name × A)) (x : A) → first_named n (rs ++ qs) ≡ Some x → (first_named n rs ≡ Some x) ⊎ (first_named n qs ≡ Some x)
+pub first_of_two : {A : Type 0} (n : Name) (rs qs : List (Name × A)) (x : A) → first_named n (rs ++ qs) ≡ Some x → (first_named n rs ≡ Some x) ⊎ (first_named n qs ≡ Some x)
 first_of_two n [] qs x h = inr h
 first_of_two n (r ∷ rs) qs x h = by_test (bytes_eq r.0 n) (first_of_two n rs qs x) h
   where
@@ -53,7 +53,7 @@ pairs_with Q R f (x ∷ xs) (y ∷ ys) h = (f x y h.0, pairs_with Q R f xs ys h.
 pairs_with Q R f [] (y ∷ ys) h = absurd h
 pairs_with Q R f (x ∷ xs) [] h = absurd h
 
-paired : {A B : Type 0} (Q : A → B → Type 0) (xs : List A) (ys : List B) (x : A) → EachPair Q xs ys → Contains xs x → (y : B) × Q x y
+pub paired : {A B : Type 0} (Q : A → B → Type 0) (xs : List A) (ys : List B) (x : A) → EachPair Q xs ys → Contains xs x → (y : B) × Q x y
 paired Q [] ys x h (k, l, e) = let never : ⊥ = omega (arith, l) in absurd never
 paired Q (z ∷ zs) [] x h c = absurd h
 paired Q (z ∷ zs) (y ∷ ys) x h (zero, l, e) = (y, subst (λ a. Q a y) e h.0)
@@ -89,7 +89,7 @@ front_entry [] ys k z h = let no_way : ⊥ = omega arith in absurd no_way
 front_entry (x ∷ xs) ys zero z h = refl
 front_entry (x ∷ xs) ys (suc k) z h = let l : k < length xs = omega arith in front_entry xs ys k z l
 
-near_or_far : (i n : ℕ) → (i < n) ⊎ (n ≤ i)
+pub near_or_far : (i n : ℕ) → (i < n) ⊎ (n ≤ i)
 near_or_far i zero = inr (omega arith)
 near_or_far zero (suc n) = inl (omega arith)
 near_or_far (suc i) (suc n) = step (near_or_far i n)
@@ -103,7 +103,7 @@ longer [] ys = omega arith
 longer (x ∷ xs) ys = let l : length xs ≤ length (xs ++ ys) = longer xs ys in omega (arith, l)
 
 -- ---- sorts
-stands_after : (u w : UnderNames) → ((n : Name) (k : Kind) → u.sort n ≡ Some k → w.sort n ≡ Some k) → (e s : SortExpression) → StandsFor u e s → StandsFor w e s
+pub stands_after : (u w : UnderNames) → ((n : Name) (k : Kind) → u.sort n ≡ Some k → w.sort n ≡ Some k) → (e s : SortExpression) → StandsFor u e s → StandsFor w e s
 stands_after u w kept _ _ for_truth_values = for_truth_values
 stands_after u w kept _ _ for_positives = for_positives
 stands_after u w kept _ _ for_naturals = for_naturals
@@ -117,7 +117,7 @@ stands_after u w kept _ _ (for_alias n e s h r) = for_alias n e s (kept n (equal
 stands_before : (u w : UnderNames) → ((n : Name) (k : Kind) → u.sort n ≡ Some k → w.sort n ≡ Some k) → (e r s : SortExpression) → StandsFor u e r → StandsFor w e s → StandsFor u e s
 stands_before u w kept e r s h k = subst (StandsFor u e) (one_sort w e r s (stands_after u w kept e r h) k) h
 
-sort_behind : (ns ms : List (Name × Sort)) (e : SortExpression) (s : Sort) → sort_in ns e ≡ Some s → sort_in (ns ++ ms) e ≡ Some s
+pub sort_behind : (ns ms : List (Name × Sort)) (e : SortExpression) (s : Sort) → sort_in ns e ≡ Some s → sort_in (ns ++ ms) e ≡ Some s
 sort_behind ns ms truth_values s h = h
 sort_behind ns ms positives s h = h
 sort_behind ns ms naturals s h = h
@@ -142,7 +142,7 @@ sorts_behind ns ms (e ∷ es) ss h = through (sorts_behind ns ms es) (sort_in ns
     through f (Some s) q k = ap (option_and_then (λ r. option_map (λ rs. r ∷ rs) (sorts_in (ns ++ ms) es))) (sort_behind ns ms e s q) ∙ rest f s (sorts_in ns es) refl k
 
 -- what has a sort stands for one
-has_stood : (u : UnderNames) (v : Vocabulary) → HasSorts u v → (e : SortExpression) (s : Sort) → sort_in v.sort_names e ≡ Some s → (r : SortExpression) × StandsFor u e r
+pub has_stood : (u : UnderNames) (v : Vocabulary) → HasSorts u v → (e : SortExpression) (s : Sort) → sort_in v.sort_names e ≡ Some s → (r : SortExpression) × StandsFor u e r
 has_stood u v is truth_values s h = (truth_values, for_truth_values)
 has_stood u v is positives s h = (positives, for_positives)
 has_stood u v is naturals s h = (naturals, for_naturals)

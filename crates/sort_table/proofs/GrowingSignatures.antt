@@ -27,7 +27,7 @@ map_behind : {A B : Type 0} (f : A → B) (xs ys : List A) → map f (xs ++ ys) 
 map_behind f [] ys = refl
 map_behind f (x ∷ xs) ys = ap (λ zs. f x ∷ zs) (map_behind f xs ys)
 
-map_as : {A B : Type 0} (P : A → Type 0) (f k : A → B) → ((x : A) → P x → f x ≡ k x) → (xs : List A) → All P xs → map f xs ≡ map k xs
+pub map_as : {A B : Type 0} (P : A → Type 0) (f k : A → B) → ((x : A) → P x → f x ≡ k x) → (xs : List A) → All P xs → map f xs ≡ map k xs
 map_as P f k same [] all = refl
 map_as P f k same (x ∷ xs) all =
     let p : f x ≡ k x = same x (All-head P x xs all) in
@@ -57,7 +57,7 @@ module _ (g h : Sig) (complete : IsComplete g) (grown : IsGrown g h) where
   same_text : (n : NameId) → n.0 < length g.texts → text_under h n ≡ text_under g n
   same_text n l = ap (λ ts. get_or ts n.0 []) grown.texts ∙ front_entry g.texts grown.new_texts n.0 [] l
 
-  same_sort_name : (e : NameId × SortId) → (e.0.0 < length g.texts) × (e.1.0 < length g.sorts) → sort_name_under h e ≡ sort_name_under g e
+  pub same_sort_name : (e : NameId × SortId) → (e.0.0 < length g.texts) × (e.1.0 < length g.sorts) → sort_name_under h e ≡ sort_name_under g e
   same_sort_name e l =
       let n : text_under h e.0 ≡ text_under g e.0 = same_text e.0 l.0 in
       let s : sort_under h e.1 ≡ sort_under g e.1 = growth_keeps_meant_sorts g h grown e.1 l.1 in

@@ -10,3 +10,17 @@ pub mod WorkedEmptySorts
 pub mod WorkedFaults
 pub mod SingleRefusals
 pub mod StandingNames
+pub mod SameEmptiness
+pub mod NamesFound
+pub mod FirstEmpty
+pub mod SortsOfLists
+pub mod IndexPlaces
+pub mod Searches
+pub mod UsedNameLemmas
+pub mod AliasPlaces
+pub mod AliasCycles
+pub mod NamingSorts
+pub mod AliasEdges
+pub mod NamedSignatures
+pub mod FirstPlaces
+pub mod DeclaringLemmas

@@ -17,7 +17,7 @@ use Rattle.sort_table.proofs.Growing.{in_either}
 use Rattle.sort_table.proofs.ListForms.{entry_found}
 
 -- ---- entries
-in_list : {A : Type 0} (n : Name) (rs : List (Name × A)) (x : A) → first_named n rs ≡ Some x → Contains rs (n, x)
+pub in_list : {A : Type 0} (n : Name) (rs : List (Name × A)) (x : A) → first_named n rs ≡ Some x → Contains rs (n, x)
 in_list n [] x h = absurd (none-some x h)
 in_list n (r ∷ rs) x h =
     chosen (bytes_eq r.0 n) (Some r.1) (first_named n rs) x h
@@ -50,7 +50,7 @@ alias_by (actions as_ es) n e (i, l, q) = let never : ⊥ = omega (arith, l) in 
 alias_by (process p vs b) n e (i, l, q) = let never : ⊥ = omega (arith, l) in absurd never
 alias_by (initial b) n e (i, l, q) = let never : ⊥ = omega (arith, l) in absurd never
 
-alias_stands : (ds : List Declaration) (n : Name) (e : SortExpression) → Contains (kinds_in ds) (n, equal_to e) → Contains ds (alias n e)
+pub alias_stands : (ds : List Declaration) (n : Name) (e : SortExpression) → Contains (kinds_in ds) (n, equal_to e) → Contains ds (alias n e)
 alias_stands [] n e (i, l, q) = let never : ⊥ = omega (arith, l) in absurd never
 alias_stands (d ∷ ds) n e h = step (alias_stands ds n e) (in_either (kinds_by d) (kinds_in ds) (n, equal_to e) h)
   where
@@ -71,7 +71,7 @@ passes p m h = by_test (p m) refl
     by_test true q = q
     by_test false q = let found : find (λ n. not (p n)) (m ∷ []) ≡ Some m = ap (λ c. cond (not c) (Some m) None) q in absurd (none-some m (sym h ∙ found))
 
-used_is_declared : (ds : List Declaration) (n m : Name) (e : SortExpression) → AllAreKnown ds → Contains ds (alias n e) → name_in e ≡ m ∷ [] → is_declared ds m ≡ true
+pub used_is_declared : (ds : List Declaration) (n m : Name) (e : SortExpression) → AllAreKnown ds → Contains ds (alias n e) → name_in e ≡ m ∷ [] → is_declared ds m ≡ true
 used_is_declared ds n m e known there uses =
     let none : find (λ k. not (is_declared ds k)) (name_in e) ≡ None = known_at (HasKnownSorts ds) ds (alias n e) known there in
     passes (is_declared ds) m (subst (λ ks. find (λ k. not (is_declared ds k)) ks ≡ None) uses none)

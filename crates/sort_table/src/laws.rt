@@ -1,6 +1,8 @@
 //! Laws of what a text declares.
 
 ghost use Rattle.sort_table.specs.VocabularyLaws.{ASortStandsForOneSort, DeclaredNamesStand, WhatStandsForASortHasIt};
+ghost use Rattle.sort_table.specs.SameSorts.{SameSortsAreThoseOfAVocabulary};
+ghost use Rattle.sort_table.specs.EmptinessLaws.{EmptySortsAreEmptyInEachVocabulary};
 ghost use Rattle.sort_table.specs.CyclesOfAliases.{CyclesStandForNothing};
 ghost use Rattle.sort_table.specs.WorkedRefusals.{TheseAreRefused};
 ghost use Rattle.sort_table.specs.Refusals.{RefusalsAreSingle, SoundDeclarationsAreNotRefused};
@@ -63,4 +65,15 @@ pub fn texts_grow()
 /// What a signature gets behind its tables stands behind its vocabulary.
 pub fn grown_signatures_have_more()
     ensures { GrownSignaturesHaveMore }
+{}
+
+/// A sort that is empty in one vocabulary of a text is empty in each.
+pub fn empty_sorts_are_empty_in_each_vocabulary()
+    ensures { EmptySortsAreEmptyInEachVocabulary }
+{}
+
+/// Lists of sort expressions stand for the same sorts exactly where a vocabulary of the text gives them the same ones. So sorts may be
+/// compared by their numbers in a signature.
+pub fn same_sorts_are_those_of_a_vocabulary()
+    ensures { SameSortsAreThoseOfAVocabulary }
 {}

@@ -4,4 +4,18 @@
 //! bodies: the contract of each is a law of these definitions, so that the crates above can cite it.
 #![tactic(auto)]
 
+mod alias_levels;
+mod declaration_lists;
+mod empty_sorts;
 pub mod laws;
+mod sort_cycles;
+mod sort_declaring;
+mod sort_entries;
+mod sort_indexes;
+mod sort_signatures;
+mod unknown_sorts;
+
+pub use empty_sorts::empty_sort;
+pub use sort_cycles::sort_cycle;
+pub use sort_signatures::sort_signature;
+pub use unknown_sorts::unknown_sort;

@@ -1,5 +1,5 @@
 -- A declared sort isn't empty in the data exactly where it has a value in the signature.
-use Rattle.std.proofs.Common.{◌≡◌, ◌<◌, ◌⊎◌, ℕ, zero, suc, List, [], ◌∷◌, ◌++◌, ◌+◌, true, cond, map, length, take, Some, None, inl, inr, refl, sym, ap, ◌∙◌, subst, arith, ⊎_elim, length-append}
+use Rattle.std.proofs.Common.{◌≡◌, ◌<◌, ◌⊎◌, ℕ, zero, suc, List, [], ◌∷◌, ◌++◌, ◌+◌, true, false, cond, map, length, take, Some, None, inl, inr, refl, sym, ap, ◌∙◌, subst, arith, ⊎_elim, length-append}
 use Rattle.std.specs.Prelude.{slice_get, pos}
 use Rattle.std.specs.List.{All, Contains}
 use Rattle.std.proofs.lemmas.List.{get_or-map, length-map}
@@ -32,7 +32,8 @@ use Rattle.data_theory.proofs.IdSymbolLemmas.{holds_at, read_sort, sort_is, symb
 use Rattle.data_theory.proofs.IdTermLemmas.{sorted_trees_mean_sorted_terms}
 use Rattle.data_theory.proofs.IdDataLemmas.{declared_found, constructor_tells, holds_of_role, roles_are_found}
 use Rattle.term_pool.specs.ConstructorValues.{ConstructorValue, ConstructorValues, a_number, built, a_constant, no_value, value_then, IsConstructorOf, IsConstructorAt, IsValueOf, AreValuesOf, HasValue}
-use Rattle.term_pool.specs.InhabitedData.{SortsHaveValuesWhereNoneIsEmpty}
+use Rattle.term_pool.specs.Inhabited.{is_made}
+use Rattle.term_pool.specs.InhabitedData.{SortsHaveValuesWhereNoneIsEmpty, ValuesAreConstructedTerms}
 use Rattle.term_pool.proofs.Lists.{contains_none}
 use Rattle.term_pool.proofs.RowsFound.{true_row, empty_row, true_there, empty_there}
 
@@ -152,7 +153,7 @@ module _ (g : Sig) (stands : IsSignature g) where
       by_kind (sorts.by_declarations fs) e = is_made (sorts.by_declarations fs) e tt
       by_kind (sorts.structured fs) e = is_made (sorts.structured fs) e tt
 
-  constructor_place : (s : SortId) (i : SortInfo) (f : FunId) → Contains (constructors_of i.kind) f → (n : ℕ) × IsConstructorOf g s i.kind n f
+  pub constructor_place : (s : SortId) (i : SortInfo) (f : FunId) → Contains (constructors_of i.kind) f → (n : ℕ) × IsConstructorOf g s i.kind n f
   constructor_place s i f has = by_kind i.kind has
     where
       by_kind : (k : Kind) → Contains (constructors_of k) f → (n : ℕ) × IsConstructorOf g s k n f
@@ -337,3 +338,22 @@ sorts_have_values_where_none_is_empty g stands = (from_terms g stands, from_valu
         let t = term_of_value g stands v.0 s v.1 in
         let means : sort_under g s ≡ named d = read_sort g stands.table s is.info is.at ∙ (is.declared (length (constructions (take is.place g.sorts))) (sort_under g) ∙ ap named is.number) in
         (t.0, (t.1.0, subst (HasSort (data_meant g) [] t.0) means t.1.1))
+
+-- ---- sort by sort
+not_made : (k : Kind) → is_made k ≡ false → IsMade k → ⊥
+not_made (sorts.by_declarations fs) e m = cc
+not_made (sorts.structured fs) e m = cc
+not_made sorts.booleans e m = m
+not_made sorts.positives e m = m
+not_made sorts.naturals e m = m
+not_made sorts.integers e m = m
+not_made (sorts.lists_over x) e m = m
+not_made sorts.without_constructors e m = m
+
+pub value_where_not_made : (g : Sig) → IsSignature g → (s : SortId) (i : SortInfo) → slice_get g.sorts s.0 ≡ Some i → is_made i.kind ≡ false → HasValue g s
+value_where_not_made g stands s i at plain = value_by_kind g stands s i at (λ made. absurd (not_made i.kind plain made))
+
+pub values_are_constructed_terms : ValuesAreConstructedTerms
+values_are_constructed_terms g stands s within =
+    let read = read_within g.sorts s.0 within in
+    (λ v. term_of_value g stands v.0 s v.1, λ t. value_by_kind g stands s read.0 read.1 (λ made. value_of_term g stands t.0 s read.0 read.1 made t.1.0 t.1.1))

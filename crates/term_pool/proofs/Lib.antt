@@ -29,3 +29,4 @@ pub mod EntryValues
 pub mod GrownSignatures
 pub mod RowsFound
 pub mod InhabitedSorts
+pub mod InhabitedSearch

@@ -12,3 +12,4 @@ pub mod Constants
 pub mod FirstTerms
 pub mod GrowthLaws
 pub mod InhabitedData
+pub mod Inhabited

@@ -9,6 +9,7 @@ mod bindings;
 pub mod first_value_laws;
 mod first_values;
 pub mod growth;
+mod inhabited;
 pub mod laws;
 mod merging;
 mod pool;
@@ -16,5 +17,6 @@ mod terms;
 mod weight;
 
 pub use first_values::has_value;
+pub use inhabited::inhabited_sorts;
 pub use pool::Pool;
 pub use terms::{Equation, Head, Node, Theory};
