@@ -1,11 +1,11 @@
 -- The graph of aliases, edge by edge, and what its first cycle says.
-use Rattle.std.proofs.Common.{◌≡◌, ◌<◌, ◌+◌, ◌⊎◌, inl, inr, ⊎_elim, ℕ, zero, suc, Bool, true, false, List, [], ◌∷◌, ◌++◌, length, map, take, get_or, replicate, refl, ap, sym, ◌∙◌, subst, arith}
-use Rattle.std.specs.Prelude.{Option, Some, None, slice_get}
+use Rattle.std.proofs.Common.{◌≡◌, ◌<◌, ◌+◌, ◌⊎◌, inl, inr, ⊎_elim, ℕ, zero, suc, Bool, true, false, List, [], ◌∷◌, ◌++◌, length, take, get_or, replicate, refl, ap, sym, ◌∙◌, subst, arith}
+use Rattle.std.specs.Prelude.{Some, None, slice_get}
 use Rattle.std.specs.List.{Contains}
 use Rattle.std.specs.Global.{Vec}
 use Rattle.std.proofs.lemmas.Option.{none-some, same_Some}
 use Rattle.std.proofs.lemmas.List.Elements.{Contains-append_left, Contains-append_right, Contains-append_cases}
-use Rattle.graphs.specs.Graphs.{HasEdge, HasEdgeAmong, IsGraph, IsMarked, IsPath, HasCycle}
+use Rattle.graphs.specs.Graphs.{HasEdge, HasEdgeAmong, IsGraph, IsMarked, HasCycle}
 use Rattle.graphs.specs.Cycles as graph
 use Rattle.graphs.specs.Marking.{TurnsEdges}
 use Rattle.graphs.proofs.Paths.{first_cycle_map}

@@ -24,9 +24,8 @@ use Rattle.sort_table.specs.SortMeanings.{Kind, alone, a_struct, equal_to, kinds
 use Rattle.sort_table.specs.SortCycles.{place_of}
 use Rattle.sort_table.specs.Growth.{AllStand}
 use Rattle.sort_table.specs.Vocabularies.{sort_in}
-use Rattle.sort_table.specs.SignatureVocabularies.{text_under, sort_name_under}
+use Rattle.sort_table.specs.SignatureVocabularies.{sort_name_under}
 use Rattle.sort_table.specs.SortIndexes.{first_place}
-use Rattle.sort_table.specs.UsedNames.{leaf_of}
 use Rattle.sort_table.specs.AliasGraphs.{HasAliasEdge}
 use Rattle.sort_table.specs.NamedSorts as adding
 use Rattle.sort_table.specs.NamedSorts.{sort_names_of, sort_count, AreIdsOf, AreSoundKinds, HaveSortNames, ReadsSorts, IsNamed, IsOwnKind, NamesSorts, no_names, own_name, alias_name, AddsLists, AddsSorts}
@@ -38,7 +37,7 @@ use Rattle.sort_table.proofs.ListForms.{entry_found}
 use Rattle.sort_table.proofs.StandingNames.{in_list, alias_stands, used_is_declared, declared_names_stand}
 use Rattle.sort_table.proofs.UsedNameLemmas.{its_leaf}
 use Rattle.sort_table.proofs.NamingSorts.{now_named, named_by_name, have_sort_names}
-use Rattle.sort_table.proofs.NamedSignatures.{id_of_place, text_of_id, new_name, names_with_sort, count_with_sort, names_with_alias, count_with_list, names_with_list, sort_with_list, list_meaning}
+use Rattle.sort_table.proofs.NamedSignatures.{id_of_place, text_of_id, new_name, names_with_sort, count_with_sort, names_with_alias, count_with_list, sort_with_list, list_meaning}
 
 adds_then : (g h k : Sig) → AddsSorts g h → AddsSorts h k → AddsSorts g k
 adds_then g h _ a adding.no_sorts = a

@@ -1,10 +1,9 @@
 -- What is declared at the first place of a name, and the levels of aliases.
-use Rattle.std.proofs.Common.{◌≡◌, ◌<◌, ◌+◌, ◌⊎◌, inl, inr, ⊎_elim, ℕ, zero, suc, Bool, true, false, cond, List, [], ◌∷◌, length, map, get_or, replicate, refl, ap, sym, ◌∙◌, subst, arith}
+use Rattle.std.proofs.Common.{◌≡◌, ◌<◌, ◌+◌, inl, inr, ⊎_elim, ℕ, suc, Bool, true, false, cond, List, [], ◌∷◌, length, replicate, refl, ap, sym, ◌∙◌, subst, arith}
 use Rattle.std.specs.Prelude.{Option, Some, None, option_map, slice_get, bytes_eq, slice_index}
 use Rattle.std.specs.List.{Contains}
 use Rattle.std.specs.Global.{Vec}
 use Rattle.std.proofs.lemmas.Option.{none-some, same_Some}
-use Rattle.std.proofs.lemmas.Slice.Eq.{bytes_eq-Decides}
 use Rattle.graphs.specs.Graphs.{HasEdge, HasEdgeAmong, HasCycle, IsPath, AreRanks}
 use Rattle.graphs.specs.Marking.{TurnsEdges}
 use Rattle.graphs.proofs.Marks.{only_one, contains_last}
@@ -54,12 +53,6 @@ pub first_kind : (ks : List (Name × Kind)) (place : ℕ) (n m : Name) (k l : Ki
 first_kind ks place n m k l at first =
     let same : m ≡ n = first_name ks place n m k l at first in
     sym (kind_at_first n ks place k (first_there ks place n m k l at first) at) ∙ (ap (λ (o : Name). first_named o ks) (sym same) ∙ first.kind_is)
-
-pub one_kind : (ks : List (Name × Kind)) (place : ℕ) (n m : Name) (k l : Kind) → IsFirst ks place n k → IsFirst ks place m l → (n ≡ m) × (k ≡ l)
-one_kind ks place n m k l f g =
-    let e : (j : Kind) × (slice_get ks place ≡ Some (n, j)) = entry_at n ks place f.place_is in
-    let same : m ≡ n = first_name ks place n m e.0 l e.1 g in
-    (sym same, same_Some k l (sym f.kind_is ∙ (ap (λ (o : Name). first_named o ks) (sym same) ∙ g.kind_is)))
 
 -- ---- a cycle of the graph is one of names
 names_there : (ds : List Declaration) (a : ℕ) (xs : List ℕ) (b : ℕ) → IsPath (HasAliasEdge (kinds_in ds) (kinds_in ds)) a xs b → (ns : List Name) × AreNamesAt (kinds_in ds) xs ns

@@ -1,20 +1,14 @@
 -- The first places of names.
-use Rattle.std.proofs.Common.{◌≡◌, ◌<◌, ℕ, zero, suc, Bool, true, false, cond, List, [], ◌∷◌, ◌++◌, length, refl, ap, sym, ◌∙◌, subst, arith}
+use Rattle.std.proofs.Common.{◌≡◌, ℕ, suc, Bool, true, false, cond, List, [], ◌∷◌, ◌++◌, length, refl, ap, sym, ◌∙◌}
 use Rattle.std.specs.Prelude.{Option, Some, None, is_some, option_map, bytes_eq}
 use Rattle.std.specs.Option.{option_or}
 use Rattle.std.specs.BTreeMap.{BTreeMap}
-use Rattle.std.proofs.lemmas.Option.{none-some, same_Some}
 use Rattle.std.proofs.lemmas.Slice.Eq.{bytes_eq-Decides}
 use denote.Ref.{Bor}
 use Rattle.sort_table.specs.Expressions.{Name}
 use Rattle.sort_table.specs.NamedLists.{first_named}
 use Rattle.sort_table.specs.SortMeanings.{Kind}
 use Rattle.sort_table.specs.SortIndexes.{first_place, place_under, GetsPlace, KnowsFirstPlaces}
-
-either_place : (b : Bool) (o p : Option ℕ) → cond b (Some 0) (option_map suc (option_or o p)) ≡ option_or (cond b (Some 0) (option_map suc o)) (cond b (Some 0) (option_map suc p))
-either_place true o p = refl
-either_place false None p = refl
-either_place false (Some i) p = refl
 
 -- the place of a name, where one entry more stands behind
 pub place_behind : {A : Type 0} (n m : Name) (rs : List (Name × A)) (x : A) → first_place n (rs ++ (m, x) ∷ []) ≡ option_or (first_place n rs) (cond (bytes_eq m n) (Some (length rs)) None)

@@ -1,6 +1,6 @@
 -- The names of a signature's sorts, after sorts are added.
 use Rattle.std.proofs.Common.{◌≡◌, ◌<◌, ◌+◌, ℕ, zero, suc, Bool, true, false, cond, List, [], ◌∷◌, ◌++◌, length, map, take, get_or, refl, ap, sym, ◌∙◌, subst, arith, append_assoc}
-use Rattle.std.specs.Prelude.{Option, Some, None, slice_get, bytes_eq, option_map}
+use Rattle.std.specs.Prelude.{Option, Some, None, slice_get, bytes_eq}
 use Rattle.std.specs.List.{Contains, list_any}
 use Rattle.std.proofs.lemmas.Option.{none-some, same_Some}
 use Rattle.std.proofs.lemmas.List.{map-append, length-append, length-map, append-nil}
@@ -11,7 +11,7 @@ use Rattle.std.specs.List.{All}
 use Rattle.std.specs.Str.{IsUtf8}
 use Rattle.data_theory.specs.declared.ids.NameId.{NameId}
 use Rattle.data_theory.specs.declared.ids.SortId.{SortId}
-use Rattle.data_theory.specs.Terms.{Sort, boolean, positive, natural, integer, list, named}
+use Rattle.data_theory.specs.Terms.{Sort, list, named}
 use Rattle.data_theory.specs.Declarations.{Construction}
 use Rattle.data_theory.specs.FirstNames.{first_names}
 use Rattle.data_theory.specs.Places.{HaveOnePlace}
@@ -19,7 +19,7 @@ use Rattle.data_theory.specs.Names.{with_text, with_texts}
 use Rattle.data_theory.specs.Sorts as sorts
 use Rattle.data_theory.specs.Sorts.{SortInfo, abstract_sort, list_sort, IsListOver, IsAnyListOver}
 use Rattle.data_theory.specs.SortNames.{IsName}
-use Rattle.data_theory.specs.IdSorts.{constructions, construction_of, meaning_of, sort_meant, AreSorts, HasKind}
+use Rattle.data_theory.specs.IdSorts.{constructions, construction_of, meaning_of, sort_meant, HasKind}
 use Rattle.data_theory.specs.IdTerms.{sort_under, IsGrown}
 use Rattle.data_theory.specs.IdTables.{IsTable}
 use Rattle.data_theory.specs.Complete.{IsComplete}
@@ -28,7 +28,7 @@ use Rattle.data_theory.specs.Signature.{Sig, first_signature, with_sort, with_al
 use Rattle.data_theory.proofs.PlaceLemmas.{read_last}
 use Rattle.data_theory.proofs.IdSortLemmas.{sorts_mean_their_kinds, growth_keeps_meant_sorts}
 use Rattle.data_theory.proofs.IdGrowthLemmas.{with_a_sort_it_is_grown, with_a_list_sort_it_is_grown}
-use Rattle.data_theory.proofs.IdTableLemmas.{declared_sorts_keep_the_tables, list_sorts_keep_the_tables}
+use Rattle.data_theory.proofs.IdTableLemmas.{declared_sorts_keep_the_tables}
 use Rattle.sort_table.specs.Expressions.{Name}
 use Rattle.sort_table.specs.NamedLists.{first_named}
 use Rattle.sort_table.specs.SortMeanings.{Kind}

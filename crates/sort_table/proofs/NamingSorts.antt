@@ -1,14 +1,14 @@
 -- What names have after they got their sorts one after the other.
 use Rattle.std.proofs.Common.{◌≡◌, ◌<◌, ◌⊎◌, inl, inr, ⊎_elim, ℕ, suc, Bool, true, false, cond, List, [], ◌∷◌, ◌++◌, refl, ap, sym, ◌∙◌, subst, arith}
-use Rattle.std.specs.Prelude.{Option, Some, None, bytes_eq}
+use Rattle.std.specs.Prelude.{Some, None, bytes_eq}
 use Rattle.std.proofs.lemmas.Option.{none-some, same_Some}
 use Rattle.std.proofs.lemmas.Slice.Eq.{bytes_eq-Decides}
 use Rattle.data_theory.specs.Terms.{Sort, named}
 use Rattle.sort_table.specs.Expressions.{Name}
 use Rattle.sort_table.specs.NamedLists.{first_named}
-use Rattle.sort_table.specs.BareSorts.{SortExpression, a_name}
+use Rattle.sort_table.specs.BareSorts.{SortExpression}
 use Rattle.sort_table.specs.BareDeclarations.{Declaration}
-use Rattle.sort_table.specs.SortMeanings.{Kind, alone, a_struct, equal_to, kinds_in, under_names, StandsFor}
+use Rattle.sort_table.specs.SortMeanings.{Kind, alone, a_struct, equal_to, kinds_in, under_names}
 use Rattle.sort_table.specs.Growth.{AllStand}
 use Rattle.sort_table.specs.Vocabularies.{sort_in, IsOwn, declared_alone, declared_as_struct}
 use Rattle.sort_table.specs.NamedSorts.{HasSortNumber, HaveSortNames, IsOwnKind, NamesSorts, no_names, own_name, alias_name}

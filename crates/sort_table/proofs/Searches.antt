@@ -1,11 +1,11 @@
 -- Searches along a list whose elements give lists of names.
-use Rattle.std.proofs.Common.{◌≡◌, ◌<◌, ◌+◌, ℕ, suc, Bool, List, [], ◌∷◌, ◌++◌, length, map, take, drop, get_or, refl, ap, sym, ◌∙◌, subst, append_assoc, arith}
+use Rattle.std.proofs.Common.{◌≡◌, ◌<◌, ◌+◌, ℕ, suc, Bool, List, [], ◌∷◌, ◌++◌, length, map, take, drop, get_or, ap, sym, ◌∙◌, subst, append_assoc}
 use Rattle.std.specs.Prelude.{Option, Some, None, option_map}
 use Rattle.std.specs.Option.{option_or}
 use Rattle.std.specs.List.{find, AllByRecursion}
 use Rattle.std.proofs.lemmas.List.{take_more, append-nil, take-append-drop, map-append}
 use Rattle.std.proofs.lemmas.List.Folds.{find-append}
-use Rattle.std.proofs.Math.Seq.{take-length, drop-cons}
+use Rattle.std.proofs.Math.Seq.{drop-cons}
 use denote.Ref.{Bor}
 use Rattle.sort_table.specs.Expressions.{Name}
 
@@ -41,9 +41,6 @@ module _ {A : Type 0} (h : List A → List Name) (f : A → List Name) (p : Name
       let told : find p (h (take (i + 1) xs)) ≡ Some b.now = found_next xs i x l e none ∙ (sym q ∙ ap (option_map (λ (n : Bor Name). n.now)) is_it) in
       sym (ap (λ ys. find p (h ys)) (sym (take-append-drop (i + 1) xs)) ∙ (ap (find p) (listed_behind h f is (take (i + 1) xs) (drop (i + 1) xs))
       ∙ (find-append p (h (take (i + 1) xs)) (h (drop (i + 1) xs)) ∙ ap (λ o. option_or o (find p (h (drop (i + 1) xs)))) told)))
-
-  pub nowhere : (xs : List A) (i : ℕ) → i ≡ length xs → find p (h (take i xs)) ≡ None → None ≡ find p (h xs)
-  nowhere xs i end none = sym none ∙ (ap (λ (j : ℕ). find p (h (take j xs))) end ∙ ap (λ ys. find p (h ys)) (take-length xs))
 
 -- ---- one element of a list
 pub split_map : {A B : Type 0} (f : A → B) (xs : List A) (i : ℕ) (x : A) → i < length xs → x ≡ get_or xs i x → map f xs ≡ map f (take i xs) ++ (f x ∷ map f (drop (suc i) xs))

@@ -1,8 +1,8 @@
 -- The names that trees use, one after the other.
-use Rattle.std.proofs.Common.{◌≡◌, ◌<◌, ◌+◌, ℕ, zero, suc, Bool, true, false, cond, List, [], ◌∷◌, ◌++◌, map, length, take, refl, ap, sym, ◌∙◌, subst, append_assoc, arith}
-use Rattle.std.specs.Prelude.{Option, Some, None, is_some, not, option_map, bytes_eq}
+use Rattle.std.proofs.Common.{◌≡◌, ◌<◌, ℕ, Bool, cond, List, [], ◌∷◌, ◌++◌, map, length, refl, ap, sym, ◌∙◌, arith}
+use Rattle.std.specs.Prelude.{Option, Some, None, is_some, not, option_map}
 use Rattle.std.specs.Option.{option_or}
-use Rattle.std.specs.List.{find, flat_map, AllByRecursion}
+use Rattle.std.specs.List.{find}
 use Rattle.std.specs.Global.{Box, Vec}
 use Rattle.std.proofs.lemmas.Grind.{flat_map-append}
 use Rattle.std.proofs.lemmas.List.{append-nil}
@@ -15,25 +15,20 @@ use Rattle.mcrl2_syntax.specs.Words.{PlainWord, word_of}
 use Rattle.mcrl2_syntax.specs.declared.sort_tree.SortTree.{SortTree}
 use Rattle.mcrl2_syntax.specs.declared.data_tree.DataTree.{DataTree}
 use Rattle.mcrl2_syntax.specs.declared.declaration.Field.{Field}
-use Rattle.mcrl2_syntax.specs.declared.declaration.Constructor.{Constructor}
 use Rattle.mcrl2_syntax.specs.declared.process_tree.VarGroup.{VarGroup}
 use Rattle.mcrl2_syntax.specs.declared.process_tree.ProcTree.{ProcTree}
 use Rattle.mcrl2_syntax.specs.declared.process_tree.ProcTree.TheVariants.{Sum, Either, rolls-Sum, rolls-Either}
 use Rattle.mcrl2_syntax.specs.declared.process_tree.ProcTree.TheFolds.{fold-roll-ProcTree}
 use Rattle.mcrl2_syntax.specs.SortTrees.{plain_sort}
-use Rattle.mcrl2_syntax.specs.DataTrees.{plain_data}
-use Rattle.mcrl2_syntax.specs.ProcessParts.{PlainVarGroup, var_group_of}
-use Rattle.mcrl2_syntax.specs.ProcessTrees as trees
+use Rattle.mcrl2_syntax.specs.ProcessParts.{var_group_of}
 use Rattle.mcrl2_syntax.specs.ProcessTrees.{PlainProcess, plain_process, plain_process_step, processes_of}
-use Rattle.mcrl2_syntax.specs.Declarations.{field_of, constructor_of}
 use Rattle.sort_table.specs.Expressions.{Name}
 use Rattle.sort_table.specs.NamedLists.{first_named}
 use Rattle.sort_table.specs.BareSorts.{SortExpression, truth_values, positives, naturals, integers, lists_of, a_name, bare_sort}
-use Rattle.sort_table.specs.BareProcesses.{Variables, bare_group, bare_variables, bare_process, sums_in}
-use Rattle.sort_table.specs.BareDeclarations.{bare_constructor, bare_field}
+use Rattle.sort_table.specs.BareProcesses.{bare_group, bare_variables, bare_process, sums_in}
 use Rattle.sort_table.specs.SortMeanings.{Kind}
 use Rattle.sort_table.specs.SortIndexes.{first_place}
-use Rattle.sort_table.specs.UnknownSorts.{name_in, names_of_variables, names_of_fields}
+use Rattle.sort_table.specs.UnknownSorts.{name_in, names_of_variables}
 use Rattle.sort_table.specs.UsedNames.{unknown_among, leaf_of, names_of_trees, names_of_field_trees, names_of_constructor, names_of_constructors, names_of_group, names_of_groups, names_of_sums, names_of_all_sums}
 use Rattle.sort_table.proofs.IndexPlaces.{placed}
 use Rattle.sort_table.proofs.Searches.{IsListed}

@@ -1,5 +1,5 @@
 -- The declarations that trees are.
-use Rattle.std.specs.Prelude.{◌≡◌, List, map}
+use Rattle.std.specs.Prelude.{List, map}
 use Rattle.mcrl2_syntax.specs.declared.declaration.Decl.{Decl}
 use Rattle.mcrl2_syntax.specs.declared.declaration.Spec.{Spec}
 use Rattle.mcrl2_syntax.specs.Declarations.{plain_decl, spec_of}

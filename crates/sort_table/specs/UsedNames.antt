@@ -1,5 +1,5 @@
 -- The sort names that trees use.
-use Rattle.std.specs.Prelude.{ℕ, not, List, [], ◌∷◌, map, Option, Some, None, is_some}
+use Rattle.std.specs.Prelude.{not, List, map, Option, Some, None, is_some}
 use Rattle.std.specs.List.{find, flat_map}
 use Rattle.mcrl2_syntax.specs.declared.sort_tree.SortTree.{SortTree}
 use Rattle.mcrl2_syntax.specs.declared.declaration.Field.{Field}

@@ -1,9 +1,9 @@
-use Rattle.std.proofs.Common.{◌≡◌, ◌<◌, ◌∙◌, ℕ, List, Bool, true, length, replicate, sym, ap, subst, arith}
+use Rattle.std.proofs.Common.{◌≡◌, ◌<◌, ◌∙◌, ℕ, List, true, length, replicate, sym, ap, subst, arith}
 use Rattle.std.specs.Prelude.{slice_index}
 use Rattle.graphs.proofs.Kept.{if_ok_map}
 use Rattle.graphs.specs.Graphs.{IsGraph, HasEdgeAmong, HasCycle, AreRanks}
 use Rattle.sort_table.specs.IndexedKinds.{kinds_of_index}
-use Rattle.sort_table.specs.DeclaringSorts.{AreLevels, AreByRank}
+use Rattle.sort_table.specs.DeclaringSorts.{AreByRank}
 use Rattle.sort_table.proofs.AliasEdges.{is_graph}
 use Rattle.sort_table.proofs.FirstPlaces.{no_graph_cycle, are_levels}
 use Rattle.sort_table.proofs.alias_levels.alias_levels.Goals as goal

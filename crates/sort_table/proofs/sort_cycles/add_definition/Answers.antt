@@ -1,4 +1,4 @@
-use Rattle.std.proofs.Common.{◌<◌, ◌∙◌, length, sym, subst, ℕ}
+use Rattle.std.proofs.Common.{◌<◌, ◌∙◌, sym, subst, ℕ}
 use Rattle.std.proofs.lemmas.Result.{on_ok_weaker}
 use Rattle.sort_table.specs.SortIndexes.{kind_of}
 use Rattle.sort_table.specs.IndexedKinds.{kinds_of_index}

@@ -1,4 +1,4 @@
-use Rattle.std.proofs.Common.{◌<◌, ◌≡◌, ◌∙◌, ℕ, length, sym, subst, arith}
+use Rattle.std.proofs.Common.{◌∙◌, arith}
 use Rattle.sort_table.specs.IndexedKinds.{kinds_of_index}
 use Rattle.sort_table.proofs.AliasEdges.{graph_none, graph_more}
 use Rattle.sort_table.proofs.sort_cycles.alias_edges.Goals as goal

@@ -1,4 +1,4 @@
-use Rattle.std.proofs.Common.{◌≡◌, ◌<◌, ◌∙◌, ℕ, Bool, true, List, length, map, replicate, sym, ap, subst}
+use Rattle.std.proofs.Common.{◌≡◌, ◌<◌, ◌∙◌, ℕ, true, List, length, map, replicate, sym, ap, subst}
 use Rattle.std.specs.List.{Contains}
 use denote.Ref.{Bor}
 use Rattle.graphs.specs.Graphs.{IsGraph, HasEdgeAmong, HasCycle}

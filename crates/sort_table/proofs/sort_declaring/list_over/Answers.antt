@@ -1,4 +1,3 @@
-use Rattle.std.proofs.Common.{refl}
 use Rattle.std.proofs.lemmas.Option.{slice_get_within}
 use Rattle.sort_table.specs.NamedSorts.{no_lists}
 use Rattle.sort_table.proofs.NamedSignatures.{list_meaning}

@@ -1,4 +1,4 @@
-use Rattle.std.proofs.Common.{◌≡◌, ◌∙◌, List, ℕ, sym, ap, subst}
+use Rattle.std.proofs.Common.{◌≡◌, ◌∙◌, List, sym, ap, subst}
 use denote.Ref.{Bor}
 use Rattle.std.specs.List.{All}
 use Rattle.std.specs.Str.{IsUtf8}

@@ -1,13 +1,12 @@
-use Rattle.std.proofs.Common.{◌≡◌, ◌+◌, ◌∙◌, List, suc, take, drop, length, map, get_or, sym, ap, arith}
-use Rattle.std.specs.Prelude.{Some, None, option_map}
+use Rattle.std.proofs.Common.{◌∙◌, List, suc, take, drop, sym, ap, arith}
+use Rattle.std.specs.Prelude.{option_map}
 use Rattle.std.proofs.lemmas.List.{length-map, length-take-le}
 use denote.Ref.{Bor}
 use Rattle.sort_table.specs.Expressions.{Name}
 use Rattle.mcrl2_syntax.specs.declared.declaration.Decl.{Decl}
-use Rattle.sort_table.specs.SortMeanings.{Kind, kinds_in}
+use Rattle.sort_table.specs.SortMeanings.{Kind}
 use Rattle.sort_table.specs.DeclarationTrees.{declaration_of, declarations_under}
-use Rattle.sort_table.specs.UnknownSorts.{sorts_used, unknown_in, HasKnownSorts}
-use Rattle.sort_table.specs.IndexedKinds.{kinds_of_index}
+use Rattle.sort_table.specs.UnknownSorts.{sorts_used, HasKnownSorts}
 use Rattle.sort_table.specs.UsedNames.{unknown_among}
 use Rattle.sort_table.proofs.Searches.{split_map, all_more}
 use Rattle.sort_table.proofs.unknown_sorts.first_unknown.Goals as goal

@@ -1,9 +1,5 @@
 use Rattle.std.specs.Prelude.{not, is_some}
-use Rattle.mcrl2_syntax.specs.SortTrees.{plain_sort}
-use Rattle.sort_table.specs.Expressions.{Name}
 use Rattle.sort_table.specs.NamedLists.{first_named}
-use Rattle.sort_table.specs.BareSorts.{bare_sort}
-use Rattle.sort_table.specs.UnknownSorts.{name_in}
 use Rattle.sort_table.specs.IndexedKinds.{kinds_of_index}
 use Rattle.sort_table.specs.UsedNames.{names_of_group, names_of_groups}
 use Rattle.sort_table.proofs.Searches.{further, here}

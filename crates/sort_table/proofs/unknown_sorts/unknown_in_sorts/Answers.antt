@@ -1,6 +1,5 @@
 use Rattle.std.specs.Prelude.{not, is_some}
 use Rattle.mcrl2_syntax.specs.SortTrees.{plain_sort}
-use Rattle.sort_table.specs.Expressions.{Name}
 use Rattle.sort_table.specs.NamedLists.{first_named}
 use Rattle.sort_table.specs.BareSorts.{bare_sort}
 use Rattle.sort_table.specs.UnknownSorts.{name_in}

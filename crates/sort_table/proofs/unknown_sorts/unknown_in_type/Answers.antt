@@ -1,10 +1,9 @@
 use Rattle.std.proofs.Common.{◌++◌, refl}
 use Rattle.mcrl2_syntax.specs.SortTrees.{plain_sort}
-use Rattle.mcrl2_syntax.specs.ProcessTrees.{plain_process}
 use Rattle.sort_table.specs.BareSorts.{bare_sort}
 use Rattle.sort_table.specs.UnknownSorts.{name_in}
 use Rattle.sort_table.specs.IndexedKinds.{kinds_of_index}
-use Rattle.sort_table.specs.UsedNames.{names_of_trees, names_of_groups, names_of_sums}
+use Rattle.sort_table.specs.UsedNames.{names_of_trees}
 use Rattle.sort_table.proofs.UsedNameLemmas.{in_front, in_back}
 use Rattle.sort_table.proofs.unknown_sorts.unknown_in_type.Goals as goal
 

@@ -1,4 +1,4 @@
-use Rattle.std.proofs.Common.{ℕ, ◌<◌, arith, length}
+use Rattle.std.proofs.Common.{arith}
 use Rattle.sort_table.specs.IndexedKinds.{kinds_of_index}
 use Rattle.sort_table.specs.DeclaringSorts.{OwnIsNamed}
 use Rattle.sort_table.proofs.DeclaringLemmas.{goes_nowhere, goes_further, below_step}

@@ -1,5 +1,4 @@
-use Rattle.std.proofs.Common.{List, sym, subst}
-use Rattle.std.specs.Global.{Vec}
+use Rattle.std.proofs.Common.{sym, subst}
 use Rattle.sort_table.specs.IndexedKinds.{kinds_of_index}
 use Rattle.sort_table.specs.DeclaringSorts.{AreLevels}
 use Rattle.sort_table.proofs.DeclaringLemmas.{starts, goes_further, all_named, have_names, reads}

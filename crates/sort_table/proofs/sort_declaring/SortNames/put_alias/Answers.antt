@@ -1,4 +1,4 @@
-use Rattle.std.proofs.Common.{◌≡◌, ◌<◌, ℕ, List, length, get_or, [], sym, subst}
+use Rattle.std.proofs.Common.{◌<◌, ℕ, List, length, get_or, [], sym, subst}
 use Rattle.std.proofs.lemmas.Result.{on_ok_weaker}
 use Rattle.mcrl2_syntax.specs.SortTrees.{plain_sort}
 use Rattle.data_theory.specs.Signature.{Sig}
