@@ -11,6 +11,7 @@ pub mod LaidOutColumns
 pub mod NewColumns
 pub mod FoundKinds
 pub mod FirstTerms
+pub mod InhabitedColumns
 pub mod ServingLayouts
 pub mod LaidOutForms
 pub mod LayingOut

@@ -245,6 +245,7 @@ pub fn lay_out(
     ensures serves { IfOk result (λ layout. ServesTheEncoding sig.new pool.new.trees (plain_form form.now) (plain_layout layout) layout.firsts.items) }
     ensures names { IfOk result (λ layout. ParamsHaveOwnNames sig.new (layout_params (plain_layout layout))) }
     ensures stands { OnOk result (IsSignature sig.new) }
+    ensures inhabited { OnOk result (NoSortIsEmpty (data_meant sig.new)) }
     ensures grown { IsGrown sig.old sig.new }
     ensures kept { Extends pool.old.trees pool.new.trees }
     ensures constants { AreConstants sig.new pool.new.constants }

@@ -96,6 +96,7 @@ pub fn encode(
     requires inhabited { NoSortIsEmpty (data_meant sig.old) }
     requires constants { AreConstants sig.old pool.old.constants }
     ensures stands { OnOk result (IsSignature sig.new) }
+    ensures inhabited { OnOk result (NoSortIsEmpty (data_meant sig.new)) }
     ensures grown { IsGrown sig.old sig.new }
     ensures kept { Extends pool.old.trees pool.new.trees }
     ensures constants { AreConstants sig.new pool.new.constants }

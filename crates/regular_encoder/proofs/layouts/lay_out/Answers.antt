@@ -13,6 +13,7 @@ use Rattle.regular_encoder.specs.Layouts.{LaidOut}
 use Rattle.regular_encoder.specs.FormColumns.{layout_params, places_in, AreFirstTerms, HasItsColumns, ServesTheEncoding, ParamsHaveOwnNames}
 use Rattle.regular_encoder.proofs.LayingOut.{read_first, kinds_in, keys_known, placed, columns_made, places_within, variables_in, inhabited_in, some_place, place_long}
 use Rattle.regular_encoder.proofs.LaidOutForms.{what_is_laid_out_serves}
+use Rattle.regular_encoder.proofs.InhabitedColumns.{firsts_sorts, still_inhabited}
 use Rattle.regular_encoder.proofs.layouts.lay_out.Goals as goal
 
 pub returns-in_err-kinds_at-clause-grown : goal.returns-in_err-kinds_at-clause-grown
@@ -110,3 +111,11 @@ returns-clause-names c = (served c).2
 
 pub returns-clause-grown : goal.returns-clause-grown
 returns-clause-grown c = growth_after_growth_is_growth _ _ _ (growth_after_growth_is_growth _ _ _ c.add_columns.ensures.grown.grown c.add_control.ensures.grown.grown) c.first_values.ensures.grown
+
+pub returns-clause-inhabited : goal.returns-clause-inhabited
+returns-clause-inhabited c =
+    still_inhabited c.args.sig.now c.first_values.new.sig c.signature_stands.ensures c.signature_stands-2.ensures
+    (growth_after_growth_is_growth _ _ _ (growth_after_growth_is_growth _ _ _ c.add_columns.ensures.grown.grown c.add_control.ensures.grown.grown) c.first_values.ensures.grown)
+    (firsts_sorts c.as_slice-place.result.now c.as_slice-4.result.now c.add_control.new.sig c.args.pool.now c.as_slice-3.result.now c.first_values.new.sig c.first_values.new.pool c.in_ok-firsts.firsts.items c.in_ok-firsts.ensures.values
+    ∙ c.add_control.ensures.grown.sorts ∙ c.add_columns.ensures.grown.sorts)
+    c.requires.inhabited
