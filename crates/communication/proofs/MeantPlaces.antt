@@ -1,5 +1,5 @@
 -- The places of a label are read as its actions are.
-use Rattle.std.proofs.Common.{◌≡◌, ◌<◌, ◌==◌, ◌+◌, ℕ, suc, Bool, true, false, List, [], ◌∷◌, ◌++◌, map, length, get_or, refl, sym, ap, ap₂, ◌∙◌, subst, arith, if◌then◌else◌, ⊎_elim, true≢false}
+use Rattle.std.proofs.Common.{◌≡◌, ◌<◌, ◌==◌, ℕ, suc, Bool, true, false, List, [], ◌∷◌, ◌++◌, map, length, get_or, refl, sym, ap, ap₂, ◌∙◌, subst, arith, if◌then◌else◌, ⊎_elim, true≢false}
 use Rattle.std.specs.Bool.{Decides}
 use Rattle.std.specs.List.{All}
 use Rattle.std.specs.Str.{bytes_eq}
@@ -7,9 +7,8 @@ use Rattle.std.proofs.lemmas.Bool.Decides.{eqb_tells}
 use Rattle.std.proofs.lemmas.List.{append_assoc, get_or_at}
 use Rattle.std.proofs.lemmas.List.Elements.{All-nil, All-cons, All-head, All-tail}
 use Rattle.std.proofs.lemmas.Slice.Eq.{bytes_eq-Decides}
-use Rattle.data_theory.specs.declared.ids.NameId.{NameId}
 use Rattle.data_theory.specs.declared.ids.SortId.{SortId}
-use Rattle.data_theory.specs.Keys.{Key, key}
+use Rattle.data_theory.specs.Keys.{Key}
 use Rattle.data_theory.specs.Terms.{Sort}
 use Rattle.data_theory.specs.Signature.{Sig}
 use Rattle.data_theory.specs.Complete.{IsActionWithin}
@@ -28,7 +27,7 @@ use Rattle.action_filters.specs.Filters.{key_of_action, sort_numbers, IsNameIn}
 use Rattle.action_filters.proofs.Meant.{key_is, names_along, names_alike}
 use Rattle.communication.specs.declared.places.Place.{Place}
 use Rattle.communication.specs.Communicated.{same_sorts, texts}
-use Rattle.communication.specs.Places.{placed, same_sort_numbers, class_of, place_of, places_from, places_of}
+use Rattle.communication.specs.Places.{placed, class_of, place_of, places_from, places_of}
 use Rattle.communication.specs.Plans.{action_at_place}
 use Rattle.communication.proofs.SortsTold.{same_sorts_decides}
 use Rattle.communication.proofs.Mapped.{IsRead}

@@ -1,5 +1,5 @@
 -- The terms of equalities and of conditions, as a pool grows.
-use Rattle.std.proofs.Common.{◌≡◌, ◌<◌, ◌+◌, ◌==◌, ℕ, Bool, true, false, List, [], ◌∷◌, ◌++◌, map, take, length, get_or, refl, sym, ap, ap₂, ◌∙◌, subst, cond, Some, if◌then◌else◌, ⊎_elim}
+use Rattle.std.proofs.Common.{◌≡◌, ◌<◌, ◌+◌, ℕ, true, false, List, [], ◌∷◌, ◌++◌, map, take, length, get_or, refl, sym, ap, ap₂, ◌∙◌, subst, cond, Some, if◌then◌else◌, ⊎_elim}
 use Rattle.std.specs.Prelude.{Vec, Result, Ok, Err, IfOk}
 use Rattle.std.specs.Global.{Global}
 use Rattle.std.specs.List.{All, AllZip}
@@ -14,16 +14,16 @@ use Rattle.data_theory.specs.declared.ids.TermId.{TermId}
 use Rattle.data_theory.specs.declared.words.Word.TheVariants as words
 use Rattle.data_theory.specs.declared.rows.Row.TheVariants as rows
 use Rattle.data_theory.specs.Table.{bool_sort, sort_rows}
-use Rattle.data_theory.specs.Terms.{Term, Symbol, equality, application, none as no_terms, more as and_more}
+use Rattle.data_theory.specs.Terms.{Term, equality, application, none as no_terms, more as and_more}
 use Rattle.data_theory.specs.Equations.{ !ᵗ◌}
 use Rattle.data_theory.specs.Functions.{Function, arguments_of}
 use Rattle.data_theory.specs.Rows.{row_text, built_in}
 use Rattle.data_theory.specs.Signature.{Sig, IsFun}
-use Rattle.data_theory.specs.SignatureLaws.{RowStandsAt, RowStands}
+use Rattle.data_theory.specs.SignatureLaws.{RowStands}
 use Rattle.data_theory.specs.WholeSignatures.{IsSignature}
 use Rattle.data_theory.specs.IdTrees.{Tree, variable, numeral, function, none, more, apply_tree}
 use Rattle.data_theory.specs.IdTreeSorts.{HasTreeSort, HaveTreeSorts}
-use Rattle.data_theory.specs.IdTerms.{sort_under, symbol_under, term_under}
+use Rattle.data_theory.specs.IdTerms.{sort_under, term_under}
 use Rattle.data_theory.proofs.IdTermLemmas.{sorted_trees_are_within}
 use Rattle.data_theory.proofs.StandingLemmas.{functions_over_sorts_stand, signatures_have_truth_functions}
 use Rattle.term_pool.specs.HeadTrees.{tree_at, trees_at, IsIn, AreIn}
@@ -31,10 +31,10 @@ use Rattle.term_pool.specs.Pools.{Extends}
 use Rattle.process_terms.specs.Communication.{conjunction_of}
 use Rattle.bisim_laws.specs.LinearProcesses.{is_true}
 use Rattle.action_filters.proofs.Loops.{mapped_item}
-use Rattle.lps_core.specs.Conditions.{parts, without_true, conjoined}
+use Rattle.lps_core.specs.Conditions.{parts, without_true}
 use Rattle.lps_core.specs.Fitting.{IsTermOf}
 use Rattle.lps_core.specs.TreeConditions.{true_function, and_function, tree_parts, is_true_tree, trees_without_true, conjunction_tree}
-use Rattle.lps_core.proofs.PoolTrees.{tree_kept, extends_on}
+use Rattle.lps_core.proofs.PoolTrees.{tree_kept}
 use Rattle.lps_core.proofs.TreeParts.{two_unmerged}
 use Rattle.lps_core.proofs.MeantParts.{chains_mean_chains, parts_mean_parts}
 use Rattle.communication.specs.declared.plans.Equality.{Equality}

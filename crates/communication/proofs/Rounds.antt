@@ -1,13 +1,13 @@
 -- What is found round by round are the ways, and the drafts that are complete are the choices.
-use Rattle.std.proofs.Common.{◌≡◌, ℕ, zero, suc, pred, Bool, true, false, ◌&&◌, List, [], ◌∷◌, ◌++◌, map, length, refl, sym, ap, ap₂, ◌∙◌, subst, cond, Option, Some, None, if◌then◌else◌}
+use Rattle.std.proofs.Common.{◌≡◌, ℕ, zero, suc, pred, Bool, true, false, ◌&&◌, List, [], ◌∷◌, ◌++◌, map, length, refl, sym, ap, ap₂, ◌∙◌, cond, Option, Some, None, if◌then◌else◌}
 use Rattle.std.specs.Prelude.{flat_map, filter}
 use Rattle.std.specs.List.{list_all}
 use Rattle.std.proofs.lemmas.List.{map-append, append-nil, append_assoc}
 use Rattle.std.proofs.lemmas.List.Elements.{filter-append}
 use Rattle.std.proofs.lemmas.Grind.{flat_map-append}
-use Rattle.action_filters.specs.NameTests.{is_nothing, without_one, with_first, where_some, is_permuted}
-use Rattle.communication.specs.Ways.{Reading, Joining, Pick, take_it, leave_it, picks, is_group, choices, Group, Start, start, starts_by, starts, Item, stays, joins, ways}
-use Rattle.communication.specs.Rounds.{Draft, with_chosen, if_wanted, taking, passing, grown, grown_by, is_whole, started, first_drafts, if_whole, drafts, drafted, OpenWay, with_start, with_stay, continued_by, continued, rounds, items_of}
+use Rattle.action_filters.specs.NameTests.{without_one, with_first, where_some, is_permuted}
+use Rattle.communication.specs.Ways.{Reading, Joining, Pick, take_it, leave_it, picks, start, starts_by, starts, Item, stays, joins, ways}
+use Rattle.communication.specs.Rounds.{Draft, if_wanted, taking, grown, grown_by, is_whole, started, first_drafts, if_whole, drafts, drafted, OpenWay, with_start, continued_by, continued, rounds, items_of}
 
 -- ---- lists
 pub flat_map_twice : {A B C : Type 0} (f : B → List C) (g : A → List B) (xs : List A) → flat_map f (flat_map g xs) ≡ flat_map (λ x. flat_map f (g x)) xs

@@ -1,5 +1,5 @@
 -- Steps of the loops over places, sorts and arguments.
-use Rattle.std.proofs.Common.{◌≡◌, ◌<◌, ◌≤◌, ◌==◌, ◌&&◌, ℕ, zero, suc, Bool, true, false, List, [], ◌∷◌, ◌++◌, map, drop, length, get_or, refl, sym, ap, ap₂, ◌∙◌, subst, arith, min, if◌then◌else◌}
+use Rattle.std.proofs.Common.{◌≡◌, ◌<◌, ◌≤◌, ◌==◌, ◌&&◌, ℕ, zero, suc, Bool, true, false, List, [], ◌∷◌, map, drop, length, get_or, refl, sym, ap, ap₂, ◌∙◌, arith, min, if◌then◌else◌}
 use Rattle.std.specs.Str.{bytes_eq}
 use Rattle.std.specs.Cmp.Lexicographic.{pointwise}
 use Rattle.data_theory.specs.declared.ids.SortId.{SortId}
@@ -11,7 +11,6 @@ use Rattle.action_filters.specs.Filters.{sort_numbers, IsActionIn, AreActionsIn}
 use Rattle.action_filters.proofs.Loops.{mapped_item, drop_at}
 use Rattle.lps_core.proofs.Staying.{read_mapped}
 use Rattle.communication.specs.declared.places.Place.{Place}
-use Rattle.communication.specs.declared.plans.Equality.{Equality}
 use Rattle.communication.specs.Places.{class_of, same_sort_numbers, place_of, places_from}
 use Rattle.communication.specs.Plans.{action_at_place, paired}
 

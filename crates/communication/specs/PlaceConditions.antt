@@ -8,7 +8,7 @@ use Rattle.data_theory.specs.Signature.{Sig}
 use Rattle.process_terms.specs.PlainProcesses.{PlainAction, PlainRule}
 use Rattle.action_filters.specs.Filters.{key_of_action, IsNameIn}
 use Rattle.communication.specs.declared.places.Place.{Place}
-use Rattle.communication.specs.Ways.{Group, Item, stays, joins}
+use Rattle.communication.specs.Ways.{Item, stays, joins}
 use Rattle.communication.specs.Plans.{action_at_place}
 
 abbrev pub IsWithin : ℕ → Place → Type 0

@@ -1,8 +1,7 @@
 -- Ways in code, as plain data, and how the actions of a label are read by their places.
-use Rattle.std.specs.Prelude.{◌==◌, ℕ, suc, List, [], ◌∷◌, map, length, if◌then◌else◌}
+use Rattle.std.specs.Prelude.{◌==◌, ℕ, suc, List, [], ◌∷◌, map, if◌then◌else◌}
 use Rattle.std.specs.Str.{bytes_eq}
 use Rattle.data_theory.specs.declared.ids.NameId.{NameId}
-use Rattle.data_theory.specs.Keys.{Key}
 use Rattle.data_theory.specs.Signature.{Sig}
 use Rattle.process_terms.specs.PlainProcesses.{PlainAction, PlainRule}
 use Rattle.action_filters.specs.Filters.{same_name, key_of_action, sort_numbers}

@@ -1,7 +1,7 @@
 -- The ways of a list, found round by round.
 use Rattle.std.specs.Prelude.{ℕ, zero, suc, List, [], ◌∷◌, ◌++◌, map, flat_map, filter, Option, Some, None, Bool, if◌then◌else◌}
 use Rattle.action_filters.specs.NameTests.{is_nothing, without_one}
-use Rattle.communication.specs.Ways.{Reading, Joining, Pick, Group, Start, start, starts, Item, stays, joins}
+use Rattle.communication.specs.Ways.{Reading, Joining, Start, starts, Item, stays, joins}
 
 -- ---- choices
 -- a choice that isn't complete yet: the names that are wanted still, the actions chosen, and those passed over

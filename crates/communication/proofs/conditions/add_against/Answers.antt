@@ -1,4 +1,4 @@
-use Rattle.std.proofs.Common.{◌∙◌, map, take, ap, sym, subst, refl, ◌+◌}
+use Rattle.std.proofs.Common.{◌∙◌, map, take, sym, subst, ◌+◌}
 use Rattle.std.specs.Prelude.{Vec}
 use Rattle.std.specs.Global.{Global}
 use Rattle.std.proofs.lemmas.List.{take_all}

@@ -1,4 +1,4 @@
-use Rattle.std.proofs.Common.{◌≡◌, [], map}
+use Rattle.std.proofs.Common.{◌≡◌, map}
 use Rattle.term_pool.specs.HeadTrees.{tree_at, IsIn}
 use Rattle.data_theory.specs.IdTrees.{apply_tree, more, none}
 use Rattle.process_terms.specs.Communication.{conjunction_of}

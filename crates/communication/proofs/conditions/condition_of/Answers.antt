@@ -1,13 +1,12 @@
-use Rattle.std.proofs.Common.{◌≡◌, ◌++◌, ◌∙◌, [], map, ap, sym, subst}
-use Rattle.std.specs.List.{All}
+use Rattle.std.proofs.Common.{◌≡◌, ◌++◌, ◌∙◌, map, ap, sym, subst}
 use Rattle.std.proofs.lemmas.List.Elements.{All-nil}
 use Rattle.data_theory.specs.IdTerms.{term_under}
 use Rattle.term_pool.specs.HeadTrees.{tree_at, trees_at, IsIn, AreIn}
 use Rattle.lps_core.specs.Conditions.{parts, without_true}
 use Rattle.lps_core.specs.TreeConditions.{conjunction_tree, tree_parts, trees_without_true}
 use Rattle.communication.specs.Plans.{plain_plan, equalities_of_each}
-use Rattle.communication.specs.PlanMeanings.{against, equality_of, planned_condition, AreFitting, IsPart}
-use Rattle.communication.proofs.PartTerms.{PartsGrow, condition_made, condition_parts, groups_fit_on, if_both, parts_within}
+use Rattle.communication.specs.PlanMeanings.{against, equality_of, planned_condition, IsPart}
+use Rattle.communication.proofs.PartTerms.{PartsGrow, condition_made, condition_parts, if_both, parts_within}
 use Rattle.communication.proofs.conditions.condition_of.Goals as goal
 
 pub conjoined-requires : goal.conjoined-requires

@@ -1,8 +1,6 @@
 use Rattle.std.proofs.Common.{◌≡◌}
-use Rattle.data_theory.specs.declared.ids.TermId.{TermId}
 use Rattle.term_pool.specs.HeadTrees.{tree_at, IsIn}
 use Rattle.data_theory.specs.IdTrees.{apply_tree, more, none}
-use Rattle.action_filters.proofs.Loops.{if_ok}
 use Rattle.communication.specs.PlanMeanings.{equality_of, IsPart}
 use Rattle.communication.proofs.PartTerms.{equality_is, no_equality, if_both}
 use Rattle.communication.proofs.conditions.equality.Goals as goal
