@@ -7,5 +7,6 @@ pub mod CommunicationWhole
 pub mod Rounds
 pub mod Mapped
 pub mod Stepping
+pub mod PartTerms
 pub mod MeantPlaces
 pub mod MeantWays

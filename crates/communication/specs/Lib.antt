@@ -5,4 +5,5 @@ pub mod Rounds
 pub mod Places
 pub mod Plans
 pub mod PlaceConditions
+pub mod PlanMeanings
 pub mod WayMeanings
