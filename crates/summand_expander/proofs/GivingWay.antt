@@ -4,7 +4,7 @@ use Rattle.std.specs.Prelude.{◌↔◌, slice_get, Result, Ok, Err, OnOk}
 use Rattle.std.specs.List.{All, Contains, list_any}
 use Rattle.std.proofs.lemmas.List.{map-append, take_more, take_all, length-append, append-nil}
 use Rattle.std.proofs.lemmas.List.Concat.{flat_map-append}
-use Rattle.std.proofs.lemmas.List.Elements.{All-nil, All-push, All-weaker, All-contains, Contains-append_left, Contains-append_right, Contains-append_cases}
+use Rattle.std.proofs.lemmas.List.Elements.{All-nil, All-append, All-tail, All-push, All-weaker, All-contains, Contains-append_left, Contains-append_right, Contains-append_cases, All-head}
 use Rattle.std.proofs.lemmas.Bool.Decides.{eqb_tells}
 use Rattle.data_theory.specs.declared.ids.NameId.{NameId}
 use Rattle.data_theory.specs.declared.ids.VarId.{VarId}
@@ -195,7 +195,7 @@ none_new g s = record { on = names_none g s; olds = All-nil (IsVariable g); news
 variables_longer : (g h : Sig) → GrowsByNames g h → length g.variables ≤ length h.variables
 variables_longer g h w = let e = ap length w.grown.variables ∙ length-append g.variables w.grown.new_variables in omega (arith, e)
 
-taken_stays : (g h : Sig) → GrowsByNames g h → (x : VarId) → IsVariable g x → HasTakenName g x → HasTakenName h x
+pub taken_stays : (g h : Sig) → GrowsByNames g h → (x : VarId) → IsVariable g x → HasTakenName g x → HasTakenName h x
 taken_stays g h w x l t = name_taken h x (variable_kept g h x w.grown l) (subst (λ n. Contains h.taken n) (sym (name_kept g h x w.grown l)) (w.taken (name_of g x) (taken_name g x l t)))
 
 one_more_new : (g h k : Sig) (os ns : List VarId) (x y : VarId) → NewOnes g h os ns → IsVariable g x → StandsNew h k x y → NewOnes g k (os ++ x ∷ []) (ns ++ y ∷ [])
@@ -232,7 +232,7 @@ one_stands P A g h os ns x _ _ _ n l t (it_stays m o) = n
 one_stands P A g h os ns x k _ _ n l t (it_is_renewed {y = y} a u i) =
     one_more_new g h k os ns x y n l (new_stands P h x k y n.on.stands (variable_kept g h x n.on.grown l) (taken_stays g h n.on x l t) i)
 
-all_front : {A : Type 0} (P : A → Type 0) (xs : List A) (x : A) → All P (xs ++ x ∷ []) → All P xs
+pub all_front : {A : Type 0} (P : A → Type 0) (xs : List A) (x : A) → All P (xs ++ x ∷ []) → All P xs
 all_front P xs x h = all_from P xs (λ y i. All-contains P (xs ++ x ∷ []) y h (Contains-append_left xs (x ∷ []) y i))
 
 pub all_stand : (P : NameId → Type 0) (A : VarId → Type 0) (g h : Sig) (os ns xs : List VarId) (k : Sig) (os' ns' : List VarId) → NewOnes g h os ns → All (IsVariable g) xs → All (HasTakenName g) xs → AreRenewed P A h os ns xs k os' ns' → NewOnes g k os' ns'
@@ -265,6 +265,11 @@ are_free P A h os ns _ k os' ns' (one_variable {xs = xs} {os = us} {ns = vs} {h 
     (Contains-append_cases xs (x ∷ []) v j)
 
 -- ---- the whole side
+-- what holds of the sums of each summand
+pub all_each : (P : VarId → Type 0) (ss : List PlainSummand) → All (λ (s : PlainSummand). All P s.sums) ss → All P (all_sums ss)
+all_each P [] h = All-nil P
+all_each P (s ∷ ss) h = All-append P s.sums (all_sums ss) (All-head (λ (s : PlainSummand). All P s.sums) s ss h) (all_each P ss (All-tail (λ (s : PlainSummand). All P s.sums) s ss h))
+
 pub record HasGivenWay (g h : Sig) (l r : PlainLinear) (os ns : List VarId) : Type 0 where
   pub new : NewOnes g h os ns
   pub free : (x : VarId) → HasVariable r x → Contains os x ⊎ ¬ (HasVariable l x)

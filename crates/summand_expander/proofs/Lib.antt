@@ -18,3 +18,4 @@ pub mod MadeSummands
 pub mod Separating
 pub mod Endings
 pub mod MadeProducts
+pub mod DifferentNames

@@ -3,7 +3,7 @@ use Rattle.std.proofs.Common.{◌≡◌, ◌&&◌, ⊎_elim, ℕ, Bool, true, fa
 use Rattle.std.specs.Prelude.{option_map, option_to_list, is_some, IfSome}
 use Rattle.std.specs.List.{All}
 use Rattle.std.proofs.lemmas.List.{map-append, append-nil}
-use Rattle.std.proofs.lemmas.List.Elements.{All-nil, All-cons, All-head, All-tail, All-append, All-contains, All-weaker}
+use Rattle.std.proofs.lemmas.List.Elements.{All-nil, All-cons, All-append, All-contains, All-weaker}
 use Rattle.data_theory.specs.declared.ids.TermId.{TermId}
 use Rattle.data_theory.specs.declared.ids.VarId.{VarId}
 use Rattle.data_theory.specs.Declarations.{Data, HaveSorts}
@@ -45,10 +45,11 @@ use Rattle.summand_expander.specs.Product.{flag_of, columns, first_flag, first_c
 use Rattle.summand_expander.specs.Renewing.{renewed, KeepsApart}
 use Rattle.summand_expander.specs.Renewals.{IsFlag, GivesWay, all_sums, HasVariable, IsRenewedLinear}
 use Rattle.summand_expander.specs.SideFits.{FitsWithNames, IsFlagOf}
-use Rattle.summand_expander.specs.WholeProducts.{can_end, renewed_number, side_of_linear, AreProductSummands, first_flag_id, AreFirstTerms, IsProduct, IsGoodProduct}
+use Rattle.summand_expander.specs.WholeProducts.{can_end, renewed_number, side_of_linear, AreProductSummands, first_flag_id, AreFirstTerms, HaveDifferentNames, IsProduct, IsGoodProduct}
+use Rattle.summand_expander.proofs.DifferentNames.{all_names_differ}
 use Rattle.summand_expander.proofs.Endings.{can_stop, product_stops, meant_stops, renewed_stops}
 use Rattle.summand_expander.proofs.FittingDrafts.{terms_append, false_sorted}
-use Rattle.summand_expander.proofs.GivingWay.{HasGivenWay, has_given_way}
+use Rattle.summand_expander.proofs.GivingWay.{HasGivenWay, has_given_way, all_each}
 use Rattle.summand_expander.proofs.MadeSummands.{linear_still}
 use Rattle.summand_expander.proofs.NewVariables.{long}
 use Rattle.summand_expander.proofs.RenewedFits.{renewed_means, renews, renewed_fits, renewed_at_end}
@@ -57,10 +58,6 @@ use Rattle.summand_expander.proofs.Separating.{IsNewFlag, FlagStands, flag_stand
 use Rattle.summand_expander.proofs.Whole.{linear_product}
 
 -- ---- sums of all summands
-all_each : (P : VarId → Type 0) (ss : List PlainSummand) → All (λ (s : PlainSummand). All P s.sums) ss → All P (all_sums ss)
-all_each P [] h = All-nil P
-all_each P (s ∷ ss) h = All-append P s.sums (all_sums ss) (All-head (λ (s : PlainSummand). All P s.sums) s ss h) (all_each P ss (All-tail (λ (s : PlainSummand). All P s.sums) s ss h))
-
 pub sums_are_variables : (g : Sig) (ts : List Tree) (l : PlainLinear) → Fits g ts l → All (λ (s : PlainSummand). All (IsVariable g) s.sums) l.summands
 sums_are_variables g ts l fits = All-weaker (SummandFits g ts l.params) (λ (s : PlainSummand). All (IsVariable g) s.sums) (λ s k. k.sums) l.summands fits.summands
 
@@ -115,6 +112,7 @@ pub record ProductDone (g h : Sig) (us : List Tree) (l r p : PlainLinear) : Type
   pub made : IsProduct g h us l r p
   pub good : IsGoodProduct h us l r p
   pub ends : can_end p ≡ (can_end l && can_end r)
+  pub names : HaveDifferentNames g l.params → HaveDifferentNames g r.params → HaveDifferentNames h p.params
 
 module _ (g0 g1 g2 g3 : Sig) (t0 t1 t2 t3 : List Tree) (l r k p : PlainLinear) (lf rf : Option VarId) (os ns : List VarId)
     (s0 : IsSignature g0) (fl0 : Fits g0 t0 l) (fr0 : Fits g0 t0 r) (left : IsFlag g0 (can_end l) g1 lf) (way : GivesWay g1 l r g2 os ns) (right : IsFlag g2 (can_end r) g3 rf)
@@ -336,6 +334,7 @@ module _ (g0 g1 g2 g3 : Sig) (t0 t1 t2 t3 : List Tree) (l r k p : PlainLinear) (
             subst (λ z. IsGood th (Product A B z) (merge (state_of L ts) (state_of R us)) (state_of z (initial_of (entries_of g3 t3) p))) (sym linear_is)
             (subst (λ z. IsGood th (Product A B (product A B)) (merge (state_of L ts) (state_of R us)) (state_of (product A B) z)) (sym (initial_is ∙ ap (λ z. first_columns A ts ++ (z ++ first_flag B.flag)) init_same)) good);
       };
+      names = λ d e. subst (HaveDifferentNames g3) (sym (params ∙ ap (λ ks. (l.params ++ option_to_list lf) ++ (ks ++ option_to_list rf)) is.params)) (all_names_differ g0 g1 g2 g3 t0 t0 l r lf rf os ns (can_end l) (can_end r) fl0 fr0 fr1 one way given.new two d e);
       ends =
           sym (meant_stops (entries_of g3 t3) p) ∙ ap can_stop linear_is
           ∙ product_stops A B (flag_tells lf (can_end l) one.without one.with_flag ∙ sym (meant_stops (entries_of g3 t3) l)) (flag_tells rf (can_end r) two.without two.with_flag ∙ sym k_ends ∙ sym (meant_stops (entries_of g3 t3) k))

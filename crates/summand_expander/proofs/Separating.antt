@@ -3,8 +3,8 @@ use Rattle.std.proofs.Common.{◌≡◌, ◌<◌, ◌≤◌, ◌||◌, inl, inr,
 use Rattle.std.specs.Prelude.{option_map, option_to_list, codes, IfSome}
 use Rattle.std.specs.List.{All, AllZip, Contains, list_any}
 use Rattle.std.proofs.lemmas.List.{length-append}
-use Rattle.std.proofs.lemmas.List.Elements.{All-nil, All-cons, Contains-append_cases}
-use Rattle.std.proofs.lemmas.Option.{slice_get_within}
+use Rattle.std.proofs.lemmas.List.Elements.{All-nil, All-cons, Contains-append_cases, All-contains}
+use Rattle.std.proofs.lemmas.Option.{slice_get_within, slice_get-get_or, get_or_from_slice_get}
 use Rattle.data_theory.specs.declared.ids.NameId.{NameId}
 use Rattle.data_theory.specs.declared.ids.VarId.{VarId}
 use Rattle.data_theory.specs.declared.ids.TermId.{TermId}
@@ -30,7 +30,8 @@ use Rattle.bisim_laws.specs.LinearProcesses.{Linear, variables, AreDeclared, IsL
 use Rattle.bisim_laws.specs.BaseStates.{Side}
 use Rattle.bisim_laws.proofs.Firing.{contains_first, contains_later, contains_cases, contains_none}
 use Rattle.lps_core.specs.Fitting.{Fits, IsVariable, HasTakenName}
-use Rattle.lps_core.specs.Naming.{GrowsByNames}
+use Rattle.process_terms.proofs.MeaningLemmas.{entry_stays}
+use Rattle.lps_core.specs.Naming.{name_of, GrowsByNames}
 use Rattle.lps_core.specs.PlainLinears.{PlainSummand, PlainLinear, summand_of, linear_of}
 use Rattle.lps_core.specs.TreeSummands.{TreeSummand, numbers_of}
 use Rattle.lps_core.proofs.Environments.{variables_append}
@@ -54,6 +55,7 @@ pub record IsNewFlag (g h : Sig) (x : VarId) : Type 0 where
   pub number : x.0 ≡ length g.variables
   pub is : IsFlagOf h x
   pub taken : HasTakenName h x
+  pub fresh : ¬ (Contains g.taken (name_of h x))
 
 pub record FlagStands (g h : Sig) (ends : Bool) (flag : Option VarId) : Type 0 where
   pub on : GrowsByNames g h
@@ -74,13 +76,19 @@ flag_stands g _ _ _ s (new_flag {h = h} {name = name} f) =
     let named : name.0 < length h.texts = slice_get_within h.texts name.0 f.text f.named in
     let there : length h.variables < length k.variables = let e = length-append h.variables (v ∷ []) in omega (arith, e) in
     let place : name ≡ place_in h.texts f.text = place_is h.texts f.text name.0 by_text.stands.table.different f.named in
+    let new_name : name_of k x ≡ name = ap (λ (y : Variable). y.name) (last_variable h v (record { name = record { 0 = 0 }; sort = record { 0 = 0 } })) in
     let has : Contains h.taken name = subst (λ z. Contains h.taken z) (sym place) (subst (λ (z : Sig). Contains z.taken (place_in z.texts f.text)) (sym f.taken) (with_name_has g.taken (place_in (with_text g.texts f.text) f.text))) in
     record {
       on = names_then g h k by_text (names_variable h v by_text.stands named (bool_within h by_text.stands));
       new = record {
         number = ap (λ (z : Sig). length z.variables) f.taken;
         is = record { variable = there; sort = ap (λ (y : Variable). y.sort) (last_variable h v (record { name = record { 0 = 0 }; sort = bool_sort })) };
-        taken = name_taken k x there (subst (λ z. Contains h.taken z) (sym (ap (λ (y : Variable). y.name) (last_variable h v (record { name = record { 0 = 0 }; sort = record { 0 = 0 } })))) has);
+        taken = name_taken k x there (subst (λ z. Contains h.taken z) (sym new_name) has);
+        fresh = λ i.
+            let t = subst (λ z. Contains g.taken z) new_name i in
+            let old = All-contains (λ (m : NameId). m.0 < length g.texts) g.taken name s.complete.within.taken t in
+            let same = (entry_stays g.texts h.texts [] name.0 (by_text.grown.new_texts, by_text.grown.texts) old).0 in
+            f.fresh.free (name, slice_get-get_or g.texts name.0 [] old ∙ ap (λ z. Some z) (sym same ∙ get_or_from_slice_get h.texts name.0 f.text [] f.named), t);
       };
       without = λ q. cc;
       with_flag = λ y q. refl;

@@ -11,6 +11,9 @@ use Rattle.process_terms.specs.Processes.{merge}
 use Rattle.process_terms.specs.SignatureEntries.{entries_of}
 use Rattle.bisim_laws.specs.BaseStates.{Side}
 use Rattle.bisim_laws.specs.Links.{Product}
+use Rattle.data_theory.specs.Environments.{AreDistinct}
+use Rattle.data_theory.specs.declared.ids.NameId.{NameId}
+use Rattle.lps_core.specs.Naming.{names_of}
 use Rattle.lps_core.specs.GoingOn.{IsGoodOver}
 use Rattle.lps_core.specs.PlainLinears.{PlainSummand, PlainLinear, summand_of, linear_of, initial_of, linear_state}
 use Rattle.summand_expander.specs.Product.{product, first_columns}
@@ -65,6 +68,10 @@ pub record IsProduct (g h : Sig) (us : List Tree) (l r k : PlainLinear) : Type 0
   pub initial :
       initial_of (entries_of h us) k
       ≡ first_columns (side_of_linear (entries_of h us) l left_flag) (initial_of (entries_of h us) l) ++ first_columns (renewed_side (entries_of h us) olds news r right_flag) (initial_of (entries_of h us) r)
+
+-- no two of these variables have one name
+abbrev pub HaveDifferentNames : Sig → List VarId → Type 0
+HaveDifferentNames g xs = AreDistinct (map (λ (n : NameId). n.0) (names_of g xs))
 
 -- over every theory that goes on from the signature, `Product` is good for both side by side and the product
 pub record IsGoodProduct (h : Sig) (us : List Tree) (l r k : PlainLinear) : Type 0 where

@@ -56,3 +56,6 @@ returns-clause-bisimilar c = (done c).good
 
 pub returns-clause-ends : goal.returns-clause-ends
 returns-clause-ends c = sym (plain_ends c.in_ok-summands.summands.items) ∙ (done c).ends ∙ ap₂ (λ x y. x && y) (plain_ends c.args.left.now.summands.items) (plain_ends c.args.right.now.summands.items)
+
+pub returns-clause-names : goal.returns-clause-names
+returns-clause-names c = (done c).names
