@@ -1,0 +1,3 @@
+mod KnownTerms
+mod TestedForms
+mod Readings
