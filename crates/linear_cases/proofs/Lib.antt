@@ -1,3 +1,4 @@
 mod KnownTerms
 mod TestedForms
 mod Readings
+pub mod FirstFits

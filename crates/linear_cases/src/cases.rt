@@ -1,7 +1,8 @@
 //! Answers to cases.
 
-ghost use Rattle.std.specs.Prelude.{◌≡◌, ◌≤◌, ◌<◌, [], length, IfOk};
+ghost use Rattle.std.specs.Prelude.{◌≡◌, ◌≤◌, ◌<◌, ◌∷◌, [], length, IfOk};
 ghost use Rattle.std.specs.List.{All};
+ghost use Rattle.process_terms.specs.PlainProcesses.{items_of_each};
 ghost use Rattle.lps_core.specs.Fitting.{Fits};
 ghost use Rattle.lps_core.specs.PlainLinears.{plain_linear};
 ghost use Rattle.action_filters.specs.Filters.{IsNameIn};
@@ -10,12 +11,13 @@ use crate::drafts::{Draft, add_line, first_word};
 use crate::fitting::may_be_encoded;
 use crate::known::count_variables;
 use crate::shown::{Texts, shown, term_texts};
-use action_filters::{block, hide};
+use action_filters::{allow, block, hide};
 use data_theory::{NameId, Names, NoMemory, Signature, SortId};
 use greibach::Greibach;
-use lps_core::{Linear, name_sums};
+use lps_core::{Linear, name_sums, signature_stands};
 use regular_encoder::{EncodeFault, encode};
 use std::alloc::Global;
+use summand_expander::product;
 use term_pool::Pool;
 
 /// The first line of a case, and what is said of the case.
@@ -66,7 +68,7 @@ fn case(
     match encode(alloc, &form, sig, pool) {
         Ok(lin) => {
             let said = (sorts.as_slice(), actions.as_slice());
-            done(alloc, lin, last.as_str(), said, sig, pool)
+            done(alloc, &lin, last.as_str(), said, sig, pool)
         },
         Err(EncodeFault::NotTail(number)) => Ok(format!(in alloc; "not tail {number}")?),
         Err(EncodeFault::NoMemory) => Err(NoMemory),
@@ -86,23 +88,41 @@ fn names_of(alloc: Global, sig: &Signature, text: &str) -> Result<Vec<NameId>, N
     Ok(names)
 }
 
-/// The linear process behind an operation.
+/// The set of these names alone.
+fn one_set(alloc: Global, names: Vec<NameId>) -> Result<Vec<Vec<NameId>>, NoMemory>
+    ensures { IfOk result (λ sets. items_of_each sets.items ≡ names.items ∷ []) }
+{
+    let mut sets = Vec::new(alloc);
+    sets.push(names)?;
+    Ok(sets)
+}
+
+/// The linear process behind an operation. The product is that with the first one at the right.
 fn operated(
     alloc: Global,
+    first: &Linear,
     lin: Linear,
     operation: &str,
     sig: &mut Signature,
     pool: &mut Pool,
 ) -> Result<Linear, NoMemory>
-    requires { Fits sig.old pool.old.trees (plain_linear lin) }
-    ensures { IfOk result (λ made. Fits sig.new pool.new.trees (plain_linear made)) }
+    requires first { Fits sig.old pool.old.trees (plain_linear first.now) }
+    requires fits { Fits sig.old pool.old.trees (plain_linear lin) }
+    ensures first { Fits sig.new pool.new.trees (plain_linear first.now) }
+    ensures fits { IfOk result (λ made. Fits sig.new pool.new.trees (plain_linear made)) }
 {
+    signature_stands(sig);
     let (command, text) = first_word(operation);
     let names = names_of(alloc, sig, text)?;
     match command {
+        "allow" => {
+            let sets = one_set(alloc, names)?;
+            allow(alloc, &lin, sets.as_slice(), sig)
+        }
         "block" => block(alloc, &lin, names.as_slice(), sig),
         "hide" => hide(alloc, &lin, names.as_slice(), sig),
         "name" => name_sums(alloc, lin, sig, pool),
+        "product" => product(alloc, &lin, first, sig, pool),
         _ => Ok(lin),
     }
 }
@@ -110,17 +130,17 @@ fn operated(
 /// Does what stands behind the initial terms, and shows the linear process.
 fn done(
     alloc: Global,
-    lin: Linear,
+    first: &Linear,
     line: &str,
     said: (&[(String, SortId)], &[String]),
     sig: &mut Signature,
     pool: &mut Pool,
 ) -> Result<String, NoMemory>
-    requires { Fits sig.old pool.old.trees (plain_linear lin) }
+    requires { Fits sig.old pool.old.trees (plain_linear first.now) }
 {
-    let mut lin = lin;
+    let mut lin = first.copy(alloc)?;
     for operation in line.split('|') {
-        lin = operated(alloc, lin, operation, sig, pool)?;
+        lin = operated(alloc, first, lin, operation, sig, pool)?;
     }
     let variables = count_variables(sig)?;
     let terms = term_texts(alloc, sig, pool, variables)?;

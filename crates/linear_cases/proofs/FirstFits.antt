@@ -1,0 +1,13 @@
+-- The first linear process of a case fits, as signature and pool grow.
+use Rattle.std.proofs.Common.{List}
+use Rattle.data_theory.specs.Signature.{Sig}
+use Rattle.data_theory.specs.IdTrees.{Tree}
+use Rattle.data_theory.specs.WholeSignatures.{IsSignature}
+use Rattle.term_pool.specs.Pools.{Extends}
+use Rattle.lps_core.specs.Fitting.{Fits}
+use Rattle.lps_core.specs.Naming.{GrowsByNames}
+use Rattle.lps_core.specs.PlainLinears.{PlainLinear}
+use Rattle.lps_core.proofs.StayingFits.{what_fits_fits_still}
+
+pub first_fits : {g h : Sig} {ts us : List Tree} {l : PlainLinear} → IsSignature g → GrowsByNames g h → Extends ts us → Fits g ts l → Fits h us l
+first_fits {g = g} {h = h} {ts = ts} {us = us} {l = l} s w e fits = what_fits_fits_still g h ts us l s.table s.complete w.stands.table (record { signature = w.grown; pool = e }) fits
