@@ -4,10 +4,9 @@ use Rattle.std.specs.Prelude.{flat_map, option_map}
 use Rattle.std.specs.List.{All}
 use Rattle.std.proofs.lemmas.List.{map-append, append_assoc, take_more, length-map}
 use Rattle.std.proofs.lemmas.Grind.{flat_map-append}
-use Rattle.std.proofs.lemmas.List.Elements.{All-nil, All-cons, All-append, All-weaker, All-get_or}
+use Rattle.std.proofs.lemmas.List.Elements.{All-nil, All-cons, All-append, All-weaker}
 use Rattle.data_theory.specs.declared.ids.VarId.{VarId}
 use Rattle.data_theory.specs.declared.ids.TermId.{TermId}
-use Rattle.data_theory.specs.Terms.{Term}
 use Rattle.data_theory.specs.Signature.{Sig}
 use Rattle.data_theory.specs.IdTrees.{Tree}
 use Rattle.data_theory.specs.IdTerms.{term_under}
@@ -17,19 +16,17 @@ use Rattle.term_pool.specs.Pools.{Extends}
 use Rattle.term_pool.proofs.DeclaredConstants.{grown_itself}
 use Rattle.process_terms.specs.declared.labels.Action.{Action as CodeAction}
 use Rattle.process_terms.specs.PlainProcesses.{PlainAction, PlainRule, plain_action}
-use Rattle.process_terms.specs.Meanings.{Entries, bound_at, term_at, action_of, label_of, rule_of}
+use Rattle.process_terms.specs.Meanings.{bound_at, term_at, action_of, label_of, rule_of}
 use Rattle.process_terms.specs.SignatureEntries.{entries_of, BothGrow}
 use Rattle.process_terms.proofs.MeaningLemmas.{all_same}
 use Rattle.bisim_laws.specs.LinearProcesses.{Summand}
 use Rattle.lps_core.specs.Conditions.{parts, conjoined}
 use Rattle.lps_core.specs.PlainLinears.{PlainSummand, PlainLinear, plain_summand, summand_of}
 use Rattle.lps_core.specs.Fitting.{IsActionOf, SummandFits, HasTakenName, Fits}
-use Rattle.lps_core.proofs.PoolTrees.{extends_on, tree_kept}
-use Rattle.lps_core.proofs.Staying.{term_is, term_stays, action_stays, next_stays, summand_stays}
+use Rattle.lps_core.proofs.Staying.{term_is, action_stays, next_stays, summand_stays}
 use Rattle.lps_core.proofs.StayingFits.{action_fits, summand_fits}
-use Rattle.communication.specs.declared.plans.Equality.{Equality}
 use Rattle.communication.specs.Plans.{PlainPlan, planned}
-use Rattle.communication.specs.PlanMeanings.{equality_of, against, planned_condition, IsPart, PlanFits}
+use Rattle.communication.specs.PlanMeanings.{planned_condition, IsPart, PlanFits}
 use Rattle.communication.specs.PlanLaws.{is_shut, planned_summand, WayServes}
 use Rattle.lps_core.specs.declared.linears.Summand.{Summand as Summands}
 use Rattle.communication.specs.declared.places.Item.{Item as CodeItem}

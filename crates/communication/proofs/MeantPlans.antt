@@ -34,7 +34,7 @@ use Rattle.action_filters.proofs.Meant.{key_is}
 use Rattle.action_filters.proofs.Renamed.{place_reads, key_within}
 use Rattle.communication.specs.declared.places.Place.{Place}
 use Rattle.communication.specs.Ways.{Joining, Group, Item, stays, joins, rest, further, GroupHas, ItemHas}
-use Rattle.communication.specs.Communicated.{way_label, equalities_of, item_equalities, further_groups, is_no_group, has_no_arguments, of_way, label_ways}
+use Rattle.communication.specs.Communicated.{way_label, equalities_of, item_equalities, is_no_group, has_no_arguments, of_way, label_ways}
 use Rattle.communication.specs.Places.{placed, joining_of, places_of}
 use Rattle.communication.specs.Plans.{action_at_place, paired, equated_with, equated, item_equated, under_name, action_of_place_item, planned}
 use Rattle.communication.specs.PlaceConditions.{IsWithin, HasResult, ItemHasResult, RuleNamesIn, HaveResults}

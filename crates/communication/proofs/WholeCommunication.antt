@@ -13,7 +13,6 @@ use Rattle.process_terms.specs.Communication.{Rule}
 use Rattle.process_terms.specs.PlainProcesses.{PlainRule, comm}
 use Rattle.process_terms.specs.Meanings.{bound_at, rule_of}
 use Rattle.process_terms.specs.SignatureEntries.{entries_of, BothGrow}
-use Rattle.bisim_laws.specs.LinearProcesses as theory
 use Rattle.bisim_laws.specs.LinearProcesses.{IsLinear}
 use Rattle.lps_core.specs.PlainLinears.{PlainSummand, PlainLinear, linear_of, summand_of}
 use Rattle.lps_core.specs.Fitting.{Fits}

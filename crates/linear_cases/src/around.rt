@@ -1,12 +1,11 @@
 //! Sets of names, pairs of names and rules from text, and whether they may be put around a linear process.
 
-ghost use Rattle.std.specs.Prelude.{◌≡◌, List, Contains, map, IfOk, IfSome, IsTrue};
+ghost use Rattle.std.specs.Prelude.{◌≡◌, IfOk, IfSome, IsTrue};
 ghost use Rattle.std.specs.List.{All};
-ghost use Rattle.data_theory.specs.Keys.{key};
 ghost use Rattle.process_terms.specs.PlainProcesses.{items_of_each, plain_rule, plain_rules};
 ghost use Rattle.action_filters.specs.Filters.{HaveTargets, IsNameIn, RenamesOnce};
 ghost use Rattle.communication.specs.PlaceConditions.{HaveResults, RuleNamesIn};
-ghost use Rattle.linear_cases.specs.AroundTests.{agree, are_once, ArePairsIn, LeadsTo, LeftLeadsToResult};
+ghost use Rattle.linear_cases.specs.AroundTests.{agree, are_once, ArePairsIn, IsLed, LeadsTo, LeftLeadsToResult};
 
 use data_theory::{ActEntry, NameId, NoMemory, Signature};
 use process_terms::{CommRule, CommSet};
@@ -94,7 +93,7 @@ pub fn rules_of(alloc: Global, sig: &Signature, text: &str) -> Result<CommSet, N
 
 /// Whether an action with one name has another one with the same sorts.
 fn is_led(sig: &Signature, from: NameId, to: NameId, entry: &ActEntry) -> bool
-    ensures { IsTrue result → entry.now.name ≡ from → Contains sig.now.actions (key to entry.now.sorts.items) }
+    ensures { IsTrue result → IsLed sig.now from to entry.now }
 {
     if entry.name != from {
         return true;

@@ -1,4 +1,4 @@
-use Rattle.std.proofs.Common.{◌≡◌, ◌∙◌, map, length, sym, ap, subst}
+use Rattle.std.proofs.Common.{◌∙◌, map, length, sym, ap, subst}
 use Rattle.std.specs.Prelude.{flat_map}
 use Rattle.std.specs.List.{All}
 use Rattle.process_terms.specs.PlainProcesses.{plain_action, plain_rules}

@@ -1,4 +1,4 @@
-use Rattle.std.proofs.Common.{◌≡◌, ◌∙◌, map, sym, subst}
+use Rattle.std.proofs.Common.{◌∙◌, map, sym, subst}
 use Rattle.lps_core.specs.PlainLinears.{plain_summand}
 use Rattle.communication.specs.GrownSummands.{SummandsGrow}
 use Rattle.communication.specs.PlanLaws.{planned_summand}

@@ -1,4 +1,4 @@
-use Rattle.std.proofs.Common.{◌≡◌, ◌∙◌, ◌+◌, map, take, sym, ap, ap₂, subst}
+use Rattle.std.proofs.Common.{◌∙◌, map, take, sym, ap₂, subst}
 use Rattle.std.specs.List.{All}
 use Rattle.std.proofs.lemmas.List.{take_all}
 use Rattle.data_theory.specs.Table.{bool_sort}

@@ -1,4 +1,4 @@
-use Rattle.std.proofs.Common.{◌≡◌, ◌∙◌, ◌+◌, map, take, sym, ap, subst}
+use Rattle.std.proofs.Common.{◌∙◌, map, ap, subst}
 use Rattle.std.specs.Prelude.{flat_map}
 use Rattle.std.proofs.lemmas.List.{take_all}
 use Rattle.process_terms.specs.PlainProcesses.{plain_rules}

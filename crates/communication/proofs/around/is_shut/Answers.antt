@@ -1,4 +1,4 @@
-use Rattle.std.proofs.Common.{◌≡◌, ◌==◌, sym, ap, ◌∙◌}
+use Rattle.std.proofs.Common.{◌==◌, sym, ap, ◌∙◌}
 use Rattle.std.specs.Prelude.{Vec, List}
 use Rattle.std.specs.Global.{Global}
 use Rattle.std.specs.List.{list_any}
