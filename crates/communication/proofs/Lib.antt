@@ -10,3 +10,7 @@ pub mod Stepping
 pub mod PartTerms
 pub mod MeantPlaces
 pub mod MeantWays
+pub mod MadeGroups
+pub mod MeantPlans
+pub mod GrowingSummands
+pub mod WholeCommunication

@@ -19,7 +19,7 @@ pub all_each : {A B : Type 0} (P : A → Type 0) (Q : B → Type 0) (f : A → L
 all_each P Q f w [] h = All-nil Q
 all_each P Q f w (x ∷ xs) h = All-append Q (f x) (flat_map f xs) (w x (All-head P x xs h)) (all_each P Q f w xs (All-tail P x xs h))
 
-each_same : {A B : Type 0} (P : A → Type 0) (f g : A → List B) → ((x : A) → P x → f x ≡ g x) → (xs : List A) → All P xs → flat_map f xs ≡ flat_map g xs
+pub each_same : {A B : Type 0} (P : A → Type 0) (f g : A → List B) → ((x : A) → P x → f x ≡ g x) → (xs : List A) → All P xs → flat_map f xs ≡ flat_map g xs
 each_same P f g w [] h = refl
 each_same P f g w (x ∷ xs) h = ap₂ (λ l m. l ++ m) (w x (All-head P x xs h)) (each_same P f g w xs (All-tail P x xs h))
 

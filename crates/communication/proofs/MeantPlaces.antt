@@ -164,7 +164,7 @@ module _ (g : Sig) (ts : List Tree) (stands : IsSignature g) (m : List PlainActi
   pub action_fits : (p : Place) → IsPlaceOf p → IsActionOf g ts (action_at_place m p)
   action_fits p h = fits_in h.among acts
 
-  sorts_within : (a : PlainAction) → IsActionOf g ts a → All (λ (s : SortId). s.0 < length g.sorts) (key_of_action g a).sorts
+  pub sorts_within : (a : PlainAction) → IsActionOf g ts a → All (λ (s : SortId). s.0 < length g.sorts) (key_of_action g a).sorts
   sorts_within a h =
       subst (λ (k : Key). All (λ (s : SortId). s.0 < length g.sorts) k.sorts) (sym (key_is g ts stands.table stands.complete a h))
       ((all_at (IsActionWithin (length g.texts) (length g.sorts)) g.actions a.act.0 h.key stands.complete.within.actions h.stands).takes)
@@ -181,6 +181,13 @@ module _ (g : Sig) (ts : List Tree) (stands : IsSignature g) (m : List PlainActi
       same_test (same_sorts (meant_at p).sorts (meant_at q).sorts) (p.class == q.class) (same_sorts_decides (meant_at p).sorts (meant_at q).sorts) (eqb_decides p.class q.class)
       (λ e. h.class ∙ class_same g m a b (ap sort_numbers (meant_same g stands (key_of_action g a).sorts (key_of_action g b).sorts (sorts_within a fa) (sorts_within b fb) (sym (sorts_meant a fa) ∙ e ∙ sorts_meant b fb))) ∙ sym k.class)
       (λ e. sorts_meant a fa ∙ ap (map (sort_under g)) (numbers_same g (key_of_action g a).sorts (key_of_action g b).sorts (same_class g a b h.among k.among (sym h.class ∙ e ∙ k.class))) ∙ sym (sorts_meant b fb))
+
+  -- places that are alike have the same sorts
+  pub alike_sorts : (p q : Place) → IsPlaceOf p → IsPlaceOf q → placed.alike p q ≡ true → (key_of_action g (action_at_place m p)).sorts ≡ (key_of_action g (action_at_place m q)).sorts
+  alike_sorts p q h k e =
+      let a = action_at_place m p in
+      let b = action_at_place m q in
+      numbers_same g (key_of_action g a).sorts (key_of_action g b).sorts (same_class g a b h.among k.among (sym h.class ∙ (eqb_decides p.class q.class).0 e ∙ k.class))
 
   pub places_read : IsRead placed texts meant_at (name_at (entries_of g ts)) IsPlaceOf (IsNameIn g)
   places_read = record {

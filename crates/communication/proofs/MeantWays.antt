@@ -23,10 +23,10 @@ use Rattle.communication.proofs.Mapped.{all_map, item_along, joining_along, ways
 use Rattle.communication.proofs.MeantPlaces.{IsPlaceOf, places_are_places, places_mean_actions, places_read}
 
 module _ (g : Sig) (ts : List Tree) (stands : IsSignature g) (rules : List PlainRule) (named : All (RuleNamesIn g) rules) (m : List PlainAction) (acts : All (IsActionOf g ts) m) where
-  abbrev IsPlace : Place → Type 0
+  abbrev pub IsPlace : Place → Type 0
   IsPlace = IsPlaceOf g ts stands m acts
 
-  abbrev read_by : List (Joining NameId)
+  abbrev pub read_by : List (Joining NameId)
   read_by = map joining_of rules
 
   lefts : All (λ (c : Joining NameId). All (IsNameIn g) c.left) read_by
@@ -52,7 +52,7 @@ module _ (g : Sig) (ts : List Tree) (stands : IsSignature g) (rules : List Plain
       ∙ ways_along placed texts (place_meant (entries_of g ts) m) (name_at (entries_of g ts)) IsPlace (IsNameIn g) (places_read g ts stands m acts) read_by (length (places_of g m)) (places_of g m) lefts (places_are_places g ts stands m acts)
       ∙ map_same (map (item_along placed texts (place_meant (entries_of g ts) m) (name_at (entries_of g ts)) IsPlace (IsNameIn g) (places_read g ts stands m acts))) (map (item_meant (entries_of g ts) m)) items_same (place_ways g rules m)
 
-  one_further : (v : List (Item Place NameId)) → All (ItemHas IsPlace) v
+  pub one_further : (v : List (Item Place NameId)) → All (ItemHas IsPlace) v
       → further_groups (map (rule_of (entries_of g ts)) rules) (rest (map (item_meant (entries_of g ts) m) v)) ≡ map (group_meant (entries_of g ts) m) (further placed read_by (rest v))
   one_further v h =
       ap (λ u. further_groups (map (rule_of (entries_of g ts)) rules) (rest u)) (sym (items_same v))

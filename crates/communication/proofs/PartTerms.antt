@@ -64,7 +64,7 @@ module _ (g : Sig) (ts us : List Tree) (e : Extends ts us) where
   pub all_fit_on : (qs : List Equality) → AreFitting g ts qs → AreFitting g us qs
   all_fit_on qs h = All-weaker (EqualityFits g ts) (EqualityFits g us) equality_fits_on qs h
 
-  equalities_kept : (qs : List Equality) → AreFitting g ts qs → map (equality_of g us) qs ≡ map (equality_of g ts) qs
+  pub equalities_kept : (qs : List Equality) → AreFitting g ts qs → map (equality_of g us) qs ≡ map (equality_of g ts) qs
   equalities_kept [] h = refl
   equalities_kept (q ∷ qs) h = ap₂ (λ x xs. x ∷ xs) (equality_kept q (All-head (EqualityFits g ts) q qs h)) (equalities_kept qs (All-tail (EqualityFits g ts) q qs h))
 

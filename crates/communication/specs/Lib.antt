@@ -7,3 +7,5 @@ pub mod Plans
 pub mod PlaceConditions
 pub mod PlanMeanings
 pub mod WayMeanings
+pub mod PlanLaws
+pub mod GrownSummands

@@ -98,7 +98,7 @@ fn add_against(
 /// # Errors
 ///
 /// `NoMemory` where there is none for it.
-pub fn condition_of(
+pub(crate) fn condition_of(
     alloc: Global,
     sig: &Signature,
     pool: &mut Pool,

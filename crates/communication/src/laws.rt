@@ -15,3 +15,11 @@ pub fn ways_mean_ways()
     ensures ways { WaysMeanWays }
     ensures further { FurtherGroupsMeanFurtherGroups }
 {}
+
+ghost use Rattle.communication.specs.PlanLaws.{PlansMeanWays, WaysServe};
+
+/// The plans of a label's ways fit, and make the summands that the ways of a summand's label do.
+pub fn plans_mean_ways()
+    ensures serve { WaysServe }
+    ensures means { PlansMeanWays }
+{}

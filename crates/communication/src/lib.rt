@@ -3,6 +3,7 @@
 //! What the ways of a label are stands in `specs/`, and in plain words in `docs/definitions/communication.md`.
 #![tactic(auto)]
 
+mod around;
 mod conditions;
 pub mod laws;
 mod places;
@@ -10,7 +11,4 @@ mod plans;
 mod starts;
 mod ways;
 
-pub use conditions::condition_of;
-pub use places::{Group, Item, Place, Way, places_of};
-pub use plans::{Equality, Plan, plan_of};
-pub use ways::ways_of;
+pub use around::communicate;

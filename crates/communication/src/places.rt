@@ -118,7 +118,11 @@ fn place_of(sig: &Signature, actions: &[Action], index: usize, action: &Action) 
 /// # Errors
 ///
 /// `NoMemory` where there is none for them.
-pub fn places_of(alloc: Global, sig: &Signature, actions: &[Action]) -> Result<Vec<Place>, NoMemory>
+pub(crate) fn places_of(
+    alloc: Global,
+    sig: &Signature,
+    actions: &[Action],
+) -> Result<Vec<Place>, NoMemory>
     requires { AreActionsIn sig.now (map plain_action actions.now) }
     ensures { IfOk result (λ places. places.items ≡ places_of sig.now (map plain_action actions.now)) }
 {

@@ -232,7 +232,7 @@ fn label_of(
 /// # Errors
 ///
 /// `NoMemory` where there is none for it.
-pub fn plan_of(
+pub(crate) fn plan_of(
     alloc: Global,
     sig: &Signature,
     rules: &CommSet,

@@ -117,7 +117,11 @@ fn continued_all(alloc: Global, rules: &CommSet, ways: &[Way]) -> Result<Vec<Way
 /// # Errors
 ///
 /// `NoMemory` where there is none for them.
-pub fn ways_of(alloc: Global, rules: &CommSet, places: Vec<Place>) -> Result<Vec<Way>, NoMemory>
+pub(crate) fn ways_of(
+    alloc: Global,
+    rules: &CommSet,
+    places: Vec<Place>,
+) -> Result<Vec<Way>, NoMemory>
     ensures { IfOk result (λ found. map items_of (map plain_way found.items) ≡ ways placed (map joining_of (plain_rules rules.now)) (length places.items) places.items) }
 {
     let count = places.len();

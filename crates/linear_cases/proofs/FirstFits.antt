@@ -4,6 +4,7 @@ use Rattle.data_theory.specs.Signature.{Sig}
 use Rattle.data_theory.specs.IdTrees.{Tree}
 use Rattle.data_theory.specs.WholeSignatures.{IsSignature}
 use Rattle.term_pool.specs.Pools.{Extends}
+use Rattle.term_pool.proofs.DeclaredConstants.{grown_itself}
 use Rattle.lps_core.specs.Fitting.{Fits}
 use Rattle.lps_core.specs.Naming.{GrowsByNames}
 use Rattle.lps_core.specs.PlainLinears.{PlainLinear}
@@ -11,3 +12,6 @@ use Rattle.lps_core.proofs.StayingFits.{what_fits_fits_still}
 
 pub first_fits : {g h : Sig} {ts us : List Tree} {l : PlainLinear} → IsSignature g → GrowsByNames g h → Extends ts us → Fits g ts l → Fits h us l
 first_fits {g = g} {h = h} {ts = ts} {us = us} {l = l} s w e fits = what_fits_fits_still g h ts us l s.table s.complete w.stands.table (record { signature = w.grown; pool = e }) fits
+
+pub first_fits_on : {g : Sig} {ts us : List Tree} {l : PlainLinear} → IsSignature g → Extends ts us → Fits g ts l → Fits g us l
+first_fits_on {g = g} {ts = ts} {us = us} {l = l} s e fits = what_fits_fits_still g g ts us l s.table s.complete s.table (record { signature = grown_itself g; pool = e }) fits

@@ -2,3 +2,4 @@ mod KnownTerms
 mod TestedForms
 mod Readings
 pub mod FirstFits
+mod AroundTold

@@ -1,1 +1,2 @@
+pub mod AroundTests
 pub mod FormTests

@@ -1,18 +1,21 @@
 //! Answers to cases.
 
-ghost use Rattle.std.specs.Prelude.{◌≡◌, ◌≤◌, ◌<◌, ◌∷◌, [], length, IfOk};
-ghost use Rattle.std.specs.List.{All};
-ghost use Rattle.process_terms.specs.PlainProcesses.{items_of_each};
+ghost use Rattle.std.specs.Prelude.{◌≡◌, [], List, IfOk};
+ghost use Rattle.data_theory.specs.IdTrees.{Tree};
+ghost use Rattle.term_pool.specs.Pools.{Extends};
 ghost use Rattle.lps_core.specs.Fitting.{Fits};
 ghost use Rattle.lps_core.specs.PlainLinears.{plain_linear};
-ghost use Rattle.action_filters.specs.Filters.{IsNameIn};
 
+use crate::around::{
+    have_results, have_targets, names_of, pairs_of, rename_once, rules_of, sets_of,
+};
 use crate::drafts::{Draft, add_line, first_word};
 use crate::fitting::may_be_encoded;
 use crate::known::count_variables;
 use crate::shown::{Texts, shown, term_texts};
-use action_filters::{allow, block, hide};
-use data_theory::{NameId, Names, NoMemory, Signature, SortId};
+use action_filters::{allow, block, hide, rename};
+use communication::communicate;
+use data_theory::{Names, NoMemory, Signature, SortId};
 use greibach::Greibach;
 use lps_core::{Linear, name_sums, signature_stands};
 use regular_encoder::{EncodeFault, encode};
@@ -75,26 +78,38 @@ fn case(
     }
 }
 
-/// The names of a text that there are.
-fn names_of(alloc: Global, sig: &Signature, text: &str) -> Result<Vec<NameId>, NoMemory>
-    ensures { IfOk result (λ names. All (IsNameIn sig.now) names.items) }
+/// The linear process with its names replaced, where the pairs may be put around it.
+fn renamed(alloc: Global, lin: Linear, text: &str, sig: &Signature) -> Result<Linear, NoMemory>
+    requires { (ts : List Tree) × Fits sig.now ts (plain_linear lin) }
+    ensures { IfOk result (λ made. (ts : List Tree) → Fits sig.now ts (plain_linear lin) → Fits sig.now ts (plain_linear made)) }
 {
-    let mut names = Vec::new(alloc);
-    for word in text.split(' ') {
-        if let Some(name) = sig.names().find(word) {
-            names.push(name)?;
-        }
+    let pairs = pairs_of(alloc, sig, text)?;
+    if !rename_once(pairs.as_slice()) {
+        return Ok(lin);
     }
-    Ok(names)
+    if !have_targets(sig, pairs.as_slice()) {
+        return Ok(lin);
+    }
+    rename(alloc, &lin, pairs.as_slice(), sig)
 }
 
-/// The set of these names alone.
-fn one_set(alloc: Global, names: Vec<NameId>) -> Result<Vec<Vec<NameId>>, NoMemory>
-    ensures { IfOk result (λ sets. items_of_each sets.items ≡ names.items ∷ []) }
+/// The linear process with its actions joined, where the rules may be put around it.
+fn joined(
+    alloc: Global,
+    lin: Linear,
+    text: &str,
+    sig: &Signature,
+    pool: &mut Pool,
+) -> Result<Linear, NoMemory>
+    requires { Fits sig.now pool.old.trees (plain_linear lin) }
+    ensures kept { Extends pool.old.trees pool.new.trees }
+    ensures fits { IfOk result (λ made. Fits sig.now pool.new.trees (plain_linear made)) }
 {
-    let mut sets = Vec::new(alloc);
-    sets.push(names)?;
-    Ok(sets)
+    let rules = rules_of(alloc, sig, text)?;
+    if !have_results(sig, &rules) {
+        return Ok(lin);
+    }
+    communicate(alloc, &lin, &rules, sig, pool)
 }
 
 /// The linear process behind an operation. The product is that with the first one at the right.
@@ -116,13 +131,15 @@ fn operated(
     let names = names_of(alloc, sig, text)?;
     match command {
         "allow" => {
-            let sets = one_set(alloc, names)?;
+            let sets = sets_of(alloc, sig, text)?;
             allow(alloc, &lin, sets.as_slice(), sig)
         }
         "block" => block(alloc, &lin, names.as_slice(), sig),
+        "comm" => joined(alloc, lin, text, sig, pool),
         "hide" => hide(alloc, &lin, names.as_slice(), sig),
         "name" => name_sums(alloc, lin, sig, pool),
         "product" => product(alloc, &lin, first, sig, pool),
+        "rename" => renamed(alloc, lin, text, sig),
         _ => Ok(lin),
     }
 }

@@ -279,6 +279,34 @@ fn push_word(
     Ok(())
 }
 
+/// The terms of a text, with their sorts.
+fn sorted_terms(
+    alloc: Global,
+    draft: &Draft,
+    sig: &Signature,
+    pool: &mut Pool,
+    text: &str,
+) -> Result<Stack, NoMemory>
+    ensures { pool.new.constants ≡ pool.old.constants }
+{
+    let mut stack = Vec::new(alloc);
+    for word in text.split(' ') {
+        if !word.is_empty() {
+            push_word(alloc, draft, sig, pool, word, &mut stack)?;
+        }
+    }
+    Ok(stack)
+}
+
+/// Terms without their sorts.
+fn bare(alloc: Global, stack: &[(TermId, SortId)]) -> Result<Vec<TermId>, NoMemory> {
+    let mut terms = Vec::new(alloc);
+    for (term, _) in stack {
+        terms.push(*term)?;
+    }
+    Ok(terms)
+}
+
 /// The terms of a text.
 fn terms(
     alloc: Global,
@@ -289,17 +317,8 @@ fn terms(
 ) -> Result<Vec<TermId>, NoMemory>
     ensures { pool.new.constants ≡ pool.old.constants }
 {
-    let mut stack = Vec::new(alloc);
-    for word in text.split(' ') {
-        if !word.is_empty() {
-            push_word(alloc, draft, sig, pool, word, &mut stack)?;
-        }
-    }
-    let mut terms = Vec::new(alloc);
-    for (term, _) in &stack {
-        terms.push(*term)?;
-    }
-    Ok(terms)
+    let stack = sorted_terms(alloc, draft, sig, pool, text)?;
+    bare(alloc, stack.as_slice())
 }
 
 /// The first word of a text, and what is behind it.
@@ -321,12 +340,34 @@ fn label(
     let mut actions = Vec::new(alloc);
     for part in text.split(',') {
         let (name, args) = first_word(part);
-        if let Some(act) = action_named(draft, name) {
-            let args = terms(alloc, draft, sig, pool, args)?;
+        let args = sorted_terms(alloc, draft, sig, pool, args)?;
+        if let Some(act) = action_over(alloc, draft, sig, name, args.as_slice())? {
+            let args = bare(alloc, args.as_slice())?;
             actions.push(Action { act, args })?;
         }
     }
     Ok(Label { actions })
+}
+
+/// The action with a name and the sorts of these terms, and else the first one with the name.
+fn action_over(
+    alloc: Global,
+    draft: &Draft,
+    sig: &Signature,
+    text: &str,
+    args: &[(TermId, SortId)],
+) -> Result<Option<ActId>, NoMemory> {
+    let mut sorts = Vec::new(alloc);
+    for (_, sort) in args {
+        sorts.push(*sort)?;
+    }
+    let Some(name) = sig.names().find(text) else {
+        return Ok(None);
+    };
+    match sig.act(name, sorts.as_slice()) {
+        Some(act) => Ok(Some(act)),
+        None => Ok(action_named(draft, text)),
+    }
 }
 
 /// The first action with a name.

@@ -1,0 +1,36 @@
+-- What the tests of rules and pairs of names say.
+use Rattle.std.proofs.Common.{◌≡◌, ◌==◌, ◌||◌, true, not, List, refl, sym, ap, subst}
+use Rattle.std.specs.Prelude.{Contains}
+use Rattle.std.specs.List.{All, list_all}
+use Rattle.std.proofs.lemmas.Bool.Decides.{Decides-eqb}
+use Rattle.std.proofs.lemmas.List.Elements.{All-contains}
+use Rattle.data_theory.specs.declared.actions.ActEntry.{ActEntry}
+use Rattle.data_theory.specs.declared.ids.NameId.{NameId}
+use Rattle.data_theory.specs.Actions.{actions_of}
+use Rattle.data_theory.specs.Keys.{Key, key}
+use Rattle.data_theory.specs.Signature.{Sig}
+use Rattle.process_terms.specs.PlainProcesses.{PlainRule}
+use Rattle.lps_core.proofs.Members.{contains_map}
+use Rattle.action_filters.specs.Filters.{HaveTargets, RenamesOnce}
+use Rattle.communication.specs.PlaceConditions.{HaveResults}
+use Rattle.linear_cases.specs.AroundTests.{agree, are_once, IsLed, LeadsTo, LeftLeadsToResult}
+use Rattle.linear_cases.proofs.TestedForms.{all_passed}
+
+pub led_told : (g : Sig) (from to : NameId) (es : List ActEntry) → actions_of es ≡ g.actions → All (IsLed g from to) es → LeadsTo g from to
+led_told g from to es q h = λ ss i.
+    let r = contains_map (λ (e : ActEntry). key e.name e.sorts.items) es (key from ss) (subst (λ z. Contains z (key from ss)) (sym q) i) in
+    subst (λ l. Contains g.actions (key to l)) (sym (ap (λ (k : Key). k.sorts) r.1.1)) (All-contains (IsLed g from to) es r.0 h r.1.0 (sym (ap (λ (k : Key). k.name) r.1.1)))
+
+pub results_told : (g : Sig) (rules : List PlainRule) → All (LeftLeadsToResult g) rules → HaveResults g rules
+results_told g rules h = λ c n ss i j k. All-contains (λ m. LeadsTo g m c.result) c.left n (All-contains (LeftLeadsToResult g) rules c h i) j ss k
+
+pub targets_told : (g : Sig) (pairs : List (NameId × NameId)) → All (λ (r : NameId × NameId). LeadsTo g r.0 r.1) pairs → HaveTargets g pairs
+targets_told g pairs h = λ x y ss i k. All-contains (λ (r : NameId × NameId). LeadsTo g r.0 r.1) pairs (x, y) h i ss k
+
+agreed : (x y z : NameId) → agree (x, y) (x, z) ≡ true → y ≡ z
+agreed x y z e = ap (λ n. record { 0 = n }) ((Decides-eqb y.0 z.0).0 (subst (λ b. (not b || y.0 == z.0) ≡ true) ((Decides-eqb x.0 x.0).1 refl) e))
+
+pub once_told : (pairs : List (NameId × NameId)) → are_once pairs ≡ true → RenamesOnce pairs
+once_told pairs e = λ x y z i j.
+    let row = All-contains (λ p. list_all (agree p) pairs ≡ true) pairs (x, y) (all_passed (λ p. list_all (agree p) pairs) pairs e) i in
+    agreed x y z (All-contains (λ q. agree (x, y) q ≡ true) pairs (x, z) (all_passed (agree (x, y)) pairs row) j)
