@@ -112,18 +112,18 @@ fn joined(
     communicate(alloc, &lin, &rules, sig, pool)
 }
 
-/// The linear process behind an operation. The product is that with the first one at the right.
+/// The linear process behind an operation. The product has the other one at the right.
 fn operated(
     alloc: Global,
-    first: &Linear,
+    right: &Linear,
     lin: Linear,
     operation: &str,
     sig: &mut Signature,
     pool: &mut Pool,
 ) -> Result<Linear, NoMemory>
-    requires first { Fits sig.old pool.old.trees (plain_linear first.now) }
+    requires right { Fits sig.old pool.old.trees (plain_linear right.now) }
     requires fits { Fits sig.old pool.old.trees (plain_linear lin) }
-    ensures first { Fits sig.new pool.new.trees (plain_linear first.now) }
+    ensures right { Fits sig.new pool.new.trees (plain_linear right.now) }
     ensures fits { IfOk result (λ made. Fits sig.new pool.new.trees (plain_linear made)) }
 {
     signature_stands(sig);
@@ -138,7 +138,7 @@ fn operated(
         "comm" => joined(alloc, lin, text, sig, pool),
         "hide" => hide(alloc, &lin, names.as_slice(), sig),
         "name" => name_sums(alloc, lin, sig, pool),
-        "product" => product(alloc, &lin, first, sig, pool),
+        "product" => product(alloc, &lin, right, sig, pool),
         "rename" => renamed(alloc, lin, text, sig),
         _ => Ok(lin),
     }
@@ -156,8 +156,13 @@ fn done(
     requires { Fits sig.old pool.old.trees (plain_linear first.now) }
 {
     let mut lin = first.copy(alloc)?;
+    let mut right = first.copy(alloc)?;
     for operation in line.split('|') {
-        lin = operated(alloc, first, lin, operation, sig, pool)?;
+        if operation.trim() == "swap" {
+            (lin, right) = (right, lin);
+        } else {
+            lin = operated(alloc, &right, lin, operation, sig, pool)?;
+        }
     }
     let variables = count_variables(sig)?;
     let terms = term_texts(alloc, sig, pool, variables)?;

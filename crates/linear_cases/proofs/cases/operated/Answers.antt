@@ -1,8 +1,8 @@
 use Rattle.linear_cases.proofs.FirstFits.{first_fits}
 use Rattle.linear_cases.proofs.cases.operated.Goals as goal
 
-pub returns-in-name-clause-first : goal.returns-in-name-clause-first
-returns-in-name-clause-first c = first_fits c.signature_stands.ensures c.name_sums.ensures.grown c.name_sums.ensures.kept c.requires.first
+pub returns-in-name-clause-right : goal.returns-in-name-clause-right
+returns-in-name-clause-right c = first_fits c.signature_stands.ensures c.name_sums.ensures.grown c.name_sums.ensures.kept c.requires.right
 
-pub returns-in-product-clause-first : goal.returns-in-product-clause-first
-returns-in-product-clause-first c = first_fits c.signature_stands.ensures c.product.ensures.grown c.product.ensures.kept c.requires.first
+pub returns-in-product-clause-right : goal.returns-in-product-clause-right
+returns-in-product-clause-right c = first_fits c.signature_stands.ensures c.product.ensures.grown c.product.ensures.kept c.requires.right
