@@ -10,7 +10,8 @@
 //!   label with their arguments, and its calls with theirs.
 //! - `linear t u | hide a | name` gives the initial terms, and what is done to the linear process, from the left: `allow`
 //!   with the names of one set, `block` and `hide` with names, `product`, which puts the form's own linear process beside it at
-//!   the right, and `name`, which names the sums.
+//!   the right, and `name`, which names the sums. With `count` as the last word the answer says no more than how many parameters
+//!   and summands there are.
 //!
 //! Terms have their functions behind their arguments: `x 1p ==/2` is `x == 1`, where `1p` is 1 of Pos and `0n` is 0 of Nat, and the
 //! number behind a stroke says how many arguments a function has. The answer has the parameters with their sorts, then a line for each
