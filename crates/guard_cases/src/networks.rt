@@ -46,14 +46,14 @@ fn write_network(alloc: Global, network: &Network, text: &mut String) -> Result<
     }
 }
 
-/// Writes these, with a `|` between any two that come one behind the other.
+/// Writes these, with a `|` behind each but the first.
 #[cycle(networks)]
 fn write_networks(alloc: Global, parts: &[Network], text: &mut String) -> Result<(), NoMemory> {
-    let mut between = "";
-    for part in parts {
+    for (place, part) in parts.iter().enumerate() {
         write_network(alloc, part, text)?;
-        text.push_str(between)?;
-        between = "|";
+        if place > 0 {
+            text.push_str("|")?;
+        }
     }
     Ok(())
 }
@@ -95,7 +95,7 @@ fn write_process(alloc: Global, process: &Proc, text: &mut String) -> Result<(),
     }
 }
 
-/// Writes these, with a sign behind any two.
+/// Writes these, with the sign behind each but the first.
 #[cycle(processes)]
 fn write_chain(
     alloc: Global,
@@ -103,11 +103,11 @@ fn write_chain(
     sign: &str,
     text: &mut String,
 ) -> Result<(), NoMemory> {
-    let mut between = "";
-    for part in parts {
+    for (place, part) in parts.iter().enumerate() {
         write_process(alloc, part, text)?;
-        text.push_str(between)?;
-        between = sign;
+        if place > 0 {
+            text.push_str(sign)?;
+        }
     }
     Ok(())
 }
