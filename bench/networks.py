@@ -3,8 +3,9 @@
 
 Run it from the top of the repository, once `rt run` has built the program in crates/guard_cases: bench/networks.py [speed|stack]
 `speed` prints one line for each specification: what is asked of it, its shape, how many definitions it has, the processor's seconds, how many
-times those of the line before, and the peak memory for each definition. `stack` prints the least `ulimit -s` under which a network
-of some depths is made and written, and how many bytes a level that is. It is no part of the gate.
+times those of the line before, and the peak memory. The peak is never less than that of this script, which starts the program.
+`stack` prints the least `ulimit -s` under which a network of some depths is made and written, and how many bytes a level that is. It
+is no part of the gate.
 """
 
 import resource
@@ -22,7 +23,8 @@ SPEEDS = [
     ("check", "", "tree", (12_499, 24_999, 49_999, 99_999)),
     ("unfold", "unfold ", "chain", (12_500, 25_000, 50_000, 100_000)),
     ("unfold", "unfold ", "tree", (12_499, 24_999, 49_999, 99_999)),
-    ("unfold", "unfold ", "merges", (125, 250, 500, 1_000)),
+    ("unfold", "unfold ", "merges", (250, 500, 1_000, 2_000)),
+    ("unfold", "unfold ", "hides", (250, 500, 1_000, 2_000)),
 ]
 
 
@@ -34,6 +36,8 @@ def wanted(question, shape, count):
         return "0"
     if shape == "merges":
         return "a" * (count - 1) + str(count - 1) + "|" * (count - 1)
+    if shape == "hides":
+        return str(count - 1) + "h" * (count - 1)
     texts = [str(place) if 2 * place + 2 >= count else "" for place in range(count)]
     for place in reversed(range(count)):
         if not texts[place]:
@@ -51,8 +55,8 @@ def ask(text, repeated):
 
 
 def speed():
-    base, least, _ = ask("chain 1", 5)
-    print(f"the start of the program: {base:.4f} s, {least // KIB} MiB, which are left out below")
+    base, _, _ = ask("chain 1", 5)
+    print(f"the start of the program: {base:.4f} s, which are left out below")
     for question, front, shape, counts in SPEEDS:
         before = None
         for count in counts:
@@ -60,8 +64,7 @@ def speed():
             assert said == wanted(question, shape, count), f"{front}{shape} {count} gives another answer"
             seconds = max(seconds - base, 0.0)
             times = f"{seconds / before:5.1f} times" if before else " " * 11
-            each = max(memory - least, 0) * KIB // count
-            print(f"{question:6} {shape:6} {count:7} definitions {seconds:8.4f} s {times} {each:6} bytes a definition")
+            print(f"{question:6} {shape:6} {count:7} definitions {seconds:8.4f} s {times} {memory // KIB:4} MiB")
             before = seconds
 
 
@@ -91,9 +94,10 @@ def least_stack(text):
 def stack():
     base = least_stack("chain 1")
     print(f"no nesting: {base} KiB")
-    for count in (1_000, 4_000, 16_000):
-        need = least_stack(f"unfold merges {count}")
-        print(f"unfold merges {count:6} {need:7} KiB, {(need - base) * KIB // count:5} bytes a level")
+    for shape in ("merges", "hides"):
+        for count in (500, 1_000, 2_000):
+            need = least_stack(f"unfold {shape} {count}")
+            print(f"unfold {shape:6} {count:5} {need:6} KiB, {(need - base) * KIB // count:5} bytes a level")
 
 
 def main():

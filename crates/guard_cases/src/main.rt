@@ -5,8 +5,9 @@
 //! and these as their names, and then `init`. Their declarations are numbered from 1 on. Terms have their operators behind:
 //! `a` is an action, a digit a call of that definition, `pq.` is `p . q`, `pq+` is `p + q`, `pq|` is `p || q`, `pq?` a condition with
 //! both sides, `ps` a `sum`, `ph` a `hide`, and `pb` a `block`. A line `chain 5` stands for five definitions, each of which calls the
-//! next alone, `merges 5` for five, each of which calls the next beside an action, and `tree 5` for five, of which definition i calls
-//! 2i + 1 beside 2i + 2. A definition that would call one that isn't there is an action.
+//! next alone, `merges 5` for five, each of which calls the next beside an action, `hides 5` for five, each of which calls the next under
+//! a `hide`, and `tree 5` for five, of which definition i calls 2i + 1 beside 2i + 2. A definition that would call one that isn't there
+//! is an action.
 //!
 //! With `unfold` and a blank in front of it, a line asks for the network instead, which is written as terms are. Such a line has no `sum`
 //! and no condition.

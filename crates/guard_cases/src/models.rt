@@ -44,6 +44,7 @@ fn link(alloc: Global, shape: &str, place: usize, count: usize) -> Result<Proc, 
     }
     match shape {
         "merges" => Ok(Proc::Merge(pair(alloc, action(alloc)?, call(alloc, next))?)),
+        "hides" => Ok(Proc::Hide(Vec::new(alloc), Box::new(alloc, call(alloc, next))?)),
         "tree" => Ok(Proc::Merge(pair(
             alloc,
             call(alloc, twin.saturating_sub(1)),

@@ -8,7 +8,7 @@ use process_terms::{Model, Proc};
 use std::alloc::Global;
 
 /// How deep a network may nest, with the process terms in it.
-const MAX_DEPTH: usize = 4_000;
+const MAX_DEPTH: usize = 2_500;
 
 /// Whether the network of a specification nests no deeper than the stack has room for. Linear in the specification's size, but for the
 /// order of the ranks.
