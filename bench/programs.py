@@ -1,9 +1,10 @@
-"""Programs over the crates of this repository that no program of it is: how a benchmark builds one, and how it runs it."""
+"""Programs for benchmarks: how one is built over the crates of this repository that no program of it is, and how programs are run."""
 
 import os
 import pathlib
 import shutil
 import subprocess
+import tempfile
 
 TOP = pathlib.Path(__file__).resolve().parent.parent
 
@@ -39,3 +40,14 @@ def run(program, words):
     child.returncode = 0
     assert status == 0, "the program ended with a failure"
     return usage.ru_utime + usage.ru_stime, usage.ru_maxrss
+
+
+def answer(words, path):
+    """Runs a program over the file as its input; gives the processor's seconds, the peak memory in KiB and what it says."""
+    with open(path) as text, tempfile.TemporaryFile("w+") as said:
+        child = subprocess.Popen(words, stdin=text, stdout=said)
+        _, status, usage = os.wait4(child.pid, 0)
+        child.returncode = 0
+        assert status == 0, "the program ended with a failure"
+        said.seek(0)
+        return usage.ru_utime + usage.ru_stime, usage.ru_maxrss, said.read()

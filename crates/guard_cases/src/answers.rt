@@ -41,14 +41,21 @@ fn network_answer(alloc: Global, model: &Model) -> Result<String, NoMemory>
 {
     match outside_recursion(alloc, model) {
         Ok(_) => Ok(format!(in alloc; "outside")?),
-        Err(NetFault::ParallelRecursion(names)) => {
+        Err(fault) => fault_answer(alloc, fault),
+    }
+}
+
+/// Why there is no network.
+pub fn fault_answer(alloc: Global, fault: NetFault) -> Result<String, NoMemory> {
+    match fault {
+        NetFault::ParallelRecursion(names) => {
             let cycle = listed(alloc, &names)?;
             Ok(format!(in alloc; "parallel recursion{cycle}")?)
         }
-        Err(NetFault::ParallelUnderSequential(number)) => {
+        NetFault::ParallelUnderSequential(number) => {
             Ok(format!(in alloc; "within declaration {number}")?)
         }
-        Err(NetFault::NoMemory) => Err(NoMemory),
+        NetFault::NoMemory => Err(NoMemory),
     }
 }
 

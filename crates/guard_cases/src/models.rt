@@ -14,7 +14,7 @@ pub fn model(alloc: Global, line: &str) -> Result<Model, NoMemory> {
             for place in 0..count {
                 bodies.push(link(alloc, shape, place, count)?)?;
             }
-            bodies.push(Proc::Call(ProcId(0), Vec::new(alloc)))?;
+            bodies.push(call(alloc, 0))?;
         }
         None => {
             for part in line.split(';') {
@@ -34,17 +34,28 @@ pub fn model(alloc: Global, line: &str) -> Result<Model, NoMemory> {
     })
 }
 
-/// The body of a definition that calls the next one, if there is one.
+/// The body of the definition at a place of a shape. It is an action where what it would call isn't there.
 fn link(alloc: Global, shape: &str, place: usize, count: usize) -> Result<Proc, NoMemory> {
     let next = place.saturating_add(1);
-    if next >= count {
+    let twin = next.saturating_add(next);
+    let last = if shape == "tree" { twin } else { next };
+    if last >= count {
         return action(alloc);
     }
-    let call = Proc::Call(ProcId(next), Vec::new(alloc));
-    if shape == "merges" {
-        return Ok(Proc::Merge(pair(alloc, action(alloc)?, call)?));
+    match shape {
+        "merges" => Ok(Proc::Merge(pair(alloc, action(alloc)?, call(alloc, next))?)),
+        "hides" => Ok(Proc::Hide(Vec::new(alloc), Box::new(alloc, call(alloc, next))?)),
+        "tree" => Ok(Proc::Merge(pair(
+            alloc,
+            call(alloc, twin.saturating_sub(1)),
+            call(alloc, twin),
+        )?)),
+        _ => Ok(call(alloc, next)),
     }
-    Ok(call)
+}
+
+fn call(alloc: Global, number: usize) -> Proc {
+    Proc::Call(ProcId(number), Vec::new(alloc))
 }
 
 /// The definitions with these bodies, whose names are their numbers.
@@ -74,6 +85,7 @@ fn term(alloc: Global, text: &str) -> Result<Proc, NoMemory> {
             }
             b's' => stack.push(Proc::Sum(one(alloc, VarId(0))?, Box::new(alloc, last)?))?,
             b'h' => stack.push(Proc::Hide(Vec::new(alloc), Box::new(alloc, last)?))?,
+            b'b' => stack.push(Proc::Block(Vec::new(alloc), Box::new(alloc, last)?))?,
             _ => {
                 stack.push(last)?;
                 stack.push(atom(alloc, sign)?)?;
@@ -96,7 +108,7 @@ fn joined(alloc: Global, sign: u8, first: Proc, last: Proc) -> Result<Proc, NoMe
 /// A call for a digit, and an action for anything else.
 fn atom(alloc: Global, sign: u8) -> Result<Proc, NoMemory> {
     match sign {
-        b'0'..=b'9' => Ok(Proc::Call(ProcId(usize::from(sign - b'0')), Vec::new(alloc))),
+        b'0'..=b'9' => Ok(call(alloc, usize::from(sign - b'0'))),
         _ => action(alloc),
     }
 }

@@ -144,7 +144,7 @@ fn operated(
     }
 }
 
-/// Does what stands behind the initial terms, and shows the linear process.
+/// Does what stands behind the initial terms, and shows the linear process, or how large it is where the last word is `count`.
 fn done(
     alloc: Global,
     first: &Linear,
@@ -163,6 +163,10 @@ fn done(
         } else {
             lin = operated(alloc, &right, lin, operation, sig, pool)?;
         }
+    }
+    if line.ends_with(" count") {
+        let (params, summands) = (lin.params.len(), lin.summands.len());
+        return Ok(format!(in alloc; "{params} parameters, {summands} summands")?);
     }
     let variables = count_variables(sig)?;
     let terms = term_texts(alloc, sig, pool, variables)?;

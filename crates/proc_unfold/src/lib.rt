@@ -11,6 +11,7 @@ mod opening;
 mod outside;
 mod places;
 mod putting;
+mod room;
 mod unfolding;
 
 pub use faults::NetFault;

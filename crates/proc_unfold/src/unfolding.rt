@@ -14,6 +14,7 @@ use crate::faults::NetFault;
 use crate::networks::Network;
 use crate::opening::Opening;
 use crate::outside::outside_recursion;
+use crate::room::has_room;
 use process_terms::Model;
 use std::alloc::Global;
 use term_pool::Pool;
@@ -26,7 +27,8 @@ use term_pool::Pool;
 ///
 /// # Errors
 ///
-/// Those of [`outside_recursion`](crate::outside_recursion), exactly as there.
+/// Those of [`outside_recursion`](crate::outside_recursion), exactly as there. `NoMemory` comes also where the network nests deeper
+/// than the stack has room for, which it may since each name on the way adds to it.
 pub fn unfold(alloc: Global, model: &Model, pool: &mut Pool) -> Result<Network, NetFault>
     requires { IsWellFormed pool.old.trees (plain_model model.now) }
     ensures kept { Extends pool.old.trees pool.new.trees }
@@ -38,6 +40,9 @@ pub fn unfold(alloc: Global, model: &Model, pool: &mut Pool) -> Result<Network, 
     ensures refused { IfErr result (IsNetFaultOf (plain_model model.now)) }
 {
     let found = outside_recursion(alloc, model)?;
+    if !has_room(alloc, model, &found)? {
+        return Err(NetFault::NoMemory);
+    }
     let opening = Opening {
         model,
         found: &found,

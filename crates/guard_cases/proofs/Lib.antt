@@ -1,0 +1,2 @@
+pub mod BareLoops
+pub mod OneActionFits
