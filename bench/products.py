@@ -3,10 +3,10 @@
 
 Run it from the top of the repository, once `rt run` has built the program in crates/linear_cases: bench/products.py [product|encode]
 `product` prints one line for each linear process, which is put beside itself: its kind, its summands, those of the product, the processor's
-microseconds and the bytes of peak memory for each summand of the product. What the program takes for the one linear process is left out.
-`encode` prints one line for each form: how many equations it has, the processor's seconds from its text on, how many times
-those of the line before, and the bytes of peak memory for each equation. Nothing is printed of the results but their sizes. It is no part
-of the gate.
+seconds, those for each summand of the product, and the peak memory. What the program takes for the one linear process is left out of
+the seconds. `encode` prints one line for each form: how many equations it has, the processor's seconds from its text on, how many times
+those of the line before, and the peak memory. The peak is never less than that of this script, which starts the program. Of the
+results nothing but their sizes is told, so that writing them isn't measured too. It is no part of the gate.
 """
 
 import sys
@@ -56,13 +56,12 @@ def product():
             lines = ["act a Nat", "var x x Nat"]
             lines += [f"var y{number} n_{number} Nat" for number in range(sums * count)]
             lines += ["equation x", *map(summand, range(count))]
-            alone, least, _ = ask([*lines, "linear 0n | count"])
+            alone, _, _ = ask([*lines, "linear 0n | count"])
             seconds, memory, said = ask([*lines, "linear 0n | product | count"])
             assert said.endswith(f" {size(count)} summands"), said
             taken = max(seconds - alone, 0.0)
-            each = max(memory - least, 0) * KIB // size(count)
             print(f"{kind:9} {count:5} summands, {size(count):8} in the product: {taken:7.3f} s, "
-                  f"{taken / size(count) * 1e6:6.2f} microseconds and {each:5} bytes a summand")
+                  f"{taken / size(count) * 1e6:5.2f} microseconds a summand, {memory // KIB:4} MiB")
 
 
 def encode():
@@ -74,7 +73,7 @@ def encode():
         seconds, memory, said = ask([*lines, "linear 0n | count"])
         assert said == f"2 parameters, {count} summands", said
         times = f"{seconds / before:5.1f} times" if before else " " * 11
-        print(f"{count:6} equations {seconds:8.3f} s {times} {memory * KIB // count:7} bytes an equation")
+        print(f"{count:6} equations {seconds:8.3f} s {times} {memory // KIB:4} MiB")
         before = seconds
 
 
