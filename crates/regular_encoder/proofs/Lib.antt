@@ -21,3 +21,6 @@ pub mod FormsInPlace
 mod SortedTrees
 mod EncodedForms
 pub mod OneEquation
+pub mod KeptEquation
+pub mod PlainTerms
+pub mod EncodedPlainly
