@@ -24,3 +24,4 @@ pub mod OneEquation
 pub mod KeptEquation
 pub mod PlainTerms
 pub mod EncodedPlainly
+pub mod PlainGrowth

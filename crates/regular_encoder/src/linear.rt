@@ -78,7 +78,9 @@ fn encode_equations(
 
 /// The linear process of a form in which no summand has two calls: each summand becomes one, in the same order, the equations'
 /// parameters share columns, and a control parameter has the number of the equation. A form of one equation keeps its parameters,
-/// initial terms and summands, and gets no control parameter. Linear in the form's size times the number of columns.
+/// initial terms and summands, and gets no control parameter. The result is plainly conditioned for each specification for which the
+/// form is. Linear in the form's size times the number of columns, and in the signature's size for each column that the first equation
+/// doesn't use.
 ///
 /// After an error the pool and the signature may have got some of this. What was there stays, then too.
 ///
