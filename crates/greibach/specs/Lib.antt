@@ -3,3 +3,4 @@ pub mod PlainForms
 pub mod Tails
 pub mod FormLaws
 pub mod FittingForms
+pub mod PlainTerms

@@ -9,3 +9,4 @@ pub mod TreeSummands
 pub mod TreeConditions
 pub mod MeantConditions
 pub mod Naming
+pub mod MadeTerms

@@ -24,8 +24,8 @@ use Rattle.term_pool.proofs.DeclaredConstants.{grown_itself}
 use Rattle.process_terms.specs.Meanings.{Entries, bound_at, term_at}
 use Rattle.process_terms.specs.Processes.{Bound, call}
 use Rattle.process_terms.specs.SignatureEntries.{entries_of, BothGrow}
-use Rattle.bisim_laws.specs.BaseStates.{control_of}
-use Rattle.bisim_laws.specs.LinearProcesses.{sorts, state_of, IsLinear}
+use Rattle.bisim_laws.specs.BaseStates.{Columns, control_of}
+use Rattle.bisim_laws.specs.LinearProcesses.{sorts, state_of, IsLinear, AreDeclared}
 use Rattle.bisim_laws.specs.Links.{Regular}
 use Rattle.bisim_laws.proofs.Firing.{contains_none}
 use Rattle.lps_core.specs.Fitting.{AreTermsOf, IsVariable, sort_of_variable, SummandFits, HasTakenName, Fits}
@@ -38,13 +38,13 @@ use Rattle.lps_core.proofs.NamedLinears.{trees_keep, label_fits, first_functions
 use Rattle.lps_core.proofs.PoolTrees.{extends_itself, all_in_kept}
 use Rattle.lps_core.proofs.Staying.{terms_are, terms_stay}
 use Rattle.lps_core.proofs.StayingFits.{terms_fit, lists_are_closed, closed_terms_fit}
-use Rattle.greibach.specs.Forms.{form_table}
+use Rattle.greibach.specs.Forms.{form_table, IsForm, FormIsSorted}
 use Rattle.greibach.specs.PlainForms.{PlainFormSummand, PlainEquation, PlainForm, equation_of, form_of}
 use Rattle.greibach.specs.Tails.{HasTails}
 use Rattle.greibach.specs.FittingForms.{CallFits, FormSummandFits, EquationFits, FormFits}
 use Rattle.greibach.proofs.StayingForms.{forms_are_sorted, forms_stay}
 use Rattle.greibach.proofs.TailLemmas.{tails_mean}
-use Rattle.regular_encoder.specs.Encoding.{control_params, encoded, first_terms, IsLayout}
+use Rattle.regular_encoder.specs.Encoding.{control_params, encoded, encoded_params, first_terms, IsLayout}
 use Rattle.regular_encoder.specs.TreeEncoding.{PlainLayout, place_at, tree_control_of, tree_next, tree_encoded, tree_encoded_next, IsFormSummandIn}
 use Rattle.regular_encoder.specs.WholeEncoding.{moves_of, equation_encoded, trees_encoded_from}
 use Rattle.regular_encoder.specs.Layouts.{control_variable, LaidOut}
@@ -204,13 +204,25 @@ control_closed : (o : Option VarId) (ts : List Term) → AreClosed (terms_of ts)
 control_closed None ts k = k
 control_closed (Some x) ts k = (tt, k)
 
-pub record EncodingStands (h : Sig) (us : List Tree) (f : PlainForm) (made : PlainLinear) : Type 0 where
+-- what it means
+pub record EncodingMeans (h : Sig) (us : List Tree) (f : PlainForm) (l : PlainLayout) (firsts : List TermId) (made : PlainLinear) : Type 0 where
+  pub columns : Columns
+  pub control : columns.control ≡ is_some l.control
+  pub form : IsForm (form_of (entries_of h us) f)
+  pub sorted : FormIsSorted (data_meant h) (variable_sorts h) (form_of (entries_of h us) f)
+  pub layout : IsLayout columns (control_variable l.control) (form_of (entries_of h us) f)
+  pub declared : AreDeclared (variable_sorts h) (encoded_params columns (control_variable l.control))
+  pub linear : linear_of (entries_of h us) made ≡ encoded columns (control_variable l.control) (form_of (entries_of h us) f)
+  pub initial : initial_of (entries_of h us) made ≡ control_of (is_some l.control) 0 ++ map (term_at (entries_of h us)) firsts
+
+pub record EncodingStands (h : Sig) (us : List Tree) (f : PlainForm) (l : PlainLayout) (firsts : List TermId) (made : PlainLinear) : Type 0 where
   pub fits : Fits h us made
   pub good : EncodingIsGood h us f made
+  pub means : EncodingMeans h us f l firsts made
 
 pub encoding_stands : (g h : Sig) (ts t1 us : List Tree) (f : PlainForm) (l : PlainLayout) (firsts : List TermId) (made : PlainLinear) → IsSignature g → IsSignature h → IsGrown g h → Extends ts t1 → Extends t1 us → FormFits g ts f → HasTails f
     → LaidOut (length g.variables) h f l → ServesTheEncoding h t1 f l firsts → made.params ≡ layout_params l → AreIn us made.init → trees_at us made.init ≡ tree_control_of l.control 1 ++ trees_at us firsts
-    → All (IsSummandIn us) made.summands → map (trees_of_summand us) made.summands ≡ trees_encoded_from l 1 t1 f.equations → EncodingStands h us f made
+    → All (IsSummandIn us) made.summands → map (trees_of_summand us) made.summands ≡ trees_encoded_from l 1 t1 f.equations → EncodingStands h us f l firsts made
 encoding_stands g h ts t1 us f l firsts made stood stands grown x0 x1 fits tails laid serves params init_in init within trees1 =
     let e = entries_of h us in
     let F = form_of e f in
@@ -230,9 +242,11 @@ encoding_stands g h ts t1 us f l firsts made stood stands grown x0 x1 fits tails
     let firsts_in = all_in_kept t1 us firsts x1 serves.terms.within in
     let same_init = terms_stay h h t1 us stands.table stands.complete next_grow (map (sort_of_variable h) fits1.first.params) f.init fits1.init in
     let same_firsts = terms_stay h h t1 us stands.table stands.complete next_grow (map (sort_of_variable h) l.columns) firsts serves.terms in
-    let starts : initial_of e made ≡ control_of (is_some l.control) 0 ++ meant_firsts h t1 firsts =
+    let meant : initial_of e made ≡ control_of (is_some l.control) 0 ++ map (term_at e) firsts =
     terms_are h us made.init init_in ∙ ap (map (term_under h)) init ∙ control_meant h stands l.control (trees_at us firsts)
-    ∙ ap (λ z. control_of (is_some l.control) 0 ++ z) (sym (terms_are h us firsts firsts_in) ∙ same_firsts) in
+    ∙ ap (λ z. control_of (is_some l.control) 0 ++ z) (sym (terms_are h us firsts firsts_in)) in
+    let starts : initial_of e made ≡ control_of (is_some l.control) 0 ++ meant_firsts h t1 firsts = meant ∙ ap (λ z. control_of (is_some l.control) 0 ++ z) same_firsts in
+    let sorted = forms_are_sorted h us f stands.table stands.complete fits2 in
     let initial : initial_of e made ≡ first_terms c (map (term_at e) f.init) = starts ∙ sym serves.starts ∙ ap (first_terms c) (sym same_init) in
     let is_variable : All (IsVariable h) made.params = subst (λ xs. All (IsVariable h) xs) (sym params) serves.variables in
     let firsts_fit = terms_fit h h t1 us next_grow (map (sort_of_variable h) l.columns) firsts serves.terms in
@@ -256,7 +270,8 @@ encoding_stands g h ts t1 us f l firsts made stood stands grown x0 x1 fits tails
         c,
         subst (λ L. IsGoodOver h (Regular (form_table F) c L) (call (form_table F) 0 (map (term_at e) f.init)) (state_of L (initial_of e made))) (sym linear)
             (subst (λ is. IsGoodOver h (Regular (form_table F) c (encoded c v F)) (call (form_table F) 0 (map (term_at e) f.init)) (state_of (encoded c v F) is)) (sym initial)
-            (good_over h (variable_sorts h) c v F (equation_of e fits2.first) (map (term_at e) f.init) fits2.form (tails_mean e f tails) (forms_are_sorted h us f stands.table stands.complete fits2) layout serves.declared serves.sorted
+            (good_over h (variable_sorts h) c v F (equation_of e fits2.first) (map (term_at e) f.init) fits2.form (tails_mean e f tails) sorted layout serves.declared serves.sorted
             (slice_get-map (equation_of e) f.equations 0 ∙ ap (option_map (equation_of e)) fits2.starts) fits2.closed serves.closed)),
       );
+      means = record { columns = c; control = refl; form = fits2.form; sorted = sorted; layout = layout; declared = serves.declared; linear = linear; initial = meant };
     }

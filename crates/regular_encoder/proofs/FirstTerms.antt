@@ -31,7 +31,8 @@ use Rattle.lps_core.proofs.NamedSums.{variable_kept, sort_kept, all_front, all_l
 use Rattle.lps_core.proofs.NamingLoops.{sort_is}
 use Rattle.lps_core.proofs.Staying.{term_is}
 use Rattle.lps_core.proofs.StayingFits.{term_fits}
-use Rattle.regular_encoder.specs.FormColumns.{argument_of, IsClosedTerm, IsFirstTerm, an_argument, a_closed_term, AreFirstTerms, no_first_term, one_more_first_term}
+use Rattle.lps_core.specs.MadeTerms.{IsClosedTerm}
+use Rattle.regular_encoder.specs.FormColumns.{argument_of, IsFirstTerm, an_argument, a_closed_term, AreFirstTerms, no_first_term, one_more_first_term}
 use Rattle.regular_encoder.proofs.ColumnTrees.{AreOthers}
 
 -- ---- trees without variables
@@ -66,7 +67,7 @@ mutual
   trees_of_closed g (more t ts) h = (tree_of_closed g t h.0, trees_of_closed g ts h.1)
 
 mutual
-  value_is_closed : (c : SortId → FunId) (v : ConstructorValue) → HasNoVariable (tree_with c v)
+  pub value_is_closed : (c : SortId → FunId) (v : ConstructorValue) → HasNoVariable (tree_with c v)
   value_is_closed c (a_number s z) = tt
   value_is_closed c (built f vs) = values_are_closed c vs
   value_is_closed c (a_constant d) = tt

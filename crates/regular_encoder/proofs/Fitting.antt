@@ -153,7 +153,7 @@ module _ (g : Data) (vs : List Sort) (c : Columns) (v : ℕ) (form : Form) (is :
   bounds_declared q place p x i = columns_declared x (p.among x i)
 
   module _ (i : ℕ) (q : FormEquation) (s : FormSummand) (at : slice_get form i ≡ Some q) (among : Contains q.summands s) where
-    moves_sorted : HaveTheirSorts g vs vs (term_in (to_columns c i q))
+    pub moves_sorted : HaveTheirSorts g vs vs (term_in (to_columns c i q))
     moves_sorted =
         let p = layout.places i q at in
         subst (λ z. HaveTheirSorts g vs vs (term_in (renaming_to (variables q.params) z))) (sym p.is) (renamed_sorted g vs p.same (sorted i q at).params (bounds_declared q (place_of c i) p))

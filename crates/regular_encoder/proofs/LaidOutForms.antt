@@ -113,10 +113,10 @@ module _ (g h : Sig) (p q : PoolContents) (f : PlainForm) (l : PlainLayout) (fir
   abbrev place : List VarId
   place = place_at l 1
 
-  named : GrowsByNames g w.with_columns × ColumnsStand g w.with_columns IsFunction kind_sorts l.columns
+  pub named : GrowsByNames g w.with_columns × ColumnsStand g w.with_columns IsFunction kind_sorts l.columns
   named = columns_stand g old (functions_taken g old) kinds w.with_columns l.columns w.columns (kinds_stand g p.trees f old fits)
 
-  controlled : GrowsByNames w.with_columns w.with_control × ColumnsStand g w.with_control IsFunction (control_sorts l.control ++ kind_sorts) (layout_params l)
+  pub controlled : GrowsByNames w.with_columns w.with_control × ColumnsStand g w.with_control IsFunction (control_sorts l.control ++ kind_sorts) (layout_params l)
   controlled = control_stands g IsFunction kind_sorts l.columns w.with_columns (length f.equations) w.with_control l.control named.0 (λ n i. named.0.taken n (functions_taken g old n i)) named.1 w.control
 
   all_named : GrowsByNames g w.with_control
@@ -137,7 +137,7 @@ module _ (g h : Sig) (p q : PoolContents) (f : PlainForm) (l : PlainLayout) (fir
   pub values : BothGrow w.with_control h p.trees q.trees × AllZip (FirstStands place f.init h q.trees) l.columns firsts
   values = firsts_stand place f.init w.with_control p l.columns h q firsts w.values columns_named.variables arguments
 
-  grown : IsGrown g h
+  pub grown : IsGrown g h
   grown = growth_after_growth_is_growth g w.with_control h all_named.grown values.0.signature
 
   params : ColumnsStand g h IsFunction (control_sorts l.control ++ kind_sorts) (layout_params l)

@@ -21,3 +21,7 @@ pub mod FormsInPlace
 mod SortedTrees
 mod EncodedForms
 pub mod OneEquation
+pub mod KeptEquation
+pub mod PlainTerms
+pub mod EncodedPlainly
+pub mod PlainGrowth

@@ -29,7 +29,7 @@ use Rattle.lps_core.proofs.Members.{all_at, map_contains}
 use Rattle.regular_encoder.specs.FormColumns.{kind_of, all_params, is_same_kind, with_kind, with_kinds, column_kinds, argument_of, IsColumnOf, IsControl, no_control, a_control, OneEquationKeepsItsParameters}
 
 -- ---- names and sorts with different names are each there once
-abbrev kind_names : List (NameId × SortId) → List ℕ
+abbrev pub kind_names : List (NameId × SortId) → List ℕ
 kind_names ks = map (λ (k : NameId × SortId). k.0.0) ks
 
 no_such : (k : NameId × SortId) (ks : List (NameId × SortId)) → (Contains (kind_names ks) k.0.0 → ⊥) → list_any (is_same_kind k) ks ≡ false
@@ -125,7 +125,7 @@ no_control_for_one : (g : Sig) (n : ℕ) (h : Sig) (o : Option VarId) → IsCont
 no_control_for_one g _ _ _ no_control e = refl
 no_control_for_one g n _ _ (a_control l f) e = absurd (omega (arith, l, e))
 
-names_of_kinds : (g : Sig) (xs : List VarId) → kind_names (map (kind_of g) xs) ≡ name_numbers g xs
+pub names_of_kinds : (g : Sig) (xs : List VarId) → kind_names (map (kind_of g) xs) ≡ name_numbers g xs
 names_of_kinds g [] = refl
 names_of_kinds g (x ∷ xs) = ap (λ ns. (name_of g x).0 ∷ ns) (names_of_kinds g xs)
 

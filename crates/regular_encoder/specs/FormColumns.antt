@@ -15,16 +15,14 @@ use Rattle.data_theory.specs.Fresh.{IsFreshIn}
 use Rattle.data_theory.specs.IdData.{data_meant}
 use Rattle.data_theory.specs.WholeSignatures.{IsSignature}
 use Rattle.data_theory.specs.IdTrees.{Tree}
-use Rattle.data_theory.specs.IdTerms.{variable_sorts, IsGrown}
-use Rattle.term_pool.specs.HeadTrees.{tree_at}
-use Rattle.term_pool.specs.Pools.{PoolContents, Extends}
-use Rattle.term_pool.specs.ConstructorValues.{ConstructorValue, IsFirstValue}
-use Rattle.term_pool.specs.Constants.{tree_with, constant_of, sorts_in_need, DeclaresConstants}
+use Rattle.data_theory.specs.IdTerms.{variable_sorts}
+use Rattle.term_pool.specs.Pools.{PoolContents}
 use Rattle.process_terms.specs.Meanings.{bound_at, term_at}
 use Rattle.process_terms.specs.SignatureEntries.{entries_of}
 use Rattle.bisim_laws.specs.LinearProcesses.{sorts, AreDeclared, HaveDataSorts}
 use Rattle.bisim_laws.specs.BaseStates.{Columns, control_of}
-use Rattle.lps_core.specs.Fitting.{IsTermOf, AreTermsOf, IsVariable, sort_of_variable, HasTakenName}
+use Rattle.lps_core.specs.Fitting.{AreTermsOf, IsVariable, sort_of_variable, HasTakenName}
+use Rattle.lps_core.specs.MadeTerms.{IsClosedTerm}
 use Rattle.lps_core.specs.Naming.{name_of, names_of, function_names}
 use Rattle.greibach.specs.FittingForms.{FormFits}
 use Rattle.greibach.specs.PlainForms.{PlainEquation, PlainForm, form_of}
@@ -93,16 +91,6 @@ abbrev pub argument_of : List VarId → List TermId → VarId → Option TermId
 argument_of [] ts c = None
 argument_of (x ∷ xs) [] c = None
 argument_of (x ∷ xs) (t ∷ ts) c = cond (x.0 == c.0) (Some t) (argument_of xs ts c)
-
--- the first value of a sort; the constants in it that aren't there yet are declared, and nothing is lost
-pub record IsClosedTerm (g : Sig) (p : PoolContents) (s : SortId) (h : Sig) (q : PoolContents) (t : TermId) : Type 0 where
-  pub value : ConstructorValue
-  pub first : IsFirstValue g s value
-  pub tree : tree_at q.trees t ≡ tree_with (constant_of q.constants) value
-  pub declared : DeclaresConstants (sorts_in_need g p.constants value) g p.constants h q.constants
-  pub stands : IsTermOf h q.trees s t
-  pub grown : IsGrown g h
-  pub kept : Extends p.trees q.trees
 
 -- a column's first value is the argument at its place, or else its sort's closed term
 pub data IsFirstTerm (place : List VarId) (args : List TermId) (g : Sig) (p : PoolContents) (c : VarId) : Sig → PoolContents → TermId → Type 0 where

@@ -15,7 +15,7 @@ ghost use Rattle.lps_core.specs.TreeSummands.{IsSummandIn};
 ghost use Rattle.greibach.specs.FittingForms.{FormFits};
 ghost use Rattle.greibach.specs.PlainForms.{plain_equation, plain_form};
 ghost use Rattle.greibach.specs.Tails.{HasTails};
-ghost use Rattle.regular_encoder.specs.EncodedForms.{AreEquationsFor, EncodingIsGood, IsEncodedForm};
+ghost use Rattle.regular_encoder.specs.EncodedForms.{AreEquationsFor, EncodingIsGood, IsEncodedForm, OneEquationIsKept, StaysPlain};
 ghost use Rattle.regular_encoder.specs.FormColumns.{layout_params};
 ghost use Rattle.regular_encoder.specs.Refusals.{all_summands, IsEncodeFaultOf};
 ghost use Rattle.regular_encoder.specs.TreeEncoding.{plain_layout, tree_control_of};
@@ -78,7 +78,9 @@ fn encode_equations(
 
 /// The linear process of a form in which no summand has two calls: each summand becomes one, in the same order, the equations'
 /// parameters share columns, and a control parameter has the number of the equation. A form of one equation keeps its parameters,
-/// initial terms and summands, and gets no control parameter. Linear in the form's size times the number of columns.
+/// initial terms and summands, and gets no control parameter. The result is plainly conditioned for each specification for which the
+/// form is. Linear in the form's size times the number of columns, and in the signature's size for each column that the first equation
+/// doesn't use.
 ///
 /// After an error the pool and the signature may have got some of this. What was there stays, then too.
 ///
@@ -105,6 +107,8 @@ pub fn encode(
     ensures fits { IfOk result (λ made. Fits sig.new pool.new.trees (plain_linear made)) }
     ensures bisimilar { IfOk result (λ made. EncodingIsGood sig.new pool.new.trees (plain_form form.now) (plain_linear made)) }
     ensures summands { IfOk result (λ made. length (plain_linear made).summands ≡ length (all_summands (plain_form form.now).equations)) }
+    ensures plain { IfOk result (λ made. StaysPlain sig.new pool.new (plain_form form.now) (plain_linear made)) }
+    ensures one_equation { IfOk result (λ made. OneEquationIsKept sig.old pool.old.trees sig.new pool.new.trees (plain_form form.now) (plain_linear made)) }
     ensures tail { OnOk result (HasTails (plain_form form.now)) }
     ensures not_tail { IfErr result (IsEncodeFaultOf (plain_form form.now)) }
 {

@@ -12,6 +12,8 @@ use Rattle.regular_encoder.specs.TreeEncoding.{plain_layout}
 use Rattle.regular_encoder.specs.WholeEncoding.{trees_encoded_from}
 use Rattle.regular_encoder.specs.EncodedForms.{AreEquationsFor}
 use Rattle.regular_encoder.proofs.EncodedForms.{EncodingStands, encoded_long, encoded_along_pools, encoding_stands, laid_out_equations}
+use Rattle.regular_encoder.proofs.EncodedPlainly.{stays_plain}
+use Rattle.regular_encoder.proofs.KeptEquation.{one_equation_is_kept}
 use Rattle.regular_encoder.proofs.linear.encode.Goals as goal
 
 pub returns-in_err-check_tail-clause-grown : goal.returns-in_err-check_tail-clause-grown
@@ -35,7 +37,7 @@ summands c =
     summands_kept c.encode_equations.new.pool.trees c.initial_terms.new.pool.trees c.initial_terms.ensures.kept (map plain_summand c.in_ok-summands.summands.items) c.in_ok-summands.ensures.within
     ∙ c.in_ok-summands.ensures.summands ∙ ap (λ qs. trees_encoded_from (plain_layout c.in_ok-layout.layout) 1 c.lay_out.new.pool.trees (map plain_equation qs)) c.as_slice.ensures.value
 
-stands : (c : goal.After-drop-layout-4) → EncodingStands c.lay_out.new.sig c.initial_terms.new.pool.trees (plain_form c.args.form.now)
+stands : (c : goal.After-drop-layout-4) → EncodingStands c.lay_out.new.sig c.initial_terms.new.pool.trees (plain_form c.args.form.now) (plain_layout c.in_ok-layout.layout) c.in_ok-layout.layout.firsts.items
     (record { params = c.in_ok-params.params.items; init = c.in_ok-init.init.items; summands = map plain_summand c.in_ok-summands.summands.items })
 stands c =
     encoding_stands c.args.sig.now c.lay_out.new.sig c.args.pool.now.trees c.lay_out.new.pool.trees c.initial_terms.new.pool.trees (plain_form c.args.form.now) (plain_layout c.in_ok-layout.layout) c.in_ok-layout.layout.firsts.items _
@@ -69,3 +71,11 @@ pub returns-clause-summands : goal.returns-clause-summands
 returns-clause-summands c =
     sym (length-map (map plain_summand c.in_ok-summands.summands.items) (trees_of_summand c.initial_terms.new.pool.trees)) ∙ ap length (summands c)
     ∙ encoded_long (plain_layout c.in_ok-layout.layout) 1 c.lay_out.new.pool.trees (map plain_equation c.args.form.now.equations.items)
+
+pub returns-clause-one_equation : goal.returns-clause-one_equation
+returns-clause-one_equation c =
+    one_equation_is_kept c.args.sig.now c.lay_out.new.sig c.args.pool.now c.initial_terms.new.pool (plain_form c.args.form.now) _ c.signature_stands.ensures c.in_ok-layout.ensures.stands c.requires.form (returns-clause-encoded c)
+
+pub returns-clause-plain : goal.returns-clause-plain
+unfolding returns-clause-encoded
+returns-clause-plain c = stays_plain c.args.sig.now c.lay_out.new.sig c.args.pool.now c.initial_terms.new.pool (plain_form c.args.form.now) _ (returns-clause-encoded c) c.in_ok-layout.ensures.stands (stands c).means
