@@ -95,7 +95,7 @@ def stack():
     base = least_stack("chain 1")
     print(f"no nesting: {base} KiB")
     for shape in ("merges", "hides"):
-        for count in (500, 1_000, 2_000):
+        for count in (1_000, 2_000, 5_000):
             need = least_stack(f"unfold {shape} {count}")
             print(f"unfold {shape:6} {count:5} {need:6} KiB, {(need - base) * KIB // count:5} bytes a level")
 

@@ -7,8 +7,8 @@ use data_theory::NoMemory;
 use process_terms::{Model, Proc};
 use std::alloc::Global;
 
-/// How deep a network may nest, with the process terms in it.
-const MAX_DEPTH: usize = 2_500;
+/// How deep a network may nest, with the process terms in it: as deep as the tree of one declaration may.
+const MAX_DEPTH: usize = 5_000;
 
 /// Whether the network of a specification nests no deeper than the stack has room for. Linear in the specification's size, but for the
 /// order of the ranks.
