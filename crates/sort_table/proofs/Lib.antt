@@ -24,3 +24,5 @@ pub mod AliasEdges
 pub mod NamedSignatures
 pub mod FirstPlaces
 pub mod DeclaringLemmas
+pub mod TextNames
+pub mod EnteredNames

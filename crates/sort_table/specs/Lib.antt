@@ -23,6 +23,8 @@ pub mod EmptinessLaws
 pub mod SameSorts
 pub mod DeclaredNames
 pub mod Refusals
+pub mod Identifiers
+pub mod Built
 pub mod VocabularyLaws
 pub mod CyclesOfAliases
 pub mod Growth

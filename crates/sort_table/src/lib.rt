@@ -5,6 +5,7 @@
 #![tactic(auto)]
 
 mod alias_levels;
+mod building;
 mod declaration_lists;
 mod empty_sorts;
 pub mod laws;
@@ -15,6 +16,7 @@ mod sort_indexes;
 mod sort_signatures;
 mod unknown_sorts;
 
+pub use building::{SortFault, build};
 pub use empty_sorts::empty_sort;
 pub use sort_cycles::sort_cycle;
 pub use sort_signatures::sort_signature;

@@ -61,7 +61,7 @@ pub(crate) fn enter_sort_names<'a>(
 }
 
 /// Enters a text that is given by its bytes.
-fn enter_bytes(names: &mut Names, bytes: &[u8]) -> Result<NameId, NoMemory>
+pub(crate) fn enter_bytes(names: &mut Names, bytes: &[u8]) -> Result<NameId, NoMemory>
     requires { IsUtf8 bytes.now }
     ensures entered { OnOk result (names.new ≡ with_text names.old bytes.now) }
     ensures place { IfOk result (λ name. slice_get names.new name.0 ≡ Some bytes.now) }
