@@ -24,5 +24,14 @@ pub mod AliasEdges
 pub mod NamedSignatures
 pub mod FirstPlaces
 pub mod DeclaringLemmas
+pub mod KeptFunctions
 pub mod TextNames
 pub mod EnteredNames
+pub mod SortTablesOfNames
+pub mod BuiltInRows
+pub mod NewFunctions
+pub mod EnteringFunctions
+pub mod EnteringStructs
+pub mod NothingTwice
+pub mod AddedStructs
+pub mod AddedDeclarations

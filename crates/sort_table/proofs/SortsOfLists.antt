@@ -43,14 +43,14 @@ module _ (u : UnderNames) (v : Vocabulary) (is : HasSorts u v) where
   final_has (a_name n) f = let d = is.others n f in (named d.0, d.1.0)
 
   -- the expression without aliases that has a sort
-  name_of : ℕ → Name
+  pub name_of : ℕ → Name
   name_of d = by_place (near_or_far d (length v.tables.sorts))
     where
       by_place : (d < length v.tables.sorts) ⊎ (length v.tables.sorts ≤ d) → Name
       by_place (inl l) = (is.no_more d l).0
       by_place (inr l) = []
 
-  pub expression_of : Sort → SortExpression
+  unfoldable pub expression_of : Sort → SortExpression
   expression_of boolean = truth_values
   expression_of positive = positives
   expression_of natural = naturals
@@ -106,7 +106,7 @@ module _ (u : UnderNames) (v : Vocabulary) (is : HasSorts u v) where
       let its = sorts_of_each (e ∷ es) (stood.0 ∷ rest.0) here in
       (stood.0 ∷ rest.0, here, its.1 ∙ (sym its.2 ∙ h))
 
-  pub expressions_of : List Sort → List SortExpression
+  unfoldable pub expressions_of : List Sort → List SortExpression
   expressions_of [] = []
   expressions_of (s ∷ ss) = expression_of s ∷ expressions_of ss
 

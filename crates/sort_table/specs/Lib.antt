@@ -25,6 +25,9 @@ pub mod DeclaredNames
 pub mod Refusals
 pub mod Identifiers
 pub mod Built
+pub mod EnteredFunctions
+pub mod FunctionStates
+pub mod NamedFunctions
 pub mod VocabularyLaws
 pub mod CyclesOfAliases
 pub mod Growth

@@ -126,7 +126,11 @@ fn first_duplicate(alloc: Global, spec: &Spec) -> Result<Option<(usize, usize)>,
     Err(NoMemory)
 }
 
-fn declared_signature(alloc: Global, spec: &Spec, names: Names) -> Result<(Signature, Vec<NameId>), NoMemory>
+fn declared_signature(
+    alloc: Global,
+    spec: &Spec,
+    names: Names,
+) -> Result<(Signature, Vec<NameId>), NoMemory>
     requires text { AllByRecursion IsUtf8 (identifiers_in (spec_of spec.now)) }
     requires known { AllAreKnown (declarations_of_text spec.now) }
     requires no_cycle { NoCycle (declarations_of_text spec.now) }

@@ -8,6 +8,7 @@ mod alias_levels;
 mod building;
 mod declaration_lists;
 mod empty_sorts;
+mod function_declaring;
 pub mod laws;
 mod sort_cycles;
 mod sort_declaring;

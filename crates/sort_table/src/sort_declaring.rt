@@ -254,7 +254,7 @@ impl<'a> SortNames<'a> {
     }
 
     /// The sort of a name that has one.
-    fn sort_named(&self, signature: &Signature, name: &'a [u8]) -> SortId
+    pub(crate) fn sort_named(&self, signature: &Signature, name: &'a [u8]) -> SortId
         requires reads { ReadsSorts (kinds_of_index self.now.index) self.now.ids.items signature.now }
         requires named { IsNamed signature.now name.now }
         ensures sort { first_named name.now (sort_names_of signature.now) ≡ Some (sort_under signature.now result) }
