@@ -35,3 +35,4 @@ pub mod EnteringStructs
 pub mod NothingTwice
 pub mod AddedStructs
 pub mod AddedDeclarations
+pub mod AddedActions

@@ -28,6 +28,7 @@ pub mod Built
 pub mod EnteredFunctions
 pub mod FunctionStates
 pub mod NamedFunctions
+pub mod EnteredActions
 pub mod VocabularyLaws
 pub mod CyclesOfAliases
 pub mod Growth

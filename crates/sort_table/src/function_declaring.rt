@@ -22,7 +22,7 @@ use mcrl2_syntax::{Constructor, Decl, Field, SortTree, Word};
 use std::alloc::Global;
 
 /// The id of a name that a signature has taken.
-fn name_id(signature: &Signature, bytes: &[u8]) -> NameId
+pub(crate) fn name_id(signature: &Signature, bytes: &[u8]) -> NameId
     requires { IsKnownName signature.now bytes.now }
     ensures { IsNameId signature.now bytes.now result }
 {
@@ -47,7 +47,7 @@ fn optional_id(signature: &Signature, word: &Option<Word>) -> Option<NameId>
 }
 
 /// A copy of these sorts.
-fn copied(alloc: Global, sorts: &[SortId]) -> Result<Vec<SortId>, NoMemory>
+pub(crate) fn copied(alloc: Global, sorts: &[SortId]) -> Result<Vec<SortId>, NoMemory>
     ensures { IfOk result (λ copy. copy.items ≡ sorts.now) }
 {
     let mut copy = Vec::new(alloc);

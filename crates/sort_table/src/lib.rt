@@ -4,6 +4,7 @@
 //! bodies: the contract of each is a law of these definitions, so that the crates above can cite it.
 #![tactic(auto)]
 
+mod action_declaring;
 mod alias_levels;
 mod building;
 mod declaration_lists;

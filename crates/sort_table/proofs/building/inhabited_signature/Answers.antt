@@ -32,6 +32,8 @@ returns-in-Ok-Some-clause-refused c =
     let among = rw c.in-Ok-Some.field-0-is at c.in-Ok-Some.ensures.among in
     let found = rw c.in-Ok-Some.field-0-is at c.in-Ok-Some.ensures.found ds c.in_ok-signature.ensures.declared.vocabulary names in
     let at = read_contained c.as_slice.result.now c.in-Ok-Some.name among in
-    let within = text_within g c.as_slice.result.now (kinds_in ds) names at.0 c.in-Ok-Some.name at.1 in
-    (text_under g c.in-Ok-Some.name, ap (λ ts. slice_get ts c.in-Ok-Some.name.0) c.into_names.ensures ∙ text_read g.texts c.in-Ok-Some.name.0 within,
-    (c.requires.known, c.requires.no_cycle, c.requires.once, found))
+    let within = text_within g c.as_slice.result.now (kinds_in ds) names at.0 c.in-Ok-Some.name at.1 in (
+      text_under g c.in-Ok-Some.name,
+      ap (λ ts. slice_get ts c.in-Ok-Some.name.0) c.into_names.ensures ∙ text_read g.texts c.in-Ok-Some.name.0 within,
+      (c.requires.known, c.requires.no_cycle, c.requires.once, found),
+    )
