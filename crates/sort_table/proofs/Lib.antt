@@ -24,3 +24,11 @@ pub mod AliasEdges
 pub mod NamedSignatures
 pub mod FirstPlaces
 pub mod DeclaringLemmas
+pub mod MeetingMarks
+pub mod FlatSortLemmas
+pub mod MarkedItems
+pub mod PushedMarks
+pub mod ItemMarkLemmas
+pub mod DeclaredAgain
+pub mod BuiltInLemmas
+pub mod TwiceLemmas

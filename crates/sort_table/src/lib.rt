@@ -5,9 +5,15 @@
 #![tactic(auto)]
 
 mod alias_levels;
+mod built_in_tests;
 mod declaration_lists;
+mod duplicates;
 mod empty_sorts;
+mod flat_sorts;
+mod item_entries;
 pub mod laws;
+mod repeated_variables;
+mod repeats;
 mod sort_cycles;
 mod sort_declaring;
 mod sort_entries;
@@ -15,6 +21,7 @@ mod sort_indexes;
 mod sort_signatures;
 mod unknown_sorts;
 
+pub use duplicates::first_duplicate;
 pub use empty_sorts::empty_sort;
 pub use sort_cycles::sort_cycle;
 pub use sort_signatures::sort_signature;
