@@ -36,3 +36,11 @@ pub mod NothingTwice
 pub mod AddedStructs
 pub mod AddedDeclarations
 pub mod AddedActions
+pub mod MeetingMarks
+pub mod FlatSortLemmas
+pub mod MarkedItems
+pub mod PushedMarks
+pub mod ItemMarkLemmas
+pub mod DeclaredAgain
+pub mod BuiltInLemmas
+pub mod TwiceLemmas

@@ -36,3 +36,9 @@ pub mod SignatureGrowth
 pub mod Worked
 pub mod WorkedRefusals
 pub mod WorkedTrees
+pub mod Repeats
+pub mod FlatSorts
+pub mod BuiltInTests
+pub mod ItemMarks
+pub mod RepeatedVariables
+pub mod PlacedDeclarations

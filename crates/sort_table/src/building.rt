@@ -1,6 +1,6 @@
 //! The signature of a text's declarations, or why they are refused.
 
-ghost use Rattle.std.specs.Prelude.{◌≡◌, [], map, IfOk, IfErr, OnOk, MatchOption};
+ghost use Rattle.std.specs.Prelude.{◌≡◌, [], map, IfOk, IfErr, OnOk};
 ghost use Rattle.std.specs.List.{AllByRecursion};
 ghost use Rattle.std.specs.Str.{IsUtf8};
 ghost use Rattle.mcrl2_syntax.specs.Declarations.{spec_of};
@@ -8,11 +8,12 @@ ghost use Rattle.sort_table.specs.BareDeclarations.{bare_sections};
 ghost use Rattle.sort_table.specs.DeclarationTrees.{declarations_of_text};
 ghost use Rattle.sort_table.specs.UnknownSorts.{AllAreKnown};
 ghost use Rattle.sort_table.specs.SortCycles.{NoCycle};
-ghost use Rattle.sort_table.specs.Duplicates.{NothingAgain, IsDuplicate};
+ghost use Rattle.sort_table.specs.Duplicates.{NothingAgain};
 ghost use Rattle.sort_table.specs.Identifiers.{identifiers_in};
 ghost use Rattle.sort_table.specs.DeclaredNames.{AreNamesOf};
 ghost use Rattle.sort_table.specs.Built.{IsBuilt, IsDeclared, IsFaultOf, AreNamesOfAll};
 
+use crate::duplicates::first_duplicate;
 use crate::empty_sorts::empty_sort;
 use crate::sort_cycles::sort_cycle;
 use crate::sort_declaring::enter_bytes;
@@ -118,14 +119,9 @@ fn enter_all(alloc: Global, names: &mut Names, texts: &[&[u8]]) -> Result<Vec<Na
     Ok(ids)
 }
 
-fn first_duplicate(alloc: Global, spec: &Spec) -> Result<Option<(usize, usize)>, NoMemory>
-    requires known { AllAreKnown (declarations_of_text spec.now) }
-    requires no_cycle { NoCycle (declarations_of_text spec.now) }
-    ensures { IfOk result (λ found. MatchOption found (NothingAgain (bare_sections (spec_of spec.now))) (λ pair. IsDuplicate (bare_sections (spec_of spec.now)) pair.0 pair.1)) }
-{
-    Err(NoMemory)
-}
-
+/// A signature with what a specification declares, with the ids of the declared sort names in the order of the text.
+///
+/// This stands in for what is to make it, and finds no memory.
 fn declared_signature(
     alloc: Global,
     spec: &Spec,
