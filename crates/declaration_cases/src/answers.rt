@@ -1,9 +1,13 @@
 //! What is said of the declarations of a text.
 
+ghost use Rattle.sort_table.specs.DeclarationTrees.{declarations_of_text};
+ghost use Rattle.sort_table.specs.UnknownSorts.{AllAreKnown};
+ghost use Rattle.sort_table.specs.SortCycles.{NoCycle};
+
 use mcrl2_lexer::lex;
 use mcrl2_parser::parse;
 use mcrl2_syntax::Spec;
-use sort_table::{sort_cycle, unknown_sort};
+use sort_table::{first_duplicate, sort_cycle, unknown_sort};
 use std::alloc::{AllocError, Global};
 
 /// The answer to a line.
@@ -35,8 +39,10 @@ fn spec_text(alloc: Global, spec: &Spec) -> Result<Vec<u8>, AllocError> {
     }
 }
 
-/// The first cycle of a specification's sort definitions.
-fn cycle_text(alloc: Global, spec: &Spec) -> Result<Vec<u8>, AllocError> {
+/// The first cycle of a specification's sort definitions, where its sort names are declared.
+fn cycle_text(alloc: Global, spec: &Spec) -> Result<Vec<u8>, AllocError>
+    requires { AllAreKnown (declarations_of_text spec.now) }
+{
     match sort_cycle(alloc, spec) {
         Ok(Some(names)) => {
             let mut out = b"sort cycle".to_vec(alloc)?;
@@ -45,6 +51,21 @@ fn cycle_text(alloc: Global, spec: &Spec) -> Result<Vec<u8>, AllocError> {
                 out.extend_from_slice(name)?;
             }
             Ok(out)
+        }
+        Ok(None) => duplicate_text(alloc, spec),
+        Err(_) => b"no memory".to_vec(alloc),
+    }
+}
+
+/// What a specification declares twice, where its sort names are declared and no definitions of sorts go round.
+fn duplicate_text(alloc: Global, spec: &Spec) -> Result<Vec<u8>, AllocError>
+    requires known { AllAreKnown (declarations_of_text spec.now) }
+    requires no_cycle { NoCycle (declarations_of_text spec.now) }
+{
+    match first_duplicate(alloc, spec) {
+        Ok(Some((first, second))) => {
+            let text = format!(in alloc; "duplicate {first} {second}")?;
+            text.as_bytes().to_vec(alloc)
         }
         Ok(None) => b"no fault".to_vec(alloc),
         Err(_) => b"no memory".to_vec(alloc),

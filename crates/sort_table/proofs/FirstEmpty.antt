@@ -1,13 +1,14 @@
 -- The first empty sort of a text, read off a signature.
 use Rattle.std.proofs.Common.{◌≡◌, ◌<◌, ◌⊎◌, inl, inr, ℕ, zero, suc, Bool, true, false, List, [], ◌∷◌, ◌++◌, ◌+◌, length, map, get_or, refl, ap, sym, ◌∙◌, subst, arith}
-use Rattle.std.specs.Prelude.{Some, slice_get, pos}
+use Rattle.std.specs.Prelude.{Some, slice_get, pos, bytes_eq}
 use Rattle.std.specs.List.{AllByRecursion}
 use Rattle.std.proofs.lemmas.Option.{none-some, same_Some, slice_get_within, slice_get_read, get_or_from_slice_get}
 use Rattle.std.proofs.lemmas.List.Elements.{All-contains}
+use Rattle.std.proofs.lemmas.Slice.Eq.{bytes_eq-Decides}
 use Rattle.data_theory.specs.declared.ids.NameId.{NameId}
 use Rattle.data_theory.specs.declared.ids.SortId.{SortId}
 use Rattle.data_theory.specs.Terms.{Sort, Term, boolean, positive, natural, integer, list, named, truth, empty, numeral, unknown, application, none}
-use Rattle.data_theory.specs.Declarations.{IsSort, HasSort, IsConstructed}
+use Rattle.data_theory.specs.Declarations.{IsSort, HasSort, IsConstructed, NoSortIsEmpty}
 use Rattle.data_theory.specs.SortNames.{IsName, IsSortName}
 use Rattle.data_theory.specs.Signature.{Sig}
 use Rattle.data_theory.specs.IdData.{data_meant}
@@ -21,11 +22,12 @@ use Rattle.sort_table.specs.Expressions.{Name}
 use Rattle.sort_table.specs.NamedLists.{first_named}
 use Rattle.sort_table.specs.BareSorts.{a_name}
 use Rattle.sort_table.specs.BareDeclarations.{Declaration}
-use Rattle.sort_table.specs.SortMeanings.{Kind, kinds_in, under_names}
-use Rattle.sort_table.specs.Vocabularies.{IsVocabularyOf}
+use Rattle.sort_table.specs.SortMeanings.{Kind, alone, a_struct, kinds_in, under_names}
+use Rattle.sort_table.specs.Vocabularies.{IsOwn, declared_alone, declared_as_struct, IsVocabularyOf}
 use Rattle.sort_table.specs.SignatureVocabularies.{text_under, vocabulary_of}
 use Rattle.sort_table.specs.EmptySorts.{IsEmpty, IsEmptySort, NoEmptySort, IsFirstEmptySort}
 use Rattle.sort_table.specs.DeclaredNames.{AreNamesOf}
+use Rattle.sort_table.proofs.Choices.{chosen}
 use Rattle.sort_table.proofs.Growing.{near_or_far}
 use Rattle.sort_table.proofs.OneSort.{what_stands_for_a_sort_has_it}
 use Rattle.sort_table.proofs.ListForms.{found_entry, is_declared}
@@ -78,7 +80,7 @@ module _ (g : Sig) (P : Name → Type 0) where
       let there : AreBeside g ids ks = cc in
       ((λ p. free 0 i refl (subst P (sym (read_text g i r here)) p)), none_of_them ids ks there (λ j m a. free (suc j) m a))
 
-text_within : (g : Sig) (ids : List NameId) (ks : List (Name × Kind)) → AreBeside g ids ks → (k : ℕ) (n : NameId) → slice_get ids k ≡ Some n → n.0 < length g.texts
+pub text_within : (g : Sig) (ids : List NameId) (ks : List (Name × Kind)) → AreBeside g ids ks → (k : ℕ) (n : NameId) → slice_get ids k ≡ Some n → n.0 < length g.texts
 text_within g [] ks so k n at = cc
 text_within g (i ∷ ids) [] so k n at = cc
 text_within g (i ∷ ids) (r ∷ ks) so zero n at =
@@ -182,6 +184,39 @@ module _ (g : Sig) (stands : IsSignature g) where
         let stood = (e.declared.sorts.named n).0 (named e.number, e.named_so) in
         let known : (k : Kind) × (first_named n (kinds_in ds) ≡ Some k) = is_declared u n stood.0 stood.1 in
         found_entry (λ m _. ¬ (IsEmptySort ds m)) n (kinds_in ds) known.0 all known.1 e
+
+    -- each sort has a value
+    pub all_have_values : (ids : List NameId) → AreNamesOf g ids ds → ((j : ℕ) (i : NameId) → slice_get ids j ≡ Some i → IsInhabitedName g i) → NoSortIsEmpty (data_meant g)
+    all_have_values ids so full d l =
+        let own = is.sorts.no_more d l in
+        let known = declared_kind own.0 own.1 in
+        let at = id_beside ids (kinds_in ds) so own.0 known.0 known.1 in
+        let name : text_under g at.1 ≡ own.0 = get_or_from_slice_get g.texts at.1.0 own.0 [] at.3 in
+        let within = slice_get_within g.texts at.1.0 own.0 at.3 in
+        let has : first_named (text_under g at.1) (vocabulary_of g).sort_names ≡ Some (named d) = ap (λ (m : Name). first_named m (vocabulary_of g).sort_names) name ∙ own.2.0 in
+        elim (full at.0 at.1 at.2) [
+          | inl (s, its, value) ↦
+              let found = name_found g stands at.1 within s its in
+              let sort : sort_under g s ≡ named d = same_Some (sort_under g s) (named d) (sym found ∙ has) in
+              let term = (values_are_constructed_terms g stands s (within_sorts at.1 s its)).0 value in
+              (term.0, (term.1.0, subst (HasSort (data_meant g) [] term.0) sort term.1.1))
+          | inr never ↦ absurd (none-some (named d) (sym (name_absent g stands at.1 within never) ∙ has))
+        ]
+      where
+        declared_kind : (n : Name) → IsOwn (under_names ds) n → (k : Kind) × (first_named n (kinds_in ds) ≡ Some k)
+        declared_kind n (declared_alone h) = (alone, h)
+        declared_kind n (declared_as_struct h) = (a_struct, h)
+
+        id_beside : (is : List NameId) (ks : List (Name × Kind)) → AreBeside g is ks → (n : Name) (k : Kind) → first_named n ks ≡ Some k → (j : ℕ) × (i : NameId) × (slice_get is j ≡ Some i) × (slice_get g.texts i.0 ≡ Some n)
+        id_beside [] [] same n k h = absurd (none-some k h)
+        id_beside [] (r ∷ ks) same n k h = cc
+        id_beside (i ∷ is) [] same n k h = cc
+        id_beside (i ∷ is) (r ∷ ks) same n k h =
+            let here : slice_get g.texts i.0 ≡ Some r.0 = cc in
+            let there : AreBeside g is ks = cc in
+            chosen (bytes_eq r.0 n) (Some r.1) (first_named n ks) k h
+            (λ test found. (0, i, refl, here ∙ ap Some ((bytes_eq-Decides r.0 n).0 test)))
+            (λ other later. (let rest = id_beside is ks there n k later in (suc rest.0, rest.1, rest.2, rest.3)))
 
 -- ---- marks
 mark_read : (marks : List Bool) (k : ℕ) (r : Bool) → k < length marks → r ≡ get_or marks k r → get_or marks k false ≡ r

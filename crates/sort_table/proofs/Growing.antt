@@ -41,13 +41,13 @@ all_behind n (r ∷ rs) qs = by_test (bytes_eq r.0 n) (all_behind n rs qs)
     by_test true h = ap (λ xs. r.1 ∷ xs) h
     by_test false h = h
 
-pairs_behind : {A B : Type 0} (Q : A → B → Type 0) (xs xs2 : List A) (ys ys2 : List B) → EachPair Q xs ys → EachPair Q xs2 ys2 → EachPair Q (xs ++ xs2) (ys ++ ys2)
+pub pairs_behind : {A B : Type 0} (Q : A → B → Type 0) (xs xs2 : List A) (ys ys2 : List B) → EachPair Q xs ys → EachPair Q xs2 ys2 → EachPair Q (xs ++ xs2) (ys ++ ys2)
 pairs_behind Q [] xs2 [] ys2 h k = k
 pairs_behind Q (x ∷ xs) xs2 (y ∷ ys) ys2 h k = (h.0, pairs_behind Q xs xs2 ys ys2 h.1 k)
 pairs_behind Q [] xs2 (y ∷ ys) ys2 h k = absurd h
 pairs_behind Q (x ∷ xs) xs2 [] ys2 h k = absurd h
 
-pairs_with : {A B : Type 0} (Q R : A → B → Type 0) → ((x : A) (y : B) → Q x y → R x y) → (xs : List A) (ys : List B) → EachPair Q xs ys → EachPair R xs ys
+pub pairs_with : {A B : Type 0} (Q R : A → B → Type 0) → ((x : A) (y : B) → Q x y → R x y) → (xs : List A) (ys : List B) → EachPair Q xs ys → EachPair R xs ys
 pairs_with Q R f [] [] h = tt
 pairs_with Q R f (x ∷ xs) (y ∷ ys) h = (f x y h.0, pairs_with Q R f xs ys h.1)
 pairs_with Q R f [] (y ∷ ys) h = absurd h

@@ -199,7 +199,7 @@ read_behind [] more i t h = absurd (none-some t h)
 read_behind (x ∷ xs) more zero t h = h
 read_behind (x ∷ xs) more (suc i) t h = read_behind xs more i t h
 
-read_with : (texts : List (List ℕ)) (u : List ℕ) (i : ℕ) (t : List ℕ) → slice_get texts i ≡ Some t → slice_get (with_text texts u) i ≡ Some t
+pub read_with : (texts : List (List ℕ)) (u : List ℕ) (i : ℕ) (t : List ℕ) → slice_get texts i ≡ Some t → slice_get (with_text texts u) i ≡ Some t
 read_with texts u i t h = by_test (list_any (bytes_eq u) texts)
   where
     by_test : (b : Bool) → slice_get (cond b texts (texts ++ u ∷ [])) i ≡ Some t

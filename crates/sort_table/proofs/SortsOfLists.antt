@@ -43,14 +43,14 @@ module _ (u : UnderNames) (v : Vocabulary) (is : HasSorts u v) where
   final_has (a_name n) f = let d = is.others n f in (named d.0, d.1.0)
 
   -- the expression without aliases that has a sort
-  name_of : ℕ → Name
+  pub name_of : ℕ → Name
   name_of d = by_place (near_or_far d (length v.tables.sorts))
     where
       by_place : (d < length v.tables.sorts) ⊎ (length v.tables.sorts ≤ d) → Name
       by_place (inl l) = (is.no_more d l).0
       by_place (inr l) = []
 
-  expression_of : Sort → SortExpression
+  unfoldable pub expression_of : Sort → SortExpression
   expression_of boolean = truth_values
   expression_of positive = positives
   expression_of natural = naturals
@@ -96,7 +96,7 @@ module _ (u : UnderNames) (v : Vocabulary) (is : HasSorts u v) where
       both : (o : Option Sort) (s : Sort) (p : Option (List Sort)) (ss : List Sort) → o ≡ Some s → p ≡ Some ss → option_and_then (λ t. option_map (λ ts. t ∷ ts) p) o ≡ Some (s ∷ ss)
       both o s p ss a b = ap (option_and_then (λ t. option_map (λ ts. t ∷ ts) p)) a ∙ ap (option_map (λ ts. s ∷ ts)) b
 
-  stand_for_these : (es : List SortExpression) (ss : List Sort) → sorts_in v.sort_names es ≡ Some ss → (rs : List SortExpression) × StandForEach u es rs × (sorts_in v.sort_names rs ≡ Some ss)
+  pub stand_for_these : (es : List SortExpression) (ss : List Sort) → sorts_in v.sort_names es ≡ Some ss → (rs : List SortExpression) × StandForEach u es rs × (sorts_in v.sort_names rs ≡ Some ss)
   stand_for_these [] ss h = ([], no_sorts, h)
   stand_for_these (e ∷ es) ss h =
       let p = sorts_then v.sort_names e es ss h in
@@ -106,11 +106,11 @@ module _ (u : UnderNames) (v : Vocabulary) (is : HasSorts u v) where
       let its = sorts_of_each (e ∷ es) (stood.0 ∷ rest.0) here in
       (stood.0 ∷ rest.0, here, its.1 ∙ (sym its.2 ∙ h))
 
-  expressions_of : List Sort → List SortExpression
+  unfoldable pub expressions_of : List Sort → List SortExpression
   expressions_of [] = []
   expressions_of (s ∷ ss) = expression_of s ∷ expressions_of ss
 
-  finals_are : (es rs : List SortExpression) (ss : List Sort) → StandForEach u es rs → sorts_in v.sort_names rs ≡ Some ss → rs ≡ expressions_of ss
+  pub finals_are : (es rs : List SortExpression) (ss : List Sort) → StandForEach u es rs → sorts_in v.sort_names rs ≡ Some ss → rs ≡ expressions_of ss
   unfolding expressions_of
   finals_are _ _ ss no_sorts h = ap expressions_of (same_Some [] ss h)
   finals_are _ _ ss (and_sort e r es rs k ks) h =

@@ -23,6 +23,12 @@ pub mod EmptinessLaws
 pub mod SameSorts
 pub mod DeclaredNames
 pub mod Refusals
+pub mod Identifiers
+pub mod Built
+pub mod EnteredFunctions
+pub mod FunctionStates
+pub mod NamedFunctions
+pub mod EnteredActions
 pub mod VocabularyLaws
 pub mod CyclesOfAliases
 pub mod Growth
@@ -30,3 +36,9 @@ pub mod SignatureGrowth
 pub mod Worked
 pub mod WorkedRefusals
 pub mod WorkedTrees
+pub mod Repeats
+pub mod FlatSorts
+pub mod BuiltInTests
+pub mod ItemMarks
+pub mod RepeatedVariables
+pub mod PlacedDeclarations

@@ -4,10 +4,19 @@
 //! bodies: the contract of each is a law of these definitions, so that the crates above can cite it.
 #![tactic(auto)]
 
+mod action_declaring;
 mod alias_levels;
+mod building;
+mod built_in_tests;
 mod declaration_lists;
+mod duplicates;
 mod empty_sorts;
+mod flat_sorts;
+mod function_declaring;
+mod item_entries;
 pub mod laws;
+mod repeated_variables;
+mod repeats;
 mod sort_cycles;
 mod sort_declaring;
 mod sort_entries;
@@ -15,6 +24,8 @@ mod sort_indexes;
 mod sort_signatures;
 mod unknown_sorts;
 
+pub use building::{SortFault, build};
+pub use duplicates::first_duplicate;
 pub use empty_sorts::empty_sort;
 pub use sort_cycles::sort_cycle;
 pub use sort_signatures::sort_signature;

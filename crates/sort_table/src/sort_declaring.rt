@@ -61,7 +61,7 @@ pub(crate) fn enter_sort_names<'a>(
 }
 
 /// Enters a text that is given by its bytes.
-fn enter_bytes(names: &mut Names, bytes: &[u8]) -> Result<NameId, NoMemory>
+pub(crate) fn enter_bytes(names: &mut Names, bytes: &[u8]) -> Result<NameId, NoMemory>
     requires { IsUtf8 bytes.now }
     ensures entered { OnOk result (names.new ≡ with_text names.old bytes.now) }
     ensures place { IfOk result (λ name. slice_get names.new name.0 ≡ Some bytes.now) }
@@ -254,7 +254,7 @@ impl<'a> SortNames<'a> {
     }
 
     /// The sort of a name that has one.
-    fn sort_named(&self, signature: &Signature, name: &'a [u8]) -> SortId
+    pub(crate) fn sort_named(&self, signature: &Signature, name: &'a [u8]) -> SortId
         requires reads { ReadsSorts (kinds_of_index self.now.index) self.now.ids.items signature.now }
         requires named { IsNamed signature.now name.now }
         ensures sort { first_named name.now (sort_names_of signature.now) ≡ Some (sort_under signature.now result) }

@@ -1,7 +1,8 @@
 use Rattle.std.proofs.Common.{get_or, inr, arith}
 use Rattle.std.proofs.lemmas.Option.{slice_get-get_or, slice_get_within}
 use Rattle.data_theory.specs.declared.ids.NameId.{NameId}
-use Rattle.sort_table.proofs.FirstEmpty.{one_more_name, found_empty, none_empty, value_by_mark, no_value_by_mark, is_mark}
+use Rattle.data_theory.proofs.PlaceLemmas.{contains_read}
+use Rattle.sort_table.proofs.FirstEmpty.{one_more_name, found_empty, none_empty, all_have_values, value_by_mark, no_value_by_mark, is_mark}
 use Rattle.sort_table.proofs.empty_sorts.empty_sort.Goals as goal
 
 abbrev first : NameId
@@ -15,8 +16,8 @@ index-requires c =
     let below = is_mark c.args.sig.now c.in_ok-inhabited.ensures.stands c.in_ok-inhabited.inhabited.items c.in_ok-inhabited.ensures.marks (get_or c.args.names.now c.loop-name.name-index first) c.in-Some.sort c.in-Some.ensures in
     omega (arith, below, c.in_ok-inhabited.inhabited.ok.0)
 
-pub returns-then-not-index : goal.returns-then-not-index
-returns-then-not-index c =
+pub returns-then-not-index-clause-found : goal.returns-then-not-index-clause-found
+returns-then-not-index-clause-found c =
     let g = c.args.sig.now in
     let stands = c.in_ok-inhabited.ensures.stands in
     let marks = c.in_ok-inhabited.inhabited.items in
@@ -35,6 +36,18 @@ loop-name-preserved c =
     one_more_name g c.args.names.now c.loop-name.name-index first c.loop-name.invariant
     (value_by_mark g marks c.in_ok-inhabited.ensures.marks n c.in-Some.sort c.index.result.now below c.index.ensures c.in-Some.ensures c.if-not-index.false)
 
-pub returns : goal.returns
-returns c = λ ds is so.
+pub returns-clause-found : goal.returns-clause-found
+returns-clause-found c = λ ds is so.
     none_empty c.args.sig.now c.in_ok-inhabited.ensures.stands ds is c.args.names.now so (λ j i at. (let within = slice_get_within c.args.names.now j i at in c.loop-name.invariant j i (omega (arith, within, c.loop-name-test.false)) at))
+
+pub returns-then-not-index-clause-inhabited : goal.returns-then-not-index-clause-inhabited
+returns-then-not-index-clause-inhabited c = λ ds is so. tt
+
+pub returns-clause-inhabited : goal.returns-clause-inhabited
+returns-clause-inhabited c = λ ds is so.
+    all_have_values c.args.sig.now c.in_ok-inhabited.ensures.stands ds is c.args.names.now so (λ j i at. (let within = slice_get_within c.args.names.now j i at in c.loop-name.invariant j i (omega (arith, within, c.loop-name-test.false)) at))
+
+pub returns-then-not-index-clause-among : goal.returns-then-not-index-clause-among
+returns-then-not-index-clause-among c =
+    let n = get_or c.args.names.now c.loop-name.name-index first in
+    contains_read c.args.names.now c.loop-name.name-index n (slice_get-get_or c.args.names.now c.loop-name.name-index first c.loop-name-test.true)
