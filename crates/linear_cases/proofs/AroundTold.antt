@@ -1,9 +1,10 @@
 -- What the tests of rules and pairs of names say.
-use Rattle.std.proofs.Common.{◌≡◌, ◌==◌, ◌||◌, true, not, List, refl, sym, ap, subst}
-use Rattle.std.specs.Prelude.{Contains}
+use Rattle.std.proofs.Common.{◌≡◌, ◌==◌, ◌||◌, ◌<◌, ◌+◌, ℕ, Bool, true, not, List, [], ◌∷◌, ◌++◌, map, take, length, get_or, refl, sym, ap, ◌∙◌, subst}
+use Rattle.std.specs.Prelude.{Contains, IsTrue}
 use Rattle.std.specs.List.{All, list_all}
 use Rattle.std.proofs.lemmas.Bool.Decides.{Decides-eqb}
-use Rattle.std.proofs.lemmas.List.Elements.{All-contains}
+use Rattle.std.proofs.lemmas.List.{map_more}
+use Rattle.std.proofs.lemmas.List.Elements.{All-nil, All-cons, All-append, All-contains, All-more}
 use Rattle.data_theory.specs.declared.actions.ActEntry.{ActEntry}
 use Rattle.data_theory.specs.declared.ids.NameId.{NameId}
 use Rattle.data_theory.specs.Actions.{actions_of}
@@ -34,3 +35,15 @@ pub once_told : (pairs : List (NameId × NameId)) → are_once pairs ≡ true �
 once_told pairs e = λ x y z i j.
     let row = All-contains (λ p. list_all (agree p) pairs ≡ true) pairs (x, y) (all_passed (λ p. list_all (agree p) pairs) pairs e) i in
     agreed x y z (All-contains (λ q. agree (x, y) q ≡ true) pairs (x, z) (all_passed (agree (x, y)) pairs row) j)
+
+-- one more element has what holds of all
+pub all_more : {A : Type 0} (P : A → Type 0) (xs : List A) (i : ℕ) (x : A) (b : Bool) → i < length xs → x ≡ get_or xs i x → All P (take i xs) → b ≡ true → (IsTrue b → P x) → All P (take (i + 1) xs)
+all_more P xs i x b l q h e f = All-more P xs i x l h (subst P q (f e))
+
+pub mapped_more : {A B : Type 0} (g : A → B) (P : B → Type 0) (xs : List A) (i : ℕ) (x : A) (b : Bool) → i < length xs → x ≡ get_or xs i x → All P (map g (take i xs)) → b ≡ true → (IsTrue b → P (g x)) → All P (map g (take (i + 1) xs))
+mapped_more g P xs i x b l q h e f =
+    subst (λ z. All P z) (sym (map_more g xs i x l ∙ ap (λ z. map g (take i xs) ++ g z ∷ []) (sym q))) (All-append P (map g (take i xs)) (g x ∷ []) h (All-cons P (g x) [] (f e) (All-nil P)))
+
+pub pair_more : (g : Sig) (pairs : List (NameId × NameId)) (i : ℕ) (x y : NameId) (b : Bool) → i < length pairs → (x, y) ≡ get_or pairs i (x, y) → All (λ (r : NameId × NameId). LeadsTo g r.0 r.1) (take i pairs) → b ≡ true → (IsTrue b → LeadsTo g x y)
+    → All (λ (r : NameId × NameId). LeadsTo g r.0 r.1) (take (i + 1) pairs)
+pair_more g pairs i x y b l q h e f = all_more (λ (r : NameId × NameId). LeadsTo g r.0 r.1) pairs i (x, y) b l q h e f

@@ -1,7 +1,7 @@
 //! Sets of names, pairs of names and rules from text, and whether they may be put around a linear process.
 
 ghost use Rattle.std.specs.Prelude.{◌≡◌, IfOk, IfSome, IsTrue};
-ghost use Rattle.std.specs.List.{All};
+ghost use Rattle.std.specs.List.{list_all, All};
 ghost use Rattle.process_terms.specs.PlainProcesses.{items_of_each, plain_rule, plain_rules};
 ghost use Rattle.action_filters.specs.Filters.{HaveTargets, IsNameIn, RenamesOnce};
 ghost use Rattle.communication.specs.PlaceConditions.{HaveResults, RuleNamesIn};
@@ -159,13 +159,18 @@ fn agree(pair: (NameId, NameId), other: (NameId, NameId)) -> bool
     (pair.0).0 != (other.0).0 || (pair.1).0 == (other.1).0
 }
 
-/// Whether no name is replaced by two.
+/// Whether a pair agrees with each of these.
+fn agrees(pairs: &[(NameId, NameId)], pair: (NameId, NameId)) -> bool
+    ensures { result ≡ list_all (agree pair) pairs.now }
+{
+    pairs.iter().all(|other| agree(pair, *other))
+}
+
+/// Whether no two pairs replace one name by two.
 fn are_once(pairs: &[(NameId, NameId)]) -> bool
     ensures { result ≡ are_once pairs.now }
 {
-    pairs
-        .iter()
-        .all(|pair| pairs.iter().all(|other| agree(*pair, *other)))
+    pairs.iter().all(|pair| agrees(pairs, *pair))
 }
 
 /// Whether no name is replaced by two.
