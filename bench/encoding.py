@@ -48,22 +48,23 @@ def many_sorts(count):
 
 
 FORMS = [
-    ("equations", many_equations, (2_500, 5_000, 10_000)),
-    ("columns of the first equation", columns_at_first, (500, 1_000, 2_000)),
-    ("columns of the second equation", columns_later, (500, 1_000, 2_000)),
-    ("columns of sorts of their own", many_sorts, (100, 200, 400)),
+    ("equations", many_equations, (10_000, 20_000, 40_000)),
+    ("columns of the first equation", columns_at_first, (2_000, 4_000, 8_000)),
+    ("columns of the second equation", columns_later, (2_000, 4_000, 8_000)),
+    ("columns of sorts of their own", many_sorts, (500, 1_000, 2_000)),
 ]
 
 
 def run(program, text):
     """Runs the program on this input; gives the processor's seconds and the peak memory in KiB."""
-    with tempfile.TemporaryFile() as file:
+    with tempfile.TemporaryFile() as file, tempfile.TemporaryFile() as shown:
         file.write(text.encode())
         file.seek(0)
-        child = subprocess.Popen([program], stdin=file, stdout=subprocess.DEVNULL)
+        child = subprocess.Popen([program], stdin=file, stdout=shown)
         _, status, usage = os.wait4(child.pid, 0)
         child.returncode = 0
-    assert status == 0, "the program ended with a failure"
+        shown.seek(0)
+        assert status == 0 and b"init P" in shown.read(), "the program made no linear process"
     return usage.ru_utime + usage.ru_stime, usage.ru_maxrss
 
 

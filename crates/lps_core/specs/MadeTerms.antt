@@ -1,5 +1,5 @@
 -- What passes make of a specification: made terms, plain conditions, and linear processes that are plainly conditioned.
-use Rattle.std.specs.Prelude.{◌≡◌, ℕ, Bool, true, false, ◌||◌, List, [], ◌∷◌, ◌++◌, map, Option, Some, ℤ, Contains}
+use Rattle.std.specs.Prelude.{◌≡◌, ℕ, Bool, true, false, ◌||◌, List, [], ◌∷◌, ◌++◌, Some, ℤ, Contains}
 use Rattle.std.specs.List.{AllByRecursion, flat_map}
 use Rattle.data_theory.specs.declared.ids.SortId.{SortId}
 use Rattle.data_theory.specs.declared.ids.TermId.{TermId}

@@ -1,6 +1,6 @@
 -- The encoding of a form that is plainly conditioned is plainly conditioned.
 use Rattle.std.proofs.Common.{◌≡◌, ◌==◌, ◌<◌, ◌⊎◌, inl, inr, ⊎_elim, ℕ, Bool, true, false, cond, List, [], ◌∷◌, ◌++◌, map, length, refl, sym, ap, ap₂, ◌∙◌, subst, arith, Option, Some, None}
-use Rattle.std.specs.Prelude.{Contains, slice_get, is_some, pos}
+use Rattle.std.specs.Prelude.{Contains, slice_get, is_some}
 use Rattle.std.specs.List.{AllByRecursion}
 use Rattle.std.proofs.lemmas.Bool.Decides.{eqb_tells}
 use Rattle.std.proofs.lemmas.List.Elements.{Contains-append_cases, Contains-append_left, Contains-append_right}
@@ -14,39 +14,37 @@ use Rattle.data_theory.specs.Equations.{equals}
 use Rattle.data_theory.specs.Signature.{Sig}
 use Rattle.data_theory.specs.WholeSignatures.{IsSignature}
 use Rattle.data_theory.specs.IdData.{data_meant}
-use Rattle.data_theory.specs.IdTerms.{sort_under, term_under, variable_sorts, IsGrown}
+use Rattle.data_theory.specs.IdTerms.{sort_under, term_under, variable_sorts}
 use Rattle.data_theory.proofs.IdTermLemmas.{sorted_trees_mean_sorted_terms}
-use Rattle.term_pool.specs.HeadTrees.{tree_at, IsIn}
-use Rattle.term_pool.specs.Pools.{PoolContents, Extends}
+use Rattle.term_pool.specs.HeadTrees.{tree_at}
+use Rattle.term_pool.specs.Pools.{PoolContents}
 use Rattle.term_pool.specs.Constants.{constant_of}
-use Rattle.term_pool.proofs.DeclaredConstants.{grown_itself}
 use Rattle.process_terms.specs.Meanings.{term_at}
 use Rattle.process_terms.specs.Processes.{Bound}
 use Rattle.process_terms.specs.SignatureEntries.{entries_of, BothGrow}
-use Rattle.bisim_laws.specs.LinearProcesses.{Summand, Linear, variables, sorts, AreDeclared}
+use Rattle.bisim_laws.specs.LinearProcesses.{Summand, Linear, variables, AreDeclared}
 use Rattle.bisim_laws.specs.BaseStates.{GreibachCall, Columns, control_of, number_of}
 use Rattle.bisim_laws.proofs.Firing.{contains_first, contains_later, contains_cases, contains_none, variable_among}
 use Rattle.lps_core.specs.Moving.{SameSorts, no_more, one_more, renaming_to}
-use Rattle.lps_core.specs.MadeTerms.{Written, StackSort, IsClosedTerm, WasAnswered, Origin, origin_of, IsStack, IsMade, a_variable, a_number, a_closed_term, AreMade, none_made, more_made, IsAdded, a_control_number, the_whole, plain_part, HasPlainParts, SummandIsPlain, IsPlain}
-use Rattle.lps_core.specs.PlainLinears.{PlainLinear, linear_of, initial_of}
+use Rattle.lps_core.specs.MadeTerms.{StackSort, IsClosedTerm, WasAnswered, Origin, origin_of, IsStack, IsMade, a_variable, a_number, a_closed_term, AreMade, none_made, more_made, IsAdded, a_control_number, the_whole, plain_part, HasPlainParts, SummandIsPlain}
+use Rattle.lps_core.specs.PlainLinears.{PlainLinear, linear_of}
 use Rattle.lps_core.proofs.Environments.{unrenamed_stay}
-use Rattle.lps_core.proofs.PoolTrees.{extends_itself, extends_on, tree_kept}
+use Rattle.lps_core.proofs.PoolTrees.{extends_on, tree_kept}
 use Rattle.lps_core.proofs.SortedTerms.{HaveTheirSorts, one_sort}
 use Rattle.lps_core.proofs.Staying.{term_is}
 use Rattle.lps_core.proofs.StayingFits.{term_fits}
 use Rattle.greibach.specs.Forms.{FormSummand, FormEquation, Form, IsForm, FormIsSorted}
 use Rattle.greibach.specs.PlainForms.{PlainEquation, PlainForm, form_of}
-use Rattle.greibach.specs.PlainTerms.{FormSummandIsPlain, FormIsPlain}
+use Rattle.greibach.specs.PlainTerms.{FormSummandIsPlain}
 use Rattle.regular_encoder.specs.Encoding.{control_params, control_parts, place_of, to_columns, next_columns, encoded_next, encoded_summand, encoded_params, encoded, IsLayout}
-use Rattle.regular_encoder.specs.TreeEncoding.{PlainLayout}
 use Rattle.regular_encoder.specs.Layouts.{control_variable}
-use Rattle.regular_encoder.specs.FormColumns.{argument_of, IsControl, no_control, a_control, IsFirstTerm, an_argument, a_closed_term as closed_first, AreFirstTerms, no_first_term, one_more_first_term, HasItsColumns}
+use Rattle.regular_encoder.specs.FormColumns.{argument_of, IsControl, no_control, a_control, IsFirstTerm, an_argument, a_closed_term as closed_first, AreFirstTerms, no_first_term, one_more_first_term}
 use Rattle.regular_encoder.specs.EncodedForms.{IsEncodedForm, added_in_front, StaysPlain}
 use Rattle.regular_encoder.proofs.Encoded.{is_among, place_long}
 use Rattle.regular_encoder.proofs.EncodedForms.{EncodingMeans}
 use Rattle.regular_encoder.proofs.FirstTerms.{HasNoVariable, closed_tree, value_is_closed, some_is, no_some, grow_then, grow_none}
 use Rattle.regular_encoder.proofs.Fitting.{moves_sorted}
-use Rattle.regular_encoder.proofs.PlainTerms.{made_moved, all_moved, label_moved, parts_moved, parts_are_plain, joined_plain}
+use Rattle.regular_encoder.proofs.PlainTerms.{all_moved, label_moved, parts_moved, parts_are_plain, joined_plain}
 
 -- ---- parameters and columns
 -- a parameter goes to a column of its sort

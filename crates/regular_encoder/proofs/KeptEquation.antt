@@ -1,5 +1,5 @@
 -- A form of one equation keeps its parameters, its initial terms and its summands.
-use Rattle.std.proofs.Common.{◌≡◌, ◌==◌, ◌-◌, ◌<◌, ◌⊎◌, inl, inr, ⊎_elim, ℕ, cond, List, [], ◌∷◌, ◌++◌, map, length, refl, sym, ap, ap₂, ◌∙◌, subst, arith, None, Some}
+use Rattle.std.proofs.Common.{◌≡◌, ◌-◌, ◌<◌, ◌⊎◌, inl, inr, ⊎_elim, ℕ, cond, List, [], ◌∷◌, ◌++◌, map, length, refl, sym, ap, ap₂, ◌∙◌, subst, arith, None, Some}
 use Rattle.std.specs.Prelude.{slice_get, option_to_list}
 use Rattle.std.specs.List.{All, AllZip, Contains}
 use Rattle.std.proofs.lemmas.Bool.Decides.{eqb_tells}
@@ -19,23 +19,23 @@ use Rattle.data_theory.specs.WholeSignatures.{IsSignature}
 use Rattle.data_theory.proofs.IdGrowthLemmas.{growth_after_growth_is_growth}
 use Rattle.data_theory.proofs.EnvironmentLemmas.{contains_first as number_first, contains_later as number_later}
 use Rattle.term_pool.specs.HeadTrees.{tree_at, trees_at}
-use Rattle.term_pool.specs.Pools.{PoolContents, Extends}
+use Rattle.term_pool.specs.Pools.{PoolContents}
 use Rattle.bisim_laws.proofs.Firing.{contains_cases, contains_none}
-use Rattle.lps_core.specs.Fitting.{AreTermsOf, IsVariable, sort_of_variable}
-use Rattle.lps_core.specs.Naming.{name_of, names_of, function_names, GrowsByNames}
+use Rattle.lps_core.specs.Fitting.{AreTermsOf, sort_of_variable}
+use Rattle.lps_core.specs.Naming.{name_of, names_of, function_names}
 use Rattle.lps_core.specs.PlainLinears.{PlainLinear}
 use Rattle.lps_core.specs.TreeConditions.{conjunction_tree, tree_parts, trees_without_true}
-use Rattle.lps_core.specs.TreeSummands.{numbers_of, bound_tree, trees_of_label, put_actions, renaming_tree, trees_of_summand}
-use Rattle.lps_core.proofs.Members.{contains_map, all_at, all_from}
-use Rattle.lps_core.proofs.NamedSums.{last_variable, name_kept, names_kept, variable_kept, all_front, all_last, zip_push, zip_weaker, name_numbers}
+use Rattle.lps_core.specs.TreeSummands.{numbers_of, bound_tree, trees_of_label, put_actions, renaming_tree}
+use Rattle.lps_core.proofs.Members.{contains_map, all_at}
+use Rattle.lps_core.proofs.NamedSums.{last_variable, names_kept, all_front, all_last, zip_push}
 use Rattle.lps_core.proofs.PoolTrees.{extends_on, trees_kept}
 use Rattle.greibach.specs.PlainForms.{PlainFormSummand, PlainEquation, PlainForm}
 use Rattle.greibach.specs.FittingForms.{CallFits, FormSummandFits, EquationFits, FormFits}
 use Rattle.regular_encoder.specs.TreeEncoding.{PlainLayout, place_at, tree_control_of, tree_control_parts, tree_encoded, tree_encoded_next}
-use Rattle.regular_encoder.specs.WholeEncoding.{moves_of, equation_encoded, trees_encoded_from}
-use Rattle.regular_encoder.specs.FormColumns.{kind_of, column_kinds, layout_params, IsOwnName, the_name, a_new_name, IsColumn, a_column, AreColumns, no_column, one_more_column, HasItsColumns}
-use Rattle.regular_encoder.specs.EncodedForms.{IsEncodedForm, shortened, called_with, kept_summand, KeepsItsName, IsTheEquation, OneEquationIsKept}
-use Rattle.regular_encoder.proofs.NewColumns.{NameStands, fresh_stands, KindsStand, ColumnsStand, columns_stand, ColumnStands, column_stands}
+use Rattle.regular_encoder.specs.WholeEncoding.{equation_encoded, trees_encoded_from}
+use Rattle.regular_encoder.specs.FormColumns.{kind_of, column_kinds, IsOwnName, the_name, a_new_name, IsColumn, a_column, AreColumns, no_column, one_more_column}
+use Rattle.regular_encoder.specs.EncodedForms.{IsEncodedForm, called_with, kept_summand, KeepsItsName, OneEquationIsKept}
+use Rattle.regular_encoder.proofs.NewColumns.{fresh_stands, KindsStand, columns_stand, column_stands}
 use Rattle.regular_encoder.proofs.FirstTerms.{some_is}
 use Rattle.regular_encoder.proofs.FormsInPlace.{terms_long}
 use Rattle.regular_encoder.proofs.LaidOutForms as laid_out

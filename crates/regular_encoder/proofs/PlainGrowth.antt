@@ -1,6 +1,5 @@
 -- What is plainly conditioned stays so as a signature and a pool grow.
-use Rattle.std.proofs.Common.{◌≡◌, ◌<◌, ℕ, zero, suc, List, [], ◌∷◌, ◌++◌, map, refl, sym, ap, ◌∙◌, subst, arith, Some}
-use Rattle.std.specs.Prelude.{Contains}
+use Rattle.std.proofs.Common.{ℕ, zero, suc, List, [], ◌∷◌, ◌++◌, map, refl, sym, ap, ◌∙◌, subst, arith}
 use Rattle.std.specs.List.{AllByRecursion}
 use Rattle.data_theory.specs.Terms.{Sort, Term, Terms, variable, numeral, unknown, application, none, more}
 use Rattle.data_theory.specs.Declarations.{Data, Declares, HasSort, HaveSorts}
@@ -16,21 +15,20 @@ use Rattle.data_theory.proofs.IdTermLemmas.{growth_keeps_meant_terms, sorted_tre
 use Rattle.term_pool.specs.HeadTrees.{tree_at}
 use Rattle.term_pool.specs.Pools.{PoolContents}
 use Rattle.process_terms.specs.Meanings.{term_at}
-use Rattle.process_terms.specs.Labels.{Action, Label}
+use Rattle.process_terms.specs.Labels.{Label}
 use Rattle.process_terms.specs.Processes.{Bound}
 use Rattle.process_terms.specs.SignatureEntries.{entries_of, BothGrow}
 use Rattle.process_terms.proofs.EntryLemmas.{signatures_add_entries}
-use Rattle.bisim_laws.specs.LinearProcesses.{Summand, Linear, sorts, AreDeclared}
-use Rattle.bisim_laws.specs.BaseStates.{GreibachCall}
-use Rattle.lps_core.specs.MadeTerms.{Written, StackSort, WasAnswered, Origin, IsStack, IsMade, a_variable, the_true, the_false, a_number, a_closed_term, of_an_action, of_a_call, no_frame, a_frame, frames_below, a_column, AreMade, none_made, more_made, IsInstance, an_instance, IsActionArgument, action_argument, IsArgumentEquality, equal_arguments, IsPlainCondition, as_written, against_a_written_one, an_equality, against_equalities, a_flag, against_a_flag, a_control_number, a_frame_on_top, a_frame_below, no_frame_below, a_number_on_top, IsPlainPart, true_part, plain_part, HasActionArguments, SummandIsPlain, IsPlainlyConditioned, origin_of}
+use Rattle.bisim_laws.specs.LinearProcesses.{Linear, sorts}
+use Rattle.lps_core.specs.MadeTerms.{Written, StackSort, WasAnswered, Origin, IsStack, IsMade, a_variable, the_true, the_false, a_number, a_closed_term, of_an_action, of_a_call, no_frame, a_frame, frames_below, a_column, AreMade, none_made, more_made, IsInstance, an_instance, IsActionArgument, action_argument, IsArgumentEquality, equal_arguments, IsPlainCondition, as_written, against_a_written_one, an_equality, against_equalities, a_flag, against_a_flag, a_control_number, a_frame_on_top, a_frame_below, no_frame_below, a_number_on_top, IsPlainPart, true_part, plain_part, HasActionArguments, IsPlainlyConditioned, origin_of}
 use Rattle.lps_core.specs.PlainLinears.{linear_of, initial_of}
 use Rattle.lps_core.proofs.GrowingData.{terms_grown}
 use Rattle.lps_core.proofs.PoolTrees.{extends_on, tree_kept}
 use Rattle.lps_core.proofs.Staying.{terms_stay, what_fits_stays}
 use Rattle.lps_core.proofs.StayingFits.{term_fits}
-use Rattle.greibach.specs.Forms.{FormSummand, FormEquation, Form}
+use Rattle.greibach.specs.Forms.{Form}
 use Rattle.greibach.specs.PlainForms.{form_of}
-use Rattle.greibach.specs.PlainTerms.{FormSummandIsPlain, FormIsPlainlyConditioned}
+use Rattle.greibach.specs.PlainTerms.{FormIsPlainlyConditioned}
 use Rattle.greibach.proofs.StayingForms.{forms_stay}
 use Rattle.regular_encoder.specs.PlainGrowth.{PlainFormsStayPlain, PlainLinearsStayPlain}
 

@@ -1,13 +1,13 @@
 -- Made terms and plain conditions, where terms are put in for variables and where conditions are joined.
-use Rattle.std.proofs.Common.{◌≡◌, ⊎_elim, ℕ, Bool, true, false, if◌then◌else◌, List, [], ◌∷◌, ◌++◌, map, length, refl, sym, ap, ap₂, ◌∙◌, subst}
+use Rattle.std.proofs.Common.{◌≡◌, ⊎_elim, ℕ, true, false, if◌then◌else◌, List, [], ◌∷◌, ◌++◌, map, refl, sym, ap, ◌∙◌, subst}
 use Rattle.std.specs.Prelude.{Contains}
 use Rattle.std.specs.List.{AllByRecursion}
 use Rattle.std.proofs.lemmas.List.{length-map}
 use Rattle.data_theory.specs.Terms.{Term, positive, variable, numeral, conjunction, application, function, none, more, put}
-use Rattle.data_theory.specs.Environments.{Environment, term_in, bound}
+use Rattle.data_theory.specs.Environments.{Environment, term_in}
 use Rattle.data_theory.specs.Equations.{one, equals, trueᵗ, !ᵗ◌, ◌∧ᵗ◌}
 use Rattle.data_theory.proofs.EnvironmentLemmas.{arguments_put_in_first, putting_in_goes_through_lists}
-use Rattle.process_terms.specs.Labels.{Action, Label, put_label}
+use Rattle.process_terms.specs.Labels.{Label, put_label}
 use Rattle.process_terms.specs.Communication.{conjunction_of}
 use Rattle.process_terms.specs.Processes.{Bound}
 use Rattle.bisim_laws.specs.LinearProcesses.{variables, sorts, is_true}
