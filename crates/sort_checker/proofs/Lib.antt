@@ -1,0 +1,16 @@
+pub mod SingleFaults
+pub mod RelatedTypings
+pub mod OtherNumbers
+pub mod EquationNumbers
+pub mod ClosedAlike
+pub mod Firsts
+pub mod NumberedFirsts
+pub mod AgainNames
+pub mod ScopedLists
+pub mod SortedParts
+pub mod FittingElaborations
+pub mod WorkedTexts
+pub mod WorkedDefinitions
+pub mod LeftSides
+pub mod StayingAlike
+pub mod SoundElaborations
