@@ -14,3 +14,7 @@ pub mod WorkedDefinitions
 pub mod LeftSides
 pub mod StayingAlike
 pub mod SoundElaborations
+pub mod MeantWords
+pub mod ElaboratedSound
+pub mod WellTypedTexts
+pub mod FirstsFound

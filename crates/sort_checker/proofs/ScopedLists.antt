@@ -19,7 +19,7 @@ bare_of ss = map bare_section (map section_of ss)
 declarations_are : (s : Section) → map bare_declaration (map plain_decl s.declarations.items) ≡ map declaration_of s.declarations.items
 declarations_are s = map-map bare_declaration plain_decl s.declarations.items
 
-abbrev under : Variables → Declaration → ScopedDeclaration
+abbrev pub under : Variables → Declaration → ScopedDeclaration
 under xs d = record { variables = xs; declaration = d }
 
 abbrev pub tree_under : Variables → Decl → ScopedDeclaration

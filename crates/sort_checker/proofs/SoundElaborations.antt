@@ -34,22 +34,22 @@ there_then : {A B : Type 0} (f : A → Option B) (o : Option A) → is_some (opt
 there_then f None h = let never : false ≡ true = h in cc
 there_then f (Some x) h = (x, (refl, h))
 
-both_true : (a b : Bool) → (a && b) ≡ true → (a ≡ true) × (b ≡ true)
+pub both_true : (a b : Bool) → (a && b) ≡ true → (a ≡ true) × (b ≡ true)
 both_true true b h = (refl, h)
 both_true false b h = let never : false ≡ true = h in cc
 
-no_name : {A B : Type 0} (f : A → B) (o : Option A) → option_map f o ≡ None → o ≡ None
+pub no_name : {A B : Type 0} (f : A → B) (o : Option A) → option_map f o ≡ None → o ≡ None
 no_name f None h = refl
 no_name f (Some x) h = absurd (none-some (f x) (sym h))
 
-none_found : {A : Type 0} (p : A → Bool) (x : A) (xs : List A) → find p (x ∷ xs) ≡ None → (p x ≡ false) × (find p xs ≡ None)
+pub none_found : {A : Type 0} (p : A → Bool) (x : A) (xs : List A) → find p (x ∷ xs) ≡ None → (p x ≡ false) × (find p xs ≡ None)
 none_found {A = A} p x xs h = by_test (p x) refl h
   where
     by_test : (b : Bool) → p x ≡ b → cond b (Some x) (find p xs) ≡ None → (p x ≡ false) × (find p xs ≡ None)
     by_test true e k = absurd (none-some x (sym k))
     by_test false e k = (e, k)
 
-not_false : (b : Bool) → not b ≡ false → b ≡ true
+pub not_false : (b : Bool) → not b ≡ false → b ≡ true
 not_false true h = refl
 not_false false h = let never : true ≡ false = h in cc
 
@@ -59,12 +59,12 @@ front_all P [] ys h = (tt, h)
 front_all P (x ∷ xs) ys h = let r = front_all P xs ys h.1 in ((h.0, r.0), r.1)
 
 -- ---- scopes
-scope_append : (v : Vocabulary) (scope : Scope) (xs ys : Variables) → scope_behind v scope (xs ++ ys) ≡ scope_behind v (scope_behind v scope xs) ys
+pub scope_append : (v : Vocabulary) (scope : Scope) (xs ys : Variables) → scope_behind v scope (xs ++ ys) ≡ scope_behind v (scope_behind v scope xs) ys
 scope_append v scope [] ys = refl
 scope_append v scope (x ∷ xs) ys = scope_append v (option_to_list (numbered v scope x) ++ scope) xs ys
 
 -- numbers below that of the next variable
-abbrev AreBelow : Scope → ℕ → Type 0
+abbrev pub AreBelow : Scope → ℕ → Type 0
 AreBelow scope n = (k : ℕ) → Contains (numbers_of scope) k → k < n
 
 below_next : (scope : Scope) (b : Bound) → AreBelow scope (length scope) → b.number ≡ length scope → AreBelow (b ∷ scope) (suc (length scope))
@@ -76,7 +76,7 @@ with_next scope x s = record { name = x; number = length scope; sort = s } ∷ s
 next_is : (v : Vocabulary) (scope : Scope) (x : Name × SortExpression) (s : Sort) → sort_in v.sort_names x.1 ≡ Some s → option_to_list (numbered v scope x) ++ scope ≡ with_next scope x.0 s
 next_is v scope x s e = ap (λ (o : Option Sort). option_to_list (option_map (λ (r : Sort). record { name = x.0; number = length scope; sort = r }) o) ++ scope) e
 
-numbers_below : (v : Vocabulary) (scope : Scope) (xs : Variables) → AreBelow scope (length scope) → AreBelow (scope_behind v scope xs) (length (scope_behind v scope xs))
+pub numbers_below : (v : Vocabulary) (scope : Scope) (xs : Variables) → AreBelow scope (length scope) → AreBelow (scope_behind v scope xs) (length (scope_behind v scope xs))
 numbers_below v scope [] h = h
 numbers_below v scope (x ∷ xs) h = numbers_below v (option_to_list (numbered v scope x) ++ scope) xs (by_sort (sort_in v.sort_names x.1))
   where
@@ -84,11 +84,11 @@ numbers_below v scope (x ∷ xs) h = numbers_below v (option_to_list (numbered v
     by_sort None = h
     by_sort (Some s) = below_next scope (record { name = x.0; number = length scope; sort = s }) h refl
 
-record AreBound (v : Vocabulary) (scope : Scope) (xs : Variables) (inner : Scope) : Type 0 where
-  bounds : List processes.Bound
-  binds : Binds v scope xs inner bounds
+pub record AreBound (v : Vocabulary) (scope : Scope) (xs : Variables) (inner : Scope) : Type 0 where
+  pub bounds : List processes.Bound
+  pub binds : Binds v scope xs inner bounds
 
-bind_all : (v : Vocabulary) (scope : Scope) (xs : Variables) → AreBelow scope (length scope) → HaveSorts v xs → AreBound v scope xs (scope_behind v scope xs)
+pub bind_all : (v : Vocabulary) (scope : Scope) (xs : Variables) → AreBelow scope (length scope) → HaveSorts v xs → AreBound v scope xs (scope_behind v scope xs)
 bind_all v scope [] below h = record { bounds = []; binds = binds_none }
 bind_all v scope ((x, e) ∷ xs) below h =
     let s : Sort = h.0.0 in
@@ -210,7 +210,7 @@ module _ (v : FullVocabulary) where
         let r = sound xs q l parts.0 operators.0 sums.0 in
         let rs = all_sound xs qs l parts.1 operators.1 sums.1 in (r.0 ∷ rs.0, one_and_more r.1 rs.1)
 
-none_below : AreBelow [] 0
+pub none_below : AreBelow [] 0
 none_below k c = absurd (contains_nothing k c)
 
 pub sound_processes_elaborate : SoundProcessesElaborate

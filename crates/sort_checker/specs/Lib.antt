@@ -18,3 +18,5 @@ pub mod WorkedElaborations
 pub mod LeftTrees
 pub mod GrowthLaws
 pub mod SoundTexts
+pub mod WholeTexts
+pub mod FirstFaults

@@ -40,3 +40,7 @@ SoundProcessesElaborate = (v : FullVocabulary) (xs : Variables) (p : Process) �
 
 abbrev pub SoundDefinitionsElaborate : Type 0
 SoundDefinitionsElaborate = (v : FullVocabulary) (w : Written) → HaveSorts v.declared w.parameters → IsSoundProcess v w.parameters w.body → (d : Definition) × ElaboratesDefinition v w d
+
+-- and what elaborates has none
+abbrev pub ElaboratedProcessesAreSound : Type 0
+ElaboratedProcessesAreSound = (v : FullVocabulary) (xs : Variables) (p : Process) (b : Body) → Elaborates v (scope_of v.declared xs) p b → IsSoundProcess v xs p

@@ -1,17 +1,24 @@
 //! Laws of elaboration.
 
+ghost use Rattle.sort_checker.specs.FirstFaults.{TheFirstIsFound};
 ghost use Rattle.sort_checker.specs.Refusals.{RefusalsAreSingle};
 ghost use Rattle.sort_checker.specs.ScopeLaws.{TypingsAreRenamed, TypingNeedsNoNumbers, ElaboratingNeedsNoNumbers, DefinitionsNeedNoNumbers, EquationsNeedNoNumbers};
 ghost use Rattle.sort_checker.specs.ClosingLaws.{ElaborationsCloseAlike};
 ghost use Rattle.sort_checker.specs.FittingBodies.{WhatElaboratesFits, DefinitionsFit, EquationsFit};
 ghost use Rattle.sort_checker.specs.GrowthLaws.{ProcessesStayAlike, DefinitionsStayAlike, EquationsStayAlike};
-ghost use Rattle.sort_checker.specs.SoundTexts.{SoundProcessesElaborate, SoundDefinitionsElaborate};
+ghost use Rattle.sort_checker.specs.SoundTexts.{SoundProcessesElaborate, SoundDefinitionsElaborate, ElaboratedProcessesAreSound};
+ghost use Rattle.sort_checker.specs.WholeTexts.{WellTypedTextsElaborate};
 ghost use Rattle.sort_checker.specs.WorkedFaults.{TheseHaveFaults};
 ghost use Rattle.sort_checker.specs.WorkedElaborations.{TheseElaborate};
 
 /// A text is refused with one fault at most.
 pub fn refusals_are_single()
     ensures { RefusalsAreSingle }
+{}
+
+/// A search for the first declaration with a fault finds just that one.
+pub fn the_first_is_found()
+    ensures { TheFirstIsFound }
 {}
 
 /// Under other numbers of the variables terms are renamed.
@@ -64,4 +71,14 @@ pub fn other_declarations_change_nothing()
 pub fn what_has_no_fault_elaborates()
     ensures processes { SoundProcessesElaborate }
     ensures definitions { SoundDefinitionsElaborate }
+{}
+
+/// A process term that elaborates has no fault.
+pub fn what_elaborates_has_no_fault()
+    ensures { ElaboratedProcessesAreSound }
+{}
+
+/// The definitions and `init` of a well-typed text elaborate.
+pub fn well_typed_texts_elaborate()
+    ensures { WellTypedTextsElaborate }
 {}
