@@ -1,6 +1,6 @@
 -- The names that trees rename twice, one after the other.
-use Rattle.std.proofs.Common.{◌≡◌, ◌<◌, ◌+◌, ◌||◌, ℕ, suc, Bool, true, false, cond, List, [], ◌∷◌, ◌++◌, length, map, take, drop, get_or, refl, ap, sym, ◌∙◌, arith}
-use Rattle.std.specs.Prelude.{Option, Some, None, option_map, bytes_eq, is_some}
+use Rattle.std.proofs.Common.{◌≡◌, List, map, refl, ap, sym, ◌∙◌}
+use Rattle.std.specs.Prelude.{Option, Some, None, option_map}
 use Rattle.std.specs.Option.{option_or}
 use Rattle.std.specs.Global.{Box, Vec}
 use Rattle.std.proofs.lemmas.Simd.{map-map}
@@ -17,7 +17,7 @@ use Rattle.sort_table.specs.Expressions.{Name}
 use Rattle.sort_table.specs.BareProcesses.{bare_process}
 use Rattle.sort_checker.specs.Operators as operators
 use Rattle.sort_checker.specs.Operators.{operators_in, renamed_twice, first_again}
-use Rattle.sort_checker.specs.RenamedTrees.{again_in_process, again_in_processes, again_in_operators, again_among}
+use Rattle.sort_checker.specs.RenamedTrees.{again_in_process, again_in_processes, again_among}
 use Rattle.sort_checker.proofs.Firsts.{IsSearch, first_append}
 
 abbrev pub again_in_all : List ProcTree → Option Name

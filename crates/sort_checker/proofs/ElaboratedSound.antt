@@ -2,11 +2,11 @@
 use Rattle.std.proofs.Common.{◌≡◌, ℕ, Bool, true, false, not, cond, ◌&&◌, ◌||◌, List, [], ◌∷◌, ◌++◌, length, map, refl, sym, ap, ap₂, ◌∙◌, subst}
 use Rattle.std.specs.Prelude.{Option, Some, None, is_some, is_none, option_map, option_and_then, bytes_eq}
 use Rattle.std.specs.Option.{option_or}
-use Rattle.std.specs.List.{AllByRecursion, find, flat_map, list_all, list_any}
+use Rattle.std.specs.List.{AllByRecursion, find, flat_map, list_all}
 use Rattle.std.proofs.lemmas.Option.{none-some, option_and_then_some}
 use Rattle.std.proofs.lemmas.List.Folds.{find-append}
 use Rattle.std.proofs.lemmas.Slice.Eq.{bytes_eq-Decides}
-use Rattle.data_theory.specs.Terms.{Sort, boolean, Term, Terms}
+use Rattle.data_theory.specs.Terms.{Sort, boolean, Term}
 use Rattle.data_theory.specs.Environments as lists
 use Rattle.process_terms.specs.Labels as written
 use Rattle.process_terms.specs.Labels.{Label}
@@ -18,7 +18,7 @@ use Rattle.sort_table.specs.BareProcesses as bare
 use Rattle.sort_table.specs.BareProcesses.{Variables, Action, tau, act, Process, Processes, sums_in, sums_in_all}
 use Rattle.sort_table.specs.Vocabularies.{Vocabulary}
 use Rattle.data_typing.specs.Typings.{Typing, checked, all_at}
-use Rattle.data_typing.specs.Meanings.{Bound, Scope, meaning, typing_in}
+use Rattle.data_typing.specs.Meanings.{Scope, meaning, typing_in}
 use Rattle.data_typing.proofs.Options.{mapped}
 use Rattle.data_typing.proofs.NamedParts.{all_appended}
 use Rattle.sort_checker.specs.FullVocabularies.{Parameters, FullVocabulary, process_named}
@@ -27,11 +27,11 @@ use Rattle.sort_checker.specs.Parts.{a_label, a_call, a_condition, an_operator, 
 use Rattle.sort_checker.specs.Scopes.{Binds, binds_none, binds_more, scope_behind, scope_of}
 use Rattle.sort_checker.specs.PartTypings.{action_of, label_in, arguments_in, left_out, assigned_or, assigned_in, assigned_names, are_assignments}
 use Rattle.sort_checker.specs.Faults.{words_in, Use, of_data, of_process, of_action, name_of, is_action, is_known, uses_in_data, uses_of_action, is_call_typed, is_value_typed, are_values_typed, first_left_out}
-use Rattle.sort_checker.specs.Elaborations.{Fits, Elaborates, nothing, label, call_in_order, call_by_name, only_these, none_of_these, unseen, renamed, joined, in_sequence, one_of, side_by_side, for_each, where_true, by_truth, AllElaborate, all_done, one_and_more}
+use Rattle.sort_checker.specs.Elaborations.{Fits, Elaborates, label, call_in_order, call_by_name, only_these, none_of_these, unseen, renamed, joined, in_sequence, one_of, side_by_side, for_each, where_true, by_truth, AllElaborate, one_and_more}
 use Rattle.sort_checker.specs.ScopeLaws.{SameNames, same_none, same_more}
-use Rattle.sort_checker.specs.SoundTexts.{IsSoundPart, IsSoundOperator, HaveSorts, IsSoundProcess, ElaboratedProcessesAreSound}
+use Rattle.sort_checker.specs.SoundTexts.{IsSoundPart, IsSoundOperator, HaveSorts, ElaboratedProcessesAreSound}
 use Rattle.sort_checker.proofs.OtherNumbers.{anew, bound_alike}
-use Rattle.sort_checker.proofs.SoundElaborations.{AreBelow, AreBound, bind_all, numbers_below, scope_append, none_below, both_true, none_found}
+use Rattle.sort_checker.proofs.SoundElaborations.{AreBelow, bind_all, numbers_below, scope_append, none_below, both_true}
 use Rattle.sort_checker.proofs.MeantWords.{AreMeant, checked_words, action_words, argument_words, meant_is_known}
 
 or_true : (b : Bool) → (b || true) ≡ true

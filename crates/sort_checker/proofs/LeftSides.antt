@@ -13,8 +13,8 @@ use Rattle.mcrl2_syntax.specs.Words.{PlainWord, word_of}
 use Rattle.mcrl2_syntax.specs.ProcessParts.{var_group_of}
 use Rattle.mcrl2_syntax.specs.declared.data_tree.DataTree.{DataTree}
 use Rattle.mcrl2_syntax.specs.declared.data_tree.InfixSign.{InfixSign}
-use Rattle.mcrl2_syntax.specs.DataTrees.{PlainData, PlainOperands, no_operands, more_operands, datas_of, operands_of, plain_data, plain_operands}
-use Rattle.sort_table.specs.Expressions.{Name, Expression, Expressions, numeral, listed, word, none, more}
+use Rattle.mcrl2_syntax.specs.DataTrees.{PlainOperands, no_operands, more_operands, datas_of, operands_of, plain_data, plain_operands}
+use Rattle.sort_table.specs.Expressions.{Name, Expression, numeral, listed, word, none, more}
 use Rattle.sort_table.specs.BareSorts.{SortExpression, bare_sort}
 use Rattle.sort_table.specs.BareData.{bare_data, bare_datas, infix_text, to_the_left, to_the_right}
 use Rattle.sort_table.specs.BareProcesses.{Variables, bare_group, bare_variables}
@@ -25,7 +25,7 @@ use Rattle.sort_table.proofs.Searches.{IsListed}
 use Rattle.sort_checker.specs.declared.name_numbers.NameNumbers.{NameNumbers}
 use Rattle.sort_checker.specs.NameNumbers.{number_under, has_name, AddsNames}
 use Rattle.sort_checker.specs.Operators.{stands_in}
-use Rattle.sort_checker.specs.Parts.{ScopedDeclaration, variables_by}
+use Rattle.sort_checker.specs.Parts.{variables_by}
 use Rattle.sort_checker.specs.Faults.{names_of_variables, is_variable, is_left_variable, has_variable_left}
 use Rattle.sort_checker.specs.Refusals.{number_from}
 use Rattle.sort_checker.specs.LeftTrees.{lone_word, passes, is_left_word, left_from, names_of_words, names_of_groups, names_by, names_before}

@@ -1,30 +1,28 @@
 -- The words of an expression that types mean something.
-use Rattle.std.proofs.Common.{◌≡◌, ℕ, Bool, true, false, not, cond, ◌||◌, List, [], ◌∷◌, ◌++◌, length, map, refl, sym, ap, ◌∙◌}
-use Rattle.std.specs.Prelude.{Option, Some, None, is_some, option_map, option_and_then, option_to_list, bytes_eq, slice_get}
-use Rattle.std.specs.Option.{option_or}
-use Rattle.std.specs.List.{AllByRecursion, find, flat_map}
+use Rattle.std.proofs.Common.{◌≡◌, Bool, true, false, cond, ◌||◌, List, [], ◌∷◌, ◌++◌, length, map, refl, sym, ap, ◌∙◌}
+use Rattle.std.specs.Prelude.{Option, Some, None, is_some, option_map, option_to_list, bytes_eq, slice_get}
+use Rattle.std.specs.List.{AllByRecursion, flat_map}
 use Rattle.std.proofs.lemmas.Option.{none-some, option_and_then_some}
 use Rattle.data_theory.specs.Terms.{Sort, Term, Terms}
 use Rattle.data_theory.specs.Terms as terms
 use Rattle.process_terms.specs.Labels as written
 use Rattle.process_terms.specs.Labels.{Label}
 use Rattle.sort_table.specs.Expressions.{Name, Expression, Expressions}
-use Rattle.sort_table.specs.NamedLists.{all_named, first_named}
-use Rattle.sort_table.specs.BareSorts.{SortExpression}
-use Rattle.sort_table.specs.BareProcesses.{Variables, Action, tau, act}
+use Rattle.sort_table.specs.NamedLists.{first_named}
+use Rattle.sort_table.specs.BareProcesses.{Variables}
 use Rattle.sort_table.specs.Vocabularies.{Vocabulary, sort_in}
 use Rattle.data_typing.specs.Typings.{Inferred, Typing, Signature, Scheme, Meaning, bound, functions, typing, exactly, checked, all_at, first_of, sort_eq}
 use Rattle.data_typing.specs.TypingLaws.{IsAmong, Reads, a_numeral, a_variable, a_call, a_call_over, a_list, upcast_before, ReadEach, no_more, one_more, ReadList, no_element, one_element}
-use Rattle.data_typing.specs.Meanings.{Bound, Scope, bound_row, meaning_or, meaning, typing_in, signatures_named}
+use Rattle.data_typing.specs.Meanings.{Bound, Scope, bound_row, meaning_or, meaning, signatures_named}
 use Rattle.data_typing.specs.BuiltIns.{scheme_named}
-use Rattle.data_typing.proofs.Options.{one_or_other, mapped, chosen}
+use Rattle.data_typing.proofs.Options.{one_or_other, mapped}
 use Rattle.data_typing.proofs.NamedParts.{all_appended}
 use Rattle.data_typing.proofs.Readings.{typing_reads_the_expression}
 use Rattle.sort_checker.specs.FullVocabularies.{FullVocabulary}
 use Rattle.sort_checker.specs.Operators.{stands_in}
 use Rattle.sort_checker.specs.Scopes.{numbered, scope_behind, scope_of}
-use Rattle.sort_checker.specs.PartTypings.{action_at, action_of, label_in, arguments_in}
-use Rattle.sort_checker.specs.Faults.{words_in, words_in_all, names_of_variables, is_function, Use, of_data, is_known}
+use Rattle.sort_checker.specs.PartTypings.{action_at, action_of}
+use Rattle.sort_checker.specs.Faults.{words_in, words_in_all, names_of_variables, is_function, of_data, is_known}
 
 -- ---- words that mean something
 abbrev pub is_meant : Meaning → Bool

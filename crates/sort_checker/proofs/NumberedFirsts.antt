@@ -1,10 +1,10 @@
 -- Searches for the first declaration with a fault.
-use Rattle.std.proofs.Common.{◌≡◌, ◌<◌, ◌+◌, ℕ, zero, suc, Bool, true, false, cond, List, [], ◌∷◌, ◌++◌, length, map, take, drop, get_or, refl, ap, ap₂, sym, ◌∙◌, arith}
+use Rattle.std.proofs.Common.{◌≡◌, ◌<◌, ◌+◌, ℕ, zero, suc, List, [], ◌∷◌, ◌++◌, length, map, take, get_or, refl, ap, ap₂, sym, ◌∙◌, arith}
 use Rattle.std.specs.Prelude.{Option, Some, None, option_map}
 use Rattle.std.specs.Option.{option_or}
 use Rattle.std.proofs.lemmas.Option.{none-some}
 use Rattle.std.proofs.lemmas.List.{take_more, map-append}
-use Rattle.sort_checker.specs.Refusals.{first_from, number_from}
+use Rattle.sort_checker.specs.Refusals.{first_from}
 
 -- in front of place i nothing is found, and there something is
 pub found_at : {D C A : Type 0} (g : C → D) (f : D → Option A) (k : ℕ) (cs : List C) (i : ℕ) (c : C) (a : A) → i < length cs → c ≡ get_or cs i c → first_from f k (map g (take i cs)) ≡ None → f (g c) ≡ Some a

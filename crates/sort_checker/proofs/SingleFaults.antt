@@ -1,5 +1,5 @@
 -- A text has one fault at most.
-use Rattle.std.proofs.Common.{◌≡◌, sym, ◌∙◌}
+use Rattle.std.proofs.Common.{◌≡◌}
 use Rattle.std.specs.Prelude.{Option, Some}
 use Rattle.sort_checker.specs.Refusals.{RefusalsAreSingle}
 

@@ -1,7 +1,6 @@
 -- Labels, arguments and assignments have the sorts of their places.
-use Rattle.std.proofs.Common.{◌≡◌, ◌<◌, ◌+◌, ℕ, zero, suc, Bool, true, false, cond, if◌then◌else◌, List, [], ◌∷◌, ◌++◌, map, refl, sym, ap, ◌∙◌, subst, arith}
-use Rattle.std.specs.Prelude.{Option, Some, None, option_map, option_and_then, bytes_eq, slice_get}
-use Rattle.std.specs.Option.{option_or}
+use Rattle.std.proofs.Common.{◌≡◌, ◌+◌, ℕ, suc, cond, List, [], ◌∷◌, map, refl, sym, ap, ◌∙◌, subst, arith}
+use Rattle.std.specs.Prelude.{Option, Some, None, option_map, bytes_eq, slice_get}
 use Rattle.std.specs.List.{AllByRecursion}
 use Rattle.std.proofs.lemmas.Option.{none-some, same_Some, option_and_then_some}
 use Rattle.data_theory.specs.Terms.{Sort, boolean, positive, natural, integer, list, Term, Terms, variable}
@@ -12,7 +11,6 @@ use Rattle.data_theory.specs.Declarations.{Data, IsSort, Declares, HasSort, Have
 use Rattle.data_theory.proofs.EnvironmentLemmas.{terms_of_lists}
 use Rattle.process_terms.specs.Labels as written
 use Rattle.process_terms.specs.Labels.{Label}
-use Rattle.process_terms.specs.Processes as processes
 use Rattle.sort_table.specs.Expressions.{Name, Expression}
 use Rattle.sort_table.specs.NamedLists.{all_named, first_named}
 use Rattle.sort_table.specs.BareSorts.{SortExpression, truth_values, positives, naturals, integers, lists_of, a_name}

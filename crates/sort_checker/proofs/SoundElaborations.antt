@@ -1,7 +1,6 @@
 -- What has no fault elaborates: the term of each part is there, and each operator fits.
-use Rattle.std.proofs.Common.{◌≡◌, ◌<◌, ◌+◌, ℕ, zero, suc, Bool, true, false, not, cond, ◌&&◌, ◌||◌, List, [], ◌∷◌, ◌++◌, length, map, refl, sym, ap, ap₂, ◌∙◌, subst, ⊎_elim, arith}
+use Rattle.std.proofs.Common.{◌≡◌, ◌<◌, ℕ, suc, Bool, true, false, not, cond, ◌&&◌, ◌||◌, List, [], ◌∷◌, ◌++◌, length, map, refl, sym, ap, ap₂, subst, ⊎_elim, arith}
 use Rattle.std.specs.Prelude.{Option, Some, None, is_some, is_none, option_map, option_and_then, option_to_list}
-use Rattle.std.specs.Option.{option_or}
 use Rattle.std.specs.List.{Contains, AllByRecursion, find, list_all}
 use Rattle.std.proofs.lemmas.Option.{none-some}
 use Rattle.data_theory.specs.Terms.{Sort, boolean, Term}
@@ -18,12 +17,12 @@ use Rattle.sort_table.specs.Vocabularies.{Vocabulary, sort_in}
 use Rattle.data_typing.specs.Meanings.{Bound, Scope, typing_in}
 use Rattle.sort_checker.specs.FullVocabularies.{Parameters, FullVocabulary, process_named}
 use Rattle.sort_checker.specs.Operators.{renaming_of, rule_of, operators_in, operators_in_all, names_of}
-use Rattle.sort_checker.specs.Parts.{Part, a_label, a_call, a_condition, an_operator, ScopedPart, scoped, parts_in, parts_in_all}
+use Rattle.sort_checker.specs.Parts.{an_operator, scoped, parts_in, parts_in_all}
 use Rattle.sort_checker.specs.Scopes.{numbers_of, Binds, binds_none, binds_more, numbered, scope_behind, scope_of}
 use Rattle.sort_checker.specs.PartTypings.{label_in, arguments_in, left_out, assigned_or, assigned_in, are_assignments}
-use Rattle.sort_checker.specs.Faults.{Use, of_action, name_of, is_action, is_known, is_call_typed, is_value_typed, are_values_typed, is_typed_in, first_left_out}
+use Rattle.sort_checker.specs.Faults.{Use, of_action, name_of, is_action, is_known, is_call_typed, is_value_typed, are_values_typed, first_left_out}
 use Rattle.sort_checker.specs.Elaborations.{Fits, Elaborates, nothing, label, call_in_order, call_by_name, only_these, none_of_these, unseen, renamed, joined, in_sequence, one_of, side_by_side, for_each, where_true, by_truth, AllElaborate, all_done, one_and_more}
-use Rattle.sort_checker.specs.SoundTexts.{IsSoundPart, IsSoundOperator, HaveSorts, IsSoundProcess, SoundProcessesElaborate, SoundDefinitionsElaborate}
+use Rattle.sort_checker.specs.SoundTexts.{IsSoundPart, IsSoundOperator, HaveSorts, SoundProcessesElaborate, SoundDefinitionsElaborate}
 
 -- ---- options and tests
 there : {A : Type 0} (o : Option A) → is_some o ≡ true → (x : A) × (o ≡ Some x)

@@ -1,5 +1,5 @@
 -- What comes behind a vocabulary changes nothing in what elaborates.
-use Rattle.std.proofs.Common.{◌≡◌, ℕ, Bool, true, false, not, cond, ◌&&◌, List, [], ◌∷◌, ◌++◌, map, refl, sym, ap, ap₂, ◌∙◌, subst}
+use Rattle.std.proofs.Common.{◌≡◌, Bool, true, false, not, cond, ◌&&◌, List, [], ◌∷◌, ◌++◌, map, refl, ap, ap₂, ◌∙◌}
 use Rattle.std.specs.Prelude.{Option, Some, None, option_map, option_and_then, bytes_eq}
 use Rattle.std.specs.List.{AllByRecursion, list_all}
 use Rattle.std.proofs.lemmas.Option.{none-some}
@@ -16,7 +16,7 @@ use Rattle.sort_table.specs.BareSorts.{SortExpression, truth_values, positives, 
 use Rattle.sort_table.specs.BareProcesses.{Variables, Action, tau, act, Process, Processes}
 use Rattle.sort_table.specs.Growth.{More, with_more}
 use Rattle.sort_table.specs.Vocabularies.{Vocabulary, sort_in}
-use Rattle.data_typing.specs.Typings.{Typing, Inferred, checked, all_at}
+use Rattle.data_typing.specs.Typings.{Typing, checked, all_at}
 use Rattle.data_typing.specs.TypingLaws.{IsOverData}
 use Rattle.data_typing.specs.Meanings.{Scope, typing_in}
 use Rattle.data_typing.proofs.Options.{mapped}
@@ -24,7 +24,7 @@ use Rattle.data_typing.proofs.OtherNames.{other_names_change_nothing}
 use Rattle.sort_checker.specs.FullVocabularies.{Parameters, FullVocabulary}
 use Rattle.sort_checker.specs.Scopes.{Binds, binds_none, binds_more}
 use Rattle.sort_checker.specs.Operators.{renaming_fits, rule_fits, rule_fits_at, has_action, are_apart}
-use Rattle.sort_checker.specs.PartTypings.{action_of, label_in, arguments_in, assigned_or, assigned_in, left_out, left_side, condition_at}
+use Rattle.sort_checker.specs.PartTypings.{action_of, label_in, arguments_in, assigned_or, assigned_in, left_side, condition_at}
 use Rattle.sort_checker.specs.Elaborations.{Fits, Elaborates, nothing, label, call_in_order, call_by_name, only_these, none_of_these, unseen, renamed, joined, in_sequence, one_of, side_by_side, for_each, where_true, by_truth, AllElaborate, all_done, one_and_more}
 use Rattle.sort_checker.specs.FittingBodies.{EachExpression, EachExpressionOf, EachArgument, EachValue, EachOption}
 use Rattle.sort_checker.specs.GrowthLaws.{fuller, HasNoneOf, ProcessesStayAlike, DefinitionsStayAlike, EquationsStayAlike}

@@ -1,5 +1,5 @@
 -- The definitions and `init` of a well-typed text elaborate.
-use Rattle.std.proofs.Common.{◌≡◌, ℕ, suc, Bool, true, false, not, cond, ◌&&◌, ◌||◌, List, [], ◌∷◌, ◌++◌, map, refl, sym, ap, ◌∙◌, subst}
+use Rattle.std.proofs.Common.{◌≡◌, ℕ, suc, Bool, true, false, not, cond, ◌||◌, List, [], ◌∷◌, ◌++◌, map, refl, sym, ap, ◌∙◌, subst}
 use Rattle.std.specs.Prelude.{Option, Some, None, is_some, option_map}
 use Rattle.std.specs.Option.{option_or}
 use Rattle.std.specs.List.{AllByRecursion, find, flat_map, list_all, list_any}
@@ -15,21 +15,21 @@ use Rattle.sort_table.specs.BareProcesses.{Variables, Process, sums_in}
 use Rattle.sort_table.specs.BareDeclarations as bare
 use Rattle.sort_table.specs.BareDeclarations.{Declaration, Section, declarations_in}
 use Rattle.sort_table.specs.SortMeanings.{Kind, kinds_in, under_names}
-use Rattle.sort_table.specs.Vocabularies.{Vocabulary, sort_in, HasSorts}
+use Rattle.sort_table.specs.Vocabularies.{sort_in, HasSorts}
 use Rattle.sort_table.specs.Growth.{AllStand}
-use Rattle.sort_table.specs.UnknownSorts.{name_in, names_of_variables, is_declared, HasKnownSorts, AllAreKnown}
+use Rattle.sort_table.specs.UnknownSorts.{name_in, names_of_variables, is_declared, HasKnownSorts}
 use Rattle.sort_table.proofs.StandingNames.{declared_names_stand}
 use Rattle.data_typing.specs.Typings.{first_of}
 use Rattle.data_typing.proofs.NamedParts.{all_appended}
-use Rattle.sort_checker.specs.FullVocabularies.{FullVocabulary, Written, process_by, processes_in, IsFullVocabularyOf}
+use Rattle.sort_checker.specs.FullVocabularies.{FullVocabulary, Written, process_by}
 use Rattle.sort_checker.specs.Operators.{has_comm_fault, renamed_twice}
 use Rattle.sort_checker.specs.Parts.{ScopedPart, ScopedDeclaration, variables_by, scoped_behind, scoped_declarations, parts_of}
 use Rattle.sort_checker.specs.Faults.{unknown_name, is_typed, free_variable, operators_of}
 use Rattle.sort_checker.specs.Refusals.{unknown_in, untyped, free_in, variable_left, comm_shape, rename_twice, first_from, number_from, unknown_fault, untyped_fault, free_fault, left_fault, comm_fault, rename_fault}
 use Rattle.sort_checker.specs.Elaborations.{Elaborates, ElaboratesDefinition}
 use Rattle.sort_checker.specs.Systems.{initial_by}
-use Rattle.sort_checker.specs.SoundTexts.{IsSoundPart, IsSoundOperator, HaveSorts, IsSoundProcess}
-use Rattle.sort_checker.specs.WholeTexts.{AllElaborateOf, WellTypedTextsElaborate}
+use Rattle.sort_checker.specs.SoundTexts.{IsSoundPart, IsSoundOperator, HaveSorts}
+use Rattle.sort_checker.specs.WholeTexts.{WellTypedTextsElaborate}
 use Rattle.sort_checker.proofs.ScopedLists.{under}
 use Rattle.sort_checker.proofs.SoundElaborations.{both_true, none_found, no_name, not_false, sound_processes_elaborate, sound_definitions_elaborate}
 

@@ -1,10 +1,10 @@
 -- The worked definition and equation, step by step.
-use Rattle.std.proofs.Common.{◌≡◌, ℕ, zero, suc, Bool, true, false, List, [], ◌∷◌, refl, ap, ⊎_elim, arith}
+use Rattle.std.proofs.Common.{◌≡◌, ℕ, Bool, true, false, [], ◌∷◌, refl, ap, ⊎_elim, arith}
 use Rattle.std.specs.Prelude.{codes}
 use Rattle.std.specs.List.{Contains}
 use Rattle.data_theory.specs.Table.{language_table, truth_rows, sort_rows, comparison_rows, sum_rows, first_rows, quotient_rows, extreme_rows, step_rows, list_rows}
 use Rattle.data_theory.specs.Terms.{natural, boolean, Term, variable, application}
-use Rattle.data_theory.proofs.EnvironmentLemmas.{contains_first, contains_nothing, contains_cases}
+use Rattle.data_theory.proofs.EnvironmentLemmas.{contains_nothing, contains_cases}
 use Rattle.sort_checker.specs.Scopes.{binds_none, binds_more}
 use Rattle.sort_checker.specs.Elaborations.{ElaboratesDefinition, ElaboratesEquation, label, call_by_name, in_sequence, for_each, where_true, all_done, one_and_more}
 use Rattle.sort_checker.specs.WorkedFaults.{small}

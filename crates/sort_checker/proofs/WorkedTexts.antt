@@ -1,10 +1,6 @@
 -- The worked texts, by computation.
-use Rattle.std.proofs.Common.{◌≡◌, ℕ, List, [], ◌∷◌, refl, ⊎_elim}
-use Rattle.std.specs.Prelude.{codes}
-use Rattle.std.specs.List.{Contains}
+use Rattle.std.proofs.Common.{refl}
 use Rattle.data_theory.specs.Table.{language_table, truth_rows, sort_rows, comparison_rows, sum_rows, first_rows, quotient_rows, extreme_rows, step_rows, list_rows}
-use Rattle.data_theory.specs.Terms.{natural, boolean}
-use Rattle.data_theory.proofs.EnvironmentLemmas.{contains_nothing, contains_cases}
 use Rattle.sort_checker.specs.WorkedFaults.{TheseHaveFaults}
 
 pub these_have_faults : TheseHaveFaults

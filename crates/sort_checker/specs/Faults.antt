@@ -1,24 +1,22 @@
 -- What makes a text ill typed: the faults 12 to 17 of its parts.
-use Rattle.std.specs.Prelude.{ℕ, suc, Bool, true, false, not, cond, ◌&&◌, ◌||◌, List, [], ◌∷◌, ◌++◌, map, Option, Some, None, is_some, is_none, option_map, option_and_then, slice_get}
-use Rattle.std.specs.Option.{option_or}
-use Rattle.std.specs.List.{flat_map, filter, find, list_any, list_all}
-use Rattle.data_theory.specs.Terms.{Sort, boolean, named, positive, natural, integer, list}
+use Rattle.std.specs.Prelude.{ℕ, Bool, true, false, not, ◌&&◌, ◌||◌, List, [], ◌∷◌, ◌++◌, map, Option, Some, None, is_some, is_none, option_map, option_and_then, slice_get}
+use Rattle.std.specs.List.{flat_map, find, list_all}
+use Rattle.data_theory.specs.Terms.{Sort, boolean, named}
 use Rattle.data_theory.specs.Declarations.{Data, Construction, structured, by_declarations, without_constructors, sort_at}
 use Rattle.process_terms.specs.Processes.{Around, rename}
 use Rattle.sort_table.specs.Expressions.{Name, Expression, Expressions, numeral, listed, word, none, more}
-use Rattle.sort_table.specs.NamedLists.{all_named, first_named}
+use Rattle.sort_table.specs.NamedLists.{first_named}
 use Rattle.sort_table.specs.BareSorts.{SortExpression}
 use Rattle.sort_table.specs.BareProcesses.{Variables, Action, tau, act}
-use Rattle.sort_table.specs.BareDeclarations.{Declaration, equation, process, initial, Section}
+use Rattle.sort_table.specs.BareDeclarations.{Declaration, equation, process, initial}
 use Rattle.sort_table.specs.Vocabularies.{Vocabulary, sort_in}
-use Rattle.data_typing.specs.Typings.{first_of}
 use Rattle.data_typing.specs.BuiltIns.{scheme_named}
 use Rattle.data_typing.specs.Meanings.{Scope, typing_in, signatures_named}
 use Rattle.sort_checker.specs.FullVocabularies.{Parameters, FullVocabulary, process_named}
-use Rattle.sort_checker.specs.Operators.{operators_in, names_of, stands_in, renaming_fits, renamed_twice, has_comm_fault}
-use Rattle.sort_checker.specs.Parts.{Part, a_label, a_call, a_condition, an_operator, an_equation, a_result, ScopedPart, ScopedDeclaration, parts_of, scoped_declarations}
+use Rattle.sort_checker.specs.Operators.{operators_in, names_of, stands_in, renaming_fits}
+use Rattle.sort_checker.specs.Parts.{Part, a_label, a_call, a_condition, an_operator, an_equation, a_result, ScopedPart, ScopedDeclaration}
 use Rattle.sort_checker.specs.Scopes.{scope_of}
-use Rattle.sort_checker.specs.PartTypings.{label_in, arguments_in, left_out, are_assignments, assigned_names, left_side, right_side, condition_at}
+use Rattle.sort_checker.specs.PartTypings.{label_in, arguments_in, left_out, are_assignments, right_side, condition_at}
 
 -- ---- words
 abbrev mutual

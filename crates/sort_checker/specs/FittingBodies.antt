@@ -1,12 +1,11 @@
 -- Process terms whose terms have the sorts of their places, over the variables in scope; and that what elaborates is such.
-use Rattle.std.specs.Prelude.{◌≡◌, ◌<◌, ◌^◌, ℕ, List, [], ◌∷◌, map, Some, None, Option, slice_get}
+use Rattle.std.specs.Prelude.{◌≡◌, List, ◌∷◌, map, Some, None, Option, slice_get}
 use Rattle.std.specs.List.{Contains, AllByRecursion}
 use Rattle.data_theory.specs.Terms.{Sort, boolean, Term}
 use Rattle.data_theory.specs.Environments.{terms_of}
 use Rattle.data_theory.specs.Declarations.{Data, IsSort, Declares, HasSort, HaveSorts}
 use Rattle.data_theory.specs.Provable.{Equation}
 use Rattle.process_terms.specs.Labels.{Action, Label}
-use Rattle.process_terms.specs.Processes as written
 use Rattle.process_terms.specs.Processes.{Bound, Body, written_delta, written_act, written_choice, written_seq, written_cond, written_sum, written_call, written_merge, written_around, Definition}
 use Rattle.sort_table.specs.Expressions.{Name, Expression}
 use Rattle.sort_table.specs.BareProcesses as bare

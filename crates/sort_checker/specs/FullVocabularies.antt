@@ -1,5 +1,5 @@
 -- What a text declares behind numbers, with its processes.
-use Rattle.std.specs.Prelude.{◌≡◌, ℕ, zero, suc, cond, List, [], ◌∷◌, map, Option, Some, None, option_map, option_and_then, bytes_eq}
+use Rattle.std.specs.Prelude.{◌≡◌, ℕ, zero, suc, cond, List, [], ◌∷◌, Option, Some, None, option_map, option_and_then, bytes_eq}
 use Rattle.std.specs.List.{flat_map}
 use Rattle.data_theory.specs.Terms.{Sort}
 use Rattle.sort_table.specs.Expressions.{Name}

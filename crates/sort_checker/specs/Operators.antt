@@ -1,5 +1,5 @@
 -- The operators around processes: which names they have, and what is wrong with `rename` and `comm`.
-use Rattle.std.specs.Prelude.{Bool, true, false, not, cond, ◌&&◌, List, [], ◌∷◌, ◌++◌, map, Option, Some, None, is_some, bytes_eq}
+use Rattle.std.specs.Prelude.{Bool, true, false, not, cond, ◌&&◌, List, [], ◌∷◌, ◌++◌, map, Option, Some, None, bytes_eq}
 use Rattle.std.specs.List.{flat_map, list_any, list_all}
 use Rattle.data_theory.specs.Terms.{Sort}
 use Rattle.process_terms.specs.Communication.{Rule}

@@ -1,5 +1,5 @@
 -- What has no fault elaborates.
-use Rattle.std.specs.Prelude.{◌≡◌, true, false, List, map, Some, None, Option}
+use Rattle.std.specs.Prelude.{◌≡◌, true, false, Some, None}
 use Rattle.std.specs.List.{AllByRecursion}
 use Rattle.data_theory.specs.Terms.{Sort}
 use Rattle.process_terms.specs.Processes.{Around, Body, Definition}

@@ -1,9 +1,9 @@
 -- A worked definition and equation, with what they elaborate to.
 use Rattle.std.specs.Prelude.{[], ◌∷◌, None, codes, pos}
-use Rattle.data_theory.specs.Terms.{boolean, natural, positive, negation, function, Term, variable, numeral, none, more, application}
+use Rattle.data_theory.specs.Terms.{natural, negation, function, variable, numeral, none, more, application}
 use Rattle.data_theory.specs.Provable.{Equation}
 use Rattle.data_theory.specs.Equations.{trueᵗ}
-use Rattle.process_terms.specs.Processes.{Body, written_delta, written_act, written_seq, written_cond, written_sum, written_call, Definition}
+use Rattle.process_terms.specs.Processes.{written_delta, written_act, written_seq, written_cond, written_sum, written_call, Definition}
 use Rattle.sort_table.specs.Expressions as expressions
 use Rattle.sort_table.specs.Expressions.{one}
 use Rattle.sort_table.specs.BareSorts.{truth_values, naturals}

@@ -7,7 +7,7 @@ use Rattle.sort_table.specs.Expressions.{Name, Expression, numeral, listed, word
 use Rattle.sort_table.specs.Expressions as expressions
 use Rattle.sort_table.specs.BareSorts.{truth_values, naturals}
 use Rattle.sort_table.specs.BareProcesses.{Variables, Process, acts, act, call, hide, rename, comm, sum, when, delta}
-use Rattle.sort_table.specs.BareDeclarations.{Declaration, Section, constructors, variables, equation, actions, process, initial}
+use Rattle.sort_table.specs.BareDeclarations.{Section, constructors, variables, equation, initial}
 use Rattle.sort_checker.specs.FullVocabularies.{FullVocabulary}
 use Rattle.sort_checker.specs.Refusals.{TypeFault, unknown_in, untyped, free_in, variable_left, comm_shape, rename_twice, type_fault}
 

@@ -1,6 +1,5 @@
-use Rattle.std.proofs.Common.{◌+◌, ℕ, Bool, ap, sym, ◌∙◌, arith}
+use Rattle.std.proofs.Common.{ℕ, ap, sym, ◌∙◌, arith}
 use Rattle.std.specs.Prelude.{Some}
-use Rattle.sort_table.specs.BareDeclarations.{Declaration}
 use Rattle.sort_table.specs.DeclarationTrees.{declaration_of}
 use Rattle.sort_checker.specs.NameNumbers.{has_name}
 use Rattle.sort_checker.specs.LeftTrees.{is_left_word}

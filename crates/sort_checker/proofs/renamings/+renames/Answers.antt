@@ -1,13 +1,11 @@
-use Rattle.std.proofs.Common.{List, ap, sym, ◌∙◌, map, take}
-use Rattle.std.specs.Prelude.{Option, option_map}
+use Rattle.std.proofs.Common.{List, ap, sym, ◌∙◌, map}
 use Rattle.std.specs.Option.{option_or}
 use denote.Ref.{Bor}
 use Rattle.mcrl2_syntax.specs.declared.process_tree.Renaming.{Renaming}
 use Rattle.mcrl2_syntax.specs.declared.process_tree.ProcTree.{ProcTree}
 use Rattle.mcrl2_syntax.specs.ProcessParts.{renaming_of}
-use Rattle.mcrl2_syntax.specs.ProcessTrees.{plain_process}
 use Rattle.sort_table.specs.Expressions.{Name}
-use Rattle.sort_checker.specs.RenamedTrees.{again_in_process, again_among}
+use Rattle.sort_checker.specs.RenamedTrees.{again_among}
 use Rattle.sort_checker.proofs.Firsts.{here, further, none_told, some_told, ok_then}
 use Rattle.sort_checker.proofs.AgainNames.{again_in_one, again_in_all, processes_searched, rename_again, either_again, in_front, in_back}
 use Rattle.sort_checker.proofs.renamings.+renames.Goals as goal

@@ -1,4 +1,4 @@
-use Rattle.std.proofs.Common.{◌+◌, ℕ, ap, sym, ◌∙◌, arith}
+use Rattle.std.proofs.Common.{ℕ, ap, sym, ◌∙◌, arith}
 use Rattle.std.specs.Prelude.{Option, Some}
 use denote.Ref.{Bor}
 use Rattle.sort_table.specs.Expressions.{Name}
