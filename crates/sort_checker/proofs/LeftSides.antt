@@ -1,12 +1,11 @@
 -- Left sides, names of variables, and numbers of declarations.
 use Rattle.std.proofs.Common.{◌≡◌, ◌<◌, ◌≤◌, ◌+◌, ◌||◌, ℕ, zero, suc, Bool, true, false, cond, List, [], ◌∷◌, ◌++◌, length, map, take, drop, get_or, refl, ap, ap₂, sym, ◌∙◌, arith}
-use Rattle.std.specs.Prelude.{Option, Some, None, option_map, is_some, bytes_eq}
+use Rattle.std.specs.Prelude.{Option, Some, None, option_map, bytes_eq}
 use Rattle.std.specs.Option.{option_or}
 use Rattle.std.specs.List.{list_any}
 use Rattle.std.proofs.lemmas.List.{take_more, take-append-drop, map-append, length-map}
 use Rattle.sort_checker.proofs.ScopedLists.{tree_under}
 use Rattle.std.proofs.lemmas.Simd.{map-map}
-use Rattle.mcrl2_syntax.specs.declared.word.Word.{Word}
 use Rattle.mcrl2_syntax.specs.declared.declaration.Decl.{Decl}
 use Rattle.mcrl2_syntax.specs.declared.process_tree.VarGroup.{VarGroup}
 use Rattle.mcrl2_syntax.specs.Words.{PlainWord, word_of}
@@ -23,51 +22,27 @@ use Rattle.sort_table.specs.BareDeclarations.{Declaration}
 use Rattle.sort_table.specs.DeclarationTrees.{declaration_of}
 use Rattle.sort_table.proofs.Searches.{IsListed}
 use Rattle.sort_checker.specs.declared.name_numbers.NameNumbers.{NameNumbers}
-use Rattle.sort_checker.specs.NameNumbers.{number_under, has_name, AddsNames}
+use Rattle.sort_checker.specs.NameNumbers.{has_name, AddsNames}
 use Rattle.sort_checker.specs.Operators.{stands_in}
-use Rattle.sort_checker.specs.Parts.{variables_by}
 use Rattle.sort_checker.specs.Faults.{names_of_variables, is_variable, is_left_variable, has_variable_left}
 use Rattle.sort_checker.specs.Refusals.{number_from}
-use Rattle.sort_checker.specs.LeftTrees.{lone_word, passes, is_left_word, left_from, names_of_words, names_of_groups, names_by, names_before}
+use Rattle.sort_checker.specs.LeftTrees.{lone_word, passes, is_left_word, left_from, names_of_words, names_of_groups, names_before}
 use Rattle.sort_checker.specs.ScopedTrees.{variables_under, scoped_under}
 
 -- ---- names added
-any_append : {A : Type 0} (p : A → Bool) (xs ys : List A) → list_any p (xs ++ ys) ≡ (list_any p xs || list_any p ys)
-any_append p [] ys = refl
-any_append p (x ∷ xs) ys = ap (λ (b : Bool). p x || b) (any_append p xs ys) ∙ sym (or_or (p x) (list_any p xs) (list_any p ys))
-  where
-    or_or : (a b c : Bool) → ((a || b) || c) ≡ (a || (b || c))
-    or_or true b c = refl
-    or_or false b c = refl
-
 or_assoc : (a b c : Bool) → ((a || b) || c) ≡ (a || (b || c))
 or_assoc true b c = refl
 or_assoc false b c = refl
 
-or_false : (a : Bool) → a ≡ (a || false)
-or_false true = refl
-or_false false = refl
-
-pub adds_none : (m : NameNumbers) → AddsNames m m []
-adds_none m n = or_false (has_name m n)
+any_append : {A : Type 0} (p : A → Bool) (xs ys : List A) → list_any p (xs ++ ys) ≡ (list_any p xs || list_any p ys)
+any_append p [] ys = refl
+any_append p (x ∷ xs) ys = ap (λ (b : Bool). p x || b) (any_append p xs ys) ∙ sym (or_assoc (p x) (list_any p xs) (list_any p ys))
 
 pub adds_more : (a b c : NameNumbers) (xs ys : List Name) → AddsNames a b xs → AddsNames b c ys → AddsNames a c (xs ++ ys)
 adds_more a b c xs ys h k n =
     k n ∙ (ap (λ (t : Bool). t || stands_in n ys) (h n) ∙ (or_assoc (has_name a n) (stands_in n xs) (stands_in n ys) ∙ ap (λ (t : Bool). has_name a n || t) (sym (any_append (λ y. bytes_eq y n) xs ys))))
 
-pub adds_one : (a b : NameNumbers) (x : Name) (i : ℕ) → ((n : Name) → number_under b n ≡ cond (bytes_eq x n) (Some i) (number_under a n)) → AddsNames a b (x ∷ [])
-adds_one a b x i put n = ap is_some (put n) ∙ by_test (bytes_eq x n) (number_under a n)
-  where
-    by_test : (t : Bool) (o : Option ℕ) → is_some (cond t (Some i) o) ≡ (is_some o || (t || false))
-    by_test true None = refl
-    by_test true (Some j) = refl
-    by_test false None = refl
-    by_test false (Some j) = refl
-
 -- ---- lists of names
-pub words_listed : IsListed names_of_words (λ (w : Word). w.bytes.items ∷ [])
-words_listed = record { of_none = refl; of_more = λ w ws. refl }
-
 words_of_group : (g : VarGroup) → names_of_variables (bare_group (var_group_of g)) ≡ names_of_words g.names.items
 words_of_group g =
     map-map (λ (x : Name × SortExpression). x.0) (λ (w : PlainWord). (w.bytes, bare_sort (var_group_of g).sort)) (var_group_of g).names ∙ map-map (λ (w : PlainWord). w.bytes) word_of g.names.items
@@ -78,19 +53,12 @@ groups_listed = record {
   of_more = λ g gs. map-append (λ (x : Name × SortExpression). x.0) (bare_group (var_group_of g)) (bare_variables (map var_group_of gs)) ∙ ap (λ (ns : List Name). ns ++ names_of_groups gs) (words_of_group g);
 }
 
-pub declarations_listed : IsListed names_before names_by
-declarations_listed = record { of_none = refl; of_more = λ d ds. map-append (λ (x : Name × SortExpression). x.0) (variables_by (declaration_of d)) (variables_under ds) }
-
 -- ---- words
 not_behind : (e : Expression) (os : PlainOperands) → lone_word e ≡ None → lone_word (to_the_left e os) ≡ None
 not_behind e no_operands h = h
 not_behind e (more_operands sign d os) h = not_behind (word (infix_text sign) (more e (more (bare_data d) none))) os refl
 
 -- a first operand with others behind it
-pub first_alone : (e : Expression) (os : List (InfixSign × DataTree)) → length os ≡ 0 → lone_word e ≡ lone_word (to_the_left e (operands_of (plain_operands os)))
-first_alone e [] h = refl
-first_alone e (o ∷ os) h = let never : ⊥ = omega (arith, h) in absurd never
-
 pub others_behind : (e : Expression) (os : List (InfixSign × DataTree)) → 0 < length os → None ≡ lone_word (to_the_left e (operands_of (plain_operands os)))
 others_behind e [] h = let never : ⊥ = omega (arith, h) in absurd never
 others_behind e (o ∷ os) h = sym (not_behind (word (infix_text o.0) (more e (more (bare_data (plain_data o.1)) none))) (operands_of (plain_operands os)) refl)
@@ -98,15 +66,6 @@ others_behind e (o ∷ os) h = sym (not_behind (word (infix_text o.0) (more e (m
 -- a chain to the right
 abbrev pub chained : Name → List DataTree → Expression
 chained f ts = to_the_right f (datas_of (map plain_data ts))
-
-pub no_operand : (f : Name) (ts : List DataTree) → length ts < 1 → Some f ≡ lone_word (chained f ts)
-no_operand f [] h = refl
-no_operand f (t ∷ ts) h = let never : ⊥ = omega (arith, h) in absurd never
-
-pub one_operand : (f : Name) (ts : List DataTree) (t : DataTree) → 1 ≤ length ts → length ts < 2 → t ≡ get_or ts 0 t → lone_word (bare_data (plain_data t)) ≡ lone_word (chained f ts)
-one_operand f [] t l h e = let never : ⊥ = omega (arith, l) in absurd never
-one_operand f (u ∷ []) t l h e = ap (λ (x : DataTree). lone_word (bare_data (plain_data x))) e
-one_operand f (u ∷ w ∷ ts) t l h e = let never : ⊥ = omega (arith, h) in absurd never
 
 pub two_operands : (f : Name) (ts : List DataTree) → 2 ≤ length ts → None ≡ lone_word (chained f ts)
 two_operands f [] h = let never : ⊥ = omega (arith, h) in absurd never
@@ -116,10 +75,6 @@ two_operands f (t ∷ u ∷ ts) h = refl
 -- a word with arguments
 abbrev pub called : Name → List DataTree → Expression
 called f ts = word f (bare_datas (datas_of (map plain_data ts)))
-
-pub no_argument : (f : Name) (ts : List DataTree) → length ts ≡ 0 → Some f ≡ lone_word (called f ts)
-no_argument f [] h = refl
-no_argument f (t ∷ ts) h = let never : ⊥ = omega (arith, h) in absurd never
 
 pub some_argument : (f : Name) (ts : List DataTree) → 0 < length ts → None ≡ lone_word (called f ts)
 some_argument f [] h = let never : ⊥ = omega (arith, h) in absurd never

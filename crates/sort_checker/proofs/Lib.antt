@@ -18,3 +18,4 @@ pub mod MeantWords
 pub mod ElaboratedSound
 pub mod WellTypedTexts
 pub mod FirstsFound
+pub mod NumberedActions

@@ -102,9 +102,6 @@ module _ (v : FullVocabulary) (over : IsOverSorts v) (scope : Scope) (sorts : Ha
       (λ l others q. subst (IsLabelOver v.declared.tables (bounds_of scope)) q (action_fits x es small.0 a first, label_fits as_ l small.1 others)))
 
   -- ---- calls
-  AreParameters : Parameters → Type 0
-  AreParameters ps = AllByRecursion (λ (x : Name × Sort). IsSort v.declared.tables x.1) ps
-
   pub arguments_fit : (ps : Parameters) (es : List Expression) (ts : List Term) → AllByRecursion (λ (x : Name × Sort). IsSort v.declared.tables x.1) ps → AllByRecursion HasSmallNumerals es
       → arguments_in v.declared scope ps es ≡ Some ts → AreTermsOver v.declared.tables (bounds_of scope) (map (λ (x : Name × Sort). x.1) ps) ts
   arguments_fit ps es ts are small h vs sorted =

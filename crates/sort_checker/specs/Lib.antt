@@ -20,3 +20,4 @@ pub mod GrowthLaws
 pub mod SoundTexts
 pub mod WholeTexts
 pub mod FirstFaults
+pub mod ActionLaws

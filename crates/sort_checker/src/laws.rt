@@ -1,5 +1,6 @@
 //! Laws of elaboration.
 
+ghost use Rattle.sort_checker.specs.ActionLaws.{ActionsAreFoundByNumbers};
 ghost use Rattle.sort_checker.specs.FirstFaults.{TheFirstIsFound};
 ghost use Rattle.sort_checker.specs.Refusals.{RefusalsAreSingle};
 ghost use Rattle.sort_checker.specs.ScopeLaws.{TypingsAreRenamed, TypingNeedsNoNumbers, ElaboratingNeedsNoNumbers, DefinitionsNeedNoNumbers, EquationsNeedNoNumbers};
@@ -81,4 +82,9 @@ pub fn what_elaborates_has_no_fault()
 /// The definitions and `init` of a well-typed text elaborate.
 pub fn well_typed_texts_elaborate()
     ensures { WellTypedTextsElaborate }
+{}
+
+/// An action of a signature's vocabulary is found by the numbers of its sorts.
+pub fn actions_are_found_by_numbers()
+    ensures { ActionsAreFoundByNumbers }
 {}

@@ -22,7 +22,7 @@ use std::alloc::Global;
 ///
 /// # Errors
 ///
-/// `NoMemory` where there is none for the names of a section's variables.
+/// `NoMemory` where there is none for the names of a section's variables, and where no `usize` counts the declarations.
 pub fn variable_left<'a>(alloc: Global, spec: &'a Spec) -> Result<Option<usize>, NoMemory>
     ensures { IfOk result (λ found. found ≡ left_fault (bare_sections (spec_of spec.now))) }
 {
