@@ -1,0 +1,5 @@
+use Rattle.sort_checker.proofs.ElaboratedSound.{elaborated_processes_are_sound}
+use Rattle.sort_checker.proofs.laws.what_elaborates_has_no_fault.Goals as goal
+
+pub returns : goal.returns
+returns c = elaborated_processes_are_sound

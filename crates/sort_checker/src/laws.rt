@@ -1,0 +1,90 @@
+//! Laws of elaboration.
+
+ghost use Rattle.sort_checker.specs.ActionLaws.{ActionsAreFoundByNumbers};
+ghost use Rattle.sort_checker.specs.FirstFaults.{TheFirstIsFound};
+ghost use Rattle.sort_checker.specs.Refusals.{RefusalsAreSingle};
+ghost use Rattle.sort_checker.specs.ScopeLaws.{TypingsAreRenamed, TypingNeedsNoNumbers, ElaboratingNeedsNoNumbers, DefinitionsNeedNoNumbers, EquationsNeedNoNumbers};
+ghost use Rattle.sort_checker.specs.ClosingLaws.{ElaborationsCloseAlike};
+ghost use Rattle.sort_checker.specs.FittingBodies.{WhatElaboratesFits, DefinitionsFit, EquationsFit};
+ghost use Rattle.sort_checker.specs.GrowthLaws.{ProcessesStayAlike, DefinitionsStayAlike, EquationsStayAlike};
+ghost use Rattle.sort_checker.specs.SoundTexts.{SoundProcessesElaborate, SoundDefinitionsElaborate, ElaboratedProcessesAreSound};
+ghost use Rattle.sort_checker.specs.WholeTexts.{WellTypedTextsElaborate};
+ghost use Rattle.sort_checker.specs.WorkedFaults.{TheseHaveFaults};
+ghost use Rattle.sort_checker.specs.WorkedElaborations.{TheseElaborate};
+
+/// A text is refused with one fault at most.
+pub fn refusals_are_single()
+    ensures { RefusalsAreSingle }
+{}
+
+/// A search for the first declaration with a fault finds just that one.
+pub fn the_first_is_found()
+    ensures { TheFirstIsFound }
+{}
+
+/// Under other numbers of the variables terms are renamed.
+pub fn typings_are_renamed()
+    ensures { TypingsAreRenamed }
+{}
+
+/// Whether and at which sorts an expression types doesn't hang on the numbers of variables.
+pub fn typing_needs_no_numbers()
+    ensures { TypingNeedsNoNumbers }
+{}
+
+/// What elaborates does so under any numbers: process terms, definitions and equations.
+pub fn elaborating_needs_no_numbers()
+    ensures processes { ElaboratingNeedsNoNumbers }
+    ensures definitions { DefinitionsNeedNoNumbers }
+    ensures equations { EquationsNeedNoNumbers }
+{}
+
+/// Under one table a process term closes to one process, whatever its numbers.
+pub fn elaborations_close_alike()
+    ensures { ElaborationsCloseAlike }
+{}
+
+/// What elaborates has terms of the sorts of their places, and no variable outside its scope.
+pub fn what_elaborates_fits()
+    ensures processes { WhatElaboratesFits }
+    ensures definitions { DefinitionsFit }
+    ensures equations { EquationsFit }
+{}
+
+/// Worked texts have the faults that the language says.
+pub fn these_have_faults()
+    ensures { TheseHaveFaults }
+{}
+
+/// A worked definition and a worked equation elaborate as the language says.
+pub fn these_elaborate()
+    ensures { TheseElaborate }
+{}
+
+/// Sorts, and functions under names that don't stand in a text, change nothing in what it elaborates to.
+pub fn other_declarations_change_nothing()
+    ensures processes { ProcessesStayAlike }
+    ensures definitions { DefinitionsStayAlike }
+    ensures equations { EquationsStayAlike }
+{}
+
+/// What has no fault elaborates: process terms and definitions.
+pub fn what_has_no_fault_elaborates()
+    ensures processes { SoundProcessesElaborate }
+    ensures definitions { SoundDefinitionsElaborate }
+{}
+
+/// A process term that elaborates has no fault.
+pub fn what_elaborates_has_no_fault()
+    ensures { ElaboratedProcessesAreSound }
+{}
+
+/// The definitions and `init` of a well-typed text elaborate.
+pub fn well_typed_texts_elaborate()
+    ensures { WellTypedTextsElaborate }
+{}
+
+/// An action of a signature's vocabulary is found by the numbers of its sorts.
+pub fn actions_are_found_by_numbers()
+    ensures { ActionsAreFoundByNumbers }
+{}
