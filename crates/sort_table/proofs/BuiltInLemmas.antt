@@ -1,7 +1,7 @@
 -- The test of built-in functions.
-use Rattle.std.proofs.Common.{◌≡◌, ◌<◌, ◌≤◌, ◌+◌, ◌-◌, ◌⊎◌, inl, inr, ⊎_elim, ℕ, zero, suc, Bool, true, false, cond, ◌&&◌, ◌||◌, List, [], ◌∷◌, length, map, take, get_or, refl, ap, sym, ◌∙◌, subst, arith}
-use Rattle.std.specs.Prelude.{Option, Some, None, nat_eq, nat_lt, bytes_eq}
-use Rattle.std.specs.List.{Contains, list_any, list_all, filter}
+use Rattle.std.proofs.Common.{◌≡◌, ◌<◌, ◌-◌, inl, inr, ℕ, zero, suc, Bool, true, false, cond, ◌&&◌, ◌||◌, List, [], ◌∷◌, length, map, get_or, refl, ap, sym, ◌∙◌, subst, arith}
+use Rattle.std.specs.Prelude.{nat_eq, nat_lt}
+use Rattle.std.specs.List.{list_any, list_all, filter}
 use Rattle.std.specs.Str.{IsUtf8}
 use Rattle.std.proofs.lemmas.Str.{IsUtf8-from_ascii}
 use Rattle.std.proofs.lemmas.Str.Ascii.{IsAscii-from_all}
@@ -18,13 +18,13 @@ use Rattle.data_theory.specs.declared.words.ListWord.TheVariants as lists
 use Rattle.data_theory.specs.Words.{text_of, number_text, list_text}
 use Rattle.data_theory.specs.Rows.{row_text, row_sorts, row_word}
 use Rattle.data_theory.specs.Table.{language_table}
-use Rattle.data_theory.specs.RowsOfWords.{has_name, rows_of}
+use Rattle.data_theory.specs.RowsOfWords.{has_name}
 use Rattle.sort_table.specs.declared.flat_sorts.FlatSort.{FlatSort}
 use Rattle.sort_table.specs.Expressions.{Name}
 use Rattle.sort_table.specs.BareSorts.{SortExpression, truth_values, positives, naturals, integers, lists_of}
 use Rattle.sort_table.specs.SortMeanings.{Kind}
 use Rattle.sort_table.specs.Duplicates.{any_sort, lists_of_any, sort_numbered, IsBuiltIn}
-use Rattle.sort_table.specs.FlatSorts.{lists_over, IsBase, bool_base, pos_base, nat_base, int_base, IsFlat, AreFlat, no_flats, and_flat, built_in_flat, list_flat}
+use Rattle.sort_table.specs.FlatSorts.{lists_over, IsBase, bool_base, pos_base, nat_base, int_base, IsFlat, AreFlat, no_flats, and_flat, built_in_flat}
 use Rattle.sort_table.specs.BuiltInTests.{flat_eq, shorter, fits_place, fit_places, read_off, chosen_sort, fits_row, is_built_in}
 use Rattle.sort_table.proofs.FlatSortLemmas.{flat_is_one, numbers_are_one, is_list, base_is_no_list}
 use Rattle.sort_table.proofs.MarkedItems.{In, in_of_contains, contains_of_in}

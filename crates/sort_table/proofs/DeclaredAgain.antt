@@ -1,7 +1,6 @@
 -- What is declared twice, by marks.
-use Rattle.std.proofs.Common.{◌≡◌, ◌<◌, ◌+◌, ◌⊎◌, inl, inr, ⊎_elim, ℕ, zero, suc, Bool, true, false, List, [], ◌∷◌, ◌++◌, length, map, take, get_or, refl, ap, sym, ◌∙◌, subst, arith, append_assoc}
-use Rattle.std.specs.Prelude.{Option, Some, None, MatchOption, slice_get}
-use Rattle.std.specs.List.{Contains}
+use Rattle.std.proofs.Common.{◌≡◌, ◌<◌, ◌+◌, ◌⊎◌, inl, inr, ℕ, suc, true, List, [], ◌∷◌, ◌++◌, length, map, take, get_or, refl, ap, sym, ◌∙◌, subst, arith, append_assoc}
+use Rattle.std.specs.Prelude.{Option, Some, None, MatchOption}
 use Rattle.std.proofs.lemmas.List.{append-nil, length-map, length-take-le, take_more, map-append}
 use denote.Ref.{Bor}
 use Rattle.mcrl2_syntax.specs.declared.declaration.Decl.{Decl}
@@ -10,11 +9,10 @@ use Rattle.mcrl2_syntax.specs.Declarations.{plain_decl, section_of}
 use Rattle.sort_table.specs.declared.flat_sorts.FlatSort.{FlatSort}
 use Rattle.sort_table.specs.Expressions.{Name}
 use Rattle.sort_table.specs.BareSorts.{SortExpression}
-use Rattle.sort_table.specs.BareProcesses.{Variables}
 use Rattle.sort_table.specs.BareDeclarations.{Declaration, Section, bare_declaration, bare_section, declarations_in}
-use Rattle.sort_table.specs.SortMeanings.{Kind, UnderNames, kinds_in, under_names, StandForEach}
+use Rattle.sort_table.specs.SortMeanings.{Kind, kinds_in, under_names, StandForEach}
 use Rattle.sort_table.specs.DeclarationTrees.{declaration_of}
-use Rattle.sort_table.specs.Duplicates.{Item, a_sort, a_function, an_action, a_process, a_variable, items_of, all_items, SameSorts, IsAgain, sort_again, function_again, action_again, process_again, process_as_action, action_as_process, variable_again, IsBuiltIn, DeclaresAgain, two_of_them, within_one, built_in, its_variables, IsDuplicate, NothingAgain}
+use Rattle.sort_table.specs.Duplicates.{Item, a_function, items_of, all_items, SameSorts, IsAgain, sort_again, function_again, action_again, process_again, process_as_action, action_as_process, variable_again, IsBuiltIn, DeclaresAgain, two_of_them, within_one, built_in, its_variables, IsDuplicate, NothingAgain}
 use Rattle.sort_table.specs.FlatSorts.{AreFlat, flats_in, sorts_only, AllAreSettled}
 use Rattle.sort_table.specs.Repeats.{Mark, Meets, IsLeastPair, IsLesser}
 use Rattle.sort_table.specs.BuiltInTests.{is_built_in}
@@ -23,7 +21,7 @@ use Rattle.sort_table.specs.RepeatedVariables.{VariableAgain}
 use Rattle.sort_table.specs.PlacedDeclarations.{placed_items, all_placed, section_items}
 use Rattle.sort_table.proofs.FlatSortLemmas.{HaveFlats, flats_of_standing, flats_of_read, numbers_of_same, same_of_numbers, each_stands_by_sorts}
 use Rattle.sort_table.proofs.MeetingMarks.{joined, least_by}
-use Rattle.sort_table.proofs.MarkedItems.{In, in_of_contains, contains_of_in, before_of_reads, reads_of_before, Tag, sort_tag, function_tag, action_tag, action_name_tag, process_tag, variable_tag, LeavesTag, sort_leaves, function_leaves, action_leaves, action_leaves_name, process_leaves, variable_leaves, MeetsTag, sort_meets, function_meets, action_meets, action_meets_process, process_meets, process_meets_action, variable_meets, Share, IsBuiltInItem, RepeatsItself, AgainInOne, AgainInTwo, Again, again_of_meets, meets_of_again}
+use Rattle.sort_table.proofs.MarkedItems.{In, in_of_contains, contains_of_in, before_of_reads, reads_of_before, Tag, sort_tag, function_tag, action_tag, action_name_tag, process_tag, variable_tag, LeavesTag, sort_leaves, function_leaves, action_leaves, action_leaves_name, process_leaves, variable_leaves, MeetsTag, sort_meets, function_meets, action_meets, action_meets_process, process_meets, process_meets_action, variable_meets, Share, RepeatsItself, Again, again_of_meets, meets_of_again}
 use Rattle.sort_table.proofs.OneSort.{one_sorts}
 use Rattle.sort_table.proofs.BuiltInLemmas.{tested_is_built_in, built_in_is_tested}
 

@@ -1,9 +1,9 @@
 -- Numbers of sorts without aliases, and what they mean.
-use Rattle.std.proofs.Common.{◌≡◌, ◌<◌, ◌≤◌, ◌+◌, ◌⊎◌, inl, inr, ⊎_elim, ℕ, zero, suc, Bool, true, false, List, [], ◌∷◌, ◌++◌, length, set, take, drop, get_or, refl, ap, sym, ◌∙◌, subst, arith}
+use Rattle.std.proofs.Common.{◌≡◌, ◌<◌, ◌+◌, ◌⊎◌, inl, inr, ⊎_elim, ℕ, zero, suc, Bool, true, false, List, [], ◌∷◌, ◌++◌, length, set, take, drop, get_or, refl, ap, sym, ◌∙◌, subst, arith}
 use Rattle.std.specs.Prelude.{Option, Some, None, is_some, option_map, option_and_then, slice_get}
 use Rattle.std.specs.List.{Contains}
 use Rattle.std.specs.Global.{Vec}
-use Rattle.std.proofs.lemmas.Option.{none-some, same_Some, slice_get_within}
+use Rattle.std.proofs.lemmas.Option.{none-some, same_Some}
 use Rattle.std.proofs.lemmas.List.{take-append-drop}
 use Rattle.data_theory.proofs.PlaceLemmas.{read_last, read_front}
 use Rattle.sort_table.proofs.AliasCycles.{less_or_same}
@@ -13,8 +13,8 @@ use Rattle.sort_table.specs.declared.flat_sorts.FlatSort.{FlatSort}
 use Rattle.sort_table.specs.Expressions.{Name}
 use Rattle.sort_table.specs.NamedLists.{first_named}
 use Rattle.sort_table.specs.BareSorts.{SortExpression, truth_values, positives, naturals, integers, lists_of, a_name}
-use Rattle.sort_table.specs.BareDeclarations.{Declaration, alias}
-use Rattle.sort_table.specs.SortMeanings.{Kind, alone, a_struct, equal_to, UnderNames, kinds_in, under_names, StandsFor, for_truth_values, for_positives, for_naturals, for_integers, for_lists, for_plain, for_struct, for_alias, StandForEach, no_sorts, and_sort}
+use Rattle.sort_table.specs.BareDeclarations.{alias}
+use Rattle.sort_table.specs.SortMeanings.{Kind, alone, a_struct, equal_to, UnderNames, StandsFor, for_truth_values, for_positives, for_naturals, for_integers, for_lists, for_plain, for_struct, for_alias, StandForEach, no_sorts, and_sort}
 use Rattle.sort_table.specs.SortIndexes.{first_place}
 use Rattle.sort_table.specs.UsedNames.{leaf_of}
 use Rattle.sort_table.specs.SortCycles.{place_of}
@@ -23,7 +23,7 @@ use Rattle.sort_table.specs.NamedSorts.{IsOwnKind, AreSoundKinds}
 use Rattle.sort_table.specs.DeclaringSorts.{IsFirst, AreLevels}
 use Rattle.sort_table.specs.Duplicates.{SameSorts}
 use Rattle.sort_table.specs.FlatSorts.{lists_over, IsBase, bool_base, pos_base, nat_base, int_base, own_base, IsFlat, AreFlat, no_flats, and_flat, built_in_flat, own_flat, list_flat, flat_in, flats_in, sorts_only, IsSettled, KeepsFlat, OwnAreSettled, AliasIsSettled, IsReadyToSettle, AllAreSettled}
-use Rattle.sort_table.proofs.AliasPlaces.{entry_at, place_within, declared_place, edge_is}
+use Rattle.sort_table.proofs.AliasPlaces.{entry_at, declared_place, edge_is}
 use Rattle.sort_table.proofs.IndexPlaces.{placed}
 use Rattle.sort_table.proofs.ListForms.{entry_found}
 use Rattle.sort_table.proofs.StandingNames.{in_list, alias_stands, used_is_declared}

@@ -4,19 +4,18 @@ use Rattle.std.specs.Prelude.{Option, Some, None}
 use Rattle.std.specs.List.{flat_map}
 use Rattle.mcrl2_syntax.specs.declared.word.Word.{Word}
 use Rattle.mcrl2_syntax.specs.declared.declaration.Constructor as trees
-use Rattle.mcrl2_syntax.specs.Words.{word_of}
 use Rattle.mcrl2_syntax.specs.Declarations.{constructor_of}
 use Rattle.sort_table.specs.declared.flat_sorts.FlatSort.{FlatSort}
 use Rattle.sort_table.specs.Expressions.{Name}
 use Rattle.sort_table.specs.BareSorts.{SortExpression, truth_values, a_name}
-use Rattle.sort_table.specs.BareProcesses.{Variables, bare_names}
+use Rattle.sort_table.specs.BareProcesses.{Variables}
 use Rattle.sort_table.specs.BareDeclarations.{Field, Constructor, struct, bare_constructor}
 use Rattle.sort_table.specs.SortMeanings.{Kind}
 use Rattle.sort_table.specs.TextFunctions.{TextRole, Named, struct_constructor, projection, recogniser, declared, where_named, fields_of, projections_from, functions_by}
-use Rattle.sort_table.specs.Duplicates.{Item, a_sort, a_function, an_action, a_variable, function_item}
+use Rattle.sort_table.specs.Duplicates.{a_sort, an_action, a_variable, function_item}
 use Rattle.sort_table.specs.FlatSorts.{flats_in}
 use Rattle.sort_table.specs.Repeats.{Mark}
-use Rattle.sort_table.specs.ItemMarks.{key, named_key, same_mark, function_marks, action_marks, items_marks, item_marks, marks_of_sorts, marks_of_variables, where_marked, marks_of_struct, own_flats, marks_of_constructors, marks_of_projections, marks_of_recognisers}
+use Rattle.sort_table.specs.ItemMarks.{key, named_key, same_mark, function_marks, action_marks, items_marks, item_marks, marks_of_variables, where_marked, marks_of_struct}
 
 module _ (ks : List (Name × Kind)) (table : List FlatSort) (i : ℕ) where
   pub sorts_marked : (ns : List Name) → flat_map (λ n. same_mark i (named_key 0 n) ∷ []) ns ≡ items_marks ks table i (map a_sort ns)

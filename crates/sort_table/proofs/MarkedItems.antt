@@ -1,5 +1,5 @@
 -- Which items meet, by their marks.
-use Rattle.std.proofs.Common.{◌≡◌, ◌<◌, ◌≤◌, ◌+◌, ◌⊎◌, inl, inr, ⊎_elim, ℕ, zero, suc, Bool, true, false, cond, List, [], ◌∷◌, ◌++◌, length, refl, ap, sym, ◌∙◌, subst, arith}
+use Rattle.std.proofs.Common.{◌≡◌, ◌<◌, ◌+◌, ◌⊎◌, inl, inr, ⊎_elim, ℕ, zero, suc, Bool, true, false, cond, List, [], ◌∷◌, ◌++◌, length, refl, ap, sym, ◌∙◌, subst, arith}
 use Rattle.std.specs.Prelude.{Option, Some, None, slice_get}
 use Rattle.std.specs.List.{Contains, flat_map}
 use Rattle.std.proofs.lemmas.Option.{none-some, same_Some, slice_get_within}
@@ -9,9 +9,9 @@ use Rattle.sort_table.specs.BareSorts.{SortExpression}
 use Rattle.sort_table.specs.SortMeanings.{Kind}
 use Rattle.sort_table.specs.Duplicates.{Item, a_sort, a_function, an_action, a_process, a_variable}
 use Rattle.sort_table.specs.FlatSorts.{flats_in}
-use Rattle.sort_table.specs.Repeats.{Mark, Leaves, Meets}
+use Rattle.sort_table.specs.Repeats.{Mark, Meets}
 use Rattle.sort_table.specs.BuiltInTests.{is_built_in}
-use Rattle.sort_table.specs.ItemMarks.{sorts_code, key, typed_key, named_key, same_mark, known_function_marks, function_marks, action_name_mark, process_name_mark, action_marks, process_marks, item_marks, items_marks, marks_from}
+use Rattle.sort_table.specs.ItemMarks.{sorts_code, key, typed_key, named_key, same_mark, function_marks, action_name_mark, process_name_mark, action_marks, item_marks, items_marks, marks_from}
 
 -- ---- elements
 abbrev pub In : {A : Type 0} → List A → A → Type 0

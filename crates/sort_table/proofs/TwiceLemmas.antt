@@ -1,7 +1,7 @@
 -- Lists of variables with a name twice, and declarations that have one.
-use Rattle.std.proofs.Common.{◌≡◌, ◌<◌, ◌≤◌, ◌+◌, ◌⊎◌, inl, inr, ⊎_elim, ℕ, zero, suc, Bool, true, false, ◌||◌, List, [], ◌∷◌, ◌++◌, length, map, take, drop, get_or, refl, ap, sym, ◌∙◌, subst, arith}
-use Rattle.std.specs.Prelude.{Option, Some, None, is_some, option_map, slice_get, bytes_eq}
-use Rattle.std.specs.List.{Contains, list_any, flat_map}
+use Rattle.std.proofs.Common.{◌≡◌, ◌<◌, ◌≤◌, ◌+◌, ◌⊎◌, inl, inr, ⊎_elim, ℕ, zero, suc, Bool, true, false, ◌||◌, List, [], ◌∷◌, length, map, take, drop, get_or, refl, ap, sym, ◌∙◌, subst, arith}
+use Rattle.std.specs.Prelude.{Option, Some, None, is_some, slice_get, bytes_eq}
+use Rattle.std.specs.List.{Contains, list_any}
 use Rattle.std.proofs.lemmas.Option.{none-some, same_Some, slice_get_within}
 use Rattle.std.proofs.lemmas.Slice.Eq.{bytes_eq-Decides}
 use Rattle.sort_table.specs.Expressions.{Name}
@@ -9,7 +9,7 @@ use Rattle.sort_table.specs.BareSorts.{SortExpression}
 use Rattle.sort_table.specs.BareProcesses.{Variables}
 use Rattle.sort_table.specs.BareDeclarations.{Declaration}
 use Rattle.sort_table.specs.Duplicates.{StandsTwice, variable_lists}
-use Rattle.sort_table.specs.Repeats.{Mark, Leaves, Meets, IsLeastPair}
+use Rattle.sort_table.specs.Repeats.{Mark, Meets, IsLeastPair}
 use Rattle.sort_table.specs.ItemMarks.{key, same_mark, marks_of_variables}
 use Rattle.sort_table.specs.RepeatedVariables.{has_twice, any_twice, VariableAgain}
 use Rattle.std.proofs.lemmas.List.{take-append-drop}

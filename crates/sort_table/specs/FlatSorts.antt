@@ -1,9 +1,7 @@
 -- Sorts without aliases, as numbers.
-use Rattle.std.specs.Prelude.{◌≡◌, ◌<◌, ℕ, zero, suc, List, [], ◌∷◌, length, map, Option, Some, None, option_map, option_and_then, slice_get}
-use Rattle.std.specs.Global.{Vec}
+use Rattle.std.specs.Prelude.{◌≡◌, ℕ, zero, suc, List, [], ◌∷◌, length, map, Option, Some, option_map, option_and_then, slice_get}
 use Rattle.mcrl2_syntax.specs.declared.sort_tree.SortTree.{SortTree}
 use Rattle.mcrl2_syntax.specs.SortTrees.{plain_sort}
-use Rattle.sort_table.specs.declared.sort_entries.SortIndex.{SortIndex}
 use Rattle.sort_table.specs.declared.flat_sorts.FlatSort.{FlatSort}
 use Rattle.sort_table.specs.Expressions.{Name}
 use Rattle.sort_table.specs.NamedLists.{first_named}

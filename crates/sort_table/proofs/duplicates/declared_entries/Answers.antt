@@ -1,4 +1,4 @@
-use Rattle.std.proofs.Common.{◌≡◌, ◌+◌, ◌++◌, ◌∙◌, ap, arith}
+use Rattle.std.proofs.Common.{arith}
 use Rattle.sort_table.specs.IndexedKinds.{kinds_of_index}
 use Rattle.sort_table.specs.Repeats.{marks_of}
 use Rattle.sort_table.proofs.DeclaredAgain.{marks_further}

@@ -1,12 +1,7 @@
-use Rattle.std.proofs.Common.{◌≡◌, ◌∙◌, refl, sym, ap, List, subst}
-use Rattle.std.specs.Prelude.{Some}
-use Rattle.std.proofs.lemmas.Option.{none-some, same_Some}
+use Rattle.std.proofs.Common.{◌∙◌, sym, ap, List, subst}
+use Rattle.std.proofs.lemmas.Option.{none-some}
 use Rattle.sort_table.specs.declared.flat_sorts.FlatSort.{FlatSort}
-use Rattle.sort_table.specs.Expressions.{Name}
-use Rattle.sort_table.specs.BareSorts.{SortExpression}
-use Rattle.sort_table.specs.SortMeanings.{Kind, equal_to}
 use Rattle.sort_table.specs.IndexedKinds.{kinds_of_index}
-use Rattle.sort_table.specs.DeclaringSorts.{IsFirst}
 use Rattle.sort_table.specs.FlatSorts.{flat_in, expression_of, IsSettled}
 use Rattle.sort_table.proofs.FlatSortLemmas.{HasFlat, has_flat, alias_settled, alias_keeps, name_at_place}
 use Rattle.sort_table.proofs.flat_sorts.settle_alias.Goals as goal

@@ -1,4 +1,4 @@
-use Rattle.std.proofs.Common.{◌≡◌, ◌++◌, ◌∙◌, List, [], ◌∷◌, refl, ap}
+use Rattle.std.proofs.Common.{refl}
 use Rattle.std.specs.Prelude.{option_map}
 use Rattle.mcrl2_syntax.specs.declared.word.Word.{Word}
 use Rattle.sort_table.specs.Repeats.{marks_of}

@@ -1,5 +1,5 @@
-use Rattle.std.proofs.Common.{◌≡◌, ◌++◌, ◌∙◌, List, refl, ap}
-use Rattle.std.specs.Prelude.{Option, option_map}
+use Rattle.std.proofs.Common.{◌++◌, ◌∙◌, List, refl, ap}
+use Rattle.std.specs.Prelude.{Option}
 use Rattle.mcrl2_syntax.specs.declared.declaration.Constructor.{Constructor}
 use Rattle.mcrl2_syntax.specs.declared.declaration.Field.{Field}
 use Rattle.sort_table.specs.declared.flat_sorts.FlatSort.{FlatSort}

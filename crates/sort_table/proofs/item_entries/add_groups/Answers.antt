@@ -1,12 +1,11 @@
-use Rattle.std.proofs.Common.{◌≡◌, ◌++◌, ◌∙◌, ℕ, List, [], ◌∷◌, map, refl, sym, ap, append_assoc}
-use Rattle.std.specs.List.{flat_map}
+use Rattle.std.proofs.Common.{◌≡◌, ◌++◌, ◌∙◌, ℕ, List, [], ◌∷◌, map, refl, ap}
 use Rattle.mcrl2_syntax.specs.declared.word.Word.{Word}
 use Rattle.mcrl2_syntax.specs.declared.process_tree.VarGroup.{VarGroup}
 use Rattle.mcrl2_syntax.specs.Words.{PlainWord, word_of}
 use Rattle.mcrl2_syntax.specs.ProcessParts.{var_group_of}
 use Rattle.sort_table.specs.BareSorts.{SortExpression, bare_sort}
 use Rattle.sort_table.specs.BareProcesses.{Variables, bare_group, bare_variables}
-use Rattle.sort_table.specs.Repeats.{Mark, marks_of}
+use Rattle.sort_table.specs.Repeats.{marks_of}
 use Rattle.sort_table.specs.ItemMarks.{marks_of_groups, marks_of_variables, marks_of_names, same_mark, key}
 use Rattle.sort_table.proofs.Searches.{IsListed}
 use Rattle.sort_table.proofs.PushedMarks.{pushed}

@@ -1,5 +1,4 @@
-use Rattle.std.proofs.Common.{◌≡◌, ◌++◌, ◌∙◌, List, [], ◌∷◌, refl, ap}
-use Rattle.std.specs.Prelude.{option_map}
+use Rattle.std.proofs.Common.{[], ◌∷◌, refl}
 use Rattle.mcrl2_syntax.specs.declared.word.Word.{Word}
 use Rattle.sort_table.specs.Repeats.{marks_of}
 use Rattle.sort_table.specs.ItemMarks.{marks_of_sorts, same_mark, named_key}

@@ -1,4 +1,4 @@
-use Rattle.std.proofs.Common.{◌≡◌, ◌∙◌, List, map, refl, sym}
+use Rattle.std.proofs.Common.{◌∙◌, List, map, refl, sym}
 use Rattle.mcrl2_syntax.specs.declared.process_tree.ProcTree.{ProcTree}
 use Rattle.mcrl2_syntax.specs.ProcessTrees.{plain_process, processes_of}
 use Rattle.sort_table.specs.BareProcesses.{Variables, bare_process, bare_processes, sums_in, sums_in_all}

@@ -1,4 +1,4 @@
-use Rattle.std.proofs.Common.{◌≡◌, ◌++◌, ◌∙◌, List, sym, ap}
+use Rattle.std.proofs.Common.{◌++◌, ◌∙◌, List, sym, ap}
 use Rattle.std.proofs.lemmas.List.{length-map}
 use Rattle.mcrl2_syntax.specs.ProcessParts.{var_group_of}
 use Rattle.sort_table.specs.declared.repeats.Entry.{Entry}

@@ -1,4 +1,3 @@
-use Rattle.std.proofs.Common.{ℕ}
 use Rattle.sort_table.specs.Repeats.{marks_of, Meets, IsLeastPair, KnowsLeast}
 use Rattle.sort_table.proofs.repeats.first_repeat.Given as goal
 

@@ -1,5 +1,5 @@
 use Rattle.std.proofs.Common.{◌≡◌, ◌<◌, ◌≤◌, ℕ, List, cond, sym, ap, ◌∙◌, arith}
-use Rattle.std.specs.Prelude.{Some, None, bytes_eq}
+use Rattle.std.specs.Prelude.{Some, bytes_eq}
 use Rattle.std.specs.Option.{option_copied}
 use Rattle.std.proofs.lemmas.Option.{none-some, same_Some}
 use Rattle.std.proofs.lemmas.Map.Text.{btree_map_updates_str}
