@@ -1,9 +1,8 @@
 -- The actions of declarations come into a signature.
-use Rattle.std.proofs.Common.{◌≡◌, ◌<◌, ◌+◌, ◌⊎◌, inl, inr, ℕ, zero, suc, Bool, cond, List, [], ◌∷◌, ◌++◌, length, map, take, drop, get_or, refl, ap, sym, ◌∙◌, subst, arith}
+use Rattle.std.proofs.Common.{◌≡◌, ◌<◌, ◌+◌, inl, inr, ℕ, zero, suc, Bool, cond, List, [], ◌∷◌, ◌++◌, length, take, drop, get_or, refl, ap, sym, ◌∙◌, subst, arith}
 use Rattle.std.specs.Prelude.{Some, slice_get}
-use Rattle.std.specs.List.{Contains, AllByRecursion, All, flat_map, list_any}
-use Rattle.std.specs.Prelude.{bytes_eq}
-use Rattle.std.proofs.lemmas.List.{append-nil, map-append, take_more}
+use Rattle.std.specs.List.{Contains, AllByRecursion}
+use Rattle.std.proofs.lemmas.List.{append-nil}
 use Rattle.std.proofs.lemmas.Grind.{flat_map-append}
 use denote.Ref.{Bor}
 use Rattle.mcrl2_syntax.specs.declared.word.Word.{Word}
@@ -15,7 +14,7 @@ use Rattle.data_theory.specs.Keys.{Key, key}
 use Rattle.data_theory.specs.Signature.{Sig, IsAct, with_action}
 use Rattle.data_theory.specs.WholeSignatures.{IsSignature}
 use Rattle.data_theory.proofs.NameLemmas.{among_texts, place_is}
-use Rattle.data_theory.proofs.PlaceLemmas.{contains_read, read_last}
+use Rattle.data_theory.proofs.PlaceLemmas.{contains_read}
 use Rattle.sort_table.specs.Expressions.{Name}
 use Rattle.sort_table.specs.BareSorts.{SortExpression}
 use Rattle.sort_table.specs.BareDeclarations.{Declaration, sorts, alias, struct, constructors, mappings, variables, equation, actions, process, initial}
@@ -24,7 +23,6 @@ use Rattle.sort_table.specs.SortMeanings.{Kind, actions_by, actions_in}
 use Rattle.sort_table.specs.DeclarationTrees.{declaration_of, declarations_under}
 use Rattle.sort_table.specs.NamedSorts.{AddsLists, no_lists, one_list, AreIdsOf, ReadsSorts}
 use Rattle.sort_table.specs.EnteredFunctions.{HasSortOf, HaveSortsOf, IsNameId, IsKnownName, IsReadable, Keeps}
-use Rattle.sort_table.specs.FunctionStates.{KeepsSorts}
 use Rattle.sort_table.specs.EnteredActions.{no_actions, IsActionAs, AddsActions, EntersAct, was_there, is_new, actions_named, IsReadyAction}
 use Rattle.sort_table.proofs.Growing.{pairs_with, contains_behind, contains_after, in_either}
 use Rattle.sort_table.proofs.KeptFunctions.{keeps_all, keeps_then, lists_keep, has_sort_kept, name_kept, known_kept, named_kept, all_with}

@@ -1,17 +1,15 @@
 -- The functions of one declaration after the other come into a signature.
-use Rattle.std.proofs.Common.{◌≡◌, ◌<◌, ◌+◌, ◌⊎◌, inl, inr, ℕ, zero, suc, List, [], ◌∷◌, ◌++◌, length, map, take, drop, get_or, refl, ap, sym, ◌∙◌, subst, arith}
-use Rattle.std.specs.Prelude.{Option, Some, slice_get}
-use Rattle.std.specs.List.{Contains, AllByRecursion, flat_map}
-use Rattle.std.proofs.lemmas.Option.{none-some, same_Some, slice_get_within}
+use Rattle.std.proofs.Common.{◌≡◌, ◌<◌, ◌+◌, inl, inr, ℕ, zero, suc, List, [], ◌∷◌, ◌++◌, length, take, drop, get_or, refl, ap, sym, ◌∙◌, subst, arith}
+use Rattle.std.specs.Prelude.{Some, slice_get}
+use Rattle.std.specs.List.{Contains, AllByRecursion}
+use Rattle.std.proofs.lemmas.Option.{slice_get_within}
 use Rattle.std.proofs.lemmas.List.{append-nil, map-append, take_more}
 use Rattle.std.proofs.lemmas.Grind.{flat_map-append}
 use denote.Ref.{Bor}
 use Rattle.mcrl2_syntax.specs.declared.declaration.Decl.{Decl}
 use Rattle.data_theory.specs.declared.ids.NameId.{NameId}
 use Rattle.data_theory.specs.declared.ids.SortId.{SortId}
-use Rattle.data_theory.specs.Sorts.{SortInfo, structured, without_constructors, IsBare}
 use Rattle.data_theory.specs.Signature.{Sig}
-use Rattle.data_theory.specs.IdTerms.{sort_under}
 use Rattle.data_theory.specs.WholeSignatures.{IsSignature}
 use Rattle.data_theory.proofs.PlaceLemmas.{read_contained, read_front, read_behind}
 use Rattle.sort_table.specs.Expressions.{Name}
@@ -21,11 +19,11 @@ use Rattle.sort_table.specs.BareDeclarations.{Constructor, Declaration, sorts, a
 use Rattle.sort_table.specs.SortMeanings.{Kind}
 use Rattle.sort_table.specs.DeclarationTrees.{declaration_of, declarations_under}
 use Rattle.sort_table.specs.TextFunctions.{Named, functions_by, functions_in}
-use Rattle.sort_table.specs.NamedSorts.{AreIdsOf, ReadsSorts, IsNamed, sort_names_of}
+use Rattle.sort_table.specs.NamedSorts.{AreIdsOf, ReadsSorts}
 use Rattle.sort_table.specs.EnteredFunctions.{HasSortOf, IsReadable, IsKnownName, IsReadyConstructor, Keeps}
 use Rattle.sort_table.specs.FunctionStates.{AddsFunctions, AddsStruct, KeepsSorts, IsStructured, IsReadyDeclaration, structs_in, struct_name, AreBare, StructsDiffer, AddsDeclarations, CanEnter}
 use Rattle.sort_table.proofs.Growing.{contains_behind, contains_after, in_either}
-use Rattle.sort_table.proofs.KeptFunctions.{keeps_all, has_sort_kept, known_kept, named_kept, ready_constructor_kept, all_with}
+use Rattle.sort_table.proofs.KeptFunctions.{has_sort_kept, known_kept, named_kept, ready_constructor_kept, all_with}
 use Rattle.sort_table.proofs.Searches.{split_map}
 use Rattle.sort_table.proofs.TextNames.{all_back}
 use Rattle.sort_table.proofs.AddedStructs.{one_sort}

@@ -1,12 +1,12 @@
 -- A struct whose turn it is comes into a signature.
-use Rattle.std.proofs.Common.{◌≡◌, ◌<◌, ◌⊎◌, inl, inr, ℕ, zero, suc, List, [], ◌∷◌, ◌++◌, length, map, refl, ap, sym, ◌∙◌, subst, arith}
+use Rattle.std.proofs.Common.{◌≡◌, ◌<◌, inl, inr, ℕ, zero, suc, List, [], ◌∷◌, length, map, refl, ap, sym, ◌∙◌, subst, arith}
 use Rattle.std.specs.Prelude.{Option, Some, None, slice_get, IfSome}
 use Rattle.std.specs.List.{Contains, All, AllByRecursion, flat_map}
 use Rattle.std.proofs.lemmas.Option.{same_Some, slice_get_within}
 use Rattle.std.proofs.lemmas.Bool.{cases_eq}
 use Rattle.data_theory.specs.declared.ids.NameId.{NameId}
 use Rattle.data_theory.specs.declared.ids.SortId.{SortId}
-use Rattle.data_theory.specs.Sorts.{SortInfo, structured, list_sort, IsBare}
+use Rattle.data_theory.specs.Sorts.{structured, list_sort, IsBare}
 use Rattle.data_theory.specs.Functions.{AreNew}
 use Rattle.data_theory.specs.Structs.{Con, IsConWithin, struct_functions, numbers_from}
 use Rattle.data_theory.specs.Signature.{Sig, IsTaken, with_struct}
@@ -22,11 +22,11 @@ use Rattle.sort_table.specs.TextFunctions.{TextRole, struct_constructor, project
 use Rattle.sort_table.specs.Vocabularies.{EachPair}
 use Rattle.sort_table.specs.NamedSorts.{AddsLists, no_lists, one_list}
 use Rattle.sort_table.specs.EnteredFunctions.{Keeps, HasSortOf, IsOptionalId, IsFieldOf, IsConOf, IsKnownOption, IsReadyField, IsReadyConstructor}
-use Rattle.sort_table.specs.FunctionStates.{KeepsSorts, HasBareSort, CanEnter, AddsFunctions, AddsStruct, IsStructured}
+use Rattle.sort_table.specs.FunctionStates.{KeepsSorts, HasBareSort, CanEnter, AddsStruct}
 use Rattle.sort_table.proofs.TextNames.{all_both}
 use Rattle.sort_table.proofs.KeptFunctions.{lists_keep, lists_stand, has_sort_kept, ready_constructor_kept, all_with}
 use Rattle.sort_table.proofs.NewFunctions.{each_place, pair_at, are_new}
-use Rattle.sort_table.proofs.EnteringFunctions.{adds_after_lists, enters_after_lists}
+use Rattle.sort_table.proofs.EnteringFunctions.{adds_after_lists}
 use Rattle.sort_table.proofs.EnteringStructs.{struct_entries, struct_adds, keeps_with_struct}
 
 -- ---- names

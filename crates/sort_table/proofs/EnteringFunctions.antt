@@ -1,17 +1,16 @@
 -- A function that is added by itself comes behind the functions of a text that a signature has.
-use Rattle.std.proofs.Common.{◌≡◌, ◌<◌, ◌+◌, ◌⊎◌, inl, inr, ℕ, zero, suc, Bool, cond, List, [], ◌∷◌, ◌++◌, length, map, take, drop, get_or, refl, ap, sym, ◌∙◌, subst, arith, append_assoc}
+use Rattle.std.proofs.Common.{◌≡◌, ◌<◌, ◌+◌, ◌⊎◌, inl, inr, ℕ, zero, suc, Bool, cond, List, [], ◌∷◌, ◌++◌, length, take, drop, get_or, refl, ap, sym, ◌∙◌, subst, arith, append_assoc}
 use Rattle.std.specs.Prelude.{Some, slice_get}
-use Rattle.std.specs.List.{Contains, AllByRecursion, All}
-use Rattle.std.proofs.lemmas.List.{append-nil, map-append, take_more, length-append}
-use Rattle.std.proofs.lemmas.Option.{slice_get_read}
+use Rattle.std.specs.List.{Contains, All}
+use Rattle.std.proofs.lemmas.List.{append-nil, length-append}
 use Rattle.data_theory.specs.declared.ids.NameId.{NameId}
 use Rattle.data_theory.specs.declared.ids.SortId.{SortId}
 use Rattle.data_theory.specs.declared.ids.FunId.{FunId}
 use Rattle.data_theory.specs.Names.{AreDifferent}
 use Rattle.data_theory.specs.Taken.{with_name}
 use Rattle.data_theory.specs.Keys.{key}
-use Rattle.data_theory.specs.Functions.{Function, HasKey, declared_function}
-use Rattle.data_theory.specs.Signature.{Sig, IsTaken, with_function, with_list}
+use Rattle.data_theory.specs.Functions.{HasKey, declared_function}
+use Rattle.data_theory.specs.Signature.{Sig, IsTaken, with_function}
 use Rattle.data_theory.specs.WholeSignatures.{IsSignature}
 use Rattle.data_theory.proofs.PlaceLemmas.{read_front, read_last}
 use Rattle.data_theory.proofs.SignatureLemmas.{among_names}
@@ -25,10 +24,10 @@ use Rattle.sort_table.specs.TextFunctions.{TextRole, TextFunction, Named}
 use Rattle.sort_table.specs.Vocabularies.{EachPair}
 use Rattle.sort_table.specs.NamedSorts.{AddsLists, no_lists, one_list, HaveSortNames, sort_names_of, sort_count}
 use Rattle.sort_table.specs.EnteredFunctions.{HasSortOf, HaveSortsOf, IsNameId, IsKnownName, HasTextRole, of_cons, of_map, IsEntered, AreEntered, Keeps}
-use Rattle.sort_table.specs.FunctionStates.{StandsFrom, StartsWith, IsNext, CanEnter, AddsFunctions, IsPlain, plain_cons, plain_map}
+use Rattle.sort_table.specs.FunctionStates.{StandsFrom, StartsWith, CanEnter, AddsFunctions, IsPlain, plain_cons, plain_map}
 use Rattle.sort_table.specs.NamedFunctions.{functions_named, SomeCanEnter}
 use Rattle.sort_table.proofs.Growing.{pairs_with}
-use Rattle.sort_table.proofs.KeptFunctions.{keeps_all, keeps_then, lists_keep, has_sort_kept, have_sorts_kept, name_kept, entered_kept, pairs_pushed}
+use Rattle.sort_table.proofs.KeptFunctions.{keeps_all, keeps_then, lists_keep, has_sort_kept, have_sorts_kept, entered_kept, pairs_pushed}
 use Rattle.sort_table.proofs.NewFunctions.{not_there, each_place, pair_at}
 
 -- ---- names that are taken

@@ -32,11 +32,11 @@ use Rattle.sort_table.specs.BareSorts.{SortExpression, truth_values, a_name}
 use Rattle.sort_table.specs.BareDeclarations.{Field, Constructor, struct}
 use Rattle.sort_table.specs.TextFunctions.{TextRole, struct_constructor, projection, recogniser, Named, declared, where_named, fields_of, projections_from, functions_by}
 use Rattle.sort_table.specs.Vocabularies.{EachPair}
-use Rattle.sort_table.specs.EnteredFunctions.{HasSortOf, HaveSortsOf, IsNameId, IsOptionalId, IsFieldOf, IsConOf, IsEntryOf, IsConstructorAt, Constructs, HasTextRole, of_struct, of_place, of_test, IsEntered, AreEntered, Keeps}
+use Rattle.sort_table.specs.EnteredFunctions.{HasSortOf, HaveSortsOf, IsOptionalId, IsFieldOf, IsConOf, IsEntryOf, IsConstructorAt, Constructs, HasTextRole, of_struct, of_place, of_test, IsEntered, Keeps}
 use Rattle.sort_table.specs.SignatureVocabularies.{text_under, sort_name_under}
 use Rattle.sort_table.specs.FunctionStates.{AddsFunctions}
 use Rattle.sort_table.proofs.Growing.{pairs_behind, pairs_with}
-use Rattle.sort_table.proofs.KeptFunctions.{con_kept, entry_kept, entered_kept, have_sorts_kept, has_sort_kept, name_kept}
+use Rattle.sort_table.proofs.KeptFunctions.{con_kept, entry_kept, entered_kept}
 use Rattle.sort_table.proofs.NewFunctions.{pair_at}
 use Rattle.sort_table.proofs.EnteringFunctions.{taken_again, taken_id, read_appended_at}
 

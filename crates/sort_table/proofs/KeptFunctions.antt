@@ -2,19 +2,17 @@
 use Rattle.std.proofs.Common.{◌≡◌, ◌<◌, ◌+◌, ℕ, zero, suc, List, [], ◌∷◌, ◌++◌, length, map, take, get_or, refl, ap, sym, ◌∙◌, subst, arith}
 use Rattle.std.specs.Prelude.{Option, Some, None, slice_get}
 use Rattle.std.specs.List.{Contains, AllByRecursion}
-use Rattle.std.proofs.lemmas.Option.{none-some, same_Some, slice_get_within}
+use Rattle.std.proofs.lemmas.Option.{slice_get_within}
 use Rattle.std.proofs.lemmas.List.{map-append, length-append, take_more}
 use Rattle.data_theory.specs.declared.ids.NameId.{NameId}
 use Rattle.data_theory.specs.declared.ids.SortId.{SortId}
 use Rattle.data_theory.specs.declared.ids.FunId.{FunId}
-use Rattle.data_theory.specs.Sorts.{SortInfo, list_sort}
+use Rattle.data_theory.specs.Sorts.{list_sort}
 use Rattle.data_theory.specs.Functions.{Function}
 use Rattle.data_theory.specs.Structs.{Con}
 use Rattle.data_theory.specs.Rows.{built_ins}
 use Rattle.data_theory.specs.Table.{list_table}
 use Rattle.data_theory.specs.Signature.{Sig, with_list}
-use Rattle.data_theory.specs.IdRoles.{HasNoRole}
-use Rattle.data_theory.specs.IdTerms.{sort_under}
 use Rattle.data_theory.specs.WholeSignatures.{IsSignature}
 use Rattle.data_theory.proofs.PlaceLemmas.{read_front}
 use Rattle.data_theory.proofs.IdSortLemmas.{read_within}
@@ -26,8 +24,8 @@ use Rattle.sort_table.specs.BareSorts.{SortExpression}
 use Rattle.sort_table.specs.BareDeclarations as bare
 use Rattle.sort_table.specs.TextFunctions.{TextRole, Named}
 use Rattle.sort_table.specs.Vocabularies.{sort_in, EachPair}
-use Rattle.sort_table.specs.NamedSorts.{AddsLists, no_lists, one_list, sort_names_of, sort_count, IsNamed}
-use Rattle.sort_table.specs.EnteredFunctions.{HasSortOf, HaveSortsOf, IsReadable, IsKnownName, IsKnownOption, IsReadyField, IsReadyConstructor, IsNameId, IsOptionalId, IsFieldOf, IsConOf, IsEntryOf, IsConstructorAt, Constructs, HasTextRole, of_struct, of_cons, of_map, of_place, of_test, IsEntered, AreEntered, Keeps}
+use Rattle.sort_table.specs.NamedSorts.{AddsLists, no_lists, one_list, IsNamed}
+use Rattle.sort_table.specs.EnteredFunctions.{HasSortOf, HaveSortsOf, IsKnownName, IsKnownOption, IsReadyField, IsReadyConstructor, IsNameId, IsOptionalId, IsFieldOf, IsConOf, IsEntryOf, IsConstructorAt, HasTextRole, of_struct, of_cons, of_map, of_place, of_test, IsEntered, Keeps}
 use Rattle.sort_table.proofs.Growing.{pairs_behind, pairs_with}
 use Rattle.sort_table.proofs.NamedSignatures.{names_with_list, count_with_list, sort_with_list}
 

@@ -1,17 +1,17 @@
 -- A function that comes next in a text isn't in the signature yet.
 use Rattle.std.proofs.Common.{◌≡◌, ◌<◌, ◌≤◌, ◌+◌, ℕ, zero, suc, List, [], ◌∷◌, ◌++◌, length, map, get_or, refl, ap, sym, ◌∙◌, subst, arith}
 use Rattle.std.specs.Prelude.{Option, Some, None, slice_get, option_map, option_and_then}
-use Rattle.std.specs.List.{Contains, All}
+use Rattle.std.specs.List.{All}
 use Rattle.std.proofs.lemmas.Option.{none-some, same_Some, slice_get_within, slice_get-get_or}
 use Rattle.data_theory.specs.declared.ids.NameId.{NameId}
 use Rattle.data_theory.specs.declared.ids.SortId.{SortId}
 use Rattle.data_theory.specs.declared.ids.FunId.{FunId}
 use Rattle.data_theory.specs.declared.rows.Row.{Row}
-use Rattle.data_theory.specs.Terms.{Sort, boolean, positive, natural, integer, list}
+use Rattle.data_theory.specs.Terms.{Sort}
 use Rattle.data_theory.specs.Keys.{Key, key}
 use Rattle.data_theory.specs.Places.{HaveOnePlace}
 use Rattle.data_theory.specs.Functions.{Function, key_of, HasKey, AreNew}
-use Rattle.data_theory.specs.Rows.{row_text, row_sorts, row_function}
+use Rattle.data_theory.specs.Rows.{row_text, row_sorts}
 use Rattle.data_theory.specs.Signature.{Sig}
 use Rattle.data_theory.specs.declared.words.Word.{Word}
 use Rattle.data_theory.specs.IdSymbols.{declared_from, if_declared}
@@ -19,20 +19,18 @@ use Rattle.data_theory.specs.IdTables.{IsRow, IsEntry, declared, built_in}
 use Rattle.data_theory.specs.IdTerms.{sort_under}
 use Rattle.data_theory.specs.WholeSignatures.{IsSignature}
 use Rattle.data_theory.proofs.IdSymbolLemmas.{holds_at}
-use Rattle.data_theory.proofs.PlaceLemmas.{read_front, read_behind}
 use Rattle.data_theory.proofs.FunctionLemmas.{read_mapped}
-use Rattle.sort_table.specs.Expressions.{Name}
-use Rattle.sort_table.specs.BareSorts.{SortExpression, truth_values, positives, naturals, integers, lists_of}
+use Rattle.sort_table.specs.BareSorts.{SortExpression}
 use Rattle.sort_table.specs.SortMeanings.{UnderNames, StandForEach}
-use Rattle.sort_table.specs.TextFunctions.{TextFunction, Named}
-use Rattle.sort_table.specs.Duplicates.{SameSorts, IsBuiltIn, sort_numbered, any_sort, lists_of_any}
+use Rattle.sort_table.specs.TextFunctions.{Named}
+use Rattle.sort_table.specs.Duplicates.{SameSorts, IsBuiltIn, sort_numbered}
 use Rattle.sort_table.specs.Vocabularies.{sort_in, sorts_in, EachPair}
 use Rattle.sort_table.specs.NamedSorts.{HaveSortNames, sort_names_of, sort_count}
-use Rattle.sort_table.specs.EnteredFunctions.{HasSortOf, HaveSortsOf, IsNameId, IsEntryOf, IsEntered, AreEntered}
+use Rattle.sort_table.specs.EnteredFunctions.{HaveSortsOf, IsNameId, IsEntryOf, IsEntered, AreEntered}
 use Rattle.sort_table.specs.FunctionStates.{FunctionsDiffer, StartsWith, StandsFrom}
 use Rattle.sort_table.proofs.SortsOfLists.{expression_of, expressions_of}
 use Rattle.sort_table.proofs.SortTablesOfNames.{sorts_alone, plain_vocabulary, plain_sorts, have_same_sorts, stand_for_expressions}
-use Rattle.sort_table.proofs.BuiltInRows.{meant_at, IsOfTable, row_of_table}
+use Rattle.sort_table.proofs.BuiltInRows.{meant_at, row_of_table}
 
 -- ---- sorts of lists
 both_sorts : (o : Option Sort) (s : Sort) (p : Option (List Sort)) (ss : List Sort) → o ≡ Some s → p ≡ Some ss → option_and_then (λ t. option_map (λ ts. t ∷ ts) p) o ≡ Some (s ∷ ss)

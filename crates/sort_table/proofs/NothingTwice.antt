@@ -1,7 +1,7 @@
 -- Where nothing is declared twice, functions differ by their names and sorts, and sort names differ.
 use Rattle.std.proofs.Common.{◌≡◌, ◌<◌, ◌+◌, ◌⊎◌, inl, inr, ℕ, zero, suc, List, [], ◌∷◌, ◌++◌, length, map, refl, ap, sym, ◌∙◌, subst, arith}
 use Rattle.std.specs.Prelude.{Some, slice_get}
-use Rattle.std.specs.List.{Contains, flat_map}
+use Rattle.std.specs.List.{Contains}
 use Rattle.std.proofs.lemmas.List.{append-nil}
 use Rattle.std.proofs.lemmas.Option.{none-some, same_Some, slice_get_within}
 use Rattle.data_theory.proofs.PlaceLemmas.{read_behind, contains_read}
@@ -10,7 +10,7 @@ use Rattle.sort_table.specs.BareSorts.{SortExpression}
 use Rattle.sort_table.specs.BareDeclarations.{Declaration, sorts, alias, struct, constructors, mappings, variables, equation, actions, process, initial, Section, declarations_in}
 use Rattle.sort_table.specs.SortMeanings.{UnderNames, under_names}
 use Rattle.sort_table.specs.TextFunctions.{Named, functions_by, functions_in}
-use Rattle.sort_table.specs.Duplicates.{Item, a_sort, a_function, a_variable, an_action, a_process, function_item, items_of, all_items, SameSorts, IsAgain, function_again, DeclaresAgain, two_of_them, within_one, built_in, NothingAgain}
+use Rattle.sort_table.specs.Duplicates.{Item, a_sort, a_function, a_variable, an_action, a_process, function_item, items_of, all_items, SameSorts, IsAgain, function_again, two_of_them, within_one, built_in, NothingAgain}
 use Rattle.sort_table.specs.Vocabularies.{EachPair}
 use Rattle.sort_table.specs.FunctionStates.{FunctionsDiffer}
 use Rattle.sort_table.proofs.EnteringFunctions.{read_appended_at}

@@ -1,14 +1,12 @@
 -- What the names of sorts alone say of sort expressions.
 use Rattle.std.proofs.Common.{◌≡◌, ◌<◌, ◌≤◌, ◌+◌, ◌⊎◌, inl, inr, ℕ, zero, suc, List, [], ◌∷◌, length, get_or, refl, ap, sym, ◌∙◌, subst, arith}
 use Rattle.std.specs.Prelude.{Option, Some, None}
-use Rattle.std.specs.List.{Contains}
-use Rattle.data_theory.specs.Terms.{Sort, named}
+use Rattle.data_theory.specs.Terms.{Sort}
 use Rattle.data_theory.specs.Declarations as theory
 use Rattle.data_theory.specs.Declarations.{Construction, sort_at}
 use Rattle.sort_table.specs.Expressions.{Name}
 use Rattle.sort_table.specs.BareSorts.{SortExpression, a_name}
-use Rattle.sort_table.specs.SortMeanings.{Kind, alone, a_struct, equal_to, UnderNames, StandsFor, StandForEach, no_sorts, and_sort}
-use Rattle.sort_table.specs.TextFunctions.{TextFunction}
+use Rattle.sort_table.specs.SortMeanings.{Kind, alone, a_struct, equal_to, UnderNames, StandForEach, no_sorts, and_sort}
 use Rattle.sort_table.specs.Vocabularies.{Vocabulary, sorts_in, HasConstructor, IsConstruction, by_struct, by_none, IsOwn, declared_alone, declared_as_struct, IsSortNamed, HasSorts}
 use Rattle.sort_table.specs.NamedSorts.{HasSortNumber, HaveSortNames}
 use Rattle.sort_table.specs.Duplicates.{SameSorts}

@@ -1,9 +1,8 @@
 -- What holds of all identifiers of a text holds of the names in its bare declarations.
-use Rattle.std.proofs.Common.{◌≡◌, ◌<◌, ℕ, zero, suc, Bool, true, false, cond, List, [], ◌∷◌, ◌++◌, map, length, arith, refl, ap, sym, ◌∙◌, subst}
-use Rattle.std.specs.Prelude.{Option, Some, None, not, is_some}
+use Rattle.std.proofs.Common.{◌≡◌, ℕ, zero, suc, Bool, true, false, cond, List, [], ◌∷◌, ◌++◌, map, arith, refl, sym, subst}
+use Rattle.std.specs.Prelude.{Some, not}
 use Rattle.std.specs.List.{AllByRecursion, Contains, find, flat_map}
 use Rattle.std.proofs.lemmas.Option.{none-some, same_Some}
-use Rattle.std.proofs.lemmas.Simd.{map-map}
 use Rattle.mcrl2_syntax.specs.Words.{PlainWord}
 use Rattle.mcrl2_syntax.specs.SortTrees as sorts
 use Rattle.mcrl2_syntax.specs.SortTrees.{PlainSort}
@@ -16,9 +15,9 @@ use Rattle.sort_table.specs.Expressions.{Name}
 use Rattle.sort_table.specs.BareSorts.{SortExpression, bare_sort}
 use Rattle.sort_table.specs.BareProcesses.{Variables, bare_names, bare_group, bare_variables, bare_process, bare_processes, sums_in, sums_in_all}
 use Rattle.sort_table.specs.BareDeclarations.{Declaration, alias, Field, bare_field, bare_constructor, bare_declaration, bare_section, declarations_in}
-use Rattle.sort_table.specs.SortMeanings.{Kind, equal_to, kinds_by}
-use Rattle.sort_table.specs.UnknownSorts.{name_in, names_in, names_of_variables, names_of_fields, sorts_used, unknown_in, is_declared, UsesUnknownSort}
-use Rattle.sort_table.specs.SortCycles.{Refers, ReferOn, IsCycle}
+use Rattle.sort_table.specs.SortMeanings.{Kind, kinds_by}
+use Rattle.sort_table.specs.UnknownSorts.{name_in, names_in, names_of_variables, names_of_fields, sorts_used, is_declared, UsesUnknownSort}
+use Rattle.sort_table.specs.SortCycles.{ReferOn, IsCycle}
 use Rattle.sort_table.specs.Identifiers.{name_where, in_sort, in_sorts, in_group, in_process, in_processes, in_field, in_constructor, in_declaration, in_section}
 
 module _ {A : Type 0} (P : A → Type 0) where

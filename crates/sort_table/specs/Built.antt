@@ -1,5 +1,5 @@
 -- What is built from the declarations of a text.
-use Rattle.std.specs.Prelude.{◌≡◌, ◌↔◌, ◌⊎◌, ℕ, List, [], ◌∷◌, ◌++◌, length, map, Some, slice_get}
+use Rattle.std.specs.Prelude.{◌≡◌, ◌↔◌, ◌⊎◌, ℕ, List, [], ◌∷◌, ◌++◌, map, Some, slice_get}
 use Rattle.std.specs.List.{All, Contains, flat_map}
 use Rattle.data_theory.specs.declared.ids.NameId.{NameId}
 use Rattle.data_theory.specs.declared.ids.SortId.{SortId}
@@ -19,7 +19,7 @@ use Rattle.sort_table.specs.SortMeanings.{under_names}
 use Rattle.sort_table.specs.Vocabularies.{sort_in, IsVocabularyOf}
 use Rattle.sort_table.specs.SignatureVocabularies.{vocabulary_of}
 use Rattle.sort_table.specs.NamedSorts.{sort_names_of}
-use Rattle.sort_table.specs.Refusals.{DeclarationFault, unknown_sort, sort_cycle, duplicate, empty_sort, IsRefusedWith, IsSoundlyDeclared}
+use Rattle.sort_table.specs.Refusals.{unknown_sort, sort_cycle, duplicate, empty_sort, IsRefusedWith, IsSoundlyDeclared}
 use Rattle.sort_table.specs.Identifiers.{identifiers_in, copied_identifiers}
 use Rattle.sort_table.specs.declared.building.SortFault.{SortFault}
 use Rattle.sort_table.specs.declared.building.SortFault.TheVariants as faults

@@ -1,5 +1,5 @@
 -- Actions of a text that a signature has.
-use Rattle.std.specs.Prelude.{◌≡◌, ◌⊎◌, List, [], ◌∷◌, ◌++◌, map, slice_get, Some}
+use Rattle.std.specs.Prelude.{◌≡◌, ◌⊎◌, List, [], ◌∷◌, ◌++◌, map}
 use Rattle.std.specs.List.{Contains, AllByRecursion}
 use Rattle.mcrl2_syntax.specs.declared.word.Word.{Word}
 use Rattle.data_theory.specs.declared.ids.NameId.{NameId}

@@ -1,5 +1,5 @@
 -- Functions of a text that a signature has.
-use Rattle.std.specs.Prelude.{◌≡◌, ◌<◌, ℕ, List, [], ◌∷◌, length, map, Option, Some, None, slice_get}
+use Rattle.std.specs.Prelude.{◌≡◌, ◌<◌, ℕ, List, length, Option, Some, None, slice_get}
 use Rattle.std.specs.List.{Contains, AllByRecursion}
 use Rattle.std.specs.Str.{IsUtf8}
 use Rattle.data_theory.specs.declared.ids.NameId.{NameId}
@@ -16,7 +16,7 @@ use Rattle.sort_table.specs.Expressions.{Name}
 use Rattle.sort_table.specs.BareSorts.{SortExpression}
 use Rattle.sort_table.specs.BareDeclarations as bare
 use Rattle.sort_table.specs.UsedNames.{leaf_of}
-use Rattle.sort_table.specs.TextFunctions.{TextRole, struct_constructor, declared_constructor, projection, recogniser, mapping, TextFunction, Named}
+use Rattle.sort_table.specs.TextFunctions.{TextRole, struct_constructor, declared_constructor, projection, recogniser, mapping, Named}
 use Rattle.sort_table.specs.Vocabularies.{sort_in, EachPair}
 use Rattle.sort_table.specs.NamedSorts.{sort_names_of, sort_count, IsNamed}
 

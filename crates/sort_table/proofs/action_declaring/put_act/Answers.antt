@@ -1,4 +1,4 @@
-use Rattle.std.proofs.Common.{List, ◌<◌, ◌∙◌, ap, length, sym, subst}
+use Rattle.std.proofs.Common.{◌<◌, ◌∙◌, ap, length, sym, subst}
 use Rattle.std.specs.List.{All}
 use Rattle.data_theory.specs.declared.ids.SortId.{SortId}
 use Rattle.data_theory.specs.Signature.{IsAct, with_action}

@@ -1,4 +1,4 @@
-use Rattle.std.proofs.Common.{◌≡◌, map, take}
+use Rattle.std.proofs.Common.{map, take}
 use denote.Ref.{Bor}
 use Rattle.sort_table.specs.Expressions.{Name}
 use Rattle.sort_table.specs.Built.{AreNamesOfAll}

@@ -1,6 +1,5 @@
-use Rattle.std.proofs.Common.{◌≡◌, ◌∙◌, List, get_or, [], sym, subst, ap}
-use Rattle.std.specs.Prelude.{Some, slice_get}
-use Rattle.std.proofs.lemmas.Option.{slice_get_within}
+use Rattle.std.proofs.Common.{◌∙◌, List, sym, subst, ap}
+use Rattle.std.specs.Prelude.{slice_get}
 use Rattle.data_theory.specs.declared.ids.NameId.{NameId}
 use Rattle.data_theory.proofs.PlaceLemmas.{read_contained}
 use Rattle.sort_table.specs.SortMeanings.{kinds_in}

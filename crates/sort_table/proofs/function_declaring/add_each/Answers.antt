@@ -1,11 +1,11 @@
-use Rattle.std.proofs.Common.{List, refl, sym, subst, ap, ◌∙◌, ◌<◌, length, take}
+use Rattle.std.proofs.Common.{refl, sym, subst, ap, ◌∙◌, ◌<◌, length}
 use Rattle.std.specs.List.{All}
 use Rattle.std.proofs.lemmas.Option.{slice_get_within}
 use Rattle.mcrl2_syntax.specs.Words.{word_of}
 use Rattle.data_theory.specs.declared.ids.SortId.{SortId}
 use Rattle.data_theory.specs.Signature.{Sig}
 use Rattle.sort_table.specs.BareProcesses.{bare_name}
-use Rattle.sort_table.specs.EnteredFunctions.{HaveSortsOf, IsKnownName, IsNameId}
+use Rattle.sort_table.specs.EnteredFunctions.{IsKnownName, IsNameId}
 use Rattle.sort_table.proofs.KeptFunctions.{known_kept, pair_read, have_sorts_kept, has_sort_kept}
 use Rattle.sort_table.proofs.EnteringFunctions.{adds_none, sorts_within, turn_absent, next_adds}
 use Rattle.sort_table.proofs.function_declaring.add_each.Goals as goal

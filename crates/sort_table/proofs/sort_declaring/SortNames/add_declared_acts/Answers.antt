@@ -6,7 +6,6 @@ use Rattle.sort_table.specs.BareSorts.{bare_sort}
 use Rattle.sort_table.specs.SortMeanings.{actions_by}
 use Rattle.sort_table.specs.DeclarationTrees.{declaration_of}
 use Rattle.sort_table.specs.EnteredActions.{AddsActions, actions_named}
-use Rattle.sort_table.proofs.AddedActions.{no_acts}
 use Rattle.sort_table.proofs.sort_declaring.SortNames.add_declared_acts.Goals as goal
 
 pub returns-in-Act : goal.returns-in-Act

@@ -4,7 +4,7 @@ use Rattle.std.proofs.lemmas.Result.{on_ok_weaker}
 use Rattle.mcrl2_syntax.specs.SortTrees.{plain_sort}
 use Rattle.sort_table.specs.BareSorts.{bare_sort}
 use Rattle.sort_table.specs.EnteredFunctions.{IsKnownName, HaveSortsOf}
-use Rattle.sort_table.specs.NamedFunctions.{names_of, functions_named, SomeCanEnter}
+use Rattle.sort_table.specs.NamedFunctions.{names_of, functions_named}
 use Rattle.sort_table.proofs.DeclaringLemmas.{lists_then}
 use Rattle.sort_table.proofs.KeptFunctions.{lists_stand, lists_keep, known_kept, named_kept, all_with, have_sorts_kept}
 use Rattle.sort_table.proofs.AddedStructs.{sorts_with_lists}

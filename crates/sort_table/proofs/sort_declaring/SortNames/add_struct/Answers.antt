@@ -1,4 +1,4 @@
-use Rattle.std.proofs.Common.{map, subst, sym}
+use Rattle.std.proofs.Common.{map}
 use Rattle.std.proofs.lemmas.Result.{on_ok_weaker}
 use Rattle.mcrl2_syntax.specs.Declarations.{constructor_of}
 use Rattle.data_theory.specs.Structs.{cons_of}

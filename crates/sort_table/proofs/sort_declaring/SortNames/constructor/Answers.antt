@@ -1,4 +1,4 @@
-use Rattle.std.proofs.Common.{map, subst, sym}
+use Rattle.std.proofs.Common.{map, subst}
 use Rattle.mcrl2_syntax.specs.Declarations.{some_word, field_of}
 use Rattle.sort_table.specs.BareDeclarations.{bare_word, bare_field}
 use Rattle.sort_table.specs.Vocabularies.{EachPair}

@@ -1,4 +1,4 @@
-use Rattle.std.proofs.Common.{rules, ◌∙◌, ◌∷◌, [], ap, map, take}
+use Rattle.std.proofs.Common.{◌∙◌, ◌∷◌, [], ap, map, take}
 use Rattle.std.proofs.lemmas.List.{map-append}
 use Rattle.mcrl2_syntax.specs.Declarations.{constructor_of}
 use Rattle.data_theory.specs.Structs.{con_of, cons_of}
