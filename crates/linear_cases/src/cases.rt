@@ -83,14 +83,15 @@ fn renamed(alloc: Global, lin: Linear, text: &str, sig: &Signature) -> Result<Li
     requires { (ts : List Tree) × Fits sig.now ts (plain_linear lin) }
     ensures { IfOk result (λ made. (ts : List Tree) → Fits sig.now ts (plain_linear lin) → Fits sig.now ts (plain_linear made)) }
 {
-    let pairs = pairs_of(alloc, sig, text)?;
-    if !rename_once(pairs.as_slice()) {
+    let found = pairs_of(alloc, sig, text)?;
+    let pairs = found.as_slice();
+    if !rename_once(pairs) {
         return Ok(lin);
     }
-    if !have_targets(sig, pairs.as_slice()) {
+    if !have_targets(sig, pairs) {
         return Ok(lin);
     }
-    rename(alloc, &lin, pairs.as_slice(), sig)
+    rename(alloc, &lin, pairs, sig)
 }
 
 /// The linear process with its actions joined, where the rules may be put around it.
