@@ -8,6 +8,8 @@ pub mod OtherNames
 pub mod Readings
 pub mod OneTerm
 pub mod WordLemmas
+pub mod ReadingLemmas
+pub mod TreeEquations
 pub mod TypingsWorked
 pub mod SortsFirst
 pub mod CallPlans

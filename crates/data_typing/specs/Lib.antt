@@ -8,5 +8,6 @@ pub mod FlatSorts
 pub mod Nodes
 pub mod NodeTypings
 pub mod CodeWords
+pub mod Readings
 pub mod Plans
 pub mod CodePlans

@@ -8,5 +8,6 @@ pub mod flat_sorts;
 pub mod laws;
 pub mod nodes;
 pub mod plans;
+pub mod reading;
 pub mod sort_tables;
 pub mod words;
