@@ -17,3 +17,5 @@ pub mod NodeLemmas
 pub mod FlatSortLemmas
 pub mod SortTables
 pub mod SignatureSorts
+pub mod NodeTells
+pub mod StepLemmas

@@ -11,3 +11,5 @@ pub mod CodeWords
 pub mod Readings
 pub mod Plans
 pub mod CodePlans
+pub mod Making
+pub mod CodeSteps

@@ -10,4 +10,5 @@ pub mod nodes;
 pub mod plans;
 pub mod reading;
 pub mod sort_tables;
+pub mod steps;
 pub mod words;
