@@ -19,3 +19,6 @@ pub mod SortTables
 pub mod SignatureSorts
 pub mod NodeTells
 pub mod StepLemmas
+pub mod WordPlaceLemmas
+pub mod FindingLemmas
+pub mod MakingLemmas
