@@ -8,6 +8,8 @@ pub mod OtherNames
 pub mod Readings
 pub mod OneTerm
 pub mod WordLemmas
+pub mod ReadingLemmas
+pub mod TreeEquations
 pub mod TypingsWorked
 pub mod SortsFirst
 pub mod CallPlans
@@ -15,3 +17,8 @@ pub mod NodeLemmas
 pub mod FlatSortLemmas
 pub mod SortTables
 pub mod SignatureSorts
+pub mod NodeTells
+pub mod StepLemmas
+pub mod WordPlaceLemmas
+pub mod FindingLemmas
+pub mod MakingLemmas

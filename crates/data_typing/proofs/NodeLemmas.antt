@@ -120,7 +120,7 @@ module _ {A : Type 0} (z : A) (f : Kind → List A → A) where
   abbrev own : List A → Node → A
   own xs n = f n.kind (values_at z xs n.arguments.items)
 
-  front_kept : (xs : List A) (ns : List Node) (k : ℕ) → k < length xs → get_or (values_behind z f xs ns) k z ≡ get_or xs k z
+  pub front_kept : (xs : List A) (ns : List Node) (k : ℕ) → k < length xs → get_or (values_behind z f xs ns) k z ≡ get_or xs k z
   front_kept xs [] k h = refl
   front_kept xs (n ∷ ns) k h =
       let longer : k < length (xs ++ own xs n ∷ []) = omega (arith, length-append xs (own xs n ∷ [])) in
@@ -130,7 +130,7 @@ module _ {A : Type 0} (z : A) (f : Kind → List A → A) where
   parts_kept xs ns [] all = refl
   parts_kept xs ns (k ∷ ks) all = ap (λ x. x ∷ values_at z (values_behind z f xs ns) ks) (front_kept xs ns k all.0) ∙ ap (λ l. get_or xs k z ∷ l) (parts_kept xs ns ks all.1)
 
-  pushed_last : (xs : List A) (x : A) → get_or (xs ++ x ∷ []) (length xs) z ≡ x
+  pub pushed_last : (xs : List A) (x : A) → get_or (xs ++ x ∷ []) (length xs) z ≡ x
   pushed_last [] x = refl
   pushed_last (y ∷ xs) x = pushed_last xs x
 

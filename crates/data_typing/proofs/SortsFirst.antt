@@ -13,7 +13,7 @@ abbrev pub sort_in : Option Inferred → Option Sort
 sort_in o = option_map (λ (i : Inferred). i.sort) o
 
 -- ---- options
-both_there : {A B C : Type 0} (f : A → B → C) (o : Option A) (p : Option B) → is_some o && is_some p ≡ is_some (option_and_then (λ u. option_map (f u) p) o)
+pub both_there : {A B C : Type 0} (f : A → B → C) (o : Option A) (p : Option B) → is_some o && is_some p ≡ is_some (option_and_then (λ u. option_map (f u) p) o)
 both_there f None p = refl
 both_there f (Some x) None = refl
 both_there f (Some x) (Some y) = refl
@@ -38,7 +38,7 @@ pub first_behind : {A B : Type 0} (f : A → Option B) (o : Option A) (xs : List
 first_behind f None xs = refl
 first_behind f (Some x) xs = refl
 
-still_there : {A B : Type 0} (f : A → B) (o : Option A) → is_some o ≡ is_some (option_map f o)
+pub still_there : {A B : Type 0} (f : A → B) (o : Option A) → is_some o ≡ is_some (option_map f o)
 still_there f None = refl
 still_there f (Some x) = refl
 
@@ -89,7 +89,7 @@ first_result_told how test ts k (f ∷ fs) =
     ∙ ap (option_or (sort_in (applied how ts f))) (first_result_told how test ts k fs)
     ∙ sym (map_or (λ (i : Inferred). i.sort) (applied how ts f) (first_of (applied how ts) fs))
 
-first_exact_told : (ss : List Sorting) (ts : List Typing) → TellAll ss ts → (fs : List Signature) → first_exact_sort ss (map profile fs) ≡ sort_in (first_exact ts fs)
+pub first_exact_told : (ss : List Sorting) (ts : List Typing) → TellAll ss ts → (fs : List Signature) → first_exact_sort ss (map profile fs) ≡ sort_in (first_exact ts fs)
 first_exact_told ss ts h = first_result_told exactly (λ f. all_same f.arguments ss) ts (λ f. all_same_told f.arguments ss ts h)
 
 first_fitting_told : (ss : List Sorting) (ts : List Typing) → TellAll ss ts → (fs : List Signature) → first_fitting_sort ss (map profile fs) ≡ sort_in (first_fitting ts fs)
@@ -125,7 +125,7 @@ first_told_told all ws k c [] (s ∷ ss) (t ∷ ts) h = refl
 first_told_told all ws k c ps [] (t ∷ ts) h = absurd h
 first_told_told all ws k c ps (s ∷ ss) [] h = absurd h
 
-call_sort_told : (ss : List Sorting) (ts : List Typing) → TellAll ss ts → (fs : List Signature) (c : Option Scheme) → call_sort (map profile fs) (option_map any_profile c) ss ≡ sort_in (call_infers fs c ts)
+pub call_sort_told : (ss : List Sorting) (ts : List Typing) → TellAll ss ts → (fs : List Signature) (c : Option Scheme) → call_sort (map profile fs) (option_map any_profile c) ss ≡ sort_in (call_infers fs c ts)
 call_sort_told ss ts h fs c =
     ap (λ o. option_or o (option_or (option_and_then (first_candidate_sort ss) (option_map any_profile c)) (first_fitting_sort ss (map profile fs)))) (first_exact_told ss ts h fs)
     ∙ ap (λ o. option_or (sort_in (first_exact ts fs)) (option_or o (first_fitting_sort ss (map profile fs)))) (by_scheme c)
@@ -137,7 +137,7 @@ call_sort_told ss ts h fs c =
     by_scheme None = refl
     by_scheme (Some k) = first_told_told ss ts h k k.arguments ss ts h
 
-by_result_told : (ss : List Sorting) (ts : List Typing) → TellAll ss ts → (c : Scheme) (s : Sort) → checks_by_result ss (any_profile c) s ≡ is_some (by_result ts c s)
+pub by_result_told : (ss : List Sorting) (ts : List Typing) → TellAll ss ts → (c : Scheme) (s : Sort) → checks_by_result ss (any_profile c) s ≡ is_some (by_result ts c s)
 by_result_told ss ts h c s = by_flag c.by_result (read_off s c.result)
   where
     by_flag : (b : Bool) (o : Option Sort) → b && checks_over ss (any_profile c) o ≡ is_some (cond b (option_and_then (λ r. option_map (λ (i : Inferred). i.term) (applied checked ts (scheme_at c r))) o) None)
@@ -148,7 +148,7 @@ by_result_told ss ts h c s = by_flag c.by_result (read_off s c.result)
         ∙ still_there (λ us. record { term = apply (c.symbol r) us; sort = over r c.result }) (all_at checked (map (over r) c.arguments) ts)
         ∙ still_there (λ (i : Inferred). i.term) (applied checked ts (scheme_at c r))
 
-call_checks_told : (ss : List Sorting) (ts : List Typing) → TellAll ss ts → (fs : List Signature) (c : Option Scheme) (s : Sort)
+pub call_checks_told : (ss : List Sorting) (ts : List Typing) → TellAll ss ts → (fs : List Signature) (c : Option Scheme) (s : Sort)
     → cond (is_some (first_exact_sort ss (map profile fs))) false (may_check ss (option_map any_profile c) s) ≡ is_some (call_by_sort fs c ts s)
 call_checks_told ss ts h fs c s =
     ap (λ o. cond (is_some o) false (may_check ss (option_map any_profile c) s)) (first_exact_told ss ts h fs)
@@ -160,7 +160,7 @@ call_checks_told ss ts h fs c s =
     by_flag false None = refl
     by_flag false (Some k) = by_result_told ss ts h k s
 
-flexible_told : (b : Sort → Bool) (o : Option Sort) (by : Sort → Option Term) (i : Option Inferred) → ((s : Sort) → b s ≡ is_some (by s)) → o ≡ sort_in i → Tells (sorting b o) (flexible by i)
+pub flexible_told : (b : Sort → Bool) (o : Option Sort) (by : Sort → Option Term) (i : Option Inferred) → ((s : Sort) → b s ≡ is_some (by s)) → o ≡ sort_in i → Tells (sorting b o) (flexible by i)
 flexible_told b o by i k e = record {
   infers = e;
   checks = λ s. ap (λ x. cond x true (fits_in s o)) (k s) ∙ ap (λ x. cond (is_some (by s)) true (fits_in s x)) e ∙ ap (cond (is_some (by s)) true) (fits_told s i) ∙ or_there (by s) (option_and_then (embedded s) i);
@@ -184,7 +184,7 @@ widest_from_told s (a ∷ ss) (t ∷ ts) h =
 widest_from_told s [] (t ∷ ts) h = absurd h
 widest_from_told s (a ∷ ss) [] h = absurd h
 
-widest_told : (ss : List Sorting) (ts : List Typing) → TellAll ss ts → widest_sort ss ≡ widest ts
+pub widest_told : (ss : List Sorting) (ts : List Typing) → TellAll ss ts → widest_sort ss ≡ widest ts
 widest_told [] [] h = refl
 widest_told (a ∷ ss) (t ∷ ts) h = ap (option_and_then (λ i. widest_sort_from i ss)) h.0.infers ∙ by_inferred t.infers
   where
@@ -194,7 +194,7 @@ widest_told (a ∷ ss) (t ∷ ts) h = ap (option_and_then (λ i. widest_sort_fro
 widest_told [] (t ∷ ts) h = absurd h
 widest_told (a ∷ ss) [] h = absurd h
 
-each_checks_told : (ss : List Sorting) (ts : List Typing) → TellAll ss ts → (s : Sort) → each_checks ss s ≡ is_some (list_of ts s)
+pub each_checks_told : (ss : List Sorting) (ts : List Typing) → TellAll ss ts → (s : Sort) → each_checks ss s ≡ is_some (list_of ts s)
 each_checks_told [] [] h s = refl
 each_checks_told (a ∷ ss) (t ∷ ts) h s =
     ap (λ b. b && each_checks ss s) (h.0.checks s)
@@ -203,7 +203,7 @@ each_checks_told (a ∷ ss) (t ∷ ts) h s =
 each_checks_told [] (t ∷ ts) h s = absurd h
 each_checks_told (a ∷ ss) [] h s = absurd h
 
-list_told : (ss : List Sorting) (ts : List Typing) → TellAll ss ts → Tells (list_sorting ss) (flexible (list_by_sort ts) (list_infers ts))
+pub list_told : (ss : List Sorting) (ts : List Typing) → TellAll ss ts → Tells (list_sorting ss) (flexible (list_by_sort ts) (list_infers ts))
 list_told ss ts h =
     flexible_told (λ s. each_checks_at ss (read_off s elements)) (option_and_then (λ s. cond (each_checks ss s) (Some (list s)) None) (widest_sort ss)) (list_by_sort ts) (list_infers ts)
     (λ s. by_read (read_off s elements))
@@ -218,7 +218,7 @@ list_told ss ts h =
     by_widest (Some s) = ap (λ b. cond b (Some (list s)) None) (each_checks_told ss ts h s) ∙ sort_made (λ t. t) (list s) (list_of ts s)
 
 -- ---- expressions
-by_meaning : (k : Meaning) (ss : List Sorting) (ts : List Typing) → TellAll ss ts → Tells (word_sorting k ss) (word_typing k ts)
+pub by_meaning : (k : Meaning) (ss : List Sorting) (ts : List Typing) → TellAll ss ts → Tells (word_sorting k ss) (word_typing k ts)
 by_meaning (bound v s) [] [] h = flexible_told (λ r. false) (Some s) (λ r. None) (Some (record { term = terms.variable v; sort = s })) (λ r. refl) refl
 by_meaning (bound v s) (a ∷ ss) (t ∷ ts) h = record { infers = refl; checks = λ r. refl }
 by_meaning (bound v s) [] (t ∷ ts) h = absurd h

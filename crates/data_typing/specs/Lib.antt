@@ -8,5 +8,11 @@ pub mod FlatSorts
 pub mod Nodes
 pub mod NodeTypings
 pub mod CodeWords
+pub mod Readings
 pub mod Plans
 pub mod CodePlans
+pub mod Making
+pub mod CodeSteps
+pub mod WordPlaces
+pub mod NamedSorts
+pub mod CodeParts

@@ -4,9 +4,15 @@
 //! the contract of each is a law of these definitions, so that the crates above can cite it.
 #![tactic(auto)]
 
+pub mod elaborating;
+pub mod finding;
 pub mod flat_sorts;
+pub mod functions;
 pub mod laws;
+pub mod making;
 pub mod nodes;
 pub mod plans;
+pub mod reading;
 pub mod sort_tables;
+pub mod steps;
 pub mod words;

@@ -91,7 +91,7 @@ pub fn are_exactly(
 }
 
 /// The result of the first function whose arguments are exactly of the inferred sorts.
-fn first_exact(
+pub fn first_exact(
     nodes: &[Node],
     known: &[Option<FlatSort>],
     arguments: &[usize],
@@ -242,7 +242,7 @@ pub fn all_check_at(
 
 /// Whether each element checks at the sort.
 #[cycle(checking)]
-fn each_checks_at(
+pub fn each_checks_at(
     nodes: &[Node],
     known: &[Option<FlatSort>],
     bound: usize,
@@ -396,7 +396,11 @@ fn call_sort_of(
 }
 
 /// The widest of the sorts that the elements infer.
-fn widest_of(nodes: &[Node], known: &[Option<FlatSort>], arguments: &[usize]) -> Option<FlatSort>
+pub fn widest_of(
+    nodes: &[Node],
+    known: &[Option<FlatSort>],
+    arguments: &[usize],
+) -> Option<FlatSort>
     requires known { AreKnown nodes.now known.now }
     requires there { AreBelow (length known.now) arguments.now }
     ensures { option_map flat_sort result ≡ widest_sort (sortings_at (sortings nodes.now) arguments.now) }

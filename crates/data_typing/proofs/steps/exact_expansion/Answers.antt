@@ -1,0 +1,17 @@
+use Rattle.std.proofs.Common.{rules, ◌≡◌, List, length, map, refl, ap, ◌∙◌}
+use Rattle.data_typing.specs.declared.flat_sorts.FlatSort.{FlatSort}
+use Rattle.data_typing.specs.FlatSorts.{flat_sort}
+use Rattle.data_typing.specs.Nodes.{sortings_at, sortings}
+use Rattle.data_typing.specs.Sortings.{all_same}
+use Rattle.data_typing.proofs.StepLemmas.{exact_none, exact_comes}
+use Rattle.data_typing.proofs.steps.exact_expansion.Goals as goal
+
+pub returns-then-not-are_exactly : goal.returns-then-not-are_exactly
+returns-then-not-are_exactly c = λ y.
+    exact_none y c.args.nodes.now c.args.arguments.now c.args.overload.now c.are_exactly.result (c.are_exactly.ensures ∙ ap (λ (l : List FlatSort). all_same (map flat_sort l) (sortings_at (sortings c.args.nodes.now) c.args.arguments.now)) c.deref.ensures.value) (search rules)
+
+pub returns : goal.returns
+returns c = λ y.
+    exact_comes y c.args.nodes.now c.args.arguments.now (length c.args.known.now) c.requires.known.within c.requires.there c.args.overload.now c.are_exactly.result
+    (c.are_exactly.ensures ∙ ap (λ (l : List FlatSort). all_same (map flat_sort l) (sortings_at (sortings c.args.nodes.now) c.args.arguments.now)) c.deref.ensures.value) (search rules)
+    c.in_ok-copy.copy (c.in_ok-copy.ensures y) c.in_ok-steps.steps c.in_ok-tasks.tasks (length c.args.arguments.now) refl c.in_ok-steps.ensures.items c.in_ok-tasks.ensures

@@ -1,0 +1,24 @@
+use Rattle.std.proofs.Common.{◌≡◌, ℕ, List, map, sym, subst, ap, ◌∙◌}
+use Rattle.std.specs.Prelude.{IfOk, option_map}
+use Rattle.data_theory.specs.declared.ids.FunId.{FunId}
+use Rattle.data_theory.specs.Terms.{Symbol}
+use Rattle.data_typing.specs.declared.nodes.Kind.{Kind}
+use Rattle.data_typing.specs.declared.nodes.Overload as code
+use Rattle.data_typing.specs.FlatSorts.{flat_sort}
+use Rattle.data_typing.specs.Typings as typings
+use Rattle.data_typing.specs.NodeTypings.{signature_of, scheme_of}
+use Rattle.data_typing.specs.CodeSteps.{kind_by_sort, typings_at, parts_limit, Comes}
+use Rattle.data_typing.proofs.StepLemmas.{comes_as}
+use Rattle.data_typing.proofs.steps.expansion_by_sort.Goals as goal
+
+pub returns-in-Call : goal.returns-in-Call
+returns-in-Call c =
+    let n = c.args.nodes.now in
+    let js : List ℕ = c.as_slice-arguments.result.now in
+    subst (λ (ks : List ℕ). IfOk c.call_by_sort.result (λ o. (y : FunId → Symbol) → Comes y n (parts_limit n ks) o (kind_by_sort y c.args.node.now.kind (typings_at y n ks) (flat_sort c.args.sort)))) c.as_slice-arguments.ensures.value
+    (comes_as n (parts_limit n js) (λ y. typings.call_by_sort (map (signature_of y) c.deref.result.now) (option_map scheme_of c.in-Call.any) (typings_at y n js) (flat_sort c.args.sort))
+    (λ y. kind_by_sort y c.args.node.now.kind (typings_at y n js) (flat_sort c.args.sort))
+    (λ y.
+    ap (λ (fs : List code.Overload). typings.call_by_sort (map (signature_of y) fs) (option_map scheme_of c.in-Call.any) (typings_at y n js) (flat_sort c.args.sort)) c.deref.ensures.value
+    ∙ ap (λ (k : Kind). kind_by_sort y k (typings_at y n js) (flat_sort c.args.sort)) (sym c.in-Call.is))
+    c.call_by_sort.result c.call_by_sort.ensures)

@@ -1,0 +1,10 @@
+use Rattle.std.proofs.Common.{◌≡◌}
+use Rattle.data_theory.specs.declared.ids.FunId.{FunId}
+use Rattle.data_theory.specs.Terms.{Symbol}
+use Rattle.data_typing.specs.FlatSorts.{flat_sort}
+use Rattle.data_typing.specs.CodeSteps.{items_of}
+use Rattle.data_typing.proofs.StepLemmas.{conses}
+use Rattle.data_typing.proofs.steps.list_steps.Given as goal
+
+abbrev pub invariant-loop-k : goal.invariant-loop-k
+invariant-loop-k l = (y : FunId → Symbol) → items_of y l.steps.items ≡ conses (flat_sort l.element) l._k
