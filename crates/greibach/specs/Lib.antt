@@ -3,3 +3,7 @@ pub mod PlainForms
 pub mod Tails
 pub mod FormLaws
 pub mod FittingForms
+pub mod Places
+pub mod Unfolding
+pub mod UnfoldedForms
+pub mod MeetingOrder

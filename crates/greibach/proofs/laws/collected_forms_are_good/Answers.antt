@@ -1,0 +1,6 @@
+use Rattle.greibach.proofs.MetPlaces.{collected_is_met}
+use Rattle.greibach.proofs.NumberedPlaces.{collected_good, collected_good_from_start}
+use Rattle.greibach.proofs.laws.collected_forms_are_good.Goals as goal
+
+pub returns : goal.returns
+returns c = record { follows = collected_good; starts = collected_good_from_start; met = collected_is_met }
