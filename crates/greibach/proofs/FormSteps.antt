@@ -1,6 +1,6 @@
 -- The steps of an equation of a form that unfolds are its heads.
 use Rattle.std.proofs.Common.{◌≡◌, ℕ, List, [], ◌∷◌, map, sym, ap, ◌∙◌, subst}
-use Rattle.data_theory.specs.Terms.{Term, put}
+use Rattle.data_theory.specs.Terms.{put}
 use Rattle.data_theory.specs.Environments.{Environment, term_in}
 use Rattle.process_terms.specs.Theories.{Theory, IsTrue}
 use Rattle.process_terms.specs.Labels.{Label, put_label}

@@ -1,5 +1,5 @@
 -- What the equations of a form stand for and its calls answer each other.
-use Rattle.std.proofs.Common.{◌≡◌, ℕ, suc, List, [], ◌∷◌, map, length, Option, Some, None, refl, sym, ap, ◌∙◌, subst}
+use Rattle.std.proofs.Common.{◌≡◌, ℕ, List, [], ◌∷◌, map, length, Some, refl, sym, ap, ◌∙◌, subst}
 use Rattle.std.specs.Prelude.{Contains, slice_get, option_map}
 use Rattle.std.proofs.lemmas.List.{length-map}
 use Rattle.std.proofs.lemmas.Option.{slice_get-map}
@@ -14,9 +14,8 @@ use Rattle.process_terms.proofs.AgreeingLabels.{agree_refl}
 use Rattle.process_terms.specs.Processes.{Body, Table, Process, call, close, choice_of, seq_of, BodyOf, the_body, Definition}
 use Rattle.process_terms.specs.Steps.{Outcome, Step, by_seq, by_call}
 use Rattle.bisim_laws.specs.LinearProcesses.{variables, sorts, reading}
-use Rattle.bisim_laws.specs.BaseStates.{IsCall, is_call, Piece, stands_for}
+use Rattle.bisim_laws.specs.BaseStates.{IsCall, is_call, stands_for}
 use Rattle.bisim_laws.specs.Compositions.{LeftOver, PieceAnswer, PiecesAnswer}
-use Rattle.bisim_laws.proofs.AlikeProcesses.{one_body}
 use Rattle.bisim_laws.proofs.Firing.{reading_put, reading_same, bound_reads}
 use Rattle.bisim_laws.proofs.SortedFiring.{HaveTerms}
 use Rattle.bisim_laws.proofs.PieceByPiece.{pieces_enough}

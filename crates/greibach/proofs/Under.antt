@@ -2,7 +2,7 @@
 use Rattle.std.proofs.Common.{◌≡◌, ℕ, ⊎_elim, List, [], ◌∷◌, map, cond, refl, sym, ap, ap₂, ◌∙◌, subst}
 use Rattle.std.specs.Prelude.{Contains}
 use Rattle.std.proofs.lemmas.Bool.Decides.{eqb_tells}
-use Rattle.data_theory.specs.Terms.{Term, Terms, variable, numeral, unknown, application, none, more, put}
+use Rattle.data_theory.specs.Terms.{Term, put}
 use Rattle.data_theory.specs.Provable.{reflexive}
 use Rattle.data_theory.specs.Declarations.{Data}
 use Rattle.data_theory.specs.Environments.{Environment, term_in, bound, bound_variables, terms_of, IsOver, AreOver, Agree}

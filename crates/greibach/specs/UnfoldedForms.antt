@@ -1,5 +1,5 @@
 -- Forms that unfold a text: which places their equations belong to, and what stands there.
-use Rattle.std.specs.Prelude.{◌≡◌, ℕ, List, [], ◌∷◌, map, slice_get, Some}
+use Rattle.std.specs.Prelude.{◌≡◌, ℕ, List, ◌∷◌, map, slice_get, Some}
 use Rattle.std.specs.List.{Contains}
 use Rattle.data_theory.specs.Terms.{variable}
 use Rattle.data_theory.specs.Declarations.{Data}
