@@ -88,7 +88,7 @@ module _ (th : Theory) (t : Text) (number : Place → ℕ) (form : List Unfolded
   call_continues x ts f e has sorted_body at =
       let k = sorted_body.1 in
       let us : List Term = map (put (term_in (under f e))) ts in
-      let d = is.definitions x k.0 k.1 in
+      let d = is.definitions x k.0 k.1 k.3 in
       let long : length us ≡ length (variables k.0.params) = length-map ts (put (term_in (under f e))) ∙ sorts_long th.declared t.variables ts k.0.params k.2 in
       let sorted : AreOfSorts th (sorts k.0.params) us = puts_sorted th.declared t.variables (bound_variables e) (under f e) has ts (sorts k.0.params) sorted_body.0 k.2 in
       record {

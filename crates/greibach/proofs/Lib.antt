@@ -13,3 +13,5 @@ pub mod SameShapes
 pub mod MetPlaces
 pub mod NumberedPlaces
 pub mod StandingRests
+pub mod GrowingTexts
+pub mod FormsOfComponents

@@ -33,7 +33,7 @@ path_same [] (y ∷ ys) e = cc
 path_same (x ∷ xs) [] e = cc
 path_same (x ∷ xs) (y ∷ ys) e = let b = both_true (same_step x y) (same_path xs ys) e in ap₂ (λ z zs. z ∷ zs) (step_same x y b.0) (path_same xs ys b.1)
 
-number_same : (m n : ℕ) → (m == n) ≡ true → m ≡ n
+pub number_same : (m n : ℕ) → (m == n) ≡ true → m ≡ n
 number_same m n e = ⊎_elim (λ k. k.1) (λ k. absurd (differ (sym k.0 ∙ e))) (eqb_tells m n)
   where
     differ : false ≡ true → ⊥

@@ -125,7 +125,7 @@ pub inside_call : (th : Theory) (t : Text) {over : List ℕ} {f e : Environment}
     → Situation th.declared t over f e (written_call x ts) rest → Situation th.declared t over f (bound (variables q.params) (map (put (term_in e)) ts)) q.body []
 inside_call th t {over} {f} {e} {x} {ts} {rest} q defs at w =
     let s = call_long q at w in
-    let d = defs x q at in
+    let d = defs x q at (w.sorted_body.1).3 in
     let long : length (map (put (term_in e)) ts) ≡ length (variables q.params) = length-map ts (put (term_in e)) ∙ sorts_long th.declared t.variables ts q.params s in
     let vars : bound_variables (bound (variables q.params) (map (put (term_in e)) ts)) ≡ variables q.params = bound_are_the_parameters (variables q.params) (map (put (term_in e)) ts) long in
     let us : List Term = map (put (term_in (under f e))) ts in

@@ -7,3 +7,4 @@ pub mod Places
 pub mod Unfolding
 pub mod UnfoldedForms
 pub mod MeetingOrder
+pub mod ComponentForms

@@ -1,14 +1,17 @@
 -- The equations of a form in the order in which they are met.
-use Rattle.std.specs.Prelude.{◌≡◌, ℕ, suc, List, [], ◌∷◌, ◌++◌, map, length, slice_get, Some, Bool, true, false, ◌&&◌, ◌==◌, if◌then◌else◌}
+use Rattle.std.specs.Prelude.{◌≡◌, ◌≤◌, ◌-◌, ℕ, suc, List, [], ◌∷◌, ◌++◌, map, length, slice_get, Some, Bool, true, false, ◌&&◌, ◌==◌, if◌then◌else◌}
 use Rattle.std.specs.List.{Contains}
-use Rattle.data_theory.specs.Declarations.{Data}
+use Rattle.data_theory.specs.Declarations.{Data, HaveSorts}
 use Rattle.data_theory.specs.Terms.{Term}
-use Rattle.data_theory.specs.Environments.{bound}
+use Rattle.data_theory.specs.Environments.{bound, terms_of}
+use Rattle.data_theory.specs.Signature.{Sig}
+use Rattle.data_theory.specs.IdData.{data_meant}
 use Rattle.process_terms.specs.Theories.{Theory, AreOfSorts}
 use Rattle.process_terms.specs.Processes.{call, close}
 use Rattle.bisim_laws.specs.LinearProcesses.{variables, sorts}
 use Rattle.bisim_laws.specs.Bisimulations.{Bisimulation}
 use Rattle.bisim_laws.specs.Links.{Form, Pairs, IsGood}
+use Rattle.lps_core.specs.GoingOn.{IsGoodOver}
 use Rattle.greibach.specs.Forms.{form_table}
 use Rattle.greibach.specs.Places.{Path, Place, Text, table_in}
 use Rattle.greibach.specs.Unfolding.{PlaceCall, Head}
@@ -22,11 +25,11 @@ abbrev pub places_called : List Head → List Place
 places_called [] = []
 places_called (h ∷ hs) = places_of h ++ places_called hs
 
--- places that are met behind others: each one that wasn't there comes last
-pub data Meets : List Place → List Place → List Place → Type 0 where
-  none_met : {ks : List Place} → Meets ks [] ks
-  met_before : {ks ps ls : List Place} {p : Place} → Contains ks p → Meets ks ps ls → Meets ks (p ∷ ps) ls
-  met_now : {ks ps ls : List Place} {p : Place} → (Contains ks p → ⊥) → Meets (ks ++ p ∷ []) ps ls → Meets ks (p ∷ ps) ls
+-- places, or what stands for them, that are met behind others: each one that wasn't there comes last
+pub data Meets {A : Type 0} : List A → List A → List A → Type 0 where
+  none_met : {ks : List A} → Meets ks [] ks
+  met_before : {ks ps ls : List A} {p : A} → Contains ks p → Meets ks ps ls → Meets ks (p ∷ ps) ls
+  met_now : {ks ps ls : List A} {p : A} → (Contains ks p → ⊥) → Meets (ks ++ p ∷ []) ps ls → Meets ks (p ∷ ps) ls
 
 -- Of the places ks those from number n on are read, one after another: each has its equation, whose calls are met. In the end
 -- the places are `last`.
@@ -57,6 +60,10 @@ CollectedIsMet =
     → (last ≡ map (λ q. q.place) form) × ((q : UnfoldedEquation) (h : Head) (c : PlaceCall) → Contains form q → Contains q.heads h → Contains h.next c → Contains last c.place)
 
 -- ---- numbers of places
+-- the place has this number, from 1
+abbrev pub IsNumberOf : {A : Type 0} → List A → A → ℕ → Type 0
+IsNumberOf ks p n = (1 ≤ n) × (slice_get ks (n - 1) ≡ Some p)
+
 abbrev pub same_step : Bool → Bool → Bool
 same_step true true = true
 same_step false false = true
@@ -88,3 +95,10 @@ CollectedFormsAreGoodFromTheStart =
     (th : Theory) (t : Text) → HasDefinitions th.declared t → (start : Place) (form : List UnfoldedEquation) (last : List Place) → Collects th.declared t (start ∷ []) 0 form last
     → (us : List Term) → AreOfSorts th (sorts (t.piece start).params) us
     → IsGood th (Form (table_in t) (pieces_in t form) (form_table (form_with (number_in last) form))) (close (table_in t) (bound (variables (t.piece start).params) us) (t.piece start).body) (call (form_table (form_with (number_in last) form)) 0 us)
+
+-- also in each consistent theory whose data go on from those of a signature
+abbrev pub CollectedFormsAreGoodOver : Type 0
+CollectedFormsAreGoodOver =
+    (g : Sig) (t : Text) → HasDefinitions (data_meant g) t → (start : Place) (form : List UnfoldedEquation) (last : List Place) → Collects (data_meant g) t (start ∷ []) 0 form last
+    → (us : List Term) → HaveSorts (data_meant g) [] (terms_of us) (sorts (t.piece start).params)
+    → IsGoodOver g (Form (table_in t) (pieces_in t form) (form_table (form_with (number_in last) form))) (close (table_in t) (bound (variables (t.piece start).params) us) (t.piece start).body) (call (form_table (form_with (number_in last) form)) 0 us)

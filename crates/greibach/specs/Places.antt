@@ -1,5 +1,5 @@
 -- Places in a text, and what an equation of the Greibach form stands for.
-use Rattle.std.specs.Prelude.{◌≡◌, ℕ, zero, suc, List, [], ◌∷◌, ◌++◌, map, Bool, true, false, slice_get, Some}
+use Rattle.std.specs.Prelude.{◌≡◌, ℕ, zero, suc, List, [], ◌∷◌, ◌++◌, map, Bool, true, false, slice_get, Some, Contains}
 use Rattle.data_theory.specs.Terms.{Sort, boolean, Term}
 use Rattle.data_theory.specs.Declarations.{Data, Declares, HasSort, HaveSorts}
 use Rattle.data_theory.specs.Environments.{terms_of, IsOver, AreOver}
@@ -40,12 +40,13 @@ factors path (written_around o p) = record { path = path; body = written_around 
 abbrev pub bodies : List Factor → List Body
 bodies fs = map (λ f. f.body) fs
 
--- The definitions with the sorts of their parameters, the component's own term, the sorts of the variables, and what the equation
--- of a place stands for.
+-- The definitions with the sorts of their parameters, the component's own term, the sorts of the variables, the definitions that the
+-- component reaches, and what the equation of a place stands for.
 pub record Text : Type 0 where
   pub definitions : List Piece
   pub start : Body
   pub variables : List Sort
+  pub reached : List ℕ
   pub piece : Place → Piece
 
 abbrev pub definition_in : Piece → Definition
@@ -54,9 +55,9 @@ definition_in f = record { params = variables f.params; body = f.body }
 abbrev pub table_in : Text → Table
 table_in t = map definition_in t.definitions
 
--- a call of a definition, with arguments of the sorts of its parameters
+-- a call of a reached definition, with arguments of the sorts of its parameters
 abbrev pub CallIsSorted : Data → Text → ℕ → List Term → Type 0
-CallIsSorted g t x ts = (f : Piece) × (slice_get t.definitions x ≡ Some f) × HaveSorts g t.variables (terms_of ts) (sorts f.params)
+CallIsSorted g t x ts = (f : Piece) × (slice_get t.definitions x ≡ Some f) × HaveSorts g t.variables (terms_of ts) (sorts f.params) × Contains t.reached x
 
 -- a sequential body over these variables, whose data are well sorted
 abbrev pub IsSortedBody : Data → Text → List ℕ → Body → Type 0

@@ -53,9 +53,9 @@ pub record IsUnfoldedEquation (g : Data) (t : Text) (q : UnfoldedEquation) : Typ
   pub renewed : AreDistinct (variables q.params)
   pub unfolds : Unfolds t (variables q.params) q.place.owner (bound (variables (t.piece q.place).params) (map variable (variables q.params))) first.path first.body others q.heads
 
--- a definition's place stands for the definition
+-- a reached definition's place stands for the definition
 abbrev pub HasDefinitions : Data → Text → Type 0
-HasDefinitions g t = (x : ℕ) (f : Piece) → slice_get t.definitions x ≡ Some f
+HasDefinitions g t = (x : ℕ) (f : Piece) → slice_get t.definitions x ≡ Some f → Contains t.reached x
     → (t.piece (whole x) ≡ f) × IsSortedBody g t (variables f.params) f.body × AreDeclared t.variables f.params × AreDistinct (variables f.params)
 
 -- a number leads to the equation of the place

@@ -22,7 +22,7 @@ pub fn forms_that_fit_stay()
 {}
 
 ghost use Rattle.greibach.specs.UnfoldedForms.{UnfoldedFormsAreGood};
-ghost use Rattle.greibach.specs.MeetingOrder.{CollectedFormsAreGood, CollectedFormsAreGoodFromTheStart, CollectedIsMet, FormsHaveOneShape};
+ghost use Rattle.greibach.specs.MeetingOrder.{CollectedFormsAreGood, CollectedFormsAreGoodFromTheStart, CollectedFormsAreGoodOver, CollectedIsMet, FormsHaveOneShape};
 
 /// In a form that unfolds a text, what the equations stand for and the calls of the form answer each other.
 pub fn unfolded_forms_are_good()
@@ -30,10 +30,11 @@ pub fn unfolded_forms_are_good()
 {}
 
 /// A form whose equations are collected in the order in which they are met unfolds its text, and is strongly bisimilar to what it
-/// starts with.
+/// starts with, also over all data that come later.
 pub fn collected_forms_are_good()
     ensures follows { CollectedFormsAreGood }
     ensures starts { CollectedFormsAreGoodFromTheStart }
+    ensures over { CollectedFormsAreGoodOver }
     ensures met { CollectedIsMet }
 {}
 
@@ -41,4 +42,11 @@ pub fn collected_forms_are_good()
 /// calls of the same equations.
 pub fn forms_have_one_shape()
     ensures { FormsHaveOneShape }
+{}
+
+ghost use Rattle.greibach.specs.ComponentForms.{FormsOfComponentsAreGood};
+
+/// The form of a component is strongly bisimilar to it, over all data that come later.
+pub fn forms_of_components_are_good()
+    ensures { FormsOfComponentsAreGood }
 {}
