@@ -1,5 +1,5 @@
 -- The form of a component is bisimilar to it.
-use Rattle.std.proofs.Common.{◌≡◌, ℕ, zero, suc, List, [], ◌∷◌, map, length, Some, refl, sym, ap, ap₂, ◌∙◌, subst}
+use Rattle.std.proofs.Common.{◌≡◌, ℕ, zero, suc, List, [], ◌∷◌, map, Some, refl, sym, ap, ap₂, ◌∙◌, subst}
 use Rattle.std.specs.Prelude.{slice_get, option_map}
 use Rattle.std.proofs.lemmas.Option.{slice_get-map}
 use Rattle.data_theory.specs.Terms.{Sort, Term, put}
@@ -12,7 +12,7 @@ use Rattle.data_theory.specs.IdTrees.{Tree}
 use Rattle.data_theory.proofs.EnvironmentLemmas.{closed_terms_stay}
 use Rattle.process_terms.specs.Theories.{Theory, IsConsistent}
 use Rattle.process_terms.specs.PlainProcesses.{PlainDefinition, PlainModel, PlainComponent, call_of, term_of}
-use Rattle.process_terms.specs.Processes.{Process, Table, Body, call, close}
+use Rattle.process_terms.specs.Processes.{Process, Table, call, close}
 use Rattle.process_terms.specs.Meanings.{Entries, bound_at, term_at, body_of, table_of, component_body}
 use Rattle.process_terms.specs.SignatureEntries.{entries_of}
 use Rattle.bisim_laws.specs.LinearProcesses.{variables, sorts}
@@ -23,7 +23,7 @@ use Rattle.bisim_laws.specs.Links.{Form, IsGood}
 use Rattle.lps_core.specs.GoingOn.{GoesOn}
 use Rattle.greibach.specs.Forms.{form_table}
 use Rattle.greibach.specs.PlainForms.{PlainForm, form_of}
-use Rattle.greibach.specs.Places.{Place, Text, body_among, definition_in, table_in}
+use Rattle.greibach.specs.Places.{body_among, definition_in, table_in}
 use Rattle.greibach.specs.UnfoldedForms.{form_with, pieces_in}
 use Rattle.greibach.specs.MeetingOrder.{number_in}
 use Rattle.greibach.specs.ComponentForms.{params_among, piece_of, text_of, start_of, arguments_of, IsFormOf, FormsOfComponentsAreGood}

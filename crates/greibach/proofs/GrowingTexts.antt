@@ -1,7 +1,7 @@
 -- Forms that unfold a text, over data that grow.
-use Rattle.std.proofs.Common.{◌≡◌, ℕ, List, [], ◌∷◌, sym, subst}
-use Rattle.data_theory.specs.Terms.{Sort, boolean, Term}
-use Rattle.data_theory.specs.Declarations.{Data, HasSort, HaveSorts}
+use Rattle.std.proofs.Common.{ℕ, List, [], ◌∷◌}
+use Rattle.data_theory.specs.Terms.{boolean}
+use Rattle.data_theory.specs.Declarations.{Data}
 use Rattle.data_theory.specs.Environments.{terms_of}
 use Rattle.data_theory.specs.EqualityLaws.{Grows}
 use Rattle.data_theory.proofs.GrowthLemmas.{growth_keeps_sorts}
