@@ -22,14 +22,14 @@ step_label : (th : Theory) (d : Table) (e : Environment) (m : Label) (cs : List 
 step_label th d e m [] = by_act
 step_label th d e m (c ∷ cs) = by_seq by_act
 
-record BodyStep (th : Theory) (d : Table) (ss : List FormSummand) (e : Environment) (m : Label) (r : Outcome) : Type 0 where
-  summand : FormSummand
-  among : Contains ss summand
-  environment : Environment
-  sums : SumsBound th summand.sums e environment
-  holds : IsTrue th (put (term_in environment) summand.condition)
-  label : m ≡ put_label environment summand.label
-  outcome : r ≡ after_calls d environment summand.next
+pub record BodyStep (th : Theory) (d : Table) (ss : List FormSummand) (e : Environment) (m : Label) (r : Outcome) : Type 0 where
+  pub summand : FormSummand
+  pub among : Contains ss summand
+  pub environment : Environment
+  pub sums : SumsBound th summand.sums e environment
+  pub holds : IsTrue th (put (term_in environment) summand.condition)
+  pub label : m ≡ put_label environment summand.label
+  pub outcome : r ≡ after_calls d environment summand.next
 
 under_condition : (th : Theory) (d : Table) (s : FormSummand) (e : Environment) {m : Label} {r : Outcome} → Step th (close d e (written_cond s.condition (label_and_calls s.label s.next) written_delta)) m r
     → IsTrue th (put (term_in e) s.condition) × ((m ≡ put_label e s.label) × (r ≡ after_calls d e s.next))
@@ -45,17 +45,17 @@ summand_step th d s ss e k =
 later_step : {th : Theory} {d : Table} (s : FormSummand) {ss : List FormSummand} {e : Environment} {m : Label} {r : Outcome} → BodyStep th d ss e m r → BodyStep th d (s ∷ ss) e m r
 later_step s {ss = ss} k = record { summand = k.summand; among = contains_later s k.summand ss k.among; environment = k.environment; sums = k.sums; holds = k.holds; label = k.label; outcome = k.outcome }
 
-body_step : (th : Theory) (d : Table) (ss : List FormSummand) (e : Environment) {m : Label} {r : Outcome} → Step th (close d e (choice_of (map form_summand_body ss))) m r → BodyStep th d ss e m r
+pub body_step : (th : Theory) (d : Table) (ss : List FormSummand) (e : Environment) {m : Label} {r : Outcome} → Step th (close d e (choice_of (map form_summand_body ss))) m r → BodyStep th d ss e m r
 body_step th d [] e k = elim k [ ]
 body_step th d (s ∷ []) e k = summand_step th d s [] e k
 body_step th d (s ∷ s' ∷ ss) e (by_left k) = summand_step th d s (s' ∷ ss) e k
 body_step th d (s ∷ s' ∷ ss) e (by_right k) = later_step s (body_step th d (s' ∷ ss) e k)
 
-step_summand : (th : Theory) (d : Table) (s : FormSummand) (e e' : Environment) → SumsBound th s.sums e e' → IsTrue th (put (term_in e') s.condition)
+pub step_summand : (th : Theory) (d : Table) (s : FormSummand) (e e' : Environment) → SumsBound th s.sums e e' → IsTrue th (put (term_in e') s.condition)
     → Step th (close d e (form_summand_body s)) (put_label e' s.label) (after_calls d e' s.next)
 step_summand th d s e e' k h = step_outside th d (written_cond s.condition (label_and_calls s.label s.next) written_delta) k (by_true h (step_label th d e' s.label s.next))
 
-step_body : (th : Theory) (d : Table) (ss : List FormSummand) (s : FormSummand) (e : Environment) {m : Label} {r : Outcome} → Contains ss s → Step th (close d e (form_summand_body s)) m r
+pub step_body : (th : Theory) (d : Table) (ss : List FormSummand) (s : FormSummand) (e : Environment) {m : Label} {r : Outcome} → Contains ss s → Step th (close d e (form_summand_body s)) m r
     → Step th (close d e (choice_of (map form_summand_body ss))) m r
 step_body th d [] s e i k = absurd (contains_none s i)
 step_body th d (x ∷ []) s e {m} {r} i k = ⊎_elim (λ q. subst (λ z. Step th (close d e (form_summand_body z)) m r) (sym q) k) (λ j. absurd (contains_none s j)) (contains_cases x s [] i)

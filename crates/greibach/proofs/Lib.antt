@@ -1,3 +1,17 @@
 pub mod FormFiring
 pub mod TailLemmas
 pub mod StayingForms
+pub mod Under
+pub mod Flattening
+pub mod Situations
+pub mod Continuations
+pub mod Found
+pub mod Shown
+pub mod FormSteps
+pub mod GoodForms
+pub mod SameShapes
+pub mod MetPlaces
+pub mod NumberedPlaces
+pub mod StandingRests
+pub mod GrowingTexts
+pub mod FormsOfComponents

@@ -4,3 +4,8 @@ pub mod Tails
 pub mod FormLaws
 pub mod FittingForms
 pub mod PlainTerms
+pub mod Places
+pub mod Unfolding
+pub mod UnfoldedForms
+pub mod MeetingOrder
+pub mod ComponentForms

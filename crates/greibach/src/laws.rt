@@ -20,3 +20,33 @@ pub fn forms_that_fit_stay()
     ensures sorted { FormsThatFitAreSorted }
     ensures stays { FormsThatFitStay }
 {}
+
+ghost use Rattle.greibach.specs.UnfoldedForms.{UnfoldedFormsAreGood};
+ghost use Rattle.greibach.specs.MeetingOrder.{CollectedFormsAreGood, CollectedFormsAreGoodFromTheStart, CollectedFormsAreGoodOver, CollectedIsMet, FormsHaveOneShape};
+
+/// In a form that unfolds a text, what the equations stand for and the calls of the form answer each other.
+pub fn unfolded_forms_are_good()
+    ensures { UnfoldedFormsAreGood }
+{}
+
+/// A form whose equations are collected in the order in which they are met unfolds its text, and is strongly bisimilar to what it
+/// starts with, also over all data that come later.
+pub fn collected_forms_are_good()
+    ensures follows { CollectedFormsAreGood }
+    ensures starts { CollectedFormsAreGoodFromTheStart }
+    ensures over { CollectedFormsAreGoodOver }
+    ensures met { CollectedIsMet }
+{}
+
+/// Two forms of one text from one start have the same equations in the same order, as many summands in each, and in each summand
+/// calls of the same equations.
+pub fn forms_have_one_shape()
+    ensures { FormsHaveOneShape }
+{}
+
+ghost use Rattle.greibach.specs.ComponentForms.{FormsOfComponentsAreGood};
+
+/// The form of a component is strongly bisimilar to it, over all data that come later.
+pub fn forms_of_components_are_good()
+    ensures { FormsOfComponentsAreGood }
+{}
