@@ -4,7 +4,7 @@
 Run it from the top of the repository: bench/communicating.py [REPEATS]. It is no part of the gate.
 
 Each line has the processor's seconds of a case with communication, those of the same case without it, and how many times
-the one in front its own share took. First come labels of more and more actions, of which each joins one other by a rule of its own, so
+the difference is that of the line in front. First come labels of more and more actions, of which each joins one other by a rule of its own, so
 that the ways double with each rule; then labels whose actions have a rule and nobody to join; last more and more summands of two actions.
 """
 
@@ -19,7 +19,7 @@ TOP = pathlib.Path(__file__).resolve().parent.parent
 def built():
     """Builds the program, and gives its path."""
     folder = TOP / "crates" / "linear_cases"
-    subprocess.run(["rt", "run"], cwd=folder, check=True, stdout=subprocess.DEVNULL, stderr=subprocess.DEVNULL)
+    subprocess.run(["rt", "run"], cwd=folder, check=True, stdin=subprocess.DEVNULL, stdout=subprocess.DEVNULL, stderr=subprocess.DEVNULL)
     return folder / "out" / "linear_cases"
 
 
