@@ -125,6 +125,28 @@ fn push_within(
     out.extend_from_slice(behind)
 }
 
+/// What stands in front of an operator's operand, and nothing for the other process terms.
+fn push_front(out: &mut Vec<u8>, tree: &ProcTree) -> Result<(), AllocError> {
+    match tree {
+        ProcTree::Allow(_, sets, _) => {
+            out.extend_from_slice(b"allow({")?;
+            push_sets(out, sets)?;
+        }
+        ProcTree::Block(_, names, _) => push_operator(out, b"block({", names)?,
+        ProcTree::Hide(_, names, _) => push_operator(out, b"hide({", names)?,
+        ProcTree::Rename(_, renamings, _) => {
+            out.extend_from_slice(b"rename({")?;
+            push_renamings(out, renamings)?;
+        }
+        ProcTree::Comm(_, rules, _) => {
+            out.extend_from_slice(b"comm({")?;
+            push_rules(out, rules)?;
+        }
+        _ => return Ok(()),
+    }
+    out.extend_from_slice(b"}, ")
+}
+
 /// A process term with brackets around each sum, condition and chain, and no others.
 #[cycle(process_forms)]
 pub fn push_process(out: &mut Vec<u8>, tree: &ProcTree) -> Result<(), AllocError> {
@@ -139,28 +161,13 @@ pub fn push_process(out: &mut Vec<u8>, tree: &ProcTree) -> Result<(), AllocError
             out.extend_from_slice(b")")
         }
         ProcTree::Brackets(_, inner) => push_process(out, inner),
-        ProcTree::Allow(_, sets, inner) => {
-            out.extend_from_slice(b"allow({")?;
-            push_sets(out, sets)?;
-            push_within(out, b"}, ", inner, b")")
-        }
-        ProcTree::Block(_, names, inner) => {
-            push_operator(out, b"block({", names)?;
-            push_within(out, b"}, ", inner, b")")
-        }
-        ProcTree::Hide(_, names, inner) => {
-            push_operator(out, b"hide({", names)?;
-            push_within(out, b"}, ", inner, b")")
-        }
-        ProcTree::Rename(_, renamings, inner) => {
-            out.extend_from_slice(b"rename({")?;
-            push_renamings(out, renamings)?;
-            push_within(out, b"}, ", inner, b")")
-        }
-        ProcTree::Comm(_, rules, inner) => {
-            out.extend_from_slice(b"comm({")?;
-            push_rules(out, rules)?;
-            push_within(out, b"}, ", inner, b")")
+        ProcTree::Allow(_, _, inner)
+        | ProcTree::Block(_, _, inner)
+        | ProcTree::Hide(_, _, inner)
+        | ProcTree::Rename(_, _, inner)
+        | ProcTree::Comm(_, _, inner) => {
+            push_front(out, tree)?;
+            push_within(out, b"", inner, b")")
         }
         ProcTree::Sequence(_, parts) => push_chain(out, b" . ", parts),
         ProcTree::Parallel(_, parts) => push_chain(out, b" || ", parts),

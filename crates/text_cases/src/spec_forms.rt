@@ -2,7 +2,9 @@
 
 use crate::data_forms::{push_data, push_names, push_sort, push_word};
 use crate::process_forms::{push_process, push_variables};
-use mcrl2_syntax::{Constructor, Decl, Field, Section, SectionWord, SortTree, Span, Spec, Word};
+use mcrl2_syntax::{
+    Constructor, Decl, EquationTree, Field, Section, SectionWord, SortTree, Span, Spec, Word,
+};
 use std::alloc::{AllocError, Global};
 
 /// How the word of a section is written.
@@ -80,6 +82,17 @@ fn push_constructors(out: &mut Vec<u8>, constructors: &[Constructor]) -> Result<
     Ok(())
 }
 
+/// An equation with its condition.
+fn push_equation(out: &mut Vec<u8>, equation: &EquationTree) -> Result<(), AllocError> {
+    if let Some(condition) = &equation.condition {
+        push_data(out, condition)?;
+        out.extend_from_slice(b" -> ")?;
+    }
+    push_data(out, &equation.left)?;
+    out.extend_from_slice(b" = ")?;
+    push_data(out, &equation.right)
+}
+
 /// A declaration.
 fn push_declaration(out: &mut Vec<u8>, tree: &Decl) -> Result<(), AllocError> {
     match tree {
@@ -97,15 +110,7 @@ fn push_declaration(out: &mut Vec<u8>, tree: &Decl) -> Result<(), AllocError> {
             push_functions(out, names, domain, sort)
         }
         Decl::Vars(_, groups) => push_variables(out, groups),
-        Decl::Equation(_, equation) => {
-            if let Some(condition) = &equation.condition {
-                push_data(out, condition)?;
-                out.extend_from_slice(b" -> ")?;
-            }
-            push_data(out, &equation.left)?;
-            out.extend_from_slice(b" = ")?;
-            push_data(out, &equation.right)
-        }
+        Decl::Equation(_, equation) => push_equation(out, equation),
         Decl::Act(_, names, domain) => {
             push_names(out, names, b", ")?;
             push_domain(out, b": ", domain)
