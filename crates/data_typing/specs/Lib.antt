@@ -13,3 +13,6 @@ pub mod Plans
 pub mod CodePlans
 pub mod Making
 pub mod CodeSteps
+pub mod WordPlaces
+pub mod NamedSorts
+pub mod CodeParts

@@ -4,8 +4,12 @@
 //! the contract of each is a law of these definitions, so that the crates above can cite it.
 #![tactic(auto)]
 
+pub mod elaborating;
+pub mod finding;
 pub mod flat_sorts;
+pub mod functions;
 pub mod laws;
+pub mod making;
 pub mod nodes;
 pub mod plans;
 pub mod reading;
