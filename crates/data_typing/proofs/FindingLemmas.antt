@@ -1,8 +1,6 @@
 -- The sorts and functions of steps in a signature.
-use Rattle.std.proofs.Common.{◌≡◌, ◌<◌, ◌≤◌, ◌+◌, ℕ, zero, suc, List, [], ◌∷◌, ◌++◌, length, map, take, get_or, refl, sym, subst, ap, ◌∙◌, arith, length-append}
-use Rattle.std.specs.Prelude.{Option, Some, None, IfSome, slice_get}
+use Rattle.std.proofs.Common.{◌≡◌, ◌<◌, ◌+◌, ℕ, zero, suc, List, [], ◌∷◌, ◌++◌, length, map, take, get_or, refl, sym, subst, ap, ◌∙◌, arith, length-append}
 use Rattle.std.specs.List.{All}
-use Rattle.std.proofs.lemmas.Option.{slice_get_within}
 use Rattle.std.proofs.lemmas.List.{take_more}
 use Rattle.std.proofs.lemmas.List.Elements.{All-nil, All-cons, All-head, All-tail}
 use Rattle.data_theory.specs.declared.ids.SortId.{SortId}
@@ -10,11 +8,9 @@ use Rattle.data_theory.specs.declared.ids.FunId.{FunId}
 use Rattle.data_theory.specs.declared.words.Word.{Word}
 use Rattle.data_theory.specs.Terms.{Sort, boolean, named, Symbol}
 use Rattle.data_theory.specs.Sorts.{SortInfo}
-use Rattle.data_theory.specs.Functions.{Function}
-use Rattle.data_theory.specs.Signature.{Sig, IsFun}
-use Rattle.data_theory.specs.WholeSignatures.{IsSignature}
+use Rattle.data_theory.specs.Signature.{Sig}
 use Rattle.data_theory.specs.IdSorts.{construction_of, meaning_of, meant_by, meanings_behind}
-use Rattle.data_theory.specs.IdSymbols.{word_symbol, declared_from, symbol_of, symbol_at}
+use Rattle.data_theory.specs.IdSymbols.{word_symbol}
 use Rattle.data_theory.specs.IdTerms.{sort_under, symbol_under, IsGrown}
 use Rattle.data_theory.proofs.IdSortLemmas.{growth_keeps_meant_sorts}
 use Rattle.data_typing.specs.declared.flat_sorts.FlatSort.{FlatSort}

@@ -1,7 +1,6 @@
 -- The terms that parts make in a pool.
-use Rattle.std.proofs.Common.{◌≡◌, ◌<◌, ◌≤◌, ◌+◌, ◌-◌, ◌==◌, ℕ, zero, suc, Bool, true, false, cond, List, [], ◌∷◌, ◌++◌, length, map, take, drop, get_or, refl, sym, subst, ap, ◌∙◌, arith, length-append, append-nil}
-use Rattle.std.specs.Prelude.{Option, Some, None, Vec, pos, ℤ}
-use Rattle.std.specs.Global.{Global}
+use Rattle.std.proofs.Common.{◌≡◌, ◌<◌, ◌≤◌, ◌+◌, ◌-◌, ℕ, zero, suc, List, [], ◌∷◌, ◌++◌, length, map, take, drop, get_or, refl, sym, subst, ap, ◌∙◌, arith, length-append, append-nil}
+use Rattle.std.specs.Prelude.{Option, Some, pos}
 use Rattle.std.specs.List.{All}
 use Rattle.std.proofs.lemmas.List.{take_more, get_or_append_left}
 use Rattle.std.proofs.lemmas.List.Elements.{All-append, All-nil, All-cons, All-head, All-tail}
@@ -17,7 +16,7 @@ use Rattle.data_theory.proofs.IdTermLemmas.{merging_trees_merges_terms}
 use Rattle.data_theory.proofs.IdSymbolLemmas.{natural_is, positive_is, growth_keeps_meant_symbols}
 use Rattle.data_theory.specs.Table.{nat_sort, pos_sort}
 use Rattle.data_typing.specs.Typings.{least_sort}
-use Rattle.term_pool.specs.HeadTrees.{no_tree, tree_at, trees_at, IsIn, AreIn}
+use Rattle.term_pool.specs.HeadTrees.{no_tree, tree_at, trees_at, IsIn}
 use Rattle.term_pool.specs.Pools.{Extends}
 use Rattle.data_typing.specs.declared.steps.Step.{Step}
 use Rattle.data_typing.specs.declared.making.Part.{Part}

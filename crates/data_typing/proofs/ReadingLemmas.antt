@@ -9,7 +9,7 @@ use Rattle.data_theory.specs.declared.ids.FunId.{FunId}
 use Rattle.data_theory.specs.Terms.{Symbol}
 use Rattle.mcrl2_syntax.specs.declared.data_tree.InfixSign.{InfixSign}
 use Rattle.mcrl2_syntax.specs.declared.data_tree.DataTree.{DataTree}
-use Rattle.mcrl2_syntax.specs.DataTrees.{PlainData, PlainOperands, datas_of, operands_of, plain_data, plain_operands}
+use Rattle.mcrl2_syntax.specs.DataTrees.{PlainOperands, datas_of, operands_of, plain_data, plain_operands}
 use Rattle.sort_table.specs.Expressions.{Name, Expression, numeral, word, more, two}
 use Rattle.sort_table.specs.Expressions as expressions
 use Rattle.sort_table.specs.BareData.{bare_data, bare_datas, infix_text, to_the_left, to_the_right, behind}

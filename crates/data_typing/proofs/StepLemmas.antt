@@ -29,7 +29,7 @@ use Rattle.data_typing.specs.FlatSorts.{flat_sort, place_of}
 use Rattle.data_typing.specs.Nodes.{profile_of, any_profile_of, values_at, sortings_at, sortings, AreBelow, AreNodes, AreKnown}
 use Rattle.data_typing.specs.NodeTypings.{signature_of, scheme_of, kind_typing, node_typings, typing_at}
 use Rattle.data_typing.specs.Making.{wished, Item, leaf, over, terms_of, Make}
-use Rattle.data_typing.specs.CodeSteps.{wish_of, task_weight, AreSteps, kind_by_sort, kind_infers, typings_at, TasksHave, item_of, items_of, list_items, term_in, task_inferred, task_at, tasks_at, sum_of, weights, tasks_weight, parts_limit, AreTasks, Expands, Comes}
+use Rattle.data_typing.specs.CodeSteps.{wish_of, task_weight, AreSteps, kind_by_sort, kind_infers, typings_at, TasksHave, item_of, items_of, list_items, term_in, task_inferred, task_at, tasks_at, sum_of, weights, tasks_weight, parts_limit, AreTasks, Comes}
 use Rattle.data_typing.proofs.SortsFirst.{all_same_told, all_check_told, first_exact_told, widest_told, each_checks_told}
 use Rattle.data_typing.proofs.NodeTells.{node_tells, profiles_are, any_profile_is, parts_tell, typing_there, weight_there}
 
