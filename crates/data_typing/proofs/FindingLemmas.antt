@@ -1,7 +1,7 @@
 -- The sorts and functions of steps in a signature.
 use Rattle.std.proofs.Common.{◌≡◌, ◌<◌, ◌+◌, ℕ, zero, suc, List, [], ◌∷◌, ◌++◌, length, map, take, get_or, refl, sym, subst, ap, ◌∙◌, arith, length-append}
 use Rattle.std.specs.List.{All}
-use Rattle.std.proofs.lemmas.List.{take_more}
+use Rattle.std.proofs.lemmas.List.{take_more, length-map, map-append}
 use Rattle.std.proofs.lemmas.List.Elements.{All-nil, All-cons, All-head, All-tail}
 use Rattle.data_theory.specs.declared.ids.SortId.{SortId}
 use Rattle.data_theory.specs.declared.ids.FunId.{FunId}
@@ -70,12 +70,8 @@ meanings_long ms d (s ∷ ss) =
     let rest : length (meanings_behind (ms ++ m ∷ []) (d + length (construction_of s.kind)) ss) ≡ length (ms ++ m ∷ []) + length ss = meanings_long (ms ++ m ∷ []) (d + length (construction_of s.kind)) ss in
     rest ∙ (let same : length (ms ++ m ∷ []) + length ss ≡ length ms + suc (length ss) = omega (arith, long) in same)
 
-mapped_long : (fs : List FlatSort) → length (map flat_sort fs) ≡ length fs
-mapped_long [] = refl
-mapped_long (f ∷ fs) = ap suc (mapped_long fs)
-
 pub flats_long : (g : Sig) (flats : List FlatSort) → AreFlat g flats → length flats ≡ length g.sorts
-flats_long g flats e = sym (mapped_long flats) ∙ ap length e ∙ meanings_long [] 0 g.sorts ∙ (let same : 0 + length g.sorts ≡ length g.sorts = omega arith in same)
+flats_long g flats e = sym (length-map flats flat_sort) ∙ ap length e ∙ meanings_long [] 0 g.sorts ∙ (let same : 0 + length g.sorts ≡ length g.sorts = omega arith in same)
 
 mapped_at : (fs : List FlatSort) (k : ℕ) (f : FlatSort) → k < length fs → f ≡ get_or fs k f → get_or (map flat_sort fs) k boolean ≡ flat_sort f
 mapped_at [] k f h e = let never : ⊥ = omega arith in absurd never
@@ -85,15 +81,11 @@ mapped_at (x ∷ fs) (suc k) f h e = mapped_at fs k f (omega arith) e
 pub flat_there : (g : Sig) (flats : List FlatSort) → AreFlat g flats → (k : ℕ) → k < length flats → (f : FlatSort) → f ≡ get_or flats k f → sort_under g (record { 0 = k }) ≡ flat_sort f
 flat_there g flats all k h f e = ap (λ ms. get_or ms k boolean) (sym all) ∙ mapped_at flats k f h e
 
-map_last : {A B : Type 0} (f : A → B) (xs : List A) (x : A) → map f (xs ++ x ∷ []) ≡ map f xs ++ f x ∷ []
-map_last f [] x = refl
-map_last f (y ∷ xs) x = ap (λ l. f y ∷ l) (map_last f xs x)
-
 pub numbers_more : (g h : Sig) → IsGrown g h → (ids new : List SortId) → All (λ (s : SortId). s.0 < length g.sorts) ids → (flats : List FlatSort) (i : ℕ) → map (sort_under g) ids ≡ map flat_sort (take i flats)
     → (f : FlatSort) → i < length flats → f ≡ get_or flats i f → (s : SortId) → sort_under h s ≡ flat_sort f → new ≡ ids ++ s ∷ [] → map (sort_under h) new ≡ map flat_sort (take (i + 1) flats)
 numbers_more g h grown ids new within flats i so_far f l e s is q =
-    ap (map (sort_under h)) q ∙ map_last (sort_under h) ids s ∙ ap (λ ms. ms ++ sort_under h s ∷ []) (sorts_on g h grown ids within ∙ so_far) ∙ ap (λ m. map flat_sort (take i flats) ++ m ∷ []) (is ∙ ap flat_sort e)
-    ∙ sym (ap (map flat_sort) (take_more flats i f l) ∙ map_last flat_sort (take i flats) (get_or flats i f))
+    ap (map (sort_under h)) q ∙ map-append (sort_under h) ids (s ∷ []) ∙ ap (λ ms. ms ++ sort_under h s ∷ []) (sorts_on g h grown ids within ∙ so_far) ∙ ap (λ m. map flat_sort (take i flats) ++ m ∷ []) (is ∙ ap flat_sort e)
+    ∙ sym (ap (map flat_sort) (take_more flats i f l) ∙ map-append flat_sort (take i flats) (get_or flats i f ∷ []))
 
 pub numbers_within : (g h : Sig) → IsGrown g h → (ids new : List SortId) → All (λ (s : SortId). s.0 < length g.sorts) ids → (s : SortId) → s.0 < length h.sorts → new ≡ ids ++ s ∷ [] → All (λ (x : SortId). x.0 < length h.sorts) new
 numbers_within g h grown ids new within s l q = subst (All (λ (x : SortId). x.0 < length h.sorts)) (sym q) (all_last ids within)

@@ -3,7 +3,7 @@ use Rattle.std.proofs.Common.{◌≡◌, ◌<◌, ◌≤◌, ◌+◌, ◌==◌, 
 use Rattle.std.specs.Prelude.{Vec, Result, IfOk}
 use Rattle.std.proofs.lemmas.Result.{IfOk-weaker}
 use Rattle.std.specs.Global.{Global}
-use Rattle.std.proofs.lemmas.List.{drop_more, drop_all, take_more}
+use Rattle.std.proofs.lemmas.List.{append_assoc, drop_more, drop_all, take_more}
 use denote.Param.Weighed.{most}
 use Rattle.data_theory.specs.declared.ids.FunId.{FunId}
 use Rattle.data_theory.specs.Terms.{Symbol}
@@ -45,10 +45,6 @@ module _ {A : Type 0} (z : A) (f : Kind → List A → A) where
 -- ---- what stands goes on
 pub goes_on : (a b c : List Node) → GoOn a b → GoOn b c → GoOn a c
 goes_on a b c g h = record { nodes = h.nodes; behind = g.behind ++ h.behind; are = h.are ∙ ap (λ ns. ns ++ h.behind) g.are ∙ append_assoc a g.behind h.behind }
-  where
-    append_assoc : (us vs ws : List Node) → (us ++ vs) ++ ws ≡ us ++ (vs ++ ws)
-    append_assoc [] vs ws = refl
-    append_assoc (u ∷ us) vs ws = ap (λ zs. u ∷ zs) (append_assoc us vs ws)
 
 pub not_on : (a : List Node) → AreNodes a → GoOn a a
 not_on a are = record { nodes = are; behind = []; are = sym (append-nil a) }
