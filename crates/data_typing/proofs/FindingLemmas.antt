@@ -1,20 +1,16 @@
 -- The sorts and functions of steps in a signature.
-use Rattle.std.proofs.Common.{◌≡◌, ◌<◌, ◌≤◌, ◌+◌, ℕ, zero, suc, List, [], ◌∷◌, ◌++◌, length, map, take, get_or, refl, sym, subst, ap, ◌∙◌, arith, length-append}
-use Rattle.std.specs.Prelude.{Option, Some, None, IfSome, slice_get}
+use Rattle.std.proofs.Common.{◌≡◌, ◌<◌, ◌+◌, ℕ, zero, suc, List, [], ◌∷◌, ◌++◌, length, map, take, get_or, refl, sym, subst, ap, ◌∙◌, arith, length-append}
 use Rattle.std.specs.List.{All}
-use Rattle.std.proofs.lemmas.Option.{slice_get_within}
-use Rattle.std.proofs.lemmas.List.{take_more}
+use Rattle.std.proofs.lemmas.List.{take_more, length-map, map-append}
 use Rattle.std.proofs.lemmas.List.Elements.{All-nil, All-cons, All-head, All-tail}
 use Rattle.data_theory.specs.declared.ids.SortId.{SortId}
 use Rattle.data_theory.specs.declared.ids.FunId.{FunId}
 use Rattle.data_theory.specs.declared.words.Word.{Word}
 use Rattle.data_theory.specs.Terms.{Sort, boolean, named, Symbol}
 use Rattle.data_theory.specs.Sorts.{SortInfo}
-use Rattle.data_theory.specs.Functions.{Function}
-use Rattle.data_theory.specs.Signature.{Sig, IsFun}
-use Rattle.data_theory.specs.WholeSignatures.{IsSignature}
+use Rattle.data_theory.specs.Signature.{Sig}
 use Rattle.data_theory.specs.IdSorts.{construction_of, meaning_of, meant_by, meanings_behind}
-use Rattle.data_theory.specs.IdSymbols.{word_symbol, declared_from, symbol_of, symbol_at}
+use Rattle.data_theory.specs.IdSymbols.{word_symbol}
 use Rattle.data_theory.specs.IdTerms.{sort_under, symbol_under, IsGrown}
 use Rattle.data_theory.proofs.IdSortLemmas.{growth_keeps_meant_sorts}
 use Rattle.data_typing.specs.declared.flat_sorts.FlatSort.{FlatSort}
@@ -23,27 +19,7 @@ use Rattle.data_typing.specs.declared.nodes.Overload as code
 use Rattle.data_typing.specs.FlatSorts.{flat_sort}
 use Rattle.data_typing.specs.NodeTypings.{callee_symbol, signature_of}
 use Rattle.data_typing.specs.CodeWords.{AreFlat}
-use Rattle.data_typing.specs.WordPlaces.{word_place}
 use Rattle.data_typing.specs.NamedSorts.{AreNamedFrom, AreNamedSorts}
-use Rattle.data_typing.proofs.WordPlaceLemmas.{one_word}
-
--- ---- functions
-pub of_word : (o : Option Function) (w v : Word) (s to : SortId) (p q : ℕ) → IfSome o (λ f. f.word ≡ Some w) → IfSome o (λ f. f.result ≡ s) → p ≡ word_place w → q ≡ word_place v → p ≡ q → s.0 ≡ to.0
-    → IfSome o (λ f. (f.word ≡ Some v) × (f.result ≡ to))
-of_word None w v s to p q h k e r same one = tt
-of_word (Some f) w v s to p q h k e r same one =
-    let sort : s ≡ to = ap (λ n. record { 0 = n }) one in
-    (h ∙ ap Some (one_word w v (sym e ∙ same ∙ r)), k ∙ sort)
-
-pub built_in_means : (g : Sig) (t : List ℕ) (w : Word) (sorts : List SortId) (to : SortId) (fun : FunId) → IsFun g t sorts fun.0 → IfSome (slice_get g.functions fun.0) (λ f. (f.word ≡ Some w) × (f.result ≡ to))
-    → symbol_under g fun ≡ word_symbol w (map (sort_under g) sorts) (sort_under g to)
-built_in_means g t w sorts to fun (f, got, text, same) h =
-    let k : (f.word ≡ Some w) × (f.result ≡ to) = subst (λ o. IfSome o (λ (x : Function). (x.word ≡ Some w) × (x.result ≡ to))) got h in
-    let d : ℕ = length (declared_from 0 (take fun.0 g.functions)) in
-    ap (symbol_at (sort_under g) d) got ∙ ap (symbol_of (sort_under g) d f) k.0 ∙ ap (λ ss. word_symbol w (map (sort_under g) ss) (sort_under g f.result)) same ∙ ap (λ r. word_symbol w (map (sort_under g) sorts) (sort_under g r)) k.1
-
-pub fun_within : (g : Sig) (t : List ℕ) (sorts : List SortId) (k : ℕ) → IsFun g t sorts k → k < length g.functions
-fun_within g t sorts k (f, got, text, same) = slice_get_within g.functions k f got
 
 -- ---- declared sorts
 named_behind : (g : Sig) (d : ℕ) (ss : List SortId) → AreNamedFrom g d ss → (s : SortId) → s.0 < length g.sorts → (n : ℕ) → n ≡ d + length ss → sort_under g s ≡ named n → AreNamedFrom g d (ss ++ s ∷ [])
@@ -94,12 +70,8 @@ meanings_long ms d (s ∷ ss) =
     let rest : length (meanings_behind (ms ++ m ∷ []) (d + length (construction_of s.kind)) ss) ≡ length (ms ++ m ∷ []) + length ss = meanings_long (ms ++ m ∷ []) (d + length (construction_of s.kind)) ss in
     rest ∙ (let same : length (ms ++ m ∷ []) + length ss ≡ length ms + suc (length ss) = omega (arith, long) in same)
 
-mapped_long : (fs : List FlatSort) → length (map flat_sort fs) ≡ length fs
-mapped_long [] = refl
-mapped_long (f ∷ fs) = ap suc (mapped_long fs)
-
 pub flats_long : (g : Sig) (flats : List FlatSort) → AreFlat g flats → length flats ≡ length g.sorts
-flats_long g flats e = sym (mapped_long flats) ∙ ap length e ∙ meanings_long [] 0 g.sorts ∙ (let same : 0 + length g.sorts ≡ length g.sorts = omega arith in same)
+flats_long g flats e = sym (length-map flats flat_sort) ∙ ap length e ∙ meanings_long [] 0 g.sorts ∙ (let same : 0 + length g.sorts ≡ length g.sorts = omega arith in same)
 
 mapped_at : (fs : List FlatSort) (k : ℕ) (f : FlatSort) → k < length fs → f ≡ get_or fs k f → get_or (map flat_sort fs) k boolean ≡ flat_sort f
 mapped_at [] k f h e = let never : ⊥ = omega arith in absurd never
@@ -109,15 +81,11 @@ mapped_at (x ∷ fs) (suc k) f h e = mapped_at fs k f (omega arith) e
 pub flat_there : (g : Sig) (flats : List FlatSort) → AreFlat g flats → (k : ℕ) → k < length flats → (f : FlatSort) → f ≡ get_or flats k f → sort_under g (record { 0 = k }) ≡ flat_sort f
 flat_there g flats all k h f e = ap (λ ms. get_or ms k boolean) (sym all) ∙ mapped_at flats k f h e
 
-map_last : {A B : Type 0} (f : A → B) (xs : List A) (x : A) → map f (xs ++ x ∷ []) ≡ map f xs ++ f x ∷ []
-map_last f [] x = refl
-map_last f (y ∷ xs) x = ap (λ l. f y ∷ l) (map_last f xs x)
-
 pub numbers_more : (g h : Sig) → IsGrown g h → (ids new : List SortId) → All (λ (s : SortId). s.0 < length g.sorts) ids → (flats : List FlatSort) (i : ℕ) → map (sort_under g) ids ≡ map flat_sort (take i flats)
     → (f : FlatSort) → i < length flats → f ≡ get_or flats i f → (s : SortId) → sort_under h s ≡ flat_sort f → new ≡ ids ++ s ∷ [] → map (sort_under h) new ≡ map flat_sort (take (i + 1) flats)
 numbers_more g h grown ids new within flats i so_far f l e s is q =
-    ap (map (sort_under h)) q ∙ map_last (sort_under h) ids s ∙ ap (λ ms. ms ++ sort_under h s ∷ []) (sorts_on g h grown ids within ∙ so_far) ∙ ap (λ m. map flat_sort (take i flats) ++ m ∷ []) (is ∙ ap flat_sort e)
-    ∙ sym (ap (map flat_sort) (take_more flats i f l) ∙ map_last flat_sort (take i flats) (get_or flats i f))
+    ap (map (sort_under h)) q ∙ map-append (sort_under h) ids (s ∷ []) ∙ ap (λ ms. ms ++ sort_under h s ∷ []) (sorts_on g h grown ids within ∙ so_far) ∙ ap (λ m. map flat_sort (take i flats) ++ m ∷ []) (is ∙ ap flat_sort e)
+    ∙ sym (ap (map flat_sort) (take_more flats i f l) ∙ map-append flat_sort (take i flats) (get_or flats i f ∷ []))
 
 pub numbers_within : (g h : Sig) → IsGrown g h → (ids new : List SortId) → All (λ (s : SortId). s.0 < length g.sorts) ids → (s : SortId) → s.0 < length h.sorts → new ≡ ids ++ s ∷ [] → All (λ (x : SortId). x.0 < length h.sorts) new
 numbers_within g h grown ids new within s l q = subst (All (λ (x : SortId). x.0 < length h.sorts)) (sym q) (all_last ids within)

@@ -19,6 +19,5 @@ pub mod SortTables
 pub mod SignatureSorts
 pub mod NodeTells
 pub mod StepLemmas
-pub mod WordPlaceLemmas
 pub mod FindingLemmas
 pub mod MakingLemmas

@@ -1,9 +1,8 @@
 -- The terms that parts make in a pool.
-use Rattle.std.proofs.Common.{◌≡◌, ◌<◌, ◌≤◌, ◌+◌, ◌-◌, ◌==◌, ℕ, zero, suc, Bool, true, false, cond, List, [], ◌∷◌, ◌++◌, length, map, take, drop, get_or, refl, sym, subst, ap, ◌∙◌, arith, length-append, append-nil}
-use Rattle.std.specs.Prelude.{Option, Some, None, Vec, pos, ℤ}
-use Rattle.std.specs.Global.{Global}
+use Rattle.std.proofs.Common.{◌≡◌, ◌<◌, ◌≤◌, ◌+◌, ◌-◌, ℕ, zero, suc, List, [], ◌∷◌, ◌++◌, length, map, take, drop, get_or, refl, sym, subst, ap, ◌∙◌, arith, length-append, append-nil}
+use Rattle.std.specs.Prelude.{Option, Some, pos}
 use Rattle.std.specs.List.{All}
-use Rattle.std.proofs.lemmas.List.{take_more, get_or_append_left}
+use Rattle.std.proofs.lemmas.List.{append_assoc, take_more, get_or_append_left, length-map, map-append}
 use Rattle.std.proofs.lemmas.List.Elements.{All-append, All-nil, All-cons, All-head, All-tail}
 use Rattle.data_theory.specs.declared.ids.FunId.{FunId}
 use Rattle.data_theory.specs.declared.ids.TermId.{TermId}
@@ -17,7 +16,7 @@ use Rattle.data_theory.proofs.IdTermLemmas.{merging_trees_merges_terms}
 use Rattle.data_theory.proofs.IdSymbolLemmas.{natural_is, positive_is, growth_keeps_meant_symbols}
 use Rattle.data_theory.specs.Table.{nat_sort, pos_sort}
 use Rattle.data_typing.specs.Typings.{least_sort}
-use Rattle.term_pool.specs.HeadTrees.{no_tree, tree_at, trees_at, IsIn, AreIn}
+use Rattle.term_pool.specs.HeadTrees.{no_tree, tree_at, trees_at, IsIn}
 use Rattle.term_pool.specs.Pools.{Extends}
 use Rattle.data_typing.specs.declared.steps.Step.{Step}
 use Rattle.data_typing.specs.declared.making.Part.{Part}
@@ -66,15 +65,11 @@ terms_are : (g : Sig) (ts : List Tree) (ids : List TermId) → terms_under g (tr
 terms_are g ts [] = refl
 terms_are g ts (id ∷ ids) = ap (terms.more (term_at g ts id)) (terms_are g ts ids)
 
-append_map : {A B : Type 0} (f : A → B) (xs : List A) (x : A) → map f (xs ++ x ∷ []) ≡ map f xs ++ f x ∷ []
-append_map f [] x = refl
-append_map f (y ∷ xs) x = ap (λ l. f y ∷ l) (append_map f xs x)
-
 -- one more term behind those that are made
 pub pushed_term : (g : Sig) (old new : List Tree) → Extends old new → (ids made : List TermId) → All (IsIn old) ids → (id : TermId) → made ≡ ids ++ id ∷ [] → (t : Term) → term_at g new id ≡ t
     → map (term_at g new) made ≡ map (term_at g old) ids ++ t ∷ []
 pushed_term g old new x ids made h id e t is =
-    ap (map (term_at g new)) e ∙ append_map (term_at g new) ids id ∙ ap (λ l. l ++ term_at g new id ∷ []) (all_kept g old new x ids h) ∙ ap (λ u. map (term_at g old) ids ++ u ∷ []) is
+    ap (map (term_at g new)) e ∙ map-append (term_at g new) ids (id ∷ []) ∙ ap (λ l. l ++ term_at g new id ∷ []) (all_kept g old new x ids h) ∙ ap (λ u. map (term_at g old) ids ++ u ∷ []) is
 
 All-taken : {A : Type 0} (P : A → Type 0) (n : ℕ) (xs : List A) → All P xs → All P (take n xs)
 All-taken P zero xs h = All-nil P
@@ -109,13 +104,9 @@ popped : (hs : List Item) (h : Item) (xs ys : List Term) → Make (hs ++ h ∷ [
 popped [] h xs ys (us, m, k) = (ys, subst (λ l. Turns h l ys) (sym m) k, refl)
 popped (i ∷ hs) h xs ys (us, m, k) = let (ws, t, n) = popped hs h xs us m in (ws, t, (us, n, k))
 
-part_items_behind : (g : Sig) (ps : List Part) (p : Part) → part_items g (ps ++ p ∷ []) ≡ part_items g ps ++ part_item g p ∷ []
-part_items_behind g [] p = refl
-part_items_behind g (q ∷ ps) p = ap (λ l. part_item g q ∷ l) (part_items_behind g ps p)
-
 pub part_made : (g : Sig) (all ps : List Part) (p : Part) → all ≡ ps ++ p ∷ [] → (us vs : List Term) (t : Term) → Make (part_items g all) us (t ∷ []) → Turns (part_item g p) us vs → Make (part_items g ps) vs (t ∷ [])
 part_made g all ps p e us vs t m turns =
-    let (ws, k, rest) = popped (part_items g ps) (part_item g p) us (t ∷ []) (subst (λ l. Make l us (t ∷ [])) (ap (part_items g) e ∙ part_items_behind g ps p) m) in
+    let (ws, k, rest) = popped (part_items g ps) (part_item g p) us (t ∷ []) (subst (λ l. Make l us (t ∷ [])) (ap (part_items g) e ∙ map-append (part_item g) ps (p ∷ [])) m) in
     subst (λ l. Make (part_items g ps) l (t ∷ [])) (one_turn (part_item g p) us ws vs k turns) rest
 
 enough_for : (g : Sig) (p : Part) (us ws : List Term) → Turns (part_item g p) us ws → needed p ≤ length us
@@ -123,15 +114,11 @@ enough_for g (parts.Variable v) us ws h = omega arith
 enough_for g (parts.Numeral n) us ws h = omega arith
 enough_for g (parts.Apply f n) us ws h = let long : length us ≡ length (h.front ++ h.last) = ap length h.are in let both = length-append h.front h.last in let many = h.many in omega (arith, long, both, many)
 
-map_length : {A B : Type 0} (f : A → B) (xs : List A) → length (map f xs) ≡ length xs
-map_length f [] = refl
-map_length f (x ∷ xs) = ap suc (map_length f xs)
-
 pub part_enough : (g : Sig) (ts : List Tree) (all ps : List Part) (p : Part) → all ≡ ps ++ p ∷ [] → (ids : List TermId) (t : Term) → Make (part_items g all) (map (term_at g ts) ids) (t ∷ []) → needed p ≤ length ids
 part_enough g ts all ps p e ids t m =
-    let (ws, k, rest) = popped (part_items g ps) (part_item g p) (map (term_at g ts) ids) (t ∷ []) (subst (λ l. Make l (map (term_at g ts) ids) (t ∷ [])) (ap (part_items g) e ∙ part_items_behind g ps p) m) in
+    let (ws, k, rest) = popped (part_items g ps) (part_item g p) (map (term_at g ts) ids) (t ∷ []) (subst (λ l. Make l (map (term_at g ts) ids) (t ∷ [])) (ap (part_items g) e ∙ map-append (part_item g) ps (p ∷ [])) m) in
     let enough = enough_for g p (map (term_at g ts) ids) ws k in
-    let long : length (map (term_at g ts) ids) ≡ length ids = map_length (term_at g ts) ids in
+    let long : length (map (term_at g ts) ids) ≡ length ids = length-map ids (term_at g ts) in
     omega (arith, enough, long)
 
 -- ---- parts of steps
@@ -172,16 +159,12 @@ nothing_left g ts ps e ids t m = by_ids ids (subst (λ l. Make (part_items g l) 
 pub functions_no_fewer : (g h : Sig) → IsGrown g h → length g.functions ≤ length h.functions
 functions_no_fewer g h grown = let long = length-append g.functions grown.new_functions in let same : length h.functions ≡ length (g.functions ++ grown.new_functions) = ap length grown.functions in omega (arith, long, same)
 
-items_last : (y : FunId → Symbol) (hs : List Step) (h : Step) → items_of y (hs ++ h ∷ []) ≡ items_of y hs ++ item_of y h ∷ []
-items_last y [] h = refl
-items_last y (x ∷ hs) h = ap (λ l. item_of y x ∷ l) (items_last y hs h)
-
 -- one more step has its number
 pub parts_more : (g h : Sig) → IsTable g → IsGrown g h → (y : FunId → Symbol) (ps new : List Part) → All (IsPartWithin g) ps → (hs : List Step) (i : ℕ) → part_items g ps ≡ items_of y (take i hs) → (x : Step) → i < length hs → x ≡ get_or hs i x
     → (p : Part) → part_item h p ≡ item_of y x → new ≡ ps ++ p ∷ [] → part_items h new ≡ items_of y (take (i + 1) hs)
 parts_more g h table grown y ps new within hs i so_far x l e p means q =
-    ap (part_items h) q ∙ part_items_behind h ps p ∙ ap (λ is. is ++ part_item h p ∷ []) (parts_kept g h table grown ps within ∙ so_far) ∙ ap (λ j. items_of y (take i hs) ++ j ∷ []) (means ∙ ap (item_of y) e)
-    ∙ sym (ap (items_of y) (take_more hs i x l) ∙ items_last y (take i hs) (get_or hs i x))
+    ap (part_items h) q ∙ map-append (part_item h) ps (p ∷ []) ∙ ap (λ is. is ++ part_item h p ∷ []) (parts_kept g h table grown ps within ∙ so_far) ∙ ap (λ j. items_of y (take i hs) ++ j ∷ []) (means ∙ ap (item_of y) e)
+    ∙ sym (ap (items_of y) (take_more hs i x l) ∙ map-append (item_of y) (take i hs) (get_or hs i x ∷ []))
 
 pub parts_within : (g h : Sig) → IsGrown g h → (ps new : List Part) → All (IsPartWithin g) ps → (p : Part) → IsPartWithin h p → new ≡ ps ++ p ∷ [] → All (IsPartWithin h) new
 parts_within g h grown ps new within p l q = subst (All (IsPartWithin h)) (sym q) (All-append (IsPartWithin h) ps (p ∷ []) (parts_within_on g h grown ps within) (All-cons (IsPartWithin h) p [] l (All-nil (IsPartWithin h))))
@@ -218,12 +201,8 @@ none_within ts ids e = subst (All (IsIn ts)) (sym e) (All-nil (IsIn ts))
 pub extends_itself : (ts : List Tree) → Extends ts ts
 extends_itself ts = ([], sym (append-nil ts))
 
-three_lists : {A : Type 0} (us vs ws : List A) → (us ++ vs) ++ ws ≡ us ++ (vs ++ ws)
-three_lists [] vs ws = refl
-three_lists (u ∷ us) vs ws = ap (λ zs. u ∷ zs) (three_lists us vs ws)
-
 pub extends_on : (a b c : List Tree) → Extends a b → Extends b c → Extends a c
-extends_on a b c (m, e) (n, f) = (m ++ n, f ∙ ap (λ ts. ts ++ n) e ∙ three_lists a m n)
+extends_on a b c (m, e) (n, f) = (m ++ n, f ∙ ap (λ ts. ts ++ n) e ∙ append_assoc a m n)
 
 pub one_left : (g : Sig) (ts : List Tree) (ps : List Part) → ps ≡ [] → (ids : List TermId) (t : Term) → Make (part_items g ps) (map (term_at g ts) ids) (t ∷ []) → 0 < length ids
 one_left g ts ps e ids t m = let (id, is, same) = nothing_left g ts ps e ids t m in let long : length ids ≡ 1 = ap length is in omega (arith, long)

@@ -19,7 +19,7 @@ use Rattle.sort_table.specs.Expressions.{Name}
 use Rattle.sort_table.specs.NamedLists.{all_named, first_named}
 use Rattle.sort_table.specs.Duplicates.{any_sort, lists_of_any}
 use Rattle.sort_table.specs.Vocabularies.{Vocabulary}
-use Rattle.data_typing.specs.Typings.{over, Scheme, scheme_at, Meaning, functions}
+use Rattle.data_typing.specs.Typings.{over, Scheme, Meaning, functions}
 use Rattle.data_typing.specs.BuiltIns.{place_numbered, hangs, row_places, is_over_any, is_settled, row_scheme, row_signature, named_rows, built_ins, scheme_named}
 use Rattle.data_typing.specs.Meanings.{Bound, Scope, bound_row, declared_signature, meaning_or, meaning}
 use Rattle.data_typing.specs.TypingLaws.{IsOverData, IsScope, InferredTermsHaveTheirSorts, CheckedTermsHaveTheSort}

@@ -9,7 +9,7 @@ use Rattle.data_typing.specs.declared.nodes.AnyOverload as code_any
 use Rattle.data_typing.specs.declared.nodes.Kind.{Kind}
 use Rattle.data_typing.specs.declared.nodes.Kind.TheVariants as kinds
 use Rattle.data_typing.specs.declared.nodes.Node.{Node}
-use Rattle.data_typing.specs.Typings.{Inferred, Typing, untyped, flexible, call_by_sort, call_infers, least_sort, functions}
+use Rattle.data_typing.specs.Typings.{Typing, untyped, flexible, call_by_sort, call_infers, least_sort, functions}
 use Rattle.data_typing.specs.FlatSorts.{flat_sort}
 use Rattle.data_typing.specs.Sortings.{Sorting, no_sorting, profile, any_profile, call_sorting, Tells}
 use Rattle.data_typing.specs.Plans.{TellAll}

@@ -3,13 +3,13 @@ use Rattle.std.proofs.Common.{◌≡◌, ◌<◌, ◌≤◌, ◌+◌, ◌==◌, 
 use Rattle.std.specs.Prelude.{Vec, Result, IfOk}
 use Rattle.std.proofs.lemmas.Result.{IfOk-weaker}
 use Rattle.std.specs.Global.{Global}
-use Rattle.std.proofs.lemmas.List.{drop_more, drop_all, take_more}
+use Rattle.std.proofs.lemmas.List.{append_assoc, drop_more, drop_all, take_more}
 use denote.Param.Weighed.{most}
 use Rattle.data_theory.specs.declared.ids.FunId.{FunId}
 use Rattle.data_theory.specs.Terms.{Symbol}
 use Rattle.mcrl2_syntax.specs.declared.data_tree.InfixSign.{InfixSign}
 use Rattle.mcrl2_syntax.specs.declared.data_tree.DataTree.{DataTree}
-use Rattle.mcrl2_syntax.specs.DataTrees.{PlainData, PlainOperands, datas_of, operands_of, plain_data, plain_operands}
+use Rattle.mcrl2_syntax.specs.DataTrees.{PlainOperands, datas_of, operands_of, plain_data, plain_operands}
 use Rattle.sort_table.specs.Expressions.{Name, Expression, numeral, word, more, two}
 use Rattle.sort_table.specs.Expressions as expressions
 use Rattle.sort_table.specs.BareData.{bare_data, bare_datas, infix_text, to_the_left, to_the_right, behind}
@@ -45,10 +45,6 @@ module _ {A : Type 0} (z : A) (f : Kind → List A → A) where
 -- ---- what stands goes on
 pub goes_on : (a b c : List Node) → GoOn a b → GoOn b c → GoOn a c
 goes_on a b c g h = record { nodes = h.nodes; behind = g.behind ++ h.behind; are = h.are ∙ ap (λ ns. ns ++ h.behind) g.are ∙ append_assoc a g.behind h.behind }
-  where
-    append_assoc : (us vs ws : List Node) → (us ++ vs) ++ ws ≡ us ++ (vs ++ ws)
-    append_assoc [] vs ws = refl
-    append_assoc (u ∷ us) vs ws = ap (λ zs. u ∷ zs) (append_assoc us vs ws)
 
 pub not_on : (a : List Node) → AreNodes a → GoOn a a
 not_on a are = record { nodes = are; behind = []; are = sym (append-nil a) }

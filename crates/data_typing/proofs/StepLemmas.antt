@@ -3,7 +3,7 @@ use Rattle.std.proofs.Common.{◌≡◌, ◌<◌, ◌≤◌, ◌+◌, ℕ, zero,
 use Rattle.std.specs.Prelude.{Vec, Option, Some, None, is_some, option_map, option_and_then, slice_get, Result, IfOk}
 use Rattle.std.specs.Option.{option_or}
 use Rattle.std.proofs.lemmas.Result.{IfOk-weaker}
-use Rattle.std.proofs.lemmas.List.{drop_more, drop_all}
+use Rattle.std.proofs.lemmas.List.{append_assoc, drop_more, drop_all, map-append}
 use Rattle.std.specs.Global.{Global}
 use Rattle.data_theory.specs.declared.ids.FunId.{FunId}
 use Rattle.data_theory.specs.Terms.{Sort, list, Symbol, empty, cons, Term, Terms, apply}
@@ -29,7 +29,7 @@ use Rattle.data_typing.specs.FlatSorts.{flat_sort, place_of}
 use Rattle.data_typing.specs.Nodes.{profile_of, any_profile_of, values_at, sortings_at, sortings, AreBelow, AreNodes, AreKnown}
 use Rattle.data_typing.specs.NodeTypings.{signature_of, scheme_of, kind_typing, node_typings, typing_at}
 use Rattle.data_typing.specs.Making.{wished, Item, leaf, over, terms_of, Make}
-use Rattle.data_typing.specs.CodeSteps.{wish_of, task_weight, AreSteps, kind_by_sort, kind_infers, typings_at, TasksHave, item_of, items_of, list_items, term_in, task_inferred, task_at, tasks_at, sum_of, weights, tasks_weight, parts_limit, AreTasks, Expands, Comes}
+use Rattle.data_typing.specs.CodeSteps.{wish_of, task_weight, AreSteps, kind_by_sort, kind_infers, typings_at, TasksHave, item_of, items_of, list_items, term_in, task_inferred, task_at, tasks_at, sum_of, weights, tasks_weight, parts_limit, AreTasks, Comes}
 use Rattle.data_typing.proofs.SortsFirst.{all_same_told, all_check_told, first_exact_told, widest_told, each_checks_told}
 use Rattle.data_typing.proofs.NodeTells.{node_tells, profiles_are, any_profile_is, parts_tell, typing_there, weight_there}
 
@@ -47,19 +47,10 @@ both_parts None p us e = cc
 both_parts (Some u) None us e = cc
 both_parts (Some u) (Some rest) us e = (u, rest, refl, refl, cc)
 
--- ---- lists
-append_assoc : {A : Type 0} (us vs ws : List A) → (us ++ vs) ++ ws ≡ us ++ (vs ++ ws)
-append_assoc [] vs ws = refl
-append_assoc (u ∷ us) vs ws = ap (λ zs. u ∷ zs) (append_assoc us vs ws)
-
 -- ---- making
 pub make_behind : (hs gs : List Item) (xs ws ys : List Term) → Make gs xs ws → Make hs ws ys → Make (hs ++ gs) xs ys
 make_behind [] gs xs ws ys m k = subst (Make gs xs) k m
 make_behind (h ∷ hs) gs xs ws ys m k = (k.0, make_behind hs gs xs ws k.0 m k.1, k.2)
-
-pub items_behind : (y : FunId → Symbol) (hs gs : List Step) → items_of y (hs ++ gs) ≡ items_of y hs ++ items_of y gs
-items_behind y [] gs = refl
-items_behind y (h ∷ hs) gs = ap (λ is. item_of y h ∷ is) (items_behind y hs gs)
 
 -- ---- the terms of parts
 exactly_infers : (o : Option Inferred) (s : Sort) (u : Term) → option_and_then (λ (i : Inferred). cond (sort_eq i.sort s) (Some i.term) None) o ≡ Some u → term_in o ≡ Some u
@@ -446,7 +437,7 @@ made_more y ns limit want hs gs ks js all k e are comes steps_are tasks_are (t, 
       is,
       subst (λ l. TasksHave y ns l (front ++ x.terms)) (sym tasks_are) (have_behind y ns ks e.tasks.items front x.terms rest x.have),
       subst (λ l. Make (items_of y l) (front ++ x.terms) (t ∷ [])) (sym steps_are)
-          (subst (λ i. Make i (front ++ x.terms) (t ∷ [])) (sym (items_behind y hs e.steps.items))
+          (subst (λ i. Make i (front ++ x.terms) (t ∷ [])) (sym (map-append (item_of y) hs e.steps.items))
           (make_behind (items_of y hs) (items_of y e.steps.items) (front ++ x.terms) (front ++ u ∷ []) (t ∷ []) new (subst (λ l. Make (items_of y hs) l (t ∷ [])) ends make))),
     )
 
@@ -539,7 +530,7 @@ conses_last s (suc n) = ap (λ l. over (cons s) 2 ∷ l) (conses_last s n)
 
 pub conses_more : (y : FunId → Symbol) (s : Sort) (n : ℕ) (old new : List Step) (f : code.Overload) → items_of y old ≡ conses s n → (signature_of y f).symbol ≡ cons s → new ≡ old ++ steps.Apply f 2 ∷ [] → items_of y new ≡ conses s (n + 1)
 conses_more y s n old new f e is q =
-    ap (items_of y) q ∙ items_behind y old (steps.Apply f 2 ∷ []) ∙ ap (λ l. l ++ over (signature_of y f).symbol 2 ∷ []) e ∙ ap (λ g. conses s n ++ over g 2 ∷ []) is ∙ conses_last s n ∙ ap (conses s) (let next : suc n ≡ n + 1 = omega arith in next)
+    ap (items_of y) q ∙ map-append (item_of y) old (steps.Apply f 2 ∷ []) ∙ ap (λ l. l ++ over (signature_of y f).symbol 2 ∷ []) e ∙ ap (λ g. conses s n ++ over g 2 ∷ []) is ∙ conses_last s n ∙ ap (conses s) (let next : suc n ≡ n + 1 = omega arith in next)
 
 conses_end : (s : Sort) (n : ℕ) → conses s n ++ over (empty s) 0 ∷ [] ≡ list_items s n
 unfolding conses
@@ -548,7 +539,7 @@ conses_end s (suc n) = ap (λ l. over (cons s) 2 ∷ l) (conses_end s n)
 
 pub conses_done : (y : FunId → Symbol) (s : Sort) (n : ℕ) (old new : List Step) (f : code.Overload) → items_of y old ≡ conses s n → (signature_of y f).symbol ≡ empty s → new ≡ old ++ steps.Apply f 0 ∷ [] → items_of y new ≡ list_items s n
 conses_done y s n old new f e is q =
-    ap (items_of y) q ∙ items_behind y old (steps.Apply f 0 ∷ []) ∙ ap (λ l. l ++ over (signature_of y f).symbol 0 ∷ []) e ∙ ap (λ g. conses s n ++ over g 0 ∷ []) is ∙ conses_end s n
+    ap (items_of y) q ∙ map-append (item_of y) old (steps.Apply f 0 ∷ []) ∙ ap (λ l. l ++ over (signature_of y f).symbol 0 ∷ []) e ∙ ap (λ g. conses s n ++ over g 0 ∷ []) is ∙ conses_end s n
 
 pub below_up : (n m : ℕ) → n ≤ m → (ks : List ℕ) → AreBelow n ks → AreBelow m ks
 below_up n m l [] h = tt

@@ -1,5 +1,5 @@
 -- The expressions of trees in code.
-use Rattle.std.proofs.Common.{◌≡◌, List, map, sym, ap, ◌∙◌}
+use Rattle.std.proofs.Common.{◌≡◌, map, sym, ap, ◌∙◌}
 use Rattle.std.specs.Prelude.{Vec, codes}
 use Rattle.std.specs.Global.{Global, Box}
 use Rattle.mcrl2_lexer.specs.Words.{decimal}

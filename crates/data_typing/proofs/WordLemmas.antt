@@ -1,9 +1,9 @@
 -- What words mean, in code and over the vocabulary of a signature.
-use Rattle.std.proofs.Common.{◌≡◌, ◌<◌, ◌≤◌, ◌+◌, ◌==◌, ◌||◌, ℕ, zero, suc, Bool, true, false, cond, List, [], ◌∷◌, ◌++◌, length, map, take, drop, get_or, refl, sym, subst, ap, ◌∙◌, arith, eqb-true, eq-eqb, length-append, append-nil}
+use Rattle.std.proofs.Common.{◌≡◌, ◌<◌, ◌≤◌, ◌+◌, ◌==◌, ◌||◌, ℕ, suc, Bool, true, false, cond, List, [], ◌∷◌, ◌++◌, length, map, take, drop, get_or, refl, sym, subst, ap, ◌∙◌, arith, eqb-true, eq-eqb, length-append, append-nil}
 use Rattle.std.specs.Prelude.{Option, Some, None, option_map, option_to_list, slice_get, bytes_eq, Vec}
 use Rattle.std.specs.Global.{Global}
 use Rattle.std.specs.List.{All, Contains, filter, list_any}
-use Rattle.std.proofs.lemmas.Option.{slice_get_within, slice_get-get_or, get_or_from_slice_get}
+use Rattle.std.proofs.lemmas.Option.{slice_get-get_or, get_or_from_slice_get}
 use Rattle.std.proofs.lemmas.List.{drop_more, get_or_default}
 use Rattle.std.proofs.lemmas.List.Elements.{All-head, All-tail, All-append, All-nil, All-cons, Contains-get_or, filter_more}
 use Rattle.std.proofs.lemmas.Slice.Eq.{bytes_eq-Decides}
@@ -20,19 +20,18 @@ use Rattle.data_theory.specs.WholeSignatures.{IsSignature}
 use Rattle.data_theory.specs.IdData.{data_meant}
 use Rattle.data_theory.specs.Rows.{row_is_list_constant}
 use Rattle.data_theory.specs.IdSymbols.{if_declared, declared_from, word_symbol}
-use Rattle.data_theory.specs.IdTerms.{sort_under, symbol_under}
+use Rattle.data_theory.specs.IdTerms.{symbol_under}
 use Rattle.data_theory.specs.NamedFunctions.{if_named, named_from, functions_named}
 use Rattle.data_theory.proofs.IdSymbolLemmas.{declared_is, symbol_fits}
 use Rattle.sort_table.specs.Expressions.{Name}
 use Rattle.sort_table.specs.NamedLists.{all_named, first_named}
 use Rattle.sort_table.specs.SignatureVocabularies.{function_name_of, function_names_from, vocabulary_of}
-use Rattle.data_typing.specs.declared.flat_sorts.FlatSort.{FlatSort}
 use Rattle.data_typing.specs.declared.flat_sorts.SortPlace.{SortPlace}
 use Rattle.data_typing.specs.declared.nodes.Overload as code
 use Rattle.data_typing.specs.declared.nodes.AnyOverload as code_any
 use Rattle.data_typing.specs.declared.nodes.Kind.TheVariants as kinds
 use Rattle.data_typing.specs.declared.words.Bound as code_bound
-use Rattle.data_typing.specs.Typings.{Place, over, Signature, Scheme, scheme_at, Typing, Meaning, functions, bound, word_typing}
+use Rattle.data_typing.specs.Typings.{Place, over, Signature, Scheme, scheme_at, Typing, functions, bound, word_typing}
 use Rattle.data_typing.specs.BuiltIns.{hangs, row_places, is_over_any, is_settled, word_scheme, row_scheme, row_signature, built_ins, scheme_named}
 use Rattle.data_typing.specs.Meanings.{Bound, Scope, bound_row, declared_signature, signatures_named, meaning_or}
 use Rattle.data_typing.specs.FlatSorts.{flat_sort, place_of}

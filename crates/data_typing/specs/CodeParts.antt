@@ -1,5 +1,5 @@
 -- What parts of terms in code mean.
-use Rattle.std.specs.Prelude.{◌≡◌, ◌<◌, ℕ, List, [], ◌∷◌, map, length, pos}
+use Rattle.std.specs.Prelude.{◌<◌, ℕ, List, [], ◌∷◌, map, length, pos}
 use Rattle.data_theory.specs.declared.ids.TermId.{TermId}
 use Rattle.data_theory.specs.Terms.{Term, variable}
 use Rattle.data_theory.specs.Terms as terms

@@ -1,6 +1,6 @@
 -- How terms are made: a list of items, which is read from its end. Each is a term that comes behind those that are made, or a symbol
 -- over the last so many of them.
-use Rattle.std.specs.Prelude.{◌≡◌, ℕ, List, [], ◌∷◌, ◌++◌, map, length, Option, Some, option_map}
+use Rattle.std.specs.Prelude.{◌≡◌, ℕ, List, [], ◌∷◌, ◌++◌, length, Option, Some, option_map}
 use Rattle.data_theory.specs.Terms.{Sort, Symbol, Term, Terms, apply}
 use Rattle.data_theory.specs.Terms as terms
 use Rattle.data_typing.specs.Typings.{Inferred, Typing}

@@ -1,5 +1,5 @@
 -- Which trees are read as nodes, and lists of expressions.
-use Rattle.std.specs.Prelude.{◌<◌, ◌^◌, ℕ, List, [], ◌∷◌, map}
+use Rattle.std.specs.Prelude.{◌<◌, ◌^◌, List, [], ◌∷◌, map}
 use Rattle.std.specs.Str.{IsUtf8}
 use Rattle.mcrl2_lexer.specs.Tokens.{AreDigits}
 use Rattle.mcrl2_lexer.specs.Words.{decimal}

@@ -1,4 +1,4 @@
-use Rattle.std.proofs.Common.{[], ◌∷◌, sym, subst, ap, ◌∙◌}
+use Rattle.std.proofs.Common.{sym, subst}
 use Rattle.std.specs.Prelude.{Vec, Option, option_map}
 use Rattle.std.specs.Global.{Global}
 use Rattle.data_theory.specs.Terms.{Term}
@@ -10,7 +10,7 @@ use Rattle.data_typing.specs.declared.steps.Step.{Step}
 use Rattle.data_typing.specs.Meanings.{typing_in}
 use Rattle.data_typing.specs.CodeWords.{scope_of}
 use Rattle.data_typing.specs.Making.{wished}
-use Rattle.data_typing.specs.CodeSteps.{wish_of, items_of, AreSteps}
+use Rattle.data_typing.specs.CodeSteps.{wish_of, AreSteps}
 use Rattle.data_typing.specs.CodeParts.{term_at}
 use Rattle.data_typing.proofs.SignatureSorts.{not_grown}
 use Rattle.data_typing.proofs.MakingLemmas.{ready, wanted_made}

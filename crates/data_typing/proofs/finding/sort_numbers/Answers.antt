@@ -1,5 +1,4 @@
 use Rattle.std.proofs.Common.{rules, ap, map}
-use Rattle.std.proofs.lemmas.List.Elements.{All-nil}
 use Rattle.data_theory.specs.IdTerms.{sort_under}
 use Rattle.data_theory.proofs.IdGrowthLemmas.{growth_after_growth_is_growth}
 use Rattle.data_typing.proofs.SignatureSorts.{not_grown}

@@ -1,4 +1,4 @@
-use Rattle.std.proofs.Common.{rules, sym, ap, ◌∙◌}
+use Rattle.std.proofs.Common.{sym, ap, ◌∙◌}
 use Rattle.data_typing.specs.Making.{over}
 use Rattle.data_typing.specs.CodeSteps.{item_of}
 use Rattle.data_typing.proofs.SignatureSorts.{not_grown}

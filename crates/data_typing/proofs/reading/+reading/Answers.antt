@@ -1,4 +1,4 @@
-use Rattle.std.proofs.Common.{rules, ◌≡◌, List, [], ◌∷◌, map, length, sym, subst, ap, ◌∙◌, arith}
+use Rattle.std.proofs.Common.{List, [], ◌∷◌, length, sym, subst, ap, ◌∙◌, arith}
 use Rattle.std.specs.Prelude.{codes}
 use Rattle.std.proofs.lemmas.Result.{IfOk-weaker}
 use Rattle.data_theory.specs.IdTerms.{symbol_under}
@@ -8,7 +8,7 @@ use Rattle.mcrl2_syntax.specs.declared.data_tree.DataTree.{DataTree}
 use Rattle.mcrl2_syntax.specs.declared.data_tree.DataTree.TheShapes.{weighed-DataTree-Sum-2-at-2}
 use Rattle.mcrl2_syntax.proofs.data_tree.DataTree.TheLaws.{the_size}
 use Rattle.mcrl2_syntax.specs.DataTrees.{plain_data, plain_operands, operands_of}
-use Rattle.sort_table.specs.Expressions.{Expression, numeral, listed, word, none, one, two}
+use Rattle.sort_table.specs.Expressions.{numeral, listed, word, none, one, two}
 use Rattle.sort_table.specs.BareData.{bare_data, prefix_text, infix_text, to_the_left}
 use Rattle.data_typing.specs.Nodes.{AreBelow}
 use Rattle.data_typing.specs.NodeTypings.{Stands, EachStands}

@@ -1,6 +1,4 @@
-use Rattle.std.proofs.Common.{[], sym, subst, ap, ◌∙◌}
 use Rattle.mcrl2_lexer.specs.Words.{decimal}
-use Rattle.sort_table.specs.Expressions.{numeral}
 use Rattle.data_typing.specs.declared.nodes.Kind.TheVariants as kinds
 use Rattle.data_typing.proofs.ReadingLemmas.{one_on, numeral_stands}
 use Rattle.data_typing.proofs.reading.add_numeral.Goals as goal

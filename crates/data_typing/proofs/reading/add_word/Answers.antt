@@ -1,6 +1,5 @@
-use Rattle.std.proofs.Common.{◌==◌, ◌+◌, ℕ, List, [], ◌∷◌, length, ap, ◌∙◌, arith, length-append}
+use Rattle.std.proofs.Common.{◌==◌, ℕ, List, [], ◌∷◌, length, ap, ◌∙◌, arith, length-append}
 use Rattle.data_theory.specs.IdTerms.{symbol_under}
-use Rattle.data_typing.specs.declared.nodes.Node.{Node}
 use Rattle.data_typing.specs.CodeWords.{meaning_in}
 use Rattle.data_typing.proofs.ReadingLemmas.{one_on, word_stands}
 use Rattle.data_typing.proofs.reading.add_word.Goals as goal

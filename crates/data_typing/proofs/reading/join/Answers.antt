@@ -1,4 +1,4 @@
-use Rattle.std.proofs.Common.{◌≡◌, ◌<◌, ◌≤◌, ◌-◌, ◌+◌, List, length, get_or, refl, sym, subst, ap, ◌∙◌, arith}
+use Rattle.std.proofs.Common.{◌≤◌, ◌-◌, ◌+◌, length, arith}
 use Rattle.data_theory.specs.IdTerms.{symbol_under}
 use Rattle.data_typing.specs.CodeWords.{meaning_in}
 use Rattle.data_typing.proofs.NodeLemmas.{below_at}

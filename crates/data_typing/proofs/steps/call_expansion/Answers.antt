@@ -1,4 +1,4 @@
-use Rattle.std.proofs.Common.{◌≡◌, map, sym, ap, ◌∙◌}
+use Rattle.std.proofs.Common.{map, sym, ap, ◌∙◌}
 use Rattle.std.specs.Prelude.{Option, option_map, option_and_then}
 use Rattle.data_typing.specs.declared.plans.CallPlan.{CallPlan}
 use Rattle.data_typing.specs.Plans.{planned}

@@ -1,4 +1,4 @@
-use Rattle.std.proofs.Common.{rules, ◌≡◌, List, length, map, refl, ap, ◌∙◌}
+use Rattle.std.proofs.Common.{rules, List, length, map, refl, ap, ◌∙◌}
 use Rattle.data_typing.specs.declared.flat_sorts.FlatSort.{FlatSort}
 use Rattle.data_typing.specs.FlatSorts.{flat_sort}
 use Rattle.data_typing.specs.Nodes.{sortings_at, sortings}

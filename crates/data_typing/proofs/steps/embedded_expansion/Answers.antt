@@ -1,5 +1,5 @@
 use Rattle.std.proofs.Common.{rules, get_or, refl, sym, ap, ◌∙◌}
-use Rattle.std.specs.Prelude.{None, option_map, Option}
+use Rattle.std.specs.Prelude.{None, option_map}
 use Rattle.data_typing.specs.declared.nodes.Overload as code
 use Rattle.data_typing.specs.FlatSorts.{flat_sort}
 use Rattle.data_typing.specs.NodeTypings.{signature_of}

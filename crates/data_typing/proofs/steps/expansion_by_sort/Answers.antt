@@ -1,4 +1,4 @@
-use Rattle.std.proofs.Common.{◌≡◌, ℕ, List, map, sym, subst, ap, ◌∙◌}
+use Rattle.std.proofs.Common.{ℕ, List, map, sym, subst, ap, ◌∙◌}
 use Rattle.std.specs.Prelude.{IfOk, option_map}
 use Rattle.data_theory.specs.declared.ids.FunId.{FunId}
 use Rattle.data_theory.specs.Terms.{Symbol}

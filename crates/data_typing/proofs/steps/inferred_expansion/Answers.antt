@@ -1,4 +1,4 @@
-use Rattle.std.proofs.Common.{◌≡◌, ℕ, List, map, refl, sym, subst, ap, ◌∙◌, arith}
+use Rattle.std.proofs.Common.{ℕ, List, map, refl, sym, subst, ap, ◌∙◌, arith}
 use Rattle.std.specs.Prelude.{Some, IfOk, option_map}
 use Rattle.data_theory.specs.declared.ids.FunId.{FunId}
 use Rattle.data_theory.specs.Terms.{Symbol, variable}
@@ -8,7 +8,7 @@ use Rattle.data_typing.specs.declared.nodes.Kind.{Kind}
 use Rattle.data_typing.specs.declared.nodes.Overload as code
 use Rattle.data_typing.specs.declared.steps.Step.TheVariants as steps
 use Rattle.data_typing.specs.FlatSorts.{flat_sort}
-use Rattle.data_typing.specs.Typings.{call_infers, list_infers, list_of, least_sort}
+use Rattle.data_typing.specs.Typings.{call_infers, list_of, least_sort}
 use Rattle.data_typing.specs.NodeTypings.{signature_of, scheme_of}
 use Rattle.data_typing.specs.CodeSteps.{kind_infers, term_in, typings_at, parts_limit, Comes}
 use Rattle.data_typing.proofs.StepLemmas.{comes_as, leaf_comes, list_inferred, list_infers_none}

@@ -1,4 +1,4 @@
-use Rattle.std.proofs.Common.{sym, ap, ◌∙◌, subst, arith, ◌≡◌}
+use Rattle.std.proofs.Common.{ap, ◌∙◌, arith, ◌≡◌}
 use Rattle.data_typing.specs.FlatSorts.{flat_sort}
 use Rattle.data_typing.specs.CodeSteps.{items_of, list_items}
 use Rattle.data_typing.proofs.StepLemmas.{conses_none, conses_more, conses_done}

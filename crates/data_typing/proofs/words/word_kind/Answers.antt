@@ -1,5 +1,5 @@
-use Rattle.std.proofs.Common.{◌≡◌, ◌<◌, ◌++◌, List, length, map, sym, subst, ap, ◌∙◌, arith}
-use Rattle.std.specs.Prelude.{Some, None, option_map, slice_get}
+use Rattle.std.proofs.Common.{◌<◌, ◌++◌, List, length, map, sym, subst, ap, ◌∙◌, arith}
+use Rattle.std.specs.Prelude.{slice_get}
 use Rattle.std.specs.List.{All, Contains, filter}
 use Rattle.data_theory.specs.declared.ids.FunId.{FunId}
 use Rattle.data_theory.specs.declared.rows.Row.{Row}
