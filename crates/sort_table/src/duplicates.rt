@@ -25,8 +25,8 @@ use std::alloc::Global;
 ///
 /// What may be declared once: a sort name; a function name with sorts, where the built-in functions count over any sort; an action
 /// name with sorts; a process name; a name as action or as process; a variable in one list of parameters or of sum variables, or in one
-/// `var` section. Sorts are compared through aliases. The time is n log n for a text of n tokens. The rules are those of the mCRL2
-/// language reference, without overloaded process names.
+/// `var` section. Sorts are compared through aliases. The time is n log n in the length of the text, where each name of a declaration
+/// counts with its sorts. The rules are those of the mCRL2 language reference, without overloaded process names.
 ///
 /// # Errors
 ///
