@@ -17,12 +17,15 @@ use Rattle.proc_unfold.specs.Parallelism.{IsParallelismOf}
 use Rattle.proc_unfold.specs.FittingModels.{ModelFits}
 use Rattle.proc_unfold.specs.Networks.{network_body, plain_network}
 use Rattle.proc_unfold.specs.Opening.{OpensTo}
-use Rattle.proc_unfold.specs.Unfolded.{IsUnfolded, IsSameNetwork, HasItsComponents}
+use Rattle.proc_unfold.specs.Unfolded.{IsOpened, IsUnfolded, IsSameNetwork, HasItsComponents}
 use Rattle.proc_unfold.proofs.FitsKept.{model_kept}
 use Rattle.proc_unfold.proofs.Opened.{binds_nothing, opens_unfolds, opens_components}
 use Rattle.proc_unfold.proofs.UnfoldingLemmas.{unfolding_is_same}
 
 module _ (m : PlainModel) (found : Parallelism) (old new : List Tree) (n : Network) (is : IsParallelismOf m found.reached.items found.parallel.items found.ranks.items) (grow : Extends old new) (opens : OpensTo m found new [] m.init n) where
+  pub opened : IsOpened m new (plain_network n)
+  opened = record { reached = found.reached.items; parallel = found.parallel.items; ranks = found.ranks.items; are = is; opens = opens.later new (extends_itself new) }
+
   pub unfolded : (g : Sig) → IsSignature g → ModelFits g old m → IsUnfolded g new m (plain_network n)
   unfolded g s fits th =
       let now = model_kept g old new grow m fits in

@@ -1,5 +1,5 @@
 -- What the network of a specification is.
-use Rattle.std.specs.Prelude.{ℕ, List, []}
+use Rattle.std.specs.Prelude.{ℕ, Bool, List, []}
 use Rattle.data_theory.specs.Signature.{Sig}
 use Rattle.data_theory.specs.IdTrees.{Tree}
 use Rattle.process_terms.specs.Theories.{Theory}
@@ -12,6 +12,17 @@ use Rattle.proc_unfold.specs.Parallel.{IsSequential}
 use Rattle.proc_unfold.specs.Unfolding.{Unfolds}
 use Rattle.proc_unfold.specs.FittingModels.{ComponentFits}
 use Rattle.proc_unfold.specs.Networks.{PlainNetwork, network_body, network_process, AllComponents}
+use Rattle.proc_unfold.specs.Parallelism.{IsParallelismOf}
+use Rattle.proc_unfold.specs.Opening.{Opens}
+
+-- `init` opens to the network by ids: exactly the calls of parallel names are opened, and what stands for a variable is the term that was
+-- put in for it, not only a term that is provably equal to that
+pub record IsOpened (m : PlainModel) (ts : List Tree) (n : PlainNetwork) : Type 0 where
+  pub reached : List Bool
+  pub parallel : List Bool
+  pub ranks : List ℕ
+  pub are : IsParallelismOf m reached parallel ranks
+  pub opens : Opens m.definitions parallel ts [] m.init n
 
 -- `init` unfolds to the network, over the data of any theory
 abbrev pub IsUnfolded : Sig → List Tree → PlainModel → PlainNetwork → Type 0

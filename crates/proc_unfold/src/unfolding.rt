@@ -8,7 +8,7 @@ ghost use Rattle.process_terms.specs.PlainProcesses.{plain_model};
 ghost use Rattle.proc_unfold.specs.Parallelism.{IsNetFaultOf, StandsOutsideRecursion};
 ghost use Rattle.proc_unfold.specs.FittingModels.{IsWellFormed, ModelFits};
 ghost use Rattle.proc_unfold.specs.Networks.{plain_network};
-ghost use Rattle.proc_unfold.specs.Unfolded.{IsUnfolded, IsSameNetwork, HasItsComponents};
+ghost use Rattle.proc_unfold.specs.Unfolded.{IsOpened, IsUnfolded, IsSameNetwork, HasItsComponents};
 
 use crate::faults::NetFault;
 use crate::networks::Network;
@@ -23,7 +23,7 @@ use term_pool::Pool;
 /// reaches a parallel operator is replaced by its body with the arguments put in, until no such call is left.
 ///
 /// Beside the new terms the pool stays as it is. The time is that of writing the network, which may be twice as large for each
-/// process on the way (`A = B || B; B = C || C; ..`).
+/// process on the way (`A = B || B; B = C || C; ..`), and of following the calls that lead to each part.
 ///
 /// # Errors
 ///
@@ -33,6 +33,7 @@ pub fn unfold(alloc: Global, model: &Model, pool: &mut Pool) -> Result<Network, 
     requires { IsWellFormed pool.old.trees (plain_model model.now) }
     ensures kept { Extends pool.old.trees pool.new.trees }
     ensures constants { pool.new.constants ≡ pool.old.constants }
+    ensures opened { IfOk result (λ network. IsOpened (plain_model model.now) pool.new.trees (plain_network network)) }
     ensures unfolded { IfOk result (λ network. (g : Sig) → IsSignature g → ModelFits g pool.old.trees (plain_model model.now) → IsUnfolded g pool.new.trees (plain_model model.now) (plain_network network)) }
     ensures same { IfOk result (λ network. (g : Sig) → IsSignature g → ModelFits g pool.old.trees (plain_model model.now) → IsSameNetwork g pool.new.trees (plain_model model.now) (plain_network network)) }
     ensures components { IfOk result (λ network. (g : Sig) → IsSignature g → ModelFits g pool.old.trees (plain_model model.now) → HasItsComponents g pool.new.trees (plain_model model.now) (plain_network network)) }
