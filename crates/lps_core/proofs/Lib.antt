@@ -17,6 +17,7 @@ pub mod TreeParts
 pub mod MeantParts
 pub mod MeantTrees
 pub mod NamedSums
+pub mod FunctionNames
 pub mod StayingFits
 pub mod NamedLinears
 pub mod NamingLoops

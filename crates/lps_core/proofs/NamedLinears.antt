@@ -39,6 +39,7 @@ use Rattle.lps_core.proofs.Members.{contains_map, map_contains, all_from}
 use Rattle.lps_core.proofs.KeptSummands.{summand_kept}
 use Rattle.lps_core.proofs.MeantTrees.{Means, put_means, label_means, next_puts_mean, numbers_meant, renaming_means, summand_read}
 use Rattle.lps_core.proofs.Staying.{read_mapped, term_is}
+use Rattle.lps_core.proofs.FunctionNames.{functions_taken, function_names_stay}
 use Rattle.lps_core.proofs.NamedSums.{SumsStand, AreTaken, all_sums_named, name_kept, taken_name, name_taken, sorts_kept, names_kept}
 use Rattle.lps_core.proofs.StayingFits.{what_fits_fits_still, both_weaker}
 use Rattle.lps_core.proofs.Renewing.{renewed_linear, renewed_good, equal_kept}
@@ -169,13 +170,13 @@ module _ (g : Sig) (ts : List Tree) (e : VarId → Tree) (keeps : (t : Tree) (s 
 pub used_are_taken : (g : Sig) (params : List VarId) → IsSignature g → All (IsVariable g) params → All (HasTakenName g) params → AreTaken g (IsUsed g params)
 used_are_taken g params s own taken n u = ⊎_elim
     (λ i. let r = contains_map (name_of g) params n i in subst (λ z. Contains g.taken z) (sym r.1.1) (taken_name g r.0 (All-contains (IsVariable g) params r.0 own r.1.0) (All-contains (HasTakenName g) params r.0 taken r.1.0)))
-    (λ i. let r = contains_map (λ (f : Function). f.name) g.functions n i in subst (λ z. Contains g.taken z) (sym r.1.1) (All-contains (λ (f : Function). Contains g.taken f.name) g.functions r.0 s.functions_taken r.1.0)) u
+    (λ i. functions_taken g s n i) u
 
 -- the same names are used before the signature is grown by names
-used_before : (g h : Sig) (params : List VarId) → GrowsByNames g h → All (IsVariable g) params → (n : NameId) → IsUsed h params n → IsUsed g params n
-used_before g h params w own n u = ⊎_elim
+used_before : (g h : Sig) (params : List VarId) → IsSignature g → GrowsByNames g h → All (IsVariable g) params → (n : NameId) → IsUsed h params n → IsUsed g params n
+used_before g h params s w own n u = ⊎_elim
     (λ i. inl (subst (λ z. Contains z n) (names_kept g h params w.grown own) i))
-    (λ i. inr (subst (λ fs. Contains (map (λ (f : Function). f.name) fs) n) w.functions i)) u
+    (λ i. inr (subst (λ ns. Contains ns n) (function_names_stay g h s w.grown w.functions) i)) u
 
 -- the sums are apart from the parameters, whose names they haven't
 sums_apart : (g h : Sig) (params xs ys : List VarId) → GrowsByNames g h → All (IsVariable g) params → SumsStand g h (IsUsed g params) xs ys → Apart (numbers_of ys) (numbers_of params)
@@ -196,7 +197,7 @@ pub record StandsNamed (h : Sig) (us : List Tree) (params : List VarId) (s t : P
   pub taken : All (HasTakenName h) t.sums
   pub names : HasOwnNames h params t
 
-module _ (g h : Sig) (ts us : List Tree) (params : List VarId) (table : IsTable h) (first : HasFirstFunctions h) (grow : BothGrow g h ts us) (w : GrowsByNames g h) (own : All (IsVariable g) params) where
+module _ (g h : Sig) (ts us : List Tree) (params : List VarId) (table : IsTable h) (first : HasFirstFunctions h) (grow : BothGrow g h ts us) (w : GrowsByNames g h) (own : All (IsVariable g) params) (stands : IsSignature g) where
   stands_named : (s t : PlainSummand) → IsSummandIn ts s → All (IsVariable g) s.sums → SummandFits h us params s → HasOtherSums ts us s t → IsSummandIn us t → SumsStand g h (IsUsed g params) s.sums t.sums → StandsNamed h us params s t
   stands_named s t old vs k q i z =
       let kept = summand_kept ts us grow.pool s old in
@@ -209,7 +210,7 @@ module _ (g h : Sig) (ts us : List Tree) (params : List VarId) (table : IsTable 
         fits = put_summand_fits h us (renaming_tree s.sums t.sums) keeps params s t z.variables moved i k;
         apart = sums_apart g h params s.sums t.sums w own z;
         distinct = z.distinct;
-        names = (All-weaker (λ y. ¬ (IsUsed g params (name_of h y))) (λ y. ¬ (IsUsed h params (name_of h y))) (λ y n u. n (used_before g h params w own (name_of h y) u)) t.sums z.unused, z.names_differ);
+        names = (All-weaker (λ y. ¬ (IsUsed g params (name_of h y))) (λ y. ¬ (IsUsed h params (name_of h y))) (λ y n u. n (used_before g h params stands w own (name_of h y) u)) t.sums z.unused, z.names_differ);
         taken = all_from (HasTakenName h) t.sums (λ y j. name_taken h y (All-contains (IsVariable h) t.sums y z.variables j) (All-contains (λ y. Contains h.taken (name_of h y)) t.sums y z.taken j));
       }
 
@@ -265,7 +266,7 @@ naming_stands g h ts us l k s extends fits named within =
     let n = all_sums_named (IsUsed g l.params) g s used (map (λ (s : PlainSummand). s.sums) l.summands) h (map (λ (s : PlainSummand). s.sums) k.summands) named.names sums_are names_are in
     let grow : BothGrow g h ts us = record { signature = n.0.grown; pool = extends } in
     let before = what_fits_fits_still g h ts us l s.table s.complete n.0.stands.table grow fits in
-    let all = all_stand g h ts us l.params n.0.stands.table (first_functions h n.0.stands.complete) grow n.0 fits.params l.summands k.summands
+    let all = all_stand g h ts us l.params n.0.stands.table (first_functions h n.0.stands.complete) grow n.0 fits.params s l.summands k.summands
     (All-weaker (SummandFits g ts l.params) (IsSummandIn ts) (λ s f. fitting_is_in g ts l.params s f) l.summands fits.summands)
     (All-weaker (SummandFits g ts l.params) (λ (s : PlainSummand). All (IsVariable g) s.sums) (λ s f. f.sums) l.summands fits.summands)
     before.summands named.summands within n.1 in
@@ -273,9 +274,9 @@ naming_stands g h ts us l k s extends fits named within =
     let first = first_functions h n.0.stands.complete in
     let renews : RenewsSums (linear_of e l) (linear_of e k) = record {
       params = ap (map (bound_at e)) named.params;
-      summands = others g h ts us l.params n.0.stands.table first grow n.0 fits.params l.summands k.summands all;
+      summands = others g h ts us l.params n.0.stands.table first grow n.0 fits.params s l.summands k.summands all;
     } in
-    let each = each_second g h ts us l.params n.0.stands.table first grow n.0 fits.params in
+    let each = each_second g h ts us l.params n.0.stands.table first grow n.0 fits.params s in
     let own : All (λ (t : PlainSummand). HasOwnSums (linear_of e k).params (summand_of e t)) k.summands =
     each (λ (t : PlainSummand). HasOwnSums (linear_of e k).params (summand_of e t))
     (λ s t z. (

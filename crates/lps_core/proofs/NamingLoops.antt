@@ -1,6 +1,6 @@
 -- Sums that are named one after another.
 use Rattle.std.proofs.Common.{◌≡◌, ◌<◌, ◌≤◌, ◌+◌, ◌==◌, ◌⊎◌, inl, inr, ⊎_elim, ℕ, zero, suc, Bool, true, false, cond, List, [], ◌∷◌, ◌++◌, map, take, length, get_or, refl, sym, ap, ap₂, ◌∙◌, subst, arith, Option, Some, None}
-use Rattle.std.specs.Prelude.{◌↔◌, option_map, slice_get, IfSome}
+use Rattle.std.specs.Prelude.{◌↔◌, codes, option_map, slice_get, IfSome}
 use Rattle.std.specs.List.{All, AllZip, Contains, list_any}
 use Rattle.std.proofs.lemmas.List.{map-append, take_more, take_all, length-append}
 use Rattle.std.proofs.lemmas.List.Elements.{All-nil, All-push, All-head, All-tail, All-weaker, Contains-append_left, Contains-append_right, Contains-append_cases}
@@ -9,6 +9,10 @@ use Rattle.data_theory.specs.declared.ids.VarId.{VarId}
 use Rattle.data_theory.specs.declared.ids.TermId.{TermId}
 use Rattle.data_theory.specs.declared.signature.Variable.{Variable}
 use Rattle.data_theory.specs.Functions.{Function}
+use Rattle.data_theory.specs.declared.words.ListWord.{ListWord}
+use Rattle.data_theory.specs.declared.words.ListWord.TheVariants as lists
+use Rattle.data_theory.specs.Words.{list_text}
+use Rattle.data_theory.specs.Names.{place_in}
 use Rattle.data_theory.specs.Taken.{with_name}
 use Rattle.data_theory.specs.Signature.{Sig, with_variable}
 use Rattle.data_theory.specs.Fresh.{IsFreshIn}
@@ -27,7 +31,7 @@ use Rattle.data_theory.specs.declared.ids.SortId.{SortId}
 use Rattle.data_theory.specs.Table.{bool_sort}
 use Rattle.std.proofs.lemmas.Option.{slice_get_within, get_or_from_slice_get}
 use Rattle.lps_core.proofs.Staying.{sort_is_within}
-use Rattle.lps_core.specs.Naming.{name_of, names_of, function_names, IsUsed, GrowsByNames, IsNamed, it_stays, it_is_new, AreNamed, no_sum, one_more_sum, SummandsAreNamed, no_summand, one_more_summand, HasOtherSums, NamesSummands}
+use Rattle.lps_core.specs.Naming.{name_of, names_of, list_words, list_names, table_names, IsUsed, GrowsByNames, IsNamed, it_stays, it_is_new, AreNamed, no_sum, one_more_sum, SummandsAreNamed, no_summand, one_more_summand, HasOtherSums, NamesSummands}
 use Rattle.lps_core.proofs.PoolTrees.{extends_itself, extends_on, tree_kept, actions_kept, put_along, args_along, actions_along}
 use Rattle.lps_core.proofs.KeptSummands.{next_trees_kept, summand_kept, summand_in_kept}
 use Rattle.lps_core.proofs.NamedSums.{names_none, names_then, names_text, names_variable, names_kept, variable_kept, with_name_keeps, with_name_has, among, zip_push, variable_there}
@@ -115,11 +119,32 @@ pub new_grows : (g h k : Sig) (x : VarId) (name : NameId) (sort : SortId) → Is
 new_grows g h k x name sort s l w e n q =
     names_then g h k w (subst (λ z. GrowsByNames h z) (sym q) (names_variable h (record { name = name; sort = sort }) w.stands n (subst (λ ss. sort.0 < length ss) (sym w.sorts) (subst (λ (z : SortId). z.0 < length g.sorts) e (sort_is_within g x s.complete l)))))
 
-pub used_all : (g : Sig) (params : List VarId) (old first keys : List NameId) → old ≡ [] → ((n : NameId) → Contains first n ↔ (Contains old n ⊎ Contains (names_of g params) n)) → ((n : NameId) → Contains keys n ↔ (Contains first n ⊎ Contains (function_names g) n))
-    → (n : NameId) → Contains keys n ↔ IsUsed g params n
-used_all g params old first keys e a b n = (
-  λ i. ⊎_elim (λ j. ⊎_elim (λ o. absurd (contains_none n (subst (λ z. Contains z n) e o))) (λ o. inl o) ((a n).0 j)) (λ j. inr j) ((b n).0 i),
-  λ u. (b n).1 (⊎_elim (λ j. inl ((a n).1 (inr j))) (λ j. inr j) u),
+-- the names of the functions over lists are added one by one
+abbrev list_name_in : List (List ℕ) → ListWord → NameId
+list_name_in texts w = place_in texts (list_text w)
+
+pub list_names_added : (texts : List (List ℕ)) (old one two three all : List NameId) → one ≡ with_name old (place_in texts (codes "head")) → two ≡ with_name one (place_in texts (codes "rhead")) → three ≡ with_name two (place_in texts (codes "tail"))
+    → all ≡ with_name three (place_in texts (codes "rtail")) → (n : NameId) → Contains all n ↔ (Contains old n ⊎ Contains (list_names texts) n)
+unfolding list_words
+list_names_added texts old one two three all a b c d =
+    let f : ListWord → NameId = list_name_in texts in
+    adding_all f list_words old 4 all
+    (adding_more f list_words old 3 three all lists.Head
+    (adding_more f list_words old 2 two three lists.Head
+    (adding_more f list_words old 1 one two lists.Head
+    (adding_more f list_words old 0 old one lists.Head (adding_none f list_words old) (omega arith) a) (omega arith) b) (omega arith) c) (omega arith) d) (omega arith)
+
+pub used_all : (g : Sig) (params : List VarId) (old first second keys : List NameId) → old ≡ [] → ((n : NameId) → Contains first n ↔ (Contains old n ⊎ Contains (names_of g params) n)) → ((n : NameId) → Contains second n ↔ (Contains first n ⊎ Contains (list_names g.texts) n))
+    → ((n : NameId) → Contains keys n ↔ (Contains second n ⊎ Contains (table_names g) n)) → (n : NameId) → Contains keys n ↔ IsUsed g params n
+used_all g params old first second keys e a b c n = (
+  λ i. ⊎_elim
+      (λ j. ⊎_elim
+      (λ k. ⊎_elim (λ o. absurd (contains_none n (subst (λ z. Contains z n) e o))) (λ o. inl o) ((a n).0 k))
+      (λ k. inr (Contains-append_left (list_names g.texts) (table_names g) n k)) ((b n).0 j))
+      (λ j. inr (Contains-append_right (list_names g.texts) (table_names g) n j)) ((c n).0 i),
+  λ u. ⊎_elim
+      (λ j. (c n).1 (inl ((b n).1 (inl ((a n).1 (inr j))))))
+      (λ j. ⊎_elim (λ k. (c n).1 (inl ((b n).1 (inr k)))) (λ k. (c n).1 (inr k)) (Contains-append_cases (list_names g.texts) (table_names g) n j)) u,
 )
 
 -- ---- the sums of a summand

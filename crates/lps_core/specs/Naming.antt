@@ -3,6 +3,10 @@ use Rattle.std.specs.Prelude.{◌≡◌, ◌⊎◌, ℕ, List, [], ◌∷◌, �
 use Rattle.std.specs.List.{All, AllZip, Contains}
 use Rattle.data_theory.specs.declared.ids.NameId.{NameId}
 use Rattle.data_theory.specs.declared.ids.VarId.{VarId}
+use Rattle.data_theory.specs.declared.words.ListWord.{ListWord}
+use Rattle.data_theory.specs.declared.words.ListWord.TheVariants as lists
+use Rattle.data_theory.specs.Words.{list_text}
+use Rattle.data_theory.specs.Names.{place_in}
 use Rattle.data_theory.specs.Functions.{Function}
 use Rattle.data_theory.specs.Signature.{Sig, with_variable}
 use Rattle.data_theory.specs.Fresh.{IsFreshIn}
@@ -24,8 +28,21 @@ name_of g x = (get_or g.variables x.0 (record { name = record { 0 = 0 }; sort = 
 abbrev pub names_of : Sig → List VarId → List NameId
 names_of g xs = map (name_of g) xs
 
+-- the functions over lists that have an identifier as their name
+unfoldable pub list_words : List ListWord
+list_words = lists.Head ∷ lists.Rhead ∷ lists.Tail ∷ lists.Rtail ∷ []
+
+-- their names, which are in the table of texts from the start
+abbrev pub list_names : List (List ℕ) → List NameId
+list_names texts = map (λ w. place_in texts (list_text w)) list_words
+
+-- the names of the functions in the table
+abbrev pub table_names : Sig → List NameId
+table_names g = map (λ (f : Function). f.name) g.functions
+
+-- All names of functions. Those over lists are in the table once there is a list sort, and their names count before that, too.
 abbrev pub function_names : Sig → List NameId
-function_names g = map (λ (f : Function). f.name) g.functions
+function_names g = list_names g.texts ++ table_names g
 
 -- no sum may have the name of a parameter or of a function
 abbrev pub IsUsed : Sig → List VarId → NameId → Type 0

@@ -5,12 +5,14 @@ ghost use Rattle.std.specs.List.{All, Contains};
 ghost use Rattle.data_theory.specs.declared.ids.NameId.{NameId};
 ghost use Rattle.data_theory.specs.Fresh.{IsFreshIn};
 ghost use Rattle.data_theory.specs.IdTrees.{put_tree};
+ghost use Rattle.data_theory.specs.Names.{place_in};
+ghost use Rattle.data_theory.specs.Taken.{with_name};
 ghost use Rattle.data_theory.specs.WholeSignatures.{IsSignature};
 ghost use Rattle.term_pool.specs.HeadTrees.{trees_at, AreIn};
 ghost use Rattle.term_pool.specs.Pools.{Extends};
 ghost use Rattle.term_pool.specs.Bindings.{listed, listed_terms};
 ghost use Rattle.lps_core.specs.Fitting.{Fits, IsVariable};
-ghost use Rattle.lps_core.specs.Naming.{function_names, names_of, AreNamed, GrowsByNames, HasOtherSums, HaveOwnNames, IsNamed, IsUsed, NamesSummands, NamingIsGood, SumsAreNamed};
+ghost use Rattle.lps_core.specs.Naming.{list_names, names_of, table_names, AreNamed, GrowsByNames, HasOtherSums, HaveOwnNames, IsNamed, IsUsed, NamesSummands, NamingIsGood, SumsAreNamed};
 ghost use Rattle.lps_core.specs.PlainLinears.{plain_linear, plain_next, plain_summand};
 ghost use Rattle.lps_core.specs.TreeSummands.{IsSummandIn};
 
@@ -36,9 +38,9 @@ pub fn add_variable_names(
     Ok(())
 }
 
-/// Adds the names of all functions.
+/// Adds the names of the functions in the table.
 fn add_function_names(sig: &Signature, names: &mut IndexSet<NameId>) -> Result<(), NoMemory>
-    ensures { OnOk result ((n : NameId) → Contains names.new.keys n ↔ (Contains names.old.keys n ⊎ Contains (function_names sig.now) n)) }
+    ensures { OnOk result ((n : NameId) → Contains names.new.keys n ↔ (Contains names.old.keys n ⊎ Contains (table_names sig.now) n)) }
 {
     for fun in 0..sig.fun_count() {
         names.insert(sig.fun_name_id(FunId(fun)))?;
@@ -46,7 +48,30 @@ fn add_function_names(sig: &Signature, names: &mut IndexSet<NameId>) -> Result<(
     Ok(())
 }
 
-/// The names that no sum may have: those of the parameters and of all functions.
+/// Adds the name with this text.
+fn add_word(sig: &Signature, word: &str, names: &mut IndexSet<NameId>) -> Result<(), NoMemory>
+    requires { Contains sig.now.texts word.now }
+    ensures { OnOk result (names.new.keys ≡ with_name names.old.keys (place_in sig.now.texts word.now)) }
+{
+    if let Some(name) = sig.names().find(word) {
+        names.insert(name)?;
+    }
+    Ok(())
+}
+
+/// Adds the names of the functions over lists. Without a list sort these functions aren't in the table.
+fn add_list_names(sig: &Signature, names: &mut IndexSet<NameId>) -> Result<(), NoMemory>
+    ensures { OnOk result ((n : NameId) → Contains names.new.keys n ↔ (Contains names.old.keys n ⊎ Contains (list_names sig.now.texts) n)) }
+{
+    signature_stands(sig);
+    add_word(sig, "head", names)?;
+    add_word(sig, "rhead", names)?;
+    add_word(sig, "tail", names)?;
+    add_word(sig, "rtail", names)?;
+    Ok(())
+}
+
+/// The names that no sum may have: those of the parameters and of all functions, declared or built in.
 pub fn used_names(
     alloc: Global,
     sig: &Signature,
@@ -57,6 +82,7 @@ pub fn used_names(
 {
     let mut names = IndexSet::new(alloc);
     add_variable_names(sig, params, &mut names)?;
+    add_list_names(sig, &mut names)?;
     add_function_names(sig, &mut names)?;
     Ok(names)
 }
@@ -233,8 +259,8 @@ fn name_summands(
 }
 
 /// The linear process with its sums named, as the last step before it is printed. A sum that has the name of a parameter, of an
-/// earlier sum of its summand or of a function gets a fresh name with its own as the base, in the order of the summands and in each
-/// from the left. Nothing else changes.
+/// earlier sum of its summand or of a function, declared or built in, gets a fresh name with its own as the base, in the order of the
+/// summands and in each from the left. Nothing else changes.
 ///
 /// After `NoMemory` the pool and the signature may have got some of this. What was there stays, then too.
 pub fn name_sums(

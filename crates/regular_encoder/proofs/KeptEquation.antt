@@ -26,6 +26,7 @@ use Rattle.lps_core.specs.Naming.{name_of, names_of, function_names}
 use Rattle.lps_core.specs.PlainLinears.{PlainLinear}
 use Rattle.lps_core.specs.TreeConditions.{conjunction_tree, tree_parts, trees_without_true}
 use Rattle.lps_core.specs.TreeSummands.{numbers_of, bound_tree, trees_of_label, put_actions, renaming_tree}
+use Rattle.lps_core.proofs.FunctionNames.{functions_taken}
 use Rattle.lps_core.proofs.Members.{contains_map, all_at}
 use Rattle.lps_core.proofs.NamedSums.{last_variable, names_kept, all_front, all_last, zip_push}
 use Rattle.lps_core.proofs.PoolTrees.{extends_on, trees_kept}
@@ -39,7 +40,7 @@ use Rattle.regular_encoder.proofs.NewColumns.{fresh_stands, KindsStand, columns_
 use Rattle.regular_encoder.proofs.FirstTerms.{some_is}
 use Rattle.regular_encoder.proofs.FormsInPlace.{terms_long}
 use Rattle.regular_encoder.proofs.LaidOutForms as laid_out
-use Rattle.regular_encoder.proofs.LaidOutForms.{kinds_stand, functions_taken}
+use Rattle.regular_encoder.proofs.LaidOutForms.{kinds_stand}
 use Rattle.regular_encoder.proofs.OneEquation.{kind_names, names_of_kinds, one_equation_keeps_its_parameters}
 
 -- ---- columns read their own arguments

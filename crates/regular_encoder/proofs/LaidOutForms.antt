@@ -9,7 +9,6 @@ use Rattle.data_theory.specs.declared.ids.SortId.{SortId}
 use Rattle.data_theory.specs.declared.ids.VarId.{VarId}
 use Rattle.data_theory.specs.declared.ids.TermId.{TermId}
 use Rattle.data_theory.specs.declared.signature.Variable.{Variable}
-use Rattle.data_theory.specs.Functions.{Function}
 use Rattle.data_theory.specs.Environments.{bound}
 use Rattle.data_theory.specs.Terms.{boolean, positive}
 use Rattle.data_theory.specs.Table.{pos_sort, bool_sort}
@@ -28,9 +27,10 @@ use Rattle.bisim_laws.specs.LinearProcesses.{variables, reading, AreDeclared, Ha
 use Rattle.bisim_laws.specs.BaseStates.{control_of}
 use Rattle.lps_core.specs.Fitting.{IsVariable, sort_of_variable, HasTakenName}
 use Rattle.lps_core.specs.Naming.{name_of, function_names, GrowsByNames}
-use Rattle.lps_core.proofs.Members.{contains_map, all_at, all_from}
+use Rattle.lps_core.proofs.Members.{all_at, all_from}
 use Rattle.lps_core.proofs.PoolTrees.{extends_itself}
 use Rattle.lps_core.proofs.MeantParts.{positive_meant}
+use Rattle.lps_core.proofs.FunctionNames.{functions_taken, function_names_stay}
 use Rattle.lps_core.proofs.NamedSums.{taken_name, name_taken, sort_kept, names_then, name_kept, variable_kept}
 use Rattle.lps_core.proofs.Staying.{read_mapped, sort_is_within, variables_declared, variables_have_sorts}
 use Rattle.lps_core.proofs.StayingFits.{term_fits, closed_terms_fit, lists_are_closed}
@@ -64,11 +64,6 @@ kinds_stand g ts f s fits =
       sorts = all_with_kinds Q [] (map (kind_of g) (all_params f.equations)) (All-nil Q)
           (All-map Q (kind_of g) (all_params f.equations) (All-weaker (IsVariable g) (λ x. Q (kind_of g x)) (λ x l. sort_is_within g x s.complete l) (all_params f.equations) vs));
     }
-
-pub functions_taken : (g : Sig) → IsSignature g → (n : NameId) → Contains (function_names g) n → Contains g.taken n
-functions_taken g s n i =
-    let r = contains_map (λ (f : Function). f.name) g.functions n i in
-    subst (λ m. Contains g.taken m) (sym r.1.1) (All-contains (λ (f : Function). Contains g.taken f.name) g.functions r.0 s.functions_taken r.1.0)
 
 -- ---- what a variable is bound to
 bound_sort : (h : Sig) (x : VarId) → IsVariable h x → get_or (variable_sorts h) x.0 boolean ≡ sort_under h (sort_of_variable h x)
@@ -207,7 +202,7 @@ module _ (g h : Sig) (p q : PoolContents) (f : PlainForm) (l : PlainLayout) (fir
         let there = All-contains (IsVariable w.with_control) (layout_params l) x controlled.1.variables i in
         let name : name_of h x ≡ name_of w.with_control x = name_kept w.with_control h x values.0.signature there in
         ⊎_elim
-        (λ j. All-contains (λ c. ¬ (IsFunction (name_of h c))) (layout_params l) x params.unused i (subst (λ fs. Contains (map (λ (z : Function). z.name) fs) (name_of h x)) all_named.functions j))
+        (λ j. All-contains (λ c. ¬ (IsFunction (name_of h c))) (layout_params l) x params.unused i (subst (λ ns. Contains ns (name_of h x)) (function_names_stay g w.with_control old all_named.grown all_named.functions) j))
         (λ n. n (subst (λ m. Contains w.with_control.taken m) (sym name) (All-contains (λ c. Contains w.with_control.taken (name_of w.with_control c)) (layout_params l) x controlled.1.taken i)))
         (late (name_of h x) u));
   }

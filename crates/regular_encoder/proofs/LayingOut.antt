@@ -24,6 +24,7 @@ use Rattle.term_pool.proofs.GrownSignatures.{inhabited_sorts_stay_inhabited}
 use Rattle.term_pool.proofs.InhabitedSorts.{sorts_have_values_where_none_is_empty}
 use Rattle.lps_core.specs.Fitting.{IsVariable, sort_of_variable}
 use Rattle.lps_core.specs.Naming.{GrowsByNames}
+use Rattle.lps_core.proofs.FunctionNames.{functions_taken}
 use Rattle.lps_core.proofs.NamedSums.{variable_kept}
 use Rattle.lps_core.proofs.Staying.{sort_is_within}
 use Rattle.greibach.specs.FittingForms.{FormFits}
@@ -33,7 +34,7 @@ use Rattle.regular_encoder.specs.FormColumns.{kind_of, all_params, with_kinds, c
 use Rattle.regular_encoder.proofs.NewColumns.{columns_stand, as_many_columns}
 use Rattle.regular_encoder.proofs.FoundKinds.{AreAt, AreAllKindsAt, all_within_kinds, places_stand}
 use Rattle.regular_encoder.proofs.ServingLayouts.{zip_at}
-use Rattle.regular_encoder.proofs.LaidOutForms.{kinds_stand, functions_taken}
+use Rattle.regular_encoder.proofs.LaidOutForms.{kinds_stand}
 
 pub read_first : (places : List (Vec VarId Global)) (d : Vec VarId Global) → 0 < length places → get_or (map plain_place places) 0 [] ≡ (get_or places 0 d).items
 read_first [] d l = absurd (omega (arith, l))

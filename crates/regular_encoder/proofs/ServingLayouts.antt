@@ -1,5 +1,5 @@
 -- What is laid out serves the encoding.
-use Rattle.std.proofs.Common.{cond, ◌≡◌, ◌⊎◌, inl, inr, ⊎_elim, ℕ, zero, suc, List, [], ◌∷◌, ◌++◌, map, length, get_or, refl, sym, ap, ap₂, ◌∙◌, subst, Option, Some, None}
+use Rattle.std.proofs.Common.{cond, ◌≡◌, ◌⊎◌, inl, inr, ⊎_elim, ℕ, zero, suc, List, [], ◌∷◌, ◌++◌, map, length, get_or, refl, sym, ap, ap₂, ◌∙◌, subst, append_assoc, Option, Some, None}
 use Rattle.std.specs.Prelude.{slice_get, codes}
 use Rattle.std.specs.List.{All, AllZip, Contains}
 use Rattle.std.proofs.lemmas.List.{map-append, length-map}
@@ -30,8 +30,9 @@ use Rattle.bisim_laws.proofs.Firing.{contains_first, contains_later, contains_no
 use Rattle.bisim_laws.specs.LinearProcesses.{reading}
 use Rattle.lps_core.specs.Fitting.{AreTermsOf, sort_of_variable}
 use Rattle.lps_core.specs.TreeSummands.{numbers_of}
-use Rattle.lps_core.specs.Naming.{name_of, function_names}
+use Rattle.lps_core.specs.Naming.{name_of, list_names, table_names, function_names}
 use Rattle.lps_core.proofs.Members.{map_contains}
+use Rattle.lps_core.proofs.FunctionNames.{list_names_stay}
 use Rattle.lps_core.proofs.NamedSums.{not_taken, name_numbers}
 use Rattle.regular_encoder.specs.FormColumns.{kind_of, IsColumnOf, argument_of, IsFirstTerm, an_argument, a_closed_term, AreFirstTerms, no_first_term, one_more_first_term}
 use Rattle.regular_encoder.proofs.FirstTerms.{some_is, no_some, FirstStands, HasNoVariable}
@@ -184,7 +185,10 @@ one_constant old s d g cs h ds w k n i =
     let base = codes "dc_" ++ k.text in
     let between : IsGrown old k.between = growth_after_growth_is_growth old g k.between w (fresh_grows g base k.name k.between k.fresh) in
     let functions : k.between.functions ≡ g.functions = ap (λ (z : Sig). z.functions) k.fresh.taken in
-    let names : function_names h ≡ function_names g ++ k.name ∷ [] = ap function_names k.declared ∙ map-append (λ (z : Function). z.name) k.between.functions (f ∷ []) ∙ ap (λ fs. map (λ (z : Function). z.name) fs ++ k.name ∷ []) functions in
+    let table : table_names h ≡ table_names g ++ k.name ∷ [] = ap table_names k.declared ∙ map-append (λ (z : Function). z.name) k.between.functions (f ∷ []) ∙ ap (λ fs. map (λ (z : Function). z.name) fs ++ k.name ∷ []) functions in
+    let lists : list_names h.texts ≡ list_names g.texts =
+    list_names_stay old h s (growth_after_growth_is_growth old g h w (constant_grows d g cs h ds k)) ∙ sym (list_names_stay old g s w) in
+    let names : function_names h ≡ function_names g ++ k.name ∷ [] = ap₂ (λ ns ms. ns ++ ms) lists table ∙ sym (append_assoc (list_names g.texts) (table_names g) (k.name ∷ [])) in
     let fresh : ¬ (Contains old.taken k.name) = not_taken old k.fresh.text k.between.texts k.name s (λ t. k.fresh.fresh.free (taken_stays old g k.fresh.text w t)) (between.new_texts, between.texts) k.fresh.named in
     ⊎_elim
     (λ j. inl j)
