@@ -2,9 +2,9 @@
 use Rattle.std.proofs.Common.{◌≡◌, ℕ, zero, suc, pred, Bool, true, false, ◌&&◌, List, [], ◌∷◌, map, length, refl, sym, cond, true≢false}
 use Rattle.std.specs.Prelude.{flat_map, filter}
 use Rattle.std.specs.List.{All, list_all}
-use Rattle.std.proofs.lemmas.List.Elements.{All-nil, All-cons, All-append}
+use Rattle.std.proofs.lemmas.List.Elements.{All-nil, All-cons, All-head, All-tail, All-append}
 use Rattle.data_theory.specs.declared.ids.NameId.{NameId}
-use Rattle.process_terms.specs.Labels.{Inserted, at_front, further as behind, Permuted, one_placed}
+use Rattle.process_terms.specs.Labels.{Inserted, at_front, further as behind, Permuted, nothing_left, one_placed}
 use Rattle.lps_core.proofs.Members.{In, here, there}
 use Rattle.action_filters.specs.NameTests.{is_permuted}
 use Rattle.action_filters.specs.Filters.{same_name}
@@ -46,9 +46,24 @@ inserted_in (behind i) = there (inserted_in i)
 placed_in : {A : Type 0} {x : A} {xs ys : List A} → Permuted (x ∷ xs) ys → In x ys
 placed_in (one_placed p i) = inserted_in i
 
+permuted_names : (xs ys : List NameId) → is_permuted same_name xs ys ≡ true → Permuted xs ys
+permuted_names xs ys e = said (is_permuted same_name xs ys) (permuted_told same_name (λ y z. told (same_name y z) (same_name_decides y z)) xs ys) e
+
 -- the first of permuted names is among the others
 pub first_among : (x : NameId) (xs ys : List NameId) → is_permuted same_name (x ∷ xs) ys ≡ true → In x ys
-first_among x xs ys e = placed_in (said (is_permuted same_name (x ∷ xs) ys) (permuted_told same_name (λ y z. told (same_name y z) (same_name_decides y z)) (x ∷ xs) ys) e)
+first_among x xs ys e = placed_in (permuted_names (x ∷ xs) ys e)
+
+inserted_all : {A : Type 0} {x : A} {xs ys : List A} (P : A → Type 0) → Inserted x xs ys → P x → All P xs → All P ys
+inserted_all {x = x} P (at_front {xs = xs}) p h = All-cons P x xs p h
+inserted_all P (behind {y = y} {xs = xs} {ys = ys} i) p h = All-cons P y ys (All-head P y xs h) (inserted_all P i p (All-tail P y xs h))
+
+permuted_all : {A : Type 0} {xs ys : List A} (P : A → Type 0) → Permuted xs ys → All P xs → All P ys
+permuted_all P nothing_left h = h
+permuted_all P (one_placed {x = x} {xs = xs} p i) h = inserted_all P i (All-head P x xs h) (permuted_all P p (All-tail P x xs h))
+
+-- what holds of names holds of the permuted ones
+pub all_permuted : (P : NameId → Type 0) (xs ys : List NameId) → is_permuted same_name xs ys ≡ true → All P xs → All P ys
+all_permuted P xs ys e h = permuted_all P (permuted_names xs ys e) h
 
 -- ---- groups
 -- a group that a rule makes

@@ -37,13 +37,13 @@ use Rattle.communication.specs.Ways.{Joining, Group, Item, stays, joins, rest, f
 use Rattle.communication.specs.Communicated.{way_label, equalities_of, item_equalities, is_no_group, has_no_arguments, of_way, label_ways}
 use Rattle.communication.specs.Places.{placed, joining_of, places_of}
 use Rattle.communication.specs.Plans.{action_at_place, paired, equated_with, equated, item_equated, under_name, action_of_place_item, planned}
-use Rattle.communication.specs.PlaceConditions.{IsWithin, HasResult, ItemHasResult, RuleNamesIn, HaveResults}
+use Rattle.communication.specs.PlaceConditions.{IsWithin, HasResult, ItemHasResult, RuleNamesIn, AllHave, HaveResults}
 use Rattle.communication.specs.PlanMeanings.{equality_of, against, EqualityFits, AreFitting}
 use Rattle.communication.specs.WayMeanings.{place_meant, group_meant, item_meant, place_ways}
 use Rattle.communication.specs.PlanLaws.{planned_summand, WayServes, WaysServe, PlansMeanWays}
 use Rattle.communication.proofs.Rounds.{flat_map_of_map}
 use Rattle.communication.proofs.Mapped.{each_same, ways_have, rest_has, further_have}
-use Rattle.communication.proofs.MadeGroups.{IsTrueAt, both_true, all_tested, first_among, IsMade, ItemMade, ways_made, further_made}
+use Rattle.communication.proofs.MadeGroups.{IsTrueAt, both_true, all_tested, first_among, all_permuted, IsMade, ItemMade, ways_made, further_made}
 use Rattle.communication.proofs.MeantPlaces.{IsPlaceOf, action_fits, sorts_within, sorts_meant, alike_sorts, places_are_places}
 use Rattle.communication.proofs.MeantWays.{one_further, ways_mean_ways}
 
@@ -131,16 +131,33 @@ module _ (g : Sig) (ts : List Tree) (stands : IsSignature g) (rules : List Plain
       (shut_meant zs (All-tail (GroupHas IsPlace) z zs h))
 
   -- ---- results
+  -- the name of a place has an action with the sorts of that place
+  own_action : (p : Place) → IsPlace p → HasResult g p.name (action_at_place m p)
+  own_action p h =
+      let a = action_at_place m p in
+      let f = fits_at p h in
+      subst (λ (x : NameId). Contains g.actions (key x (key_of_action g a).sorts)) (sym h.name) (key_within g a (slice_get_within g.actions a.act.0 f.key f.stands))
+
+  others_have : (p : Place) → IsPlace p → (ps : List Place) → All IsPlace ps → All (IsTrueAt (placed.alike p)) ps → AllHave g (key_of_action g (action_at_place m p)).sorts (map placed.name ps)
+  others_have p h [] k t = All-nil (λ n. HasResult g n (action_at_place m p))
+  others_have p h (q ∷ ps) k t =
+      let own = All-head IsPlace q ps k in
+      let same = alike_sorts g ts stands m acts p q h own (All-head (IsTrueAt (placed.alike p)) q ps t) in
+      All-cons (λ n. HasResult g n (action_at_place m p)) q.name (map placed.name ps) (subst (λ ss. Contains g.actions (key q.name ss)) (sym same) (own_action q own))
+      (others_have p h ps (All-tail IsPlace q ps k) (All-tail (IsTrueAt (placed.alike p)) q ps t))
+
   group_result : (z : Group Place NameId) → GroupHas IsPlace z → IsMade placed read_by z → HasResult g z.result (action_at_place m z.first)
   group_result z h made =
       let a = action_at_place m z.first in
-      let f = fits_at z.first h.0 in
+      let names = map placed.name z.others in
       let r = in_map joining_of rules made.among in
-      let t = both_true (is_permuted same_name (map placed.name (z.first ∷ z.others)) made.rule.left) (list_all (placed.alike z.first) z.others) made.tested in
-      let i = in_contains (first_among z.first.name (map placed.name z.others) made.rule.left t.0) in
-      subst (λ (x : NameId). Contains g.actions (key x (key_of_action g a).sorts)) (sym (made.result ∙ ap (λ (c : Joining NameId). c.result) r.2))
+      let t = both_true (is_permuted same_name (z.first.name ∷ names) made.rule.left) (list_all (placed.alike z.first) z.others) made.tested in
+      let i = in_contains (first_among z.first.name names made.rule.left t.0) in
+      let have = All-cons (λ n. HasResult g n a) z.first.name names (own_action z.first h.0) (others_have z.first h.0 z.others h.1 (all_tested (placed.alike z.first) z.others t.1)) in
+      let left = all_permuted (λ n. HasResult g n a) (z.first.name ∷ names) made.rule.left t.0 have in
+      subst (λ (x : NameId). HasResult g x a) (sym (made.result ∙ ap (λ (c : Joining NameId). c.result) r.2))
       (results r.0 z.first.name (key_of_action g a).sorts (in_contains r.1) (subst (λ (c : Joining NameId). Contains c.left z.first.name) r.2 i)
-      (subst (λ (x : NameId). Contains g.actions (key x (key_of_action g a).sorts)) (sym h.0.name) (key_within g a (slice_get_within g.actions a.act.0 f.key f.stands))))
+      (subst (λ (c : Joining NameId). AllHave g (key_of_action g a).sorts c.left) r.2 left))
 
   -- ---- what fits
   others_fit : (p : Place) → IsPlace p → (ps : List Place) → All IsPlace ps → All (IsTrueAt (placed.alike p)) ps → AreFitting g ts (flat_map (λ q. equated_with g (action_at_place m p) (action_at_place m q)) ps)

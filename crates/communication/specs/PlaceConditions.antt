@@ -26,6 +26,10 @@ ItemHasResult g m (joins z) = HasResult g z.result (action_at_place m z.first)
 abbrev pub RuleNamesIn : Sig → PlainRule → Type 0
 RuleNamesIn g c = All (IsNameIn g) c.left × IsNameIn g c.result
 
--- a rule's result has an action with each list of sorts that a name on its left side has
+-- each of these names has an action with these sorts
+abbrev pub AllHave : Sig → List SortId → List NameId → Type 0
+AllHave g ss names = All (λ n. Contains g.actions (key n ss)) names
+
+-- a rule's result has an action with each list of sorts that all names on its left side have
 abbrev pub HaveResults : Sig → List PlainRule → Type 0
-HaveResults g rules = (c : PlainRule) (n : NameId) (ss : List SortId) → Contains rules c → Contains c.left n → Contains g.actions (key n ss) → Contains g.actions (key c.result ss)
+HaveResults g rules = (c : PlainRule) (n : NameId) (ss : List SortId) → Contains rules c → Contains c.left n → AllHave g ss c.left → Contains g.actions (key c.result ss)

@@ -8,6 +8,7 @@ use Rattle.data_theory.specs.Keys.{key}
 use Rattle.data_theory.specs.Signature.{Sig}
 use Rattle.process_terms.specs.PlainProcesses.{PlainRule}
 use Rattle.action_filters.specs.Filters.{IsNameIn}
+use Rattle.communication.specs.PlaceConditions.{AllHave}
 
 abbrev pub ArePairsIn : Sig → List (NameId × NameId) → Type 0
 ArePairsIn g pairs = All (λ (r : NameId × NameId). IsNameIn g r.0 × IsNameIn g r.1) pairs
@@ -20,8 +21,13 @@ LeadsTo g from to = (ss : List SortId) → Contains g.actions (key from ss) → 
 abbrev pub IsLed : Sig → NameId → NameId → ActEntry → Type 0
 IsLed g from to e = e.name ≡ from → Contains g.actions (key to e.sorts.items)
 
+-- where all names on a rule's left side have an action with these sorts, so has its result
+abbrev pub IsLedAlong : Sig → PlainRule → List SortId → Type 0
+IsLedAlong g c ss = AllHave g ss c.left → Contains g.actions (key c.result ss)
+
+-- this holds for the sorts of each action
 abbrev pub LeftLeadsToResult : Sig → PlainRule → Type 0
-LeftLeadsToResult g c = All (λ n. LeadsTo g n c.result) c.left
+LeftLeadsToResult g c = (n : NameId) (ss : List SortId) → Contains g.actions (key n ss) → IsLedAlong g c ss
 
 -- two pairs don't replace one name by two
 abbrev pub agree : NameId × NameId → NameId × NameId → Bool

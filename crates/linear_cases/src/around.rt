@@ -5,7 +5,7 @@ ghost use Rattle.std.specs.List.{list_all, All};
 ghost use Rattle.process_terms.specs.PlainProcesses.{items_of_each, plain_rule, plain_rules};
 ghost use Rattle.action_filters.specs.Filters.{HaveTargets, IsNameIn, RenamesOnce};
 ghost use Rattle.communication.specs.PlaceConditions.{HaveResults, RuleNamesIn};
-ghost use Rattle.linear_cases.specs.AroundTests.{agree, are_once, ArePairsIn, IsLed, LeadsTo, LeftLeadsToResult};
+ghost use Rattle.linear_cases.specs.AroundTests.{agree, are_once, ArePairsIn, IsLed, IsLedAlong, LeadsTo, LeftLeadsToResult};
 
 use data_theory::{ActEntry, NameId, NoMemory, Signature};
 use process_terms::{CommRule, CommSet};
@@ -116,12 +116,24 @@ fn leads_to(sig: &Signature, from: NameId, to: NameId) -> bool
     true
 }
 
-/// Whether a rule has its result for each action with a name on its left side.
+/// Whether a rule has its result with the sorts of an action, if all names on its left side have them.
+fn is_led_along(sig: &Signature, rule: &CommRule, entry: &ActEntry) -> bool
+    ensures { IsTrue result → IsLedAlong sig.now (plain_rule rule.now) entry.now.sorts.items }
+{
+    for name in &rule.left {
+        if sig.act(*name, entry.sorts.as_slice()).is_none() {
+            return true;
+        }
+    }
+    sig.act(rule.result, entry.sorts.as_slice()).is_some()
+}
+
+/// Whether a rule has its result with the sorts of each action that all names on its left side have.
 fn has_results(sig: &Signature, rule: &CommRule) -> bool
     ensures { IsTrue result → LeftLeadsToResult sig.now (plain_rule rule.now) }
 {
-    for name in &rule.left {
-        if !leads_to(sig, *name, rule.result) {
+    for entry in sig.acts() {
+        if !is_led_along(sig, rule, entry) {
             return false;
         }
     }

@@ -10,9 +10,10 @@
 //!   label with their arguments, and its calls with theirs.
 //! - `linear t u | hide a | name` gives the initial terms, and what is done to the linear process, from the left: `allow a b, c`
 //!   with sets of names, `block` and `hide` with names, `rename a -> b, c -> d` and `comm a b -> c, d d -> e` with pairs and rules (they
-//!   change nothing where a result has no action), `product`, which puts a second linear process beside it at the right, the form's own
-//!   at first, `swap`, after which each of the two stands for the other, and `name`, which names the sums. With `count` as the last word
-//!   the answer says no more than how many parameters and summands there are.
+//!   change nothing where a new name has no action with sorts that the old one has, or a result none with sorts that all names on its
+//!   left side have), `product`, which puts a second linear process beside it at the right, the form's own at first, `swap`, after which
+//!   each of the two stands for the other, and `name`, which names the sums. With `count` as the last word the answer says no more than
+//!   how many parameters and summands there are.
 //!
 //! Terms have their functions behind their arguments: `x 1p ==/2` is `x == 1`, where `1p` is 1 of Pos and `0n` is 0 of Nat, and the
 //! number behind a stroke says how many arguments a function has. The answer has the parameters with their sorts, then a line for each

@@ -1,7 +1,9 @@
 use Rattle.std.proofs.Common.{take}
 use Rattle.std.specs.List.{All}
-use Rattle.linear_cases.specs.AroundTests.{LeadsTo}
+use Rattle.data_theory.specs.declared.actions.ActEntry.{ActEntry}
+use Rattle.process_terms.specs.PlainProcesses.{plain_rule}
+use Rattle.linear_cases.specs.AroundTests.{IsLedAlong}
 use Rattle.linear_cases.proofs.around.has_results.Given as goal
 
-abbrev pub invariant-loop-name : goal.invariant-loop-name
-invariant-loop-name l = All (λ n. LeadsTo l.sig n l.rule.result) (take l.name-index l.name-items)
+abbrev pub invariant-loop-entry : goal.invariant-loop-entry
+invariant-loop-entry l = All (λ (e : ActEntry). IsLedAlong l.sig (plain_rule l.rule) e.sorts.items) (take l.entry-index l.entry-items)
