@@ -18,7 +18,7 @@ EDITS = f"{TOP}/bench/edits"
 def main(crates):
     with tempfile.TemporaryDirectory() as room:
         copy, tried = f"{room}/copy", crates or sorted(os.listdir(EDITS))
-        shutil.copytree(TOP, copy, symlinks=True, ignore=shutil.ignore_patterns(".git"))
+        shutil.copytree(TOP, copy, symlinks=True, ignore=shutil.ignore_patterns(".git", "incremental"))
         for crate in tried:
             edits = f"{copy}/crates/{crate}/must-fail"
             shutil.rmtree(edits, ignore_errors=True)
