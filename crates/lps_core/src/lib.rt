@@ -14,5 +14,6 @@ pub use conditions::{conjoined, parts_of};
 pub use linears::{Linear, Summand};
 pub use moving::{put_all, put_label, renaming, variable_term};
 pub use naming::{
-    add_variable_names, fresh_from, has_name, name_sums, put_next, signature_stands, used_names,
+    add_variable_names, fresh_from, has_name, name_all, name_sums, put_next, signature_stands,
+    used_names,
 };

@@ -145,7 +145,7 @@ fn name_sum(
 }
 
 /// The sums of a summand with their names.
-fn name_all(
+pub fn name_all(
     alloc: Global,
     sig: &mut Signature,
     used: &IndexSet<NameId>,

@@ -16,6 +16,7 @@ mod pool;
 mod terms;
 mod weight;
 
+pub use bindings::bound_term;
 pub use first_values::has_value;
 pub use inhabited::inhabited_sorts;
 pub use pool::Pool;
