@@ -6,3 +6,4 @@ pub mod Balance
 pub mod ProcessesOnce
 pub mod DeclarationsOnce
 pub mod SpecsOnce
+pub mod WordsOfTokens

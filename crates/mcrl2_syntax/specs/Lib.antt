@@ -13,3 +13,4 @@ pub mod SpelledLabels
 pub mod SpelledProcesses
 pub mod SpelledDeclarations
 pub mod Copied
+pub mod TreeWords
