@@ -3,6 +3,7 @@ pub mod Decimals
 pub mod Faulty
 pub mod Fronts
 pub mod Lexed
+pub mod NameTokens
 pub mod NumeralTokens
 pub mod Once
 pub mod Runs

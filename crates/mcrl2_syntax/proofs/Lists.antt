@@ -1,5 +1,6 @@
 -- Lists with a separator are read in one way where their items are.
-use Rattle.std.proofs.Common.{◌≡◌, ℕ, List, [], ◌∷◌, refl, ap, sym, ◌∙◌, subst}
+use Rattle.std.proofs.Common.{◌≡◌, ℕ, List, [], ◌∷◌, ◌++◌, refl, ap, sym, ◌∙◌, subst}
+use Rattle.std.specs.List.{AllByRecursion}
 use Rattle.mcrl2_lexer.specs.declared.kind.Kind.{Kind}
 use Rattle.mcrl2_lexer.specs.declared.token.Token.{Token}
 use Rattle.mcrl2_syntax.specs.Words.{PlainWord, Begins}
@@ -49,3 +50,17 @@ items_once once a b m n = list_once Anything (λ x y us v w c d s t. once x y us
 pub names_once : {text : List ℕ} {separator : Kind} {xs ys : List PlainWord} {ts q r : List Token} → SpellsList (SpellsName text) separator xs ts q → SpellsList (SpellsName text) separator ys ts r
     → (Begins separator q → ⊥) → (Begins separator r → ⊥) → (xs ≡ ys) × (q ≡ r)
 names_once a b m n = items_once (λ x y us v w c d. name_once c d) a b m n
+
+-- what holds of each element of two lists, one behind the other
+module _ {A : Type 0} (P : A → Type 0) where
+  pub all_front : (xs ys : List A) → AllByRecursion P (xs ++ ys) → AllByRecursion P xs
+  all_front [] ys all = tt
+  all_front (x ∷ xs) ys all = (all.0, all_front xs ys all.1)
+
+  pub all_back : (xs ys : List A) → AllByRecursion P (xs ++ ys) → AllByRecursion P ys
+  all_back [] ys all = all
+  all_back (x ∷ xs) ys all = all_back xs ys all.1
+
+  pub all_both : (xs ys : List A) → AllByRecursion P xs → AllByRecursion P ys → AllByRecursion P (xs ++ ys)
+  all_both [] ys front back = back
+  all_both (x ∷ xs) ys front back = (front.0, all_both xs ys front.1 back)

@@ -1,10 +1,12 @@
 -- What tokens spell is made of their words.
-use Rattle.std.proofs.Common.{◌≡◌, ℕ, suc, Bool, true, false, List, [], ◌∷◌, ◌++◌, Option, map, nat_eq, if◌then◌else◌, subst}
+use Rattle.std.proofs.Common.{◌≡◌, ℕ, suc, Bool, true, false, List, [], ◌∷◌, ◌++◌, Option, All, map, length, nat_eq, if◌then◌else◌, ◌-◌, take, drop, sym, subst}
 use Rattle.std.specs.List.{AllByRecursion}
+use Rattle.std.proofs.lemmas.List.Elements.{All-head, All-tail}
 use Rattle.mcrl2_lexer.specs.declared.kind.Kind.{Kind}
 use Rattle.mcrl2_lexer.specs.declared.kind.Kind.TheVariants.{Identifier, Numeral}
 use Rattle.mcrl2_lexer.specs.declared.token.Token.{Token}
-use Rattle.mcrl2_lexer.specs.Tokens.{IsToken, slice_of}
+use Rattle.mcrl2_lexer.specs.Tokens.{IsToken, slice_of, IsAccepted}
+use Rattle.mcrl2_lexer.specs.Lexing.{Lexes, nothing, after_space, after_comment, after_token, HasTokens}
 use Rattle.mcrl2_syntax.specs.declared.word.Span.{Span}
 use Rattle.mcrl2_syntax.specs.declared.declaration.SectionWord.{SectionWord}
 use Rattle.mcrl2_syntax.specs.Words.{PlainWord}
@@ -20,25 +22,34 @@ use Rattle.mcrl2_syntax.specs.SpelledData.{SpellsUnit, unit_name, unit_numeral, 
 use Rattle.mcrl2_syntax.specs.SpelledLabels.{SpellsAction, action_tau, action_name, action_applied, SpellsLabel, label_actions, SpellsAssignment, assignment, SpellsCall, call_empty, call_assigns, SpellsNameSet, names_at_once, SpellsRenaming, renaming, SpellsCommRule, communication, SpellsVarGroup, variables, Operation, allowing, blocking, hiding, renamed_by, communicating, operated, SpellsOperation, spells_allow, spells_block, spells_hide, spells_rename, spells_comm}
 use Rattle.mcrl2_syntax.specs.SpelledProcesses.{sequenced, merged, chosen, SpellsAtom, atom_delta, atom_action, atom_multi, atom_call, atom_brackets, atom_operator, SpellsOperand, operand_sum, operand_cond, operand_parts, SpellsDots, dots_end, dots_atom, dots_sum, dots_cond, SpellsSum, sum_over, SpellsCond, cond_then, cond_else, SpellsMerge, merge_last, merge_more, SpellsChoices, choices_last, choices_more, SpellsProcess, spells_process}
 use Rattle.mcrl2_syntax.specs.SpelledDeclarations.{SpellsField, field_bare, field_named, SpellsFields, no_fields, some_fields, SpellsRecogniser, no_recogniser, a_recogniser, SpellsConstructor, a_constructor, SpellsSignature, of_constants, of_functions, SpellsDecl, decl_sorts, decl_alias, decl_struct, decl_cons, decl_map, decl_vars, decl_equation, decl_conditional, decl_acts, decl_acts_over, decl_proc, decl_proc_over, decl_init, SpellsDecls, no_decls, more_decls, SpellsSections, no_sections, more_sections, SpellsSpec}
-use Rattle.mcrl2_syntax.specs.TreeWords.{IsName, AreNames, IsOptionalName, IsNumeral, IsSortOfWords, IsDataOfWords, AreDatasOfWords, AreOperandsOfWords, IsActionOfWords, IsLabelOfWords, IsAssignmentOfWords, IsNameSetOfWords, IsRenamingOfWords, IsRuleOfWords, IsGroupOfWords, IsProcessOfWords, AreProcessesOfWords, IsFieldOfWords, IsConstructorOfWords, IsDeclarationOfWords, IsSectionOfWords, IsSpecOfWords, IsRead}
+use Rattle.mcrl2_syntax.specs.TreeWords.{IsName, AreNames, IsOptionalName, IsNumeral, IsSortOfWords, IsDataOfWords, AreDatasOfWords, AreOperandsOfWords, IsActionOfWords, IsLabelOfWords, IsAssignmentOfWords, IsNameSetOfWords, IsRenamingOfWords, IsRuleOfWords, IsGroupOfWords, IsProcessOfWords, AreProcessesOfWords, IsFieldOfWords, IsConstructorOfWords, IsDeclarationOfWords, IsSectionOfWords, IsSpecOfWords, SpecsAreOfWords, LabelsAreOfWords}
+use Rattle.mcrl2_syntax.proofs.Lists.{all_front, all_back}
 
 -- ---- tokens
+-- the token has the bytes of its kind, and is accepted
+record IsRead (text : List ℕ) (t : Token) : Type 0 where
+  token : IsToken (slice_of text t) t.kind
+  accepted : IsAccepted text t
+
 abbrev AreRead : List ℕ → List Token → Type 0
 AreRead text = AllByRecursion (IsRead text)
+
+lexed_are_read : (text : List ℕ) (at to : ℕ) (tokens : List Token) → Lexes text at tokens to → All (IsAccepted text) tokens → AreRead text tokens
+lexed_are_read text at to tokens nothing all = tt
+lexed_are_read text at to tokens (after_space inside space more) all = lexed_are_read text (suc at) to tokens more all
+lexed_are_read text at to tokens (after_comment {next = next} further comment more) all = lexed_are_read text next to tokens more all
+lexed_are_read text at to tokens (after_token {first = first} {others = others} start some longest more) all =
+    (record { token = subst (λ (from : ℕ). IsToken (take (first.end - from) (drop from text)) first.kind) (sym start) longest.token; accepted = All-head (IsAccepted text) first others all }
+    , lexed_are_read text first.end to others more (All-tail (IsAccepted text) first others all))
+
+are_read : (text : List ℕ) (tokens : List Token) → HasTokens text tokens → AreRead text tokens
+are_read text tokens has = lexed_are_read text 0 (length text) tokens has.lexes has.accepted
 
 name_at : (text : List ℕ) (t : Token) → IsRead text t → t.kind ≡ Identifier → IsName (token_word text t)
 name_at text t is h = subst (λ (k : Kind). IsToken (slice_of text t) k) h is.token
 
 numeral_at : (text : List ℕ) (t : Token) → IsRead text t → t.kind ≡ Numeral → IsNumeral (token_word text t)
 numeral_at text t is h = record { token = subst (λ (k : Kind). IsToken (slice_of text t) k) h is.token; fits = is.accepted.fits h }
-
-front_holds : {A : Type 0} (P : A → Type 0) (xs ys : List A) → AllByRecursion P (xs ++ ys) → AllByRecursion P xs
-front_holds P [] ys all = tt
-front_holds P (x ∷ xs) ys all = (all.0, front_holds P xs ys all.1)
-
-behind_holds : {A : Type 0} (P : A → Type 0) (xs ys : List A) → AllByRecursion P (xs ++ ys) → AllByRecursion P ys
-behind_holds P [] ys all = all
-behind_holds P (x ∷ xs) ys all = behind_holds P xs ys all.1
 
 -- ---- lists
 -- what holds of each item that read tokens spell
@@ -165,7 +176,7 @@ action_words text a ts r (action_name {t = t} h) all = ((name_at text t all.0 h,
 action_words text a ts r (action_applied {t = t} {v = v} {ds = ds} {ts = us} h i b k) all =
     let items = items_words text ds us (v ∷ r) b all.1.1 in ((name_at text t all.0 h, items.0), items.1.1)
 
-pub label_words : (text : List ℕ) → Makes text IsLabelOfWords (SpellsLabel text)
+label_words : (text : List ℕ) → Makes text IsLabelOfWords (SpellsLabel text)
 label_words text l ts r (label_actions {actions = as_} a) all = list_words text IsActionOfWords (action_words text) as_ ts r a all
 
 assignment_words : (text : List ℕ) → Makes text IsAssignmentOfWords (SpellsAssignment text)
@@ -367,13 +378,19 @@ declarations_words : (text : List ℕ) (word : SectionWord) → Makes text (AllB
 declarations_words text word ds ts r no_decls all = (tt, all)
 declarations_words text word ds ts r (more_decls {d = d} {ds = es} {front = front} {us = us} cut a b) all =
     let parted = subst (AreRead text) cut.is all in
-    let rest = declarations_words text word es us r b (behind_holds (IsRead text) front (cut.sign ∷ us) parted).1 in
-    ((declaration_words text word d front a (front_holds (IsRead text) front (cut.sign ∷ us) parted), rest.0), rest.1)
+    let rest = declarations_words text word es us r b (all_back (IsRead text) front (cut.sign ∷ us) parted).1 in
+    ((declaration_words text word d front a (all_front (IsRead text) front (cut.sign ∷ us) parted), rest.0), rest.1)
 
 sections_words : (text : List ℕ) (sections : List PlainSection) (ts : List Token) → SpellsSections text sections ts → AreRead text ts → AllByRecursion IsSectionOfWords sections
 sections_words text sections ts no_sections all = tt
 sections_words text sections ts (more_sections {word = word} {ds = ds} {sections = others} {ts = us} {r = r} h a b) all =
     let own = declarations_words text word ds us r a all.1 in (own.0, sections_words text others r b own.1)
 
-pub spec_words : (text : List ℕ) (spec : PlainSpec) (tokens : List Token) → AreRead text tokens → SpellsSpec text spec tokens → IsSpecOfWords spec
+spec_words : (text : List ℕ) (spec : PlainSpec) (tokens : List Token) → AreRead text tokens → SpellsSpec text spec tokens → IsSpecOfWords spec
 spec_words text spec tokens all spelled = sections_words text spec.sections tokens spelled.all_sections all
+
+pub specs_are_of_words : SpecsAreOfWords
+specs_are_of_words text spec tokens has spelled = spec_words text spec tokens (are_read text tokens has) spelled
+
+pub labels_are_of_words : LabelsAreOfWords
+labels_are_of_words text label tokens rest has spelled = (label_words text label tokens rest spelled (are_read text tokens has)).0

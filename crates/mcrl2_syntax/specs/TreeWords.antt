@@ -3,7 +3,8 @@ use Rattle.std.specs.Prelude.{◌<◌, ◌^◌, ℕ, List, Option, Some, None}
 use Rattle.std.specs.List.{AllByRecursion}
 use Rattle.mcrl2_lexer.specs.declared.kind.Kind.TheVariants.{Identifier, Numeral}
 use Rattle.mcrl2_lexer.specs.declared.token.Token.{Token}
-use Rattle.mcrl2_lexer.specs.Tokens.{IsToken, slice_of, IsAccepted}
+use Rattle.mcrl2_lexer.specs.Tokens.{IsToken}
+use Rattle.mcrl2_lexer.specs.Lexing.{HasTokens}
 use Rattle.mcrl2_lexer.specs.Words.{decimal}
 use Rattle.mcrl2_syntax.specs.Words.{PlainWord}
 use Rattle.mcrl2_syntax.specs.SortTrees as sorts
@@ -144,14 +145,9 @@ abbrev pub IsSpecOfWords : PlainSpec → Type 0
 IsSpecOfWords spec = AllByRecursion IsSectionOfWords spec.sections
 
 -- ---- what tokens spell
--- the token has the bytes of its kind, and is accepted
-pub record IsRead (text : List ℕ) (t : Token) : Type 0 where
-  pub token : IsToken (slice_of text t) t.kind
-  pub accepted : IsAccepted text t
-
--- what tokens of a text spell is made of words
+-- what the tokens of a text spell is made of words
 abbrev pub SpecsAreOfWords : Type 0
-SpecsAreOfWords = (text : List ℕ) (spec : PlainSpec) (tokens : List Token) → AllByRecursion (IsRead text) tokens → SpellsSpec text spec tokens → IsSpecOfWords spec
+SpecsAreOfWords = (text : List ℕ) (spec : PlainSpec) (tokens : List Token) → HasTokens text tokens → SpellsSpec text spec tokens → IsSpecOfWords spec
 
 abbrev pub LabelsAreOfWords : Type 0
-LabelsAreOfWords = (text : List ℕ) (label : PlainLabel) (tokens rest : List Token) → AllByRecursion (IsRead text) tokens → SpellsLabel text label tokens rest → IsLabelOfWords label
+LabelsAreOfWords = (text : List ℕ) (label : PlainLabel) (tokens rest : List Token) → HasTokens text tokens → SpellsLabel text label tokens rest → IsLabelOfWords label

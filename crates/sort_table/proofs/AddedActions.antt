@@ -27,7 +27,7 @@ use Rattle.sort_table.specs.EnteredActions.{no_actions, IsActionAs, AddsActions,
 use Rattle.sort_table.proofs.Growing.{pairs_with, contains_behind, contains_after, in_either}
 use Rattle.sort_table.proofs.KeptFunctions.{keeps_all, keeps_then, lists_keep, has_sort_kept, name_kept, known_kept, named_kept, all_with}
 use Rattle.sort_table.proofs.EnteringFunctions.{same_declared}
-use Rattle.sort_table.proofs.TextNames.{all_back}
+use Rattle.mcrl2_syntax.proofs.Lists.{all_back}
 use Rattle.sort_table.proofs.AddedStructs.{sorts_with_lists}
 use Rattle.sort_table.proofs.AddedDeclarations.{split_declarations, more_declarations}
 

@@ -25,7 +25,7 @@ use Rattle.sort_table.specs.FunctionStates.{AddsFunctions, AddsStruct, KeepsSort
 use Rattle.sort_table.proofs.Growing.{contains_behind, contains_after, in_either}
 use Rattle.sort_table.proofs.KeptFunctions.{has_sort_kept, known_kept, named_kept, ready_constructor_kept, all_with}
 use Rattle.sort_table.proofs.Searches.{split_map}
-use Rattle.sort_table.proofs.TextNames.{all_back}
+use Rattle.mcrl2_syntax.proofs.Lists.{all_back}
 use Rattle.sort_table.proofs.AddedStructs.{one_sort}
 use Rattle.sort_table.proofs.EnteringFunctions.{adds_none, adds_then, enters_on}
 

@@ -23,7 +23,7 @@ use Rattle.sort_table.specs.Vocabularies.{EachPair}
 use Rattle.sort_table.specs.NamedSorts.{AddsLists, no_lists, one_list}
 use Rattle.sort_table.specs.EnteredFunctions.{Keeps, HasSortOf, IsOptionalId, IsFieldOf, IsConOf, IsKnownOption, IsReadyField, IsReadyConstructor}
 use Rattle.sort_table.specs.FunctionStates.{KeepsSorts, HasBareSort, CanEnter, AddsStruct}
-use Rattle.sort_table.proofs.TextNames.{all_both}
+use Rattle.mcrl2_syntax.proofs.Lists.{all_both}
 use Rattle.sort_table.proofs.KeptFunctions.{lists_keep, lists_stand, has_sort_kept, ready_constructor_kept, all_with}
 use Rattle.sort_table.proofs.NewFunctions.{each_place, pair_at, are_new}
 use Rattle.sort_table.proofs.EnteringFunctions.{adds_after_lists}

@@ -26,6 +26,7 @@ pub mod FirstPlaces
 pub mod DeclaringLemmas
 pub mod KeptFunctions
 pub mod TextNames
+pub mod WordNames
 pub mod EnteredNames
 pub mod SortTablesOfNames
 pub mod BuiltInRows

@@ -11,6 +11,7 @@ use Rattle.mcrl2_syntax.specs.ProcessTrees as processes
 use Rattle.mcrl2_syntax.specs.ProcessTrees.{PlainProcess, PlainProcesses, no_processes, more_processes}
 use Rattle.mcrl2_syntax.specs.Declarations as trees
 use Rattle.mcrl2_syntax.specs.Declarations.{PlainField, PlainConstructor, PlainDecl, PlainSection}
+use Rattle.mcrl2_syntax.proofs.Lists.{all_front, all_back, all_both}
 use Rattle.sort_table.specs.Expressions.{Name}
 use Rattle.sort_table.specs.BareSorts.{SortExpression, bare_sort}
 use Rattle.sort_table.specs.BareProcesses.{Variables, bare_names, bare_group, bare_variables, bare_process, bare_processes, sums_in, sums_in_all}
@@ -21,18 +22,6 @@ use Rattle.sort_table.specs.SortCycles.{ReferOn, IsCycle}
 use Rattle.sort_table.specs.Identifiers.{name_where, in_sort, in_sorts, in_group, in_process, in_processes, in_field, in_constructor, in_declaration, in_section}
 
 module _ {A : Type 0} (P : A → Type 0) where
-  pub all_front : (xs ys : List A) → AllByRecursion P (xs ++ ys) → AllByRecursion P xs
-  all_front [] ys all = tt
-  all_front (x ∷ xs) ys all = (all.0, all_front xs ys all.1)
-
-  pub all_back : (xs ys : List A) → AllByRecursion P (xs ++ ys) → AllByRecursion P ys
-  all_back [] ys all = all
-  all_back (x ∷ xs) ys all = all_back xs ys all.1
-
-  pub all_both : (xs ys : List A) → AllByRecursion P xs → AllByRecursion P ys → AllByRecursion P (xs ++ ys)
-  all_both [] ys front back = back
-  all_both (x ∷ xs) ys front back = (front.0, all_both xs ys front.1 back)
-
   pub found_holds : (p : A → Bool) (xs : List A) (x : A) → AllByRecursion P xs → find p xs ≡ Some x → P x
   found_holds p [] x all e = absurd (none-some x e)
   found_holds p (y ∷ xs) x all e = by_test (p y) (found_holds p xs x all.1) e

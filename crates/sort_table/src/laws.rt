@@ -1,5 +1,10 @@
 //! Laws of what a text declares.
 
+ghost use Rattle.mcrl2_syntax.specs.TreeWords.{IsSpecOfWords};
+ghost use Rattle.mcrl2_syntax.specs.Declarations.{PlainSpec};
+ghost use Rattle.std.specs.List.{AllByRecursion};
+ghost use Rattle.std.specs.Str.{IsUtf8};
+ghost use Rattle.sort_table.specs.Identifiers.{identifiers_in};
 ghost use Rattle.sort_table.specs.VocabularyLaws.{ASortStandsForOneSort, DeclaredNamesStand, WhatStandsForASortHasIt};
 ghost use Rattle.sort_table.specs.SameSorts.{SameSortsAreThoseOfAVocabulary};
 ghost use Rattle.sort_table.specs.EmptinessLaws.{EmptySortsAreEmptyInEachVocabulary};
@@ -76,4 +81,9 @@ pub fn empty_sorts_are_empty_in_each_vocabulary()
 /// compared by their numbers in a signature.
 pub fn same_sorts_are_those_of_a_vocabulary()
     ensures { SameSortsAreThoseOfAVocabulary }
+{}
+
+/// The identifiers of a specification that tokens spell are text.
+pub fn identifiers_are_text()
+    ensures { (spec : PlainSpec) → IsSpecOfWords spec → AllByRecursion IsUtf8 (identifiers_in spec) }
 {}
