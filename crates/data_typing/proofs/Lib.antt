@@ -21,3 +21,4 @@ pub mod NodeTells
 pub mod StepLemmas
 pub mod FindingLemmas
 pub mod MakingLemmas
+pub mod ReadableWords

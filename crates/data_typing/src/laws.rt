@@ -1,5 +1,8 @@
 //! Laws of typing.
 
+ghost use Rattle.mcrl2_syntax.specs.DataTrees.{PlainData};
+ghost use Rattle.mcrl2_syntax.specs.TreeWords.{IsDataOfWords};
+ghost use Rattle.data_typing.specs.Readings.{IsReadable};
 ghost use Rattle.data_typing.specs.TypingLaws.{CheckedTermsHaveTheSort, InferredTermsHaveTheirSorts, OneTermAtMost, OtherNamesChangeNothing, TypingHangsOnItsWords, TypingReadsTheExpression};
 ghost use Rattle.data_typing.specs.Plans.{CallsGoByPlan};
 ghost use Rattle.data_typing.specs.Sortings.{SortsGoBeforeTerms};
@@ -44,4 +47,9 @@ pub fn sorts_go_before_terms()
 /// A call is elaborated as its plan says, and the plan is found by sorts alone.
 pub fn calls_go_by_plan()
     ensures { CallsGoByPlan }
+{}
+
+/// A data expression that tokens spell can be read.
+pub fn spelled_data_are_readable()
+    ensures { (d : PlainData) → IsDataOfWords d → IsReadable d }
 {}

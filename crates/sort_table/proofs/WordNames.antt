@@ -94,7 +94,7 @@ of_assignment : (x : PlainAssignment) → IsAssignmentOfWords x → AreText (in_
 of_assignment x is = (identifier_is_text is.0, of_data x.value is.1)
 
 of_renaming : (r : PlainRenaming) → IsRenamingOfWords r → AreText (in_renaming r)
-of_renaming r is = (identifier_is_text is.0, identifier_is_text is.1, tt)
+of_renaming r is = (identifier_is_text is.0, (identifier_is_text is.1, tt))
 
 of_rule : (r : PlainCommRule) → IsRuleOfWords r → AreText (in_rule r)
 of_rule r is = all_both IsUtf8 (bare_names r.names) (r.outcome.bytes ∷ []) (of_names r.names is.0) (of_name r.outcome is.1)
@@ -119,7 +119,7 @@ mutual
   of_process (processes.sum span gs p) is = all_both IsUtf8 (flat_map in_group gs) (in_process p) (of_groups gs is.0) (of_process p is.1)
   of_process (processes.when span d p) is = all_both IsUtf8 (in_data d) (in_process p) (of_data d is.0) (of_process p is.1)
   of_process (processes.either span d p q) is =
-      all_both IsUtf8 (in_data d) (in_process p ++ in_process q) (of_data d is.0) (all_both IsUtf8 (in_process p) (in_process q) (of_process p is.1.0) (of_process q is.1.1))
+      all_both IsUtf8 (in_data d) (in_process p ++ in_process q) (of_data d is.0) (all_both IsUtf8 (in_process p) (in_process q) (of_process p is.1) (of_process q is.2))
   of_process (processes.parallel span ps) is = of_processes ps is
   of_process (processes.choice span ps) is = of_processes ps is
 
@@ -133,7 +133,7 @@ of_field f is = all_both IsUtf8 (name_where f.name) (in_sort f.sort) (of_optiona
 
 of_constructor : (c : PlainConstructor) → IsConstructorOfWords c → AreText (in_constructor c)
 of_constructor c is =
-    (identifier_is_text is.0, all_both IsUtf8 (flat_map in_field c.fields) (name_where c.recogniser) (in_each IsFieldOfWords in_field of_field c.fields is.1.0) (of_optional c.recogniser is.1.1))
+    (identifier_is_text is.0, all_both IsUtf8 (flat_map in_field c.fields) (name_where c.recogniser) (in_each IsFieldOfWords in_field of_field c.fields is.1) (of_optional c.recogniser is.2))
 
 of_signature : (ns : List PlainWord) (ss : List PlainSort) (to : PlainSort) → AreNames ns → AllByRecursion IsSortOfWords ss → IsSortOfWords to
     → AreText (bare_names ns ++ (in_sorts ss ++ in_sort to))
@@ -143,13 +143,13 @@ of_declaration : (d : PlainDecl) → IsDeclarationOfWords d → AreText (in_decl
 of_declaration (trees.sorts_decl span ns) is = of_names ns is
 of_declaration (trees.alias_decl span n s) is = (identifier_is_text is.0, of_sort s is.1)
 of_declaration (trees.struct_decl span n cs) is = (identifier_is_text is.0, in_each IsConstructorOfWords in_constructor of_constructor cs is.1)
-of_declaration (trees.cons_decl span ns ss to) is = of_signature ns ss to is.0 is.1.0 is.1.1
-of_declaration (trees.map_decl span ns ss to) is = of_signature ns ss to is.0 is.1.0 is.1.1
+of_declaration (trees.cons_decl span ns ss to) is = of_signature ns ss to is.0 is.1 is.2
+of_declaration (trees.map_decl span ns ss to) is = of_signature ns ss to is.0 is.1 is.2
 of_declaration (trees.vars_decl span gs) is = of_groups gs is
 of_declaration (trees.equation_decl span c l r) is =
-    all_both IsUtf8 (in_condition c) (in_data l ++ in_data r) (of_condition c is.0) (all_both IsUtf8 (in_data l) (in_data r) (of_data l is.1.0) (of_data r is.1.1))
+    all_both IsUtf8 (in_condition c) (in_data l ++ in_data r) (of_condition c is.0) (all_both IsUtf8 (in_data l) (in_data r) (of_data l is.1) (of_data r is.2))
 of_declaration (trees.act_decl span ns ss) is = all_both IsUtf8 (bare_names ns) (in_sorts ss) (of_names ns is.0) (of_sorts ss is.1)
-of_declaration (trees.proc_decl span p gs body) is = (identifier_is_text is.0, all_both IsUtf8 (flat_map in_group gs) (in_process body) (of_groups gs is.1.0) (of_process body is.1.1))
+of_declaration (trees.proc_decl span p gs body) is = (identifier_is_text is.0, all_both IsUtf8 (flat_map in_group gs) (in_process body) (of_groups gs is.1) (of_process body is.2))
 of_declaration (trees.init_decl span body) is = of_process body is
 
 of_section : (s : PlainSection) → IsSectionOfWords s → AreText (in_section s)
