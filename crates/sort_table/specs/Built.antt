@@ -19,6 +19,7 @@ use Rattle.sort_table.specs.SortMeanings.{under_names}
 use Rattle.sort_table.specs.Vocabularies.{sort_in, IsVocabularyOf}
 use Rattle.sort_table.specs.SignatureVocabularies.{vocabulary_of}
 use Rattle.sort_table.specs.NamedSorts.{sort_names_of}
+use Rattle.sort_table.specs.EnteredFunctions.{HasSortOf}
 use Rattle.sort_table.specs.Refusals.{unknown_sort, sort_cycle, duplicate, empty_sort, IsRefusedWith, IsSoundlyDeclared}
 use Rattle.sort_table.specs.Identifiers.{identifiers_in, copied_identifiers}
 use Rattle.sort_table.specs.declared.building.SortFault.{SortFault}
@@ -60,13 +61,14 @@ pub record IsWritten (ds : List Declaration) (g : Sig) (l : SortId) : Type 0 whe
 
 -- ---- the answer
 -- The signature has what the text declares and no variables. All identifiers of the text are entered; those of copied declarations
--- are taken, and but for the words and the names that are taken from the start no others. Each list sort is that of an expression
--- in the declarations. The roles of functions hold.
+-- are taken, and but for the words and the names that are taken from the start no others. Each sort expression of the declarations,
+-- also of parameters, sums and variables, has its sort, and each list sort is that of such an expression. The roles of functions hold.
 pub record IsDeclared (spec : PlainSpec) (g : Sig) : Type 0 where
   pub vocabulary : IsVocabularyOf (under_names (declarations_in (bare_sections spec))) (vocabulary_of g)
   pub no_variables : g.variables ≡ []
   pub entered : All (Contains g.texts) (identifiers_in spec)
   pub taken : (t : Name) → IsTaken g t ↔ (Contains first_names t ⊎ Contains (copied_identifiers spec) t)
+  pub written : (d : Declaration) (e : SortExpression) → Contains (declarations_in (bare_sections spec)) d → Contains (expressions_in d) e → (s : SortId) × HasSortOf g e s
   pub lists : (e l : SortId) → IsListOver g.sorts e l → IsWritten (declarations_in (bare_sections spec)) g l
   pub roles : AreRoles g
 

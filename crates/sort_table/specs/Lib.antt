@@ -27,6 +27,7 @@ pub mod Identifiers
 pub mod Built
 pub mod EnteredFunctions
 pub mod FunctionStates
+pub mod LentTexts
 pub mod NamedFunctions
 pub mod EnteredActions
 pub mod VocabularyLaws
