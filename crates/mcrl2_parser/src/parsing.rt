@@ -34,7 +34,7 @@ fn tree_of(
     ensures sound { OnOk result (IsSound text.now tokens.now declaration) }
     ensures refused { IfErr result (λ fault. fault ≢ ParseFault.NoMemory → IsRefused text.now tokens.now number declaration fault) }
 {
-    let own = &tokens[declaration.start..declaration.end];
+    let own = &tokens[declaration.start as usize..declaration.end as usize];
     if level(alloc, own)? > MAX_LEVEL {
         return Err(ParseFault::TooDeep(number));
     }
