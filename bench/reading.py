@@ -1,12 +1,15 @@
 #!/usr/bin/env python3
 """How fast texts are read up to their refusal, beside `wc -w` on the same file, and how much stack deep ones take.
 
-Run it from the top of the repository, after a build: bench/reading.py [speed|stack|short] [PROGRAM WORD..]
+Run it from the top of the repository, after a build: bench/reading.py [speed|brackets|names|stack|short] [PROGRAM WORD..]
 `speed` prints one line for each text: its kind, size, seconds, bytes a second, peak memory in all and for each byte of the
-text, and how many times the time of `wc -w` that was. The peak is never less than that of this script, which starts the
-program. `stack` prints for each kind of nesting the least `ulimit -s` that texts of some depths need, and how many bytes a
-level that is. `short` prints what the program says of texts that nest less than they seem to: none ends for want of memory.
-With no word all are printed. It is no part of the gate.
+text, how many times the time of `wc -w` that was, and how many times that of the text of a quarter of its size. At last it
+names the kinds of 16 MiB that are above a bound: 25 times `wc -w`, 4.4 times the time of 4 MiB, 80 bytes a byte. The peak
+is never less than that of this script, which starts the program. `brackets` prints how many times longer 16 MiB take with
+990 brackets around. `names` linearises systems of many actions, whose names collide in tables of std with their fixed seed,
+or don't: it builds a program that searches such names. `stack` prints for each kind of nesting the least `ulimit -s` that
+texts of some depths need, and how many bytes a level that is. `short` prints what the program says of texts that nest less
+than they seem to: none ends for want of memory. With no word all are printed. It is no part of the gate.
 """
 
 import os
@@ -16,6 +19,8 @@ import subprocess
 import sys
 import tempfile
 import time
+
+from programs import build
 
 TOP = pathlib.Path(__file__).resolve().parent.parent
 PROGRAM = TOP / "crates" / "mcrl2lin" / "out" / "mcrl2lin"
@@ -72,6 +77,60 @@ SHORT = {
 }
 
 
+COLLIDING = """//! Writes names whose hashes, by the hasher that tables of std have, end in the same bits.
+#![tactic(auto)]
+
+use std::hash::{FoldHasher, Hash, Hasher};
+use std::io;
+
+/// What names are made of.
+const LETTERS: [u8; 32] = *b"abcdefghijklmnopqrstuvwxyzABCDEF";
+
+/// How many names are written.
+const NAMES: u32 = 65_536;
+
+/// The letter of the last five bits.
+fn letter(number: u32) -> u8 {
+    LETTERS[number as usize % 32]
+}
+
+/// The name of a number.
+fn name_of(number: u32) -> [u8; 7] {
+    [
+        letter(number),
+        letter(number >> 5),
+        letter(number >> 10),
+        letter(number >> 15),
+        letter(number >> 20),
+        letter(number >> 25),
+        letter(number >> 30),
+    ]
+}
+
+/// What tables take a name for.
+fn hash_of(name: &[u8]) -> u64 {
+    let mut hasher = FoldHasher::default();
+    name.hash(&mut hasher);
+    hasher.finish()
+}
+
+fn main(rt: HostRuntime) -> io::Result<()> {
+    let mut found = 0;
+    for number in 0..u32::MAX {
+        let name = name_of(number);
+        if found < NAMES && hash_of(&name) % 8_192 == 0 {
+            found += 1;
+            println!(rt; "{}", name.escape_ascii())?;
+        }
+        if found == NAMES {
+            return Ok(());
+        }
+    }
+    Ok(())
+}
+"""
+
+
 def run(words):
     """Runs a program with its output dropped; gives its seconds and its peak memory in KiB."""
     start = time.perf_counter()
@@ -95,15 +154,46 @@ def text_of(size, front, piece, behind):
 
 
 def speed(command, path):
+    above = []
     for kind, pieces in KINDS.items():
+        before = None
         for size in (1, 4, 16):
             path.write_bytes(text_of(size * MIB, *pieces))
             seconds, memory = best([*command, path])
             words, _ = best(["wc", "-w", path])
-            rate = size / seconds
             each = memory / 1024 / size
+            times = seconds / words
+            growth = seconds / before if before else 0.0
+            before = seconds
             peak = f"{memory // 1024:5} MiB peak {each:6.1f} a byte"
-            print(f"{kind:21} {size:3} MiB {seconds:7.3f} s {rate:7.1f} MiB/s {peak} {seconds / words:6.2f} x wc -w")
+            shown = f"{times:6.2f} x wc -w" + (f" {growth:5.2f} x" if growth else "")
+            print(f"{kind:21} {size:3} MiB {seconds:7.3f} s {size / seconds:7.1f} MiB/s {peak} {shown}", flush=True)
+        for name, value, bound in (("x wc -w", times, 25), ("x 4 MiB", growth, 4.4), ("a byte", each, 80)):
+            if value > bound:
+                above.append(f"{kind} {value:.1f} {name}")
+    print("above the bounds:", "; ".join(above) or "none")
+
+
+def brackets(command, path):
+    path.write_bytes(text_of(16 * MIB, *KINDS["choices"]))
+    plain, _ = best([*command, path])
+    for kind in ("nested choices", "nested arrow", "nested, no guards"):
+        path.write_bytes(text_of(16 * MIB, *KINDS[kind]))
+        seconds, _ = best([*command, path])
+        print(f"{kind:21} {seconds:7.3f} s {seconds / plain:6.2f} times the choices without brackets")
+
+
+def names(command, path):
+    with tempfile.TemporaryDirectory() as folder:
+        program = build(folder, "colliding_names", [], {"src/main.rt": COLLIDING})
+        colliding = subprocess.run([program], capture_output=True, check=True).stdout.split()
+    ordinary = [b"a%d" % number for number in range(len(colliding))]
+    for kind, all_names in (("ordinary names", ordinary), ("colliding names", colliding)):
+        for count in (len(all_names) // 4, len(all_names) // 2, len(all_names)):
+            some = all_names[:count]
+            path.write_bytes(b"act " + b", ".join(some) + b";\nproc X = " + some[0] + b";\ninit X;\n")
+            seconds, _ = best([*command, path])
+            print(f"{kind:21} {count:7} {seconds:7.3f} s")
 
 
 def ends(command, path, kib):
@@ -147,7 +237,7 @@ def short(command, path):
 
 
 def main():
-    parts = {"speed": speed, "stack": stack, "short": short}
+    parts = {"speed": speed, "brackets": brackets, "names": names, "stack": stack, "short": short}
     wanted = sys.argv[1:2] if len(sys.argv) > 1 else list(parts)
     command = sys.argv[2:] if len(sys.argv) > 2 else [PROGRAM, "linearise"]
     with tempfile.TemporaryDirectory() as folder:

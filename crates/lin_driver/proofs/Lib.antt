@@ -1,6 +1,7 @@
 pub mod FirstForms
 pub mod Found
 pub mod FreeNames
+pub mod KnownNames
 pub mod Linearises
 pub mod Lists
 pub mod Mapped

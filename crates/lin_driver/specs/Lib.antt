@@ -3,6 +3,7 @@ pub mod FirstForm
 pub mod LinearSummands
 pub mod Linearised
 pub mod Meeting
+pub mod NamePlaces
 pub mod Naming
 pub mod PlainSystems
 pub mod Refusals

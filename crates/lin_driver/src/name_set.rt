@@ -2,22 +2,28 @@
 ghost use Rattle.std.specs.Prelude.{◌≡◌, ◌<◌, ◌∷◌, ◌++◌, [], List, ℕ, map, not, length, position, bytes_eq, if◌then◌else◌, IfOk, slice_index_or};
 ghost use Rattle.lin_driver.specs.Naming.{is_among};
 
-use indexmap::IndexSet;
-use std::alloc::{AllocFailed, Global};
+use std::alloc::{AllocError, Global};
+use std::collections::BTreeMap;
 use std::marker::Model;
 
-/// A set of names that keeps the order in which they came. Looking a name up takes the same time however many there are.
+/// A set of names that keeps the order in which they came. The index is ordered, so that no choice of names makes a look-up
+/// slow. It knows the place of each name, and may still know one that there was no memory for.
 #[derive(Drop)]
 pub(crate) struct NameSet<'a> {
-    names: IndexSet<&'a [u8]>,
+    names: Vec<&'a [u8]>,
+    places: BTreeMap<&'a [u8], usize>,
 }
 
 impl<'a> Model for NameSet<'a> {
     ghost use Rattle.std.specs.Prelude.{List, ℕ, map};
+    ghost use Rattle.data_theory.specs.Places.{KnowsPlaces};
+    ghost use Rattle.lin_driver.specs.NamePlaces.{place_under};
 
     ghost Value = { List (List ℕ) };
 
-    ghost view = { λ s. map (λ name. name.now) s.names.keys };
+    ghost view = { λ s. map (λ name. name.now) s.names.items };
+
+    ghost invariant = { λ s. KnowsPlaces (place_under s.places) (map (λ name. name.now) s.names.items) };
 }
 
 impl<'a> NameSet<'a> {
@@ -26,7 +32,8 @@ impl<'a> NameSet<'a> {
         ensures { result ≡ [] }
     {
         NameSet {
-            names: IndexSet::new(alloc),
+            names: Vec::new(alloc),
+            places: BTreeMap::new(alloc),
         }
     }
 
@@ -49,21 +56,35 @@ impl<'a> NameSet<'a> {
     pub(crate) fn place_of(&self, name: &'a [u8]) -> Option<usize>
         ensures { result ≡ position (bytes_eq name.now) self.now }
     {
-        self.names.get_index_of(&name)
+        let place = *self.places.get(&name)?;
+        if place < self.names.len() && self.names[place] == name {
+            Some(place)
+        } else {
+            None
+        }
     }
 
     /// Whether the name is there.
     pub(crate) fn contains(&self, name: &'a [u8]) -> bool
         ensures { result ≡ is_among self.now name.now }
     {
-        self.names.contains(&name)
+        self.place_of(name).is_some()
     }
 
     /// Puts a name last where it isn't there, and says whether it did.
-    pub(crate) fn insert(&mut self, name: &'a [u8]) -> Result<bool, AllocFailed<&'a [u8]>>
+    ///
+    /// # Errors
+    ///
+    /// `AllocError` where no memory is left.
+    pub(crate) fn insert(&mut self, name: &'a [u8]) -> Result<bool, AllocError>
         ensures added { IfOk result (λ added. added ≡ not (is_among self.old name.now)) }
         ensures names { IfOk result (λ added. self.new ≡ if added then self.old ++ name.now ∷ [] else self.old) }
     {
-        self.names.insert(name)
+        if self.contains(name) {
+            return Ok(false);
+        }
+        self.places.insert(name, self.names.len())?;
+        self.names.push(name)?;
+        Ok(true)
     }
 }

@@ -39,7 +39,7 @@ fn name<'a, 't>(text: &'a [u8], tokens: &'t [Token]) -> Result<(&'a [u8], &'t [T
     let Kind::Identifier = token.kind else {
         return Err(PlainFault::NotBuilt);
     };
-    Ok((&text[token.start..token.end], rest))
+    Ok((&text[token.start as usize..token.end as usize], rest))
 }
 
 /// The names up to the semicolon, and the tokens behind it.

@@ -11,6 +11,9 @@ use crate::token::{LexFault, Token, Tokens};
 use crate::words::{is_left_out, is_space};
 use std::alloc::Global;
 
+/// How many bytes a text may have: places in it are numbers of 32 bits.
+const MAX_LEN: usize = 4_294_967_295;
+
 /// Whether a token is no numeral above 2^128 - 1.
 fn fits(kind: Kind, bytes: &[u8]) -> bool
     requires { IsToken bytes.now kind }
@@ -26,7 +29,8 @@ fn fits(kind: Kind, bytes: &[u8]) -> bool
 
 /// The token that begins at a place, if there is one and it is accepted.
 fn next_token(text: &[u8], at: usize) -> Result<Token, LexFault>
-    requires { at < length text.now }
+    requires inside { at < length text.now }
+    requires small { length text.now < 2 ^ 32 }
     ensures found { IfOk result (λ token. IsNextToken text.now at token) }
     ensures fault { IfErr result (λ fault. IsFaultAt text.now at fault) }
 {
@@ -42,8 +46,8 @@ fn next_token(text: &[u8], at: usize) -> Result<Token, LexFault>
     }
     Ok(Token {
         kind,
-        start: at,
-        end,
+        start: at as u32,
+        end: end as u32,
     })
 }
 
@@ -57,7 +61,7 @@ fn next_token(text: &[u8], at: usize) -> Result<Token, LexFault>
 ///
 /// `BadByte` where a byte begins no token, `NumeralTooLarge` where a numeral is greater than 2^128 - 1, and `OutOfProfile`
 /// where a token is a word or a sign of the language that isn't accepted, each with the place where it happens first.
-/// `NoMemory` comes where no memory is left.
+/// `NoMemory` comes where no memory is left, and for a text of 4 GiB or more.
 pub fn lex(alloc: Global, text: &[u8]) -> Result<Tokens, LexFault>
     ensures text { IfOk result (λ tokens. tokens.text ≡ text.now) }
     ensures tokens { IfOk result (λ tokens. HasTokens text.now tokens.list) }
@@ -65,6 +69,9 @@ pub fn lex(alloc: Global, text: &[u8]) -> Result<Tokens, LexFault>
     ensures slices { IfOk result (λ tokens. All (λ token. IsToken (slice_of text.now token) token.kind) tokens.list) }
     ensures fault { IfErr result (λ fault. fault ≢ LexFault.NoMemory → HasFault text.now fault) }
 {
+    if text.len() > MAX_LEN {
+        return Err(LexFault::NoMemory);
+    }
     let mut list = Vec::new(alloc);
     let mut at = 0;
     while at < text.len() {
@@ -76,7 +83,7 @@ pub fn lex(alloc: Global, text: &[u8]) -> Result<Tokens, LexFault>
         } else {
             let token = next_token(text, at)?;
             list.push(token)?;
-            at = token.end;
+            at = token.end as usize;
         }
     }
     Ok(Tokens::new(Vec::from_slice(alloc, text)?, list))

@@ -7,15 +7,15 @@ use crate::kind::Kind;
 use std::alloc::{AllocError, AllocFailed};
 use std::marker::Model;
 
-/// A token of a text: its kind, and the bytes that it spans.
+/// A token of a text: its kind, and the bytes that it spans. A place takes 32 bits, since there is a token for every few bytes.
 #[derive(Clone, Copy, Debug, PartialEq, Eq)]
 pub struct Token {
     /// What the token is.
     pub kind: Kind,
     /// The place of its first byte, counted from 0.
-    pub start: usize,
+    pub start: u32,
     /// The place behind its last byte.
-    pub end: usize,
+    pub end: u32,
 }
 
 /// A text and its tokens, in the order of the text.

@@ -314,23 +314,10 @@ spelled text tokens w =
     (record { sections = found.sections }, record { all_sections = found.spelled })
 
 -- one more declaration, and its tree
-pushed : {text : List ℕ} {all : List Token} {xs : List Declaration} {trees : List PlainDecl} {x : Declaration} {tree : PlainDecl} → AreSpelled text all xs trees → IsSpelled text all x tree
+pub pushed : {text : List ℕ} {all : List Token} {xs : List Declaration} {trees : List PlainDecl} {x : Declaration} {tree : PlainDecl} → AreSpelled text all xs trees → IsSpelled text all x tree
     → AreSpelled text all (xs ++ x ∷ []) (trees ++ tree ∷ [])
 pushed none_spelled a = more_spelled a none_spelled
 pushed (more_spelled b h) a = more_spelled b (pushed h a)
-
--- no declaration is read yet
-pub none_read : (text : List ℕ) (all : List Token) (list : List Declaration) (trees : List Decl) → trees ≡ [] → AreSpelled text all (take 0 list) (map plain_decl trees)
-none_read text all list trees e = subst (λ (x : List Decl). AreSpelled text all [] (map plain_decl x)) (sym e) none_spelled
-
--- one more declaration is read, and its tree pushed
-pub one_read : {text : List ℕ} {all : List Token} (list : List Declaration) (i : ℕ) (d : Declaration) (trees longer : List Decl) (tree : Decl) → i < length list
-    → AreSpelled text all (take i list) (map plain_decl trees) → IsSpelled text all (get_or list i d) (plain_decl tree) → longer ≡ trees ++ tree ∷ []
-    → AreSpelled text all (take (i + 1) list) (map plain_decl longer)
-one_read {text = text} {all = all} list i d trees longer tree inside h a e =
-    let these : map plain_decl longer ≡ map plain_decl trees ++ plain_decl tree ∷ [] = ap (map plain_decl) e ∙ map-append plain_decl trees (tree ∷ []) in
-    subst (λ (x : List PlainDecl). AreSpelled text all (take (i + 1) list) x) (sym these)
-    (rw (add-one, take-suc list i d inside) (pushed h a))
 
 -- all declarations are read
 pub all_read : {text : List ℕ} {tokens : List Token} {list : List Declaration} {i : ℕ} {trees : List PlainDecl} → list ≡ declarations_of tokens → length list ≤ i → i ≤ length list
@@ -340,10 +327,14 @@ all_read {text = text} {tokens = tokens} {list = list} {i = i} {trees = trees} e
     subst (λ (x : List Declaration). AreSpelled text tokens x trees) (ap (λ (n : ℕ). take n list) last ∙ take-length list ∙ e) h
 
 -- what is made of the trees is what the tokens spell
-pub made_spelled : {text others : List ℕ} {tokens us : List Token} {trees : List PlainDecl} {made : PlainSpec} → text ≡ others → tokens ≡ us → AreSpelled text tokens (declarations_of tokens) trees
-    → ((x : List ℕ) (spec : PlainSpec) → SpellsSpec x spec tokens → trees ≡ declarations_in spec.sections → made ≡ spec) → SpellsSpec others made us
-made_spelled {text = text} {tokens = tokens} {us = us} {trees = trees} {made = made} e f w h =
+pub made_spelled : {text : List ℕ} {tokens : List Token} {trees : List PlainDecl} {made : PlainSpec} → AreSpelled text tokens (declarations_of tokens) trees
+    → ((x : List ℕ) (spec : PlainSpec) → SpellsSpec x spec tokens → trees ≡ declarations_in spec.sections → made ≡ spec) → SpellsSpec text made tokens
+made_spelled {text = text} {tokens = tokens} {trees = trees} {made = made} w h =
     let found = spelled_as text tokens trees w in
     let spec : PlainSpec = record { sections = found.sections } in
     let spells : SpellsSpec text spec tokens = record { all_sections = found.spelled } in
-    subst (λ (x : List ℕ). SpellsSpec x made us) e (subst (λ (x : List Token). SpellsSpec text made x) f (subst (λ (x : PlainSpec). SpellsSpec text x tokens) (sym (h text spec spells found.trees_are)) spells))
+    subst (λ (x : PlainSpec). SpellsSpec text x tokens) (sym (h text spec spells found.trees_are)) spells
+
+-- what equal tokens of an equal text spell
+pub moved_spelled : {text others : List ℕ} {tokens us : List Token} {made : PlainSpec} → text ≡ others → tokens ≡ us → SpellsSpec text made tokens → SpellsSpec others made us
+moved_spelled {text = text} {us = us} {made = made} e f h = subst (λ (x : List ℕ). SpellsSpec x made us) e (subst (λ (x : List Token). SpellsSpec text made x) f h)

@@ -13,21 +13,24 @@ use std::alloc::{AllocError, Global};
 #[derive(Clone, Copy, Debug, PartialEq, Eq)]
 pub struct Declaration {
     /// The place of its first token in the list, counted from 0. The section's word is none of its tokens.
-    pub start: usize,
+    pub start: u32,
     /// The place behind its last token. Its `;` is none of its tokens.
-    pub end: usize,
+    pub end: u32,
     /// The section that it is in. There is none for tokens in front of the first word of a section.
     pub section: Option<SectionWord>,
     /// Whether a `;` ends it. Where none does, the tokens spell no declaration.
     pub is_ended: bool,
 }
 
+/// How many tokens a list may have: places in it are numbers of 32 bits.
+const MAX_LEN: usize = 4_294_967_295;
+
 /// Takes the tokens from one place up to another as a declaration that no `;` ends, if there are any.
 fn push_left_over(
     list: &mut Vec<Declaration>,
     section: Option<SectionWord>,
-    start: usize,
-    end: usize,
+    start: u32,
+    end: u32,
 ) -> Result<(), AllocError>
     ensures { OnOk result (list.new.items ≡ list.old.items ++ left_over section start end) }
 {
@@ -50,29 +53,32 @@ fn push_left_over(
 ///
 /// # Errors
 ///
-/// `AllocError` where no memory is left.
+/// `AllocError` where no memory is left, and for 2^32 tokens or more.
 pub fn declarations(alloc: Global, tokens: &[Token]) -> Result<Vec<Declaration>, AllocError>
     ensures declarations { IfOk result (λ list. list.items ≡ declarations_of tokens.now) }
     ensures within { IfOk result (λ list. All (IsWithin (length tokens.now)) list.items) }
 {
+    if tokens.len() > MAX_LEN {
+        return Err(AllocError);
+    }
     let mut list = Vec::new(alloc);
     let mut section = None;
-    let mut start = 0;
+    let mut start: u32 = 0;
     for (at, token) in tokens.iter().enumerate() {
         if let Some(next) = section_of_kind(token.kind) {
-            push_left_over(&mut list, section, start, at)?;
+            push_left_over(&mut list, section, start, at as u32)?;
             section = Some(next);
-            start = at + 1;
+            start = at as u32 + 1;
         } else if section.is_some() && is_semicolon(token.kind) {
             list.push(Declaration {
                 section,
                 start,
-                end: at,
+                end: at as u32,
                 is_ended: true,
             })?;
-            start = at + 1;
+            start = at as u32 + 1;
         }
     }
-    push_left_over(&mut list, section, start, tokens.len())?;
+    push_left_over(&mut list, section, start, tokens.len() as u32)?;
     Ok(list)
 }

@@ -1,7 +1,7 @@
 //! The tree of a text, where none of its declarations is refused.
-ghost use Rattle.std.specs.Prelude.{◌≡◌, ◌≢◌, ◌<◌, ◌+◌, ◌^◌, All, IfOk, IfErr, OnOk, count_by, length, map};
+ghost use Rattle.std.specs.Prelude.{◌≡◌, ◌≢◌, ◌<◌, ◌+◌, ◌^◌, All, IfOk, IfErr, OnOk, count_by, length};
 ghost use Rattle.mcrl2_parser.specs.Declarations.{declarations_of, IsWithin};
-ghost use Rattle.mcrl2_parser.specs.Faults.{HasFault, IsRefused, HasInitFault, IsSound, IsSpelled, AreSpelled, is_init};
+ghost use Rattle.mcrl2_parser.specs.Faults.{HasFault, IsRefused, HasInitFault, IsSound, IsSpelled, is_init};
 ghost use Rattle.mcrl2_syntax.specs.Declarations.{PlainSpec, plain_decl, spec_of};
 ghost use Rattle.mcrl2_syntax.specs.SpelledDeclarations.{SpellsSpec};
 
@@ -9,7 +9,7 @@ use crate::declaration_readers::read_declaration;
 use crate::declaring::{Declaration, declarations};
 use crate::faults::ParseFault;
 use crate::levels::{MAX_LEVEL, level};
-use crate::sectioning::in_sections;
+use crate::sectioning::{begin_left, put_next};
 use crate::stack::has_room;
 use crate::words::Fault;
 use mcrl2_lexer::{Token, Tokens};
@@ -34,7 +34,7 @@ fn tree_of(
     ensures sound { OnOk result (IsSound text.now tokens.now declaration) }
     ensures refused { IfErr result (λ fault. fault ≢ ParseFault.NoMemory → IsRefused text.now tokens.now number declaration fault) }
 {
-    let own = &tokens[declaration.start..declaration.end];
+    let own = &tokens[declaration.start as usize..declaration.end as usize];
     if level(alloc, own)? > MAX_LEVEL {
         return Err(ParseFault::TooDeep(number));
     }
@@ -54,29 +54,32 @@ fn tree_of(
     }
 }
 
-/// The trees of all declarations of a text's tokens, in their order.
+/// The specification of a text's tokens, from all its declarations. Each tree goes into its section as soon as it is read, so that
+/// none is held twice.
 ///
 /// # Errors
 ///
 /// The fault of the first declaration that is refused.
-fn trees_of(
+fn read_all(
     alloc: Global,
     text: &[u8],
     tokens: &[Token],
     list: &[Declaration],
-) -> Result<Vec<Decl>, ParseFault>
+) -> Result<Spec, ParseFault>
     requires within { All (IsWithin (length tokens.now)) list.now }
     requires all { list.now ≡ declarations_of tokens.now }
-    ensures spelled { IfOk result (λ trees. AreSpelled text.now tokens.now (declarations_of tokens.now) (map plain_decl trees.items)) }
+    ensures spelled { IfOk result (λ spec. SpellsSpec text.now (spec_of spec) tokens.now) }
     ensures sound { OnOk result (All (IsSound text.now tokens.now) (declarations_of tokens.now)) }
     ensures fault { IfErr result (λ fault. fault ≢ ParseFault.NoMemory → HasFault text.now tokens.now fault) }
 {
-    let mut trees = Vec::new(alloc);
+    let mut sections = Vec::new(alloc);
+    let mut rest = tokens;
     for (index, declaration) in list.iter().enumerate() {
         let tree = tree_of(alloc, text, tokens, index + 1, *declaration)?;
-        trees.push(tree)?;
+        rest = put_next(alloc, &mut sections, rest, tree)?;
     }
-    Ok(trees)
+    begin_left(alloc, &mut sections, rest)?;
+    Ok(Spec::new(sections))
 }
 
 /// Whether a declaration is in an `init` section.
@@ -136,7 +139,7 @@ pub fn parse(alloc: Global, tokens: &Tokens) -> Result<Spec, ParseFault>
     let text = tokens.text();
     let all = tokens.list();
     let list = declarations(alloc, all)?;
-    let trees = trees_of(alloc, text, all, &list)?;
+    let spec = read_all(alloc, text, all, &list)?;
     check_inits(&list)?;
-    Ok(in_sections(alloc, all, trees)?)
+    Ok(spec)
 }

@@ -1,13 +1,14 @@
 //! The sections of a specification, from its tokens and the trees of its declarations.
-ghost use Rattle.std.specs.Prelude.{◌≡◌, ◌++◌, ◌∷◌, [], ℕ, List, IfOk, OnOk, map};
-ghost use Rattle.mcrl2_syntax.specs.Declarations.{PlainSpec, plain_decl, section_of, spec_of};
-ghost use Rattle.mcrl2_syntax.specs.SpelledDeclarations.{SpellsSpec};
-ghost use Rattle.mcrl2_parser.specs.Sections.{declarations_in, with_last};
+ghost use Rattle.std.specs.Prelude.{◌≡◌, ◌++◌, ◌∷◌, [], IfOk, OnOk, Some, map};
+ghost use Rattle.mcrl2_syntax.specs.Declarations.{plain_decl, section_of};
+ghost use Rattle.mcrl2_syntax.specs.SpelledDeclarations.{section_word};
+ghost use Rattle.mcrl2_parser.specs.Sections.{having, with_last, past_all, begin_in, put_in};
 
 use crate::lists::push_sparing;
 use crate::sections::is_semicolon;
+use crate::words::next;
 use mcrl2_lexer::Token;
-use mcrl2_syntax::{Decl, Section, Spec, section_of_kind, token_span};
+use mcrl2_syntax::{Decl, Section, SectionWord, section_of_kind, token_span};
 use std::alloc::{AllocError, Global};
 
 /// Puts a tree behind those of the last section, if there is one.
@@ -20,26 +21,74 @@ fn put_last(sections: &mut Vec<Section>, tree: Decl) -> Result<(), AllocError>
     Ok(())
 }
 
-/// The specification that the tokens spell, from the trees of all its declarations: each section has those that end in it.
+/// Begins the section of a word, behind the others.
+fn begin(
+    alloc: Global,
+    sections: &mut Vec<Section>,
+    token: &Token,
+    word: SectionWord,
+) -> Result<(), AllocError>
+    ensures { OnOk result (map section_of sections.new.items ≡ map section_of sections.old.items ++ having token.now word [] ∷ []) }
+{
+    let span = token_span(token, token);
+    sections.push(Section::new(span, word, Vec::new(alloc)))?;
+    Ok(())
+}
+
+/// Begins the sections whose words stand in front of the next `;`, or of the end of the tokens. Gives the tokens behind it.
+fn begin_next<'a>(
+    alloc: Global,
+    sections: &mut Vec<Section>,
+    tokens: &'a [Token],
+) -> Result<&'a [Token], AllocError>
+    ensures { IfOk result (λ rest. record { rest = rest.now; sections = map section_of sections.new.items } ≡ begin_in tokens.now (map section_of sections.old.items)) }
+{
+    let mut rest = tokens;
+    while let Ok((token, behind)) = next(rest) {
+        rest = behind;
+        if let Some(word) = section_of_kind(token.kind) {
+            begin(alloc, sections, token, word)?;
+        } else if is_semicolon(token.kind) {
+            return Ok(rest);
+        }
+    }
+    Ok(rest)
+}
+
+/// Puts a tree into the section in which the next `;` stands, and gives the tokens behind that.
 ///
 /// # Errors
 ///
 /// `AllocError` where no memory is left.
-pub fn in_sections(alloc: Global, tokens: &[Token], trees: Vec<Decl>) -> Result<Spec, AllocError>
-    ensures { IfOk result (λ made. (text : List ℕ) (spec : PlainSpec) → SpellsSpec text spec tokens.now
-        → map plain_decl trees.items ≡ declarations_in spec.sections → spec_of made ≡ spec) }
+pub fn put_next<'a>(
+    alloc: Global,
+    sections: &mut Vec<Section>,
+    tokens: &'a [Token],
+    tree: Decl,
+) -> Result<&'a [Token], AllocError>
+    ensures { IfOk result (λ rest. record { rest = rest.now; sections = map section_of sections.new.items } ≡ put_in (plain_decl tree) tokens.now (map section_of sections.old.items)) }
 {
-    let mut sections = Vec::new(alloc);
-    let mut trees = trees.into_iter();
+    let rest = begin_next(alloc, sections, tokens)?;
+    put_last(sections, tree)?;
+    Ok(rest)
+}
+
+/// Begins the sections of all words among the tokens, where no trees are left for them.
+///
+/// # Errors
+///
+/// `AllocError` where no memory is left.
+pub fn begin_left(
+    alloc: Global,
+    sections: &mut Vec<Section>,
+    tokens: &[Token],
+) -> Result<(), AllocError>
+    ensures { OnOk result (record { sections = map section_of sections.new.items; left = [] } ≡ past_all tokens.now (record { sections = map section_of sections.old.items; left = [] })) }
+{
     for token in tokens {
         if let Some(word) = section_of_kind(token.kind) {
-            let span = token_span(token, token);
-            sections.push(Section::new(span, word, Vec::new(alloc)))?;
-        } else if is_semicolon(token.kind) {
-            if let Some(tree) = trees.next() {
-                put_last(&mut sections, tree)?;
-            }
+            begin(alloc, sections, token, word)?;
         }
     }
-    Ok(Spec::new(sections))
+    Ok(())
 }

@@ -100,9 +100,10 @@ pub fn name_before(tokens: &[Token], sign: Kind) -> Option<(&Token, &[Token])>
 fn token_bytes<'a>(text: &'a [u8], token: &Token) -> &'a [u8]
     ensures { result.now ≡ slice_of text.now token.now }
 {
-    let start = token.start.min(text.len());
+    let start = (token.start as usize).min(text.len());
     let behind = &text[start..];
-    let size = token.end.saturating_sub(token.start).min(behind.len());
+    let size = token.end.saturating_sub(token.start) as usize;
+    let size = size.min(behind.len());
     &behind[..size]
 }
 

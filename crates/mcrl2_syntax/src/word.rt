@@ -9,9 +9,9 @@ use mcrl2_lexer::Token;
 #[derive(Clone, Copy, Debug, PartialEq, Eq)]
 pub struct Span {
     /// The place of its first byte, counted from 0.
-    pub start: usize,
+    pub start: u32,
     /// The place behind its last byte.
-    pub end: usize,
+    pub end: u32,
 }
 
 /// An identifier or a numeral.

@@ -1,7 +1,7 @@
 //! What each kind of case is answered by.
 
 use crate::process_forms::push_actions;
-use crate::spec_forms::{push_place, push_places, push_spec, section_text};
+use crate::spec_forms::{push_places, push_spec, section_text};
 use crate::texts::{push_printed, text_of};
 use lin_driver::plain;
 use mcrl2_lexer::{Tokens, lex, numeral_value};
@@ -42,7 +42,8 @@ fn cuts_text(alloc: Global, tokens: &Tokens) -> Result<Vec<u8>, AllocError> {
             out.extend_from_slice(section_text(word))?;
             out.push(b' ')?;
         }
-        push_place(&mut out, alloc, declaration.start, declaration.end)?;
+        let place = format!(in alloc; "{}-{}", declaration.start, declaration.end)?;
+        out.extend_from_slice(place.as_bytes())?;
         out.push(if declaration.is_ended { b';' } else { b'?' })?;
     }
     Ok(out)

@@ -152,27 +152,22 @@ pub fn push_spec(out: &mut Vec<u8>, spec: &Spec) -> Result<(), AllocError> {
 }
 
 /// A stretch of text by the places of its first byte and of the one behind it.
-pub fn push_place(
-    out: &mut Vec<u8>,
-    alloc: Global,
-    start: usize,
-    end: usize,
-) -> Result<(), AllocError> {
+fn push_span(out: &mut Vec<u8>, alloc: Global, span: Span) -> Result<(), AllocError> {
+    let Span { start, end } = span;
     out.extend_from_slice(format!(in alloc; "{start}-{end}")?.as_bytes())
 }
 
 /// The place of a declaration, and that of the whole term or expression at its end.
 fn push_places_in(out: &mut Vec<u8>, alloc: Global, tree: &Decl) -> Result<(), AllocError> {
-    let Span { start, end } = tree.span();
     out.push(b' ')?;
-    push_place(out, alloc, start, end)?;
+    push_span(out, alloc, tree.span())?;
     let inner = match tree {
         Decl::Equation(_, equation) => equation.right.span(),
         Decl::Init(_, body) => body.span(),
         _ => return Ok(()),
     };
     out.push(b' ')?;
-    push_place(out, alloc, inner.start, inner.end)
+    push_span(out, alloc, inner)
 }
 
 /// The places of the sections' words and of the declarations.
@@ -180,7 +175,7 @@ pub fn push_places(out: &mut Vec<u8>, alloc: Global, spec: &Spec) -> Result<(), 
     let mut front: &[u8] = b"";
     for section in &spec.sections {
         out.extend_from_slice(front)?;
-        push_place(out, alloc, section.span.start, section.span.end)?;
+        push_span(out, alloc, section.span)?;
         for declaration in &section.declarations {
             push_places_in(out, alloc, declaration)?;
         }

@@ -2,26 +2,26 @@ use Rattle.std.proofs.Common.{◌∙◌}
 use Rattle.std.proofs.lemmas.Result.{err_from_is_err_and}
 use Rattle.mcrl2_syntax.proofs.SpecsOnce.{spec_once}
 use Rattle.mcrl2_parser.proofs.Refused.{has_init_fault, moved_fault, moved_sound}
-use Rattle.mcrl2_parser.proofs.SpelledByDeclarations.{made_spelled}
+use Rattle.mcrl2_parser.proofs.SpelledByDeclarations.{moved_spelled}
 use Rattle.mcrl2_parser.proofs.parsing.parse.Goals as goal
 
-pub returns-in_err-trees-clause-fault : goal.returns-in_err-trees-clause-fault
-returns-in_err-trees-clause-fault c =
-    let same = err_from_is_err_and c.from_residual-in_err-trees.result c.from_residual-in_err-trees.ensures.1 in
-    rw (same.1, same.2) (λ counts. moved_fault _ c.text-text.ensures c.list-all.ensures.list (c.in_err-trees.ensures.fault counts))
+pub returns-in_err-spec-clause-fault : goal.returns-in_err-spec-clause-fault
+returns-in_err-spec-clause-fault c =
+    let same = err_from_is_err_and c.from_residual-in_err-spec.result c.from_residual-in_err-spec.ensures.1 in
+    rw (same.1, same.2) (λ counts. moved_fault _ c.text-text.ensures c.list-all.ensures.list (c.in_err-spec.ensures.fault counts))
 
 pub returns-in_err-check_inits-clause-fault : goal.returns-in_err-check_inits-clause-fault
 returns-in_err-check_inits-clause-fault c =
     let same = err_from_is_err_and c.from_residual-in_err-check_inits.result c.from_residual-in_err-check_inits.ensures.1 in
     rw (same.1, same.2) (λ counts. moved_fault _ c.text-text.ensures c.list-all.ensures.list
-    (has_init_fault c.text-text.result.now c.list-all.result.now c.deref-2.result.now c.in_err-check_inits.field-0.0 (c.deref-2.ensures.value ∙ c.in_ok-list.ensures.declarations) c.in_ok-trees.ensures.sound
+    (has_init_fault c.text-text.result.now c.list-all.result.now c.deref-2.result.now c.in_err-check_inits.field-0.0 (c.deref-2.ensures.value ∙ c.in_ok-list.ensures.declarations) c.in_ok-spec.ensures.sound
     c.in_err-check_inits.ensures.not_one))
 
 pub returns-clause-spelled : goal.returns-clause-spelled
-returns-clause-spelled c = made_spelled c.text-text.ensures c.list-all.ensures.list c.in_ok-trees.ensures.spelled c.in_ok-in_sections.ensures
+returns-clause-spelled c = moved_spelled c.text-text.ensures c.list-all.ensures.list c.in_ok-spec.ensures.spelled
 
 pub returns-clause-single : goal.returns-clause-single
-returns-clause-single c = λ other spells. spec_once (made_spelled c.text-text.ensures c.list-all.ensures.list c.in_ok-trees.ensures.spelled c.in_ok-in_sections.ensures) spells
+returns-clause-single c = λ other spells. spec_once (moved_spelled c.text-text.ensures c.list-all.ensures.list c.in_ok-spec.ensures.spelled) spells
 
 pub returns-clause-sound : goal.returns-clause-sound
-returns-clause-sound c = moved_sound c.text-text.ensures c.list-all.ensures.list c.in_ok-trees.ensures.sound
+returns-clause-sound c = moved_sound c.text-text.ensures c.list-all.ensures.list c.in_ok-spec.ensures.sound

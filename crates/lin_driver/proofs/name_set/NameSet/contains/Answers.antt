@@ -1,9 +1,7 @@
-use Rattle.std.proofs.Common.{◌≡◌, bytes_eq, List, ℕ, subst, sym, ◌∙◌, Bor}
-use Rattle.lin_driver.specs.Naming.{is_among}
-use Rattle.lin_driver.proofs.Mapped.{list_any-map}
+use Rattle.std.proofs.Common.{◌∙◌, ap}
+use Rattle.std.specs.Prelude.{is_some}
+use Rattle.lin_driver.proofs.KnownNames.{seen_among}
 use Rattle.lin_driver.proofs.name_set.NameSet.contains.Goals as goal
 
 pub returns : goal.returns
-returns c =
-    subst (λ (names : List (List ℕ)). c.contains.result ≡ is_among names c.args.name.now) c.self.view_is
-    (c.contains.ensures ∙ sym (list_any-map (bytes_eq c.args.name.now) (λ (name : Bor (List ℕ)). name.now) c.self.inside.names.keys))
+returns c = c.is_some.ensures ∙ ap is_some c.place_of.ensures ∙ seen_among c.args.self.now c.args.name.now
