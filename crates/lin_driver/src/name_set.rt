@@ -53,10 +53,10 @@ impl<'a> NameSet<'a> {
     }
 
     /// The place of a name, from 0.
-    pub(crate) fn place_of(&self, name: &'a [u8]) -> Option<usize>
+    pub(crate) fn place_of(&self, name: &[u8]) -> Option<usize>
         ensures { result ≡ position (bytes_eq name.now) self.now }
     {
-        let place = *self.places.get(&name)?;
+        let place = *self.places.get(name)?;
         if place < self.names.len() && self.names[place] == name {
             Some(place)
         } else {
@@ -65,7 +65,7 @@ impl<'a> NameSet<'a> {
     }
 
     /// Whether the name is there.
-    pub(crate) fn contains(&self, name: &'a [u8]) -> bool
+    pub(crate) fn contains(&self, name: &[u8]) -> bool
         ensures { result ≡ is_among self.now name.now }
     {
         self.place_of(name).is_some()

@@ -91,7 +91,7 @@ fn are_apart<'a>(acts: &NameSet<'a>, names: &[&'a [u8]]) -> bool
 }
 
 /// Whether the action of a summand is an action, and the name behind it that of an equation.
-fn uses<'a>(declared: &DeclaredNames<'a>, summand: &Summand<'a>) -> bool
+fn uses(declared: &DeclaredNames<'_>, summand: &Summand<'_>) -> bool
     ensures { result ≡ uses_names declared.now.acts declared.now.equations (plain_summand summand.now) }
 {
     declared.acts.contains(summand.action)
@@ -102,7 +102,7 @@ fn uses<'a>(declared: &DeclaredNames<'a>, summand: &Summand<'a>) -> bool
 }
 
 /// Whether all summands of an equation use names as they are declared.
-fn equation_uses<'a>(declared: &DeclaredNames<'a>, equation: &Equation<'a>) -> bool
+fn equation_uses(declared: &DeclaredNames<'_>, equation: &Equation<'_>) -> bool
     ensures { result ≡ list_all (λ summand. uses_names declared.now.acts declared.now.equations (plain_summand summand)) equation.now.summands.items }
 {
     equation
@@ -112,7 +112,7 @@ fn equation_uses<'a>(declared: &DeclaredNames<'a>, equation: &Equation<'a>) -> b
 }
 
 /// Whether all equations use names as they are declared.
-fn all_use<'a>(declared: &DeclaredNames<'a>, equations: &[Equation<'a>]) -> bool
+fn all_use(declared: &DeclaredNames<'_>, equations: &[Equation<'_>]) -> bool
     ensures { result ≡ list_all (λ equation. list_all (λ summand. uses_names declared.now.acts declared.now.equations (plain_summand summand)) equation.summands.items) equations.now }
 {
     equations

@@ -14,20 +14,20 @@ returns-in_err-distinct_names-clause-ill_named c = λ is named.
 
 pub returns-in_err-distinct_names-2-clause-ill_named : goal.returns-in_err-distinct_names-2-clause-ill_named
 returns-in_err-distinct_names-2-clause-ill_named c = λ is named.
-    let items : c.in_ok-names.names.items ≡ map (λ (equation : Equation). equation.name) c.args.system.now.equations.items = search rules in
+    let items : c.in_ok-names.names.items ≡ map (λ (equation : Equation). equation.name) c.args.system.now.equations.items = search (rules, c.in_ok-names.ensures) in
     let given : c.deref-3.result.now ≡ c.in_ok-names.names.items = search rules in
     c.in_err-distinct_names-2.ensures.repeated (grind (arith, common_steps))
     (subst AreDistinct (sym (names_of_equations c.args.system.now.equations.items c.deref-3.result.now (given ∙ items))) (equations_distinct (plain_system c.args.system.now) named))
 
 pub returns-then-are_used-clause-equations : goal.returns-then-are_used-clause-equations
 returns-then-are_used-clause-equations c =
-    let items : c.in_ok-names.names.items ≡ map (λ (equation : Equation). equation.name) c.args.system.now.equations.items = search rules in
+    let items : c.in_ok-names.names.items ≡ map (λ (equation : Equation). equation.name) c.args.system.now.equations.items = search (rules, c.in_ok-names.ensures) in
     let given : c.deref-3.result.now ≡ c.in_ok-names.names.items = search rules in
     c.in_ok-distinct_names-2.ensures.names ∙ names_of_equations c.args.system.now.equations.items c.deref-3.result.now (given ∙ items)
 
 pub returns-then-are_used-clause-well_named : goal.returns-then-are_used-clause-well_named
 returns-then-are_used-clause-well_named c =
-    let items : c.in_ok-names.names.items ≡ map (λ (equation : Equation). equation.name) c.args.system.now.equations.items = search rules in
+    let items : c.in_ok-names.names.items ≡ map (λ (equation : Equation). equation.name) c.args.system.now.equations.items = search (rules, c.in_ok-names.ensures) in
     let given : c.deref-3.result.now ≡ c.in_ok-names.names.items = search rules in
     let handed : c.deref-4.result.now ≡ c.in_ok-names.names.items = search rules in
     let acts : c.in_ok-distinct_names.field-0 ≡ (plain_system c.args.system.now).acts = search rules in
