@@ -132,7 +132,7 @@ pub same_sorts : {xs ys : List Bound} → SameSorts xs ys → sorts xs ≡ sorts
 same_sorts no_more = refl
 same_sorts (one_more q k) = ap₂ (λ s ss. s ∷ ss) q (same_sorts k)
 
-bound_has_sort : (g : Data) (vs : List Sort) (xs : List Bound) (us : List Term) → AreDeclared vs xs → HaveSorts g vs (terms_of us) (sorts xs) → (v : ℕ) (s : Sort) → Declares vs v s → HasSort g vs (term_in (bound (variables xs) us) v) s
+pub bound_has_sort : (g : Data) (vs : List Sort) (xs : List Bound) (us : List Term) → AreDeclared vs xs → HaveSorts g vs (terms_of us) (sorts xs) → (v : ℕ) (s : Sort) → Declares vs v s → HasSort g vs (term_in (bound (variables xs) us) v) s
 bound_has_sort g vs [] us d h v s k = k
 bound_has_sort g vs (x ∷ xs) [] d h v s k = k
 bound_has_sort g vs (x ∷ xs) (u ∷ us) d h v s k = ⊎_elim

@@ -99,11 +99,11 @@ module _ (g : Sig) (ts : List Tree) (f : PlainForm) (e : PlainEquation) (l : Pla
       ∙ summands_kept e.summands k.summands
 
 -- ---- the names
-distinct_front : (xs ys : List ℕ) → AreDistinct (xs ++ ys) → AreDistinct xs
+pub distinct_front : (xs ys : List ℕ) → AreDistinct (xs ++ ys) → AreDistinct xs
 distinct_front [] ys d = tt
 distinct_front (x ∷ xs) ys d = (λ i. d.0 (Contains-append_left xs ys x i), distinct_front xs ys d.1)
 
-distinct_last : (xs : List ℕ) (x : ℕ) → AreDistinct (xs ++ x ∷ []) → Contains xs x → ⊥
+pub distinct_last : (xs : List ℕ) (x : ℕ) → AreDistinct (xs ++ x ∷ []) → Contains xs x → ⊥
 distinct_last [] x d i = contains_none x i
 distinct_last (y ∷ xs) x d i = ⊎_elim
     (λ q. d.0 (subst (λ z. Contains (xs ++ x ∷ []) z) (sym q) (Contains-append_right xs (x ∷ []) x (number_first x []))))

@@ -172,7 +172,7 @@ are_closed place args h us (c ∷ cs) (t ∷ ts) s = All-cons (λ t. HasNoVariab
 abbrev pub NewNamesOnly : Sig → Sig → Sig → Type 0
 NewNamesOnly old g h = (n : NameId) → Contains (function_names h) n → Contains (function_names g) n ⊎ ¬ (Contains old.taken n)
 
-taken_stays : (g h : Sig) (t : List ℕ) → IsGrown g h → IsTaken g t → IsTaken h t
+pub taken_stays : (g h : Sig) (t : List ℕ) → IsGrown g h → IsTaken g t → IsTaken h t
 taken_stays g h t w k = (
   k.0,
   subst (λ z. slice_get z k.0.0 ≡ Some t) (sym w.texts) (read_front g.texts w.new_texts k.0.0 t k.1),

@@ -26,7 +26,7 @@ const POS: SortId = SortId(1);
 const EQUAL: FunId = FunId(15);
 
 /// The term of a number of Pos.
-fn numeral(pool: &mut Pool, number: usize) -> Result<TermId, NoMemory>
+pub fn numeral(pool: &mut Pool, number: usize) -> Result<TermId, NoMemory>
     requires { 1 ≤ number }
     ensures kept { Extends pool.old.trees pool.new.trees }
     ensures constants { pool.new.constants ≡ pool.old.constants }

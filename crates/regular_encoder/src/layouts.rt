@@ -58,7 +58,7 @@ fn add_kinds(
 }
 
 /// For each equation the places of its parameters' names and sorts. Those that aren't there are added.
-fn add_all_kinds(
+pub fn add_all_kinds(
     alloc: Global,
     sig: &Signature,
     equations: &[GreibachEquation],

@@ -1,0 +1,9 @@
+pub mod Rows
+pub mod StackTerms
+pub mod StackSummands
+pub mod StackShape
+pub mod Through
+pub mod StackStates
+pub mod Starting
+pub mod StandingStack
+pub mod MeantStack

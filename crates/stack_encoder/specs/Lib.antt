@@ -1,0 +1,3 @@
+pub mod StackEncoding
+pub mod StackEntries
+pub mod TreeStack

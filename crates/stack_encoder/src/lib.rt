@@ -1,0 +1,6 @@
+//! The linear process of any Greibach form: one parameter, a stack of calls.
+//!
+//! The encoding stands in `specs/`, and in plain words in `docs/definitions/linear.md`.
+#![tactic(auto)]
+
+pub mod laws;
