@@ -16,3 +16,4 @@ mod signs;
 pub use num_op::NumOp;
 pub use operations::exact;
 pub use rules::NumberRules;
+pub use signs::{is_less, negated};

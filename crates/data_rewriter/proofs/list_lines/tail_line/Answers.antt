@@ -1,0 +1,18 @@
+use Rattle.std.proofs.Common.{◌≡◌, ℕ, ◌<◌, ◌∷◌, [], inl, inr, refl, sym, ap, ◌∙◌, subst, rules, arith}
+use Rattle.std.specs.Prelude.{None, Some, ℤ, ◌^◌, Bool}
+use Rattle.data_theory.specs.Terms.{Sort, Term, Terms, natural, positive, integer, cons, snoc, concatenation, size, rhead, rtail, element_at, membership, equality, upcast, arithmetic, successor, to_natural, subtract, numeral}
+use Rattle.data_theory.specs.Equations.{one, two, trueᵗ, falseᵗ, ◌∧ᵗ◌, ◌∨ᵗ◌, equals, emptyᵗ, consᵗ, number, truth_of}
+use Rattle.data_rewriter.specs.Standing.{StandsFor, IsSymbolOf, IsSortOf}
+use Rattle.data_rewriter.specs.Views.{IsView, IsCons, HasParts}
+use Rattle.data_rewriter.proofs.Deciding.{plainly, told, denied}
+use Rattle.data_rewriter.proofs.ListClauses.{tail_decided, part}
+use Rattle.data_rewriter.proofs.list_lines.tail_line.Goals as goal
+
+pub returns-in_default : goal.returns-in_default
+returns-in_default c = λ sig ts a t table so vx.
+    tail_decided sig ts a t None (inr (c.in_default.ensures sig ts a t table so vx, tt))
+
+pub returns : goal.returns
+returns c = λ sig ts a t table so vx.
+    let p = c.in-Some.ensures sig ts a t table so vx in
+    tail_decided sig ts a t _ (inl ((p.first, p.rest, p.is), plainly sig ts 41 _ (part t 1) _ c.line.ensures (subst (StandsFor sig ts c.in-Some.parts.rest) (ap (λ x. part x 1) (sym p.is)) p.rest_is)))

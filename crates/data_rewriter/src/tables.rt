@@ -1,0 +1,43 @@
+//! The tables of a rewriter.
+
+ghost use Rattle.std.specs.Prelude.{◌≡◌, ◌<◌, length, slice_get, Some, get_or};
+ghost use Rattle.data_rewriter.specs.Signs.{sign_at};
+
+use crate::signs::Sign;
+use data_theory::{FunId, TermId};
+use std::collections::HashMap;
+
+/// A written equation.
+#[derive(Clone, Copy)]
+pub struct Rule {
+    pub cond: TermId,
+    pub left: TermId,
+    pub right: TermId,
+}
+
+/// What functions are to the built-in equations, and the written equations by the head of their left side.
+#[derive(Drop)]
+pub struct Tables {
+    /// The sign of each function.
+    pub signs: Vec<Sign>,
+    /// The equality of each sort.
+    pub equalities: Vec<FunId>,
+    /// For each function the equalities of its arguments' sorts.
+    pub places: Vec<Vec<FunId>>,
+    pub rules: Vec<Rule>,
+    /// The numbers of the rules with a function at the root of their left side.
+    pub by_head: HashMap<FunId, Vec<usize>>,
+}
+
+impl Tables {
+    /// The sign of a function.
+    pub fn sign(&self, fun: FunId) -> Sign
+        ensures { result ≡ sign_at self.now.signs.items fun }
+    {
+        if fun.0 < self.signs.len() {
+            self.signs[fun.0]
+        } else {
+            Sign::True
+        }
+    }
+}
