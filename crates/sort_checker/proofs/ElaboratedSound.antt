@@ -51,7 +51,7 @@ this_known v xs u us h k = ap (λ (b : Bool). cond (not b) (Some u) (find (unkno
 both_known : (v : FullVocabulary) (xs : Variables) (us ws : List Use) → find (unknown v xs) us ≡ None → find (unknown v xs) ws ≡ None → find (unknown v xs) (us ++ ws) ≡ None
 both_known v xs us ws h k = find-append (unknown v xs) us ws ∙ ap₂ option_or h k
 
-data_known : (v : FullVocabulary) (xs : Variables) (fs : List Name) → AreMeant (meaning v.declared (scope_of v.declared xs)) fs → find (unknown v xs) (map of_data fs) ≡ None
+pub data_known : (v : FullVocabulary) (xs : Variables) (fs : List Name) → AreMeant (meaning v.declared (scope_of v.declared xs)) fs → find (unknown v xs) (map of_data fs) ≡ None
 data_known v xs [] h = refl
 data_known v xs (f ∷ fs) h = this_known v xs (of_data f) (map of_data fs) (meant_is_known v xs f h.0) (data_known v xs fs h.1)
 
@@ -221,7 +221,7 @@ condition_sound v xs e c h = record {
 }
 
 -- ---- sums
-bound_sorts : {v : Vocabulary} {scope inner : Scope} {xs : Variables} {bs : List processes.Bound} → Binds v scope xs inner bs → HaveSorts v xs
+pub bound_sorts : {v : Vocabulary} {scope inner : Scope} {xs : Variables} {bs : List processes.Bound} → Binds v scope xs inner bs → HaveSorts v xs
 bound_sorts binds_none = tt
 bound_sorts (binds_more {s = s} is f bs) = ((s, is), bound_sorts bs)
 

@@ -8,6 +8,7 @@ use lib.IntN.{neg_ℤ}
 use Rattle.data_theory.specs.Terms.{Sort, boolean, positive, natural, integer, Symbol, minus, upcast, Term, Terms, variable, numeral, unknown, application, apply, negated, put, put_all, variables_of, variables_of_all}
 use Rattle.data_theory.specs.Terms as terms
 use Rattle.data_theory.specs.Declarations.{Declares}
+use Rattle.data_theory.specs.Provable.{variables_of_equation}
 use Rattle.data_theory.proofs.EnvironmentLemmas.{contains_first, contains_later, contains_cases, contains_nothing}
 use Rattle.process_terms.specs.Processes as processes
 use Rattle.sort_table.specs.Expressions.{Expression}
@@ -26,11 +27,11 @@ abbrev to_other : Scope → Scope → ℕ → ℕ
 to_other (b ∷ one) (c ∷ other) n = cond (nat_eq n b.number) c.number (to_other one other n)
 to_other _ _ n = n
 
-abbrev NumbersDiffer : Scope → Type 0
+abbrev pub NumbersDiffer : Scope → Type 0
 NumbersDiffer [] = Unit {0}
 NumbersDiffer (b ∷ scope) = (Contains (numbers_of scope) b.number → ⊥) × NumbersDiffer scope
 
-differ : {v : Vocabulary} {scope inner : Scope} {xs : Variables} {bs : List processes.Bound} → NumbersDiffer scope → Binds v scope xs inner bs → NumbersDiffer inner
+pub differ : {v : Vocabulary} {scope inner : Scope} {xs : Variables} {bs : List processes.Bound} → NumbersDiffer scope → Binds v scope xs inner bs → NumbersDiffer inner
 differ h binds_none = h
 differ h (binds_more e f bs) = differ (f, h) bs
 
@@ -57,7 +58,7 @@ of_negated : (s : Sort) (z : ℤ) (b : Bool) → variables_of (cond b (numeral i
 of_negated s z true = refl
 of_negated s z false = refl
 
-of_applied : (f : Symbol) (ts : Terms) → variables_of (apply f ts) ≡ variables_of_all ts
+pub of_applied : (f : Symbol) (ts : Terms) → variables_of (apply f ts) ≡ variables_of_all ts
 of_applied (upcast positive natural) (terms.more (numeral positive z) terms.none) = refl
 of_applied (upcast natural integer) (terms.more (numeral natural z) terms.none) = refl
 of_applied (upcast positive integer) (terms.more (numeral positive z) terms.none) = refl
@@ -95,7 +96,7 @@ still_no_other f xs ys zs h n c =
     let r = out_of_map f (xs ++ ys) n (subst (λ (l : List ℕ). Contains l n) (sym (map-append f xs ys)) c) in
     subst (λ (m : ℕ). Contains (map f zs) m) r.1.1 (in_map f zs r.0 (h r.0 r.1.0))
 
-is_variable : Term → Bool
+unfoldable pub is_variable : Term → Bool
 is_variable (variable v) = true
 is_variable _ = false
 
@@ -104,7 +105,7 @@ unfolding is_variable
 negated_is s z true = refl
 negated_is s z false = refl
 
-applied_is : (f : Symbol) (ts : Terms) → is_variable (apply f ts) ≡ false
+pub applied_is : (f : Symbol) (ts : Terms) → is_variable (apply f ts) ≡ false
 unfolding is_variable
 applied_is (upcast positive natural) (terms.more (numeral positive z) terms.none) = refl
 applied_is (upcast natural integer) (terms.more (numeral natural z) terms.none) = refl
@@ -141,7 +142,7 @@ set_there zero (suc k) s t (r ∷ rs) h d = d
 set_there (suc n) zero s t (r ∷ rs) h d = d
 set_there (suc n) (suc k) s t (r ∷ rs) h d = set_there n k s t rs (λ e. h (ap suc e)) d
 
-sorts_for : List processes.Bound → List Sort
+pub sorts_for : List processes.Bound → List Sort
 sorts_for [] = []
 sorts_for (b ∷ bs) = set_sort b.var b.sort (sorts_for bs)
 
@@ -153,11 +154,15 @@ all_there : (n : ℕ) (s : Sort) (rs : List Sort) (bs : List processes.Bound) �
 all_there n s rs [] h d = tt
 all_there n s rs (b ∷ bs) h d = (set_there n b.var s b.sort rs h.0 d.0, all_there n s rs bs h.1 d.1)
 
-declared : {v : Vocabulary} {scope inner : Scope} {xs : Variables} {bs : List processes.Bound} → Binds v scope xs inner bs → AllByRecursion (λ (b : processes.Bound). Declares (sorts_for bs) b.var b.sort) bs
+pub declared : {v : Vocabulary} {scope inner : Scope} {xs : Variables} {bs : List processes.Bound} → Binds v scope xs inner bs → AllByRecursion (λ (b : processes.Bound). Declares (sorts_for bs) b.var b.sort) bs
 unfolding sorts_for
 declared binds_none = tt
 declared {scope = scope} (binds_more {n = n} {s = s} {bs = cs} e f bs) =
     (set_here n s (sorts_for cs), all_there n s (sorts_for cs) cs (outside n (contains_first n (numbers_of scope)) bs) (declared bs))
+
+pub where_they_occur : (ns : List ℕ) (rs : List Sort) (bs : List processes.Bound) → AllByRecursion (λ (b : processes.Bound). Declares rs b.var b.sort) bs → AllByRecursion (λ (b : processes.Bound). Contains ns b.var → Declares rs b.var b.sort) bs
+where_they_occur ns rs [] h = tt
+where_they_occur ns rs (b ∷ bs) h = ((λ c. h.0), where_they_occur ns rs bs h.1)
 
 -- ---- the equation
 found : {A B : Type 0} {R : A → B → Type 0} {o : Option A} {p : Option B} (x : A) → Both R o p → o ≡ Some x → (y : B) × ((p ≡ Some y) × R x y)
@@ -189,7 +194,7 @@ equations_need_no_numbers v e q h scope bounds bs =
         scope = scope;
         bounds = bounds;
         binds = bs;
-        sorts = declared bs;
+        sorts = where_they_occur (variables_of_equation (record { sorts = sorts_for bounds; condition = renamed f q.condition; left = renamed f q.left; right = renamed f q.right })) (sorts_for bounds) bounds (declared bs);
         sort = h.sort;
         left = left.1.0 ∙ ap₂ (λ (t : Term) (s : Sort). Some (record { term = t; sort = s })) (sym left.1.1.term) (sym left.1.1.sort);
         right = right.1.0 ∙ ap (λ (t : Term). Some t) (sym right.1.1);

@@ -22,25 +22,25 @@ use Rattle.sort_checker.specs.FittingBodies.{AreSorted, BodyFits, IsOverSorts, E
 use Rattle.sort_checker.proofs.SortedParts.{is_scope, term_fits, label_fits, arguments_fit, assigned_fit, process_found, sort_is}
 
 -- ---- several operands
-module _ (g : Data) (ps : List (List Sort)) (xs : List processes.Bound) where
+module _ (v : FullVocabulary) (xs : List processes.Bound) where
   Fits : Body → Type 0
-  Fits b = BodyFits g ps xs b
+  Fits b = BodyFits v xs b
 
-  choices_fit : (bs : List Body) → AllByRecursion (BodyFits g ps xs) bs → BodyFits g ps xs (choice_of bs)
+  choices_fit : (bs : List Body) → AllByRecursion (BodyFits v xs) bs → BodyFits v xs (choice_of bs)
   choices_fit [] h = tt
   choices_fit (b ∷ []) h = h.0
   choices_fit (b ∷ c ∷ bs) h = (h.0, choices_fit (c ∷ bs) h.1)
 
-  seqs_fit : (bs : List Body) → AllByRecursion (BodyFits g ps xs) bs → BodyFits g ps xs (seq_of bs)
+  seqs_fit : (bs : List Body) → AllByRecursion (BodyFits v xs) bs → BodyFits v xs (seq_of bs)
   seqs_fit [] h = tt
   seqs_fit (b ∷ []) h = h.0
   seqs_fit (b ∷ c ∷ bs) h = (h.0, seqs_fit (c ∷ bs) h.1)
 
-  merged_fits : (b : Body) (bs : List Body) → BodyFits g ps xs b → AllByRecursion (BodyFits g ps xs) bs → BodyFits g ps xs (merged_with b bs)
+  merged_fits : (b : Body) (bs : List Body) → BodyFits v xs b → AllByRecursion (BodyFits v xs) bs → BodyFits v xs (merged_with b bs)
   merged_fits b [] one h = one
   merged_fits b (c ∷ bs) one h = merged_fits (written_merge b c) bs (one, h.0) h.1
 
-  merges_fit : (bs : List Body) → AllByRecursion (BodyFits g ps xs) bs → BodyFits g ps xs (merge_of bs)
+  merges_fit : (bs : List Body) → AllByRecursion (BodyFits v xs) bs → BodyFits v xs (merge_of bs)
   merges_fit [] h = tt
   merges_fit (b ∷ bs) h = merged_fits b bs h.0 h.1
 
@@ -54,15 +54,15 @@ module _ (v : FullVocabulary) (over : IsOverSorts v) where
   inner_sorts h binds_none = h
   inner_sorts h (binds_more {s = s} {e = e} is f bs) = inner_sorts (sort_is v over e s is, h) bs
 
-  sums_fit : {scope inner : Scope} {xs : Variables} {bs : List processes.Bound} → Binds v.declared scope xs inner bs → (b : Body) → BodyFits v.declared.tables (process_sorts v) (bounds_of inner) b
-      → BodyFits v.declared.tables (process_sorts v) (bounds_of scope) (sums_around bs b)
+  sums_fit : {scope inner : Scope} {xs : Variables} {bs : List processes.Bound} → Binds v.declared scope xs inner bs → (b : Body) → BodyFits v (bounds_of inner) b
+      → BodyFits v (bounds_of scope) (sums_around bs b)
   sums_fit binds_none b h = h
   sums_fit {scope = scope} (binds_more {n = n} {s = s} {e = e} is f bs) b h =
       (sort_is v over e s is, (λ c. f (subst (λ (ns : List ℕ). Contains ns n) (same_numbers scope) c)), sums_fit bs b h)
 
   -- ---- process terms
   mutual
-    fits : {scope : Scope} {p : Process} {b : Body} → HasSorts v scope → EachExpression HasSmallNumerals p → Elaborates v scope p b → BodyFits v.declared.tables (process_sorts v) (bounds_of scope) b
+    fits : {scope : Scope} {p : Process} {b : Body} → HasSorts v scope → EachExpression HasSmallNumerals p → Elaborates v scope p b → BodyFits v (bounds_of scope) b
     fits h small nothing = tt
     fits {scope = scope} h small (label {as_ = as_} {m = m} e) = label_fits v over scope h as_ m small e
     fits {scope = scope} h small (call_in_order {x = x} {es = es} {k = k} {ps = ps} {ts = ts} e f) =
@@ -74,14 +74,14 @@ module _ (v : FullVocabulary) (over : IsOverSorts v) where
     fits h small (unseen f d) = fits h small d
     fits h small (renamed f d) = fits h small d
     fits h small (joined f d) = fits h small d
-    fits {scope = scope} h small (in_sequence {bs = bs} ds) = seqs_fit v.declared.tables (process_sorts v) (bounds_of scope) bs (all_fit h small ds)
-    fits {scope = scope} h small (one_of {bs = bs} ds) = choices_fit v.declared.tables (process_sorts v) (bounds_of scope) bs (all_fit h small ds)
-    fits {scope = scope} h small (side_by_side {bs = bs} ds) = merges_fit v.declared.tables (process_sorts v) (bounds_of scope) bs (all_fit h small ds)
+    fits {scope = scope} h small (in_sequence {bs = bs} ds) = seqs_fit v (bounds_of scope) bs (all_fit h small ds)
+    fits {scope = scope} h small (one_of {bs = bs} ds) = choices_fit v (bounds_of scope) bs (all_fit h small ds)
+    fits {scope = scope} h small (side_by_side {bs = bs} ds) = merges_fit v (bounds_of scope) bs (all_fit h small ds)
     fits h small (for_each {b = b} bs d) = sums_fit bs b (fits (inner_sorts h bs) small d)
     fits {scope = scope} h small (where_true {e = e} {c = c} f d) = (term_fits v over scope h boolean e c small.0 tt f, fits h small.1 d, tt)
     fits {scope = scope} h small (by_truth {e = e} {c = c} f d k) = (term_fits v over scope h boolean e c small.0 tt f, fits h small.1 d, fits h small.2 k)
 
-    all_fit : {scope : Scope} {ps : Processes} {bs : List Body} → HasSorts v scope → EachExpressionOf HasSmallNumerals ps → AllElaborate v scope ps bs → AllByRecursion (BodyFits v.declared.tables (process_sorts v) (bounds_of scope)) bs
+    all_fit : {scope : Scope} {ps : Processes} {bs : List Body} → HasSorts v scope → EachExpressionOf HasSmallNumerals ps → AllElaborate v scope ps bs → AllByRecursion (BodyFits v (bounds_of scope)) bs
     all_fit h small all_done = tt
     all_fit h small (one_and_more d ds) = (fits h small.0 d, all_fit h small.1 ds)
 
@@ -90,33 +90,3 @@ what_elaborates_fits v over scope h p b small d = fits v over h small d
 
 pub definitions_fit : DefinitionsFit
 definitions_fit v over w d small h = fits v over (inner_sorts v over tt h.binds) small h.body
-
--- ---- equations
-sorted_inside : (v : FullVocabulary) {scope inner : Scope} {xs : Variables} {bs : List processes.Bound} (vs : List Sort) → AreSorted vs (bounds_of scope) → AreSorted vs bs → Binds v.declared scope xs inner bs → AreSorted vs (bounds_of inner)
-sorted_inside v vs h k binds_none = h
-sorted_inside v vs h k (binds_more e f bs) = sorted_inside v vs (k.0, h) k.1 bs
-
-condition_sort : (v : FullVocabulary) → IsOverSorts v → (vs : List Sort) (scope : Scope) → IsScope v.declared.tables vs scope → (c : Option Expression) (t : Term) → EachOption HasSmallNumerals c → condition_at v.declared scope c ≡ Some t → HasSort v.declared.tables vs t boolean
-condition_sort v over vs scope is None t small h = subst (λ (u : Term). HasSort v.declared.tables vs u boolean) (same_Some _ _ h) (tt, tt, refl, refl)
-condition_sort v over vs scope is (Some e) t small h = checked_terms_have_the_sort v.declared vs scope over.data_are is e small boolean t tt h
-
-pub equations_fit : EquationsFit
-equations_fit v over e q small_condition small_left small_right h =
-    let g : Data = v.declared.tables in
-    let is : IsScope g q.sorts h.scope = is_scope g q.sorts h.scope (inner_sorts v over tt h.binds) (sorted_inside v q.sorts tt h.sorts h.binds) in
-    let l : Typing = typing_in v.declared h.scope e.left in
-    let r : Typing = typing_in v.declared h.scope e.right in
-    let left : IsSort g h.sort × HasSort g q.sorts q.left h.sort =
-    one_or_other l.infers (option_and_then (λ (i : Inferred). option_map (λ t. record { term = t; sort = i.sort }) (l.checks i.sort)) r.infers) (record { term = q.left; sort = h.sort }) h.left
-    (λ w. inferred_terms_have_their_sorts v.declared q.sorts h.scope over.data_are is e.left small_left q.left h.sort w)
-    (λ w. option_and_then_some (λ (i : Inferred). option_map (λ t. record { term = t; sort = i.sort }) (l.checks i.sort)) r.infers (record { term = q.left; sort = h.sort }) w
-    (λ i there k. mapped (λ t. record { term = t; sort = i.sort }) (l.checks i.sort) (record { term = q.left; sort = h.sort }) k
-    (λ t checks same.
-    let its_sort = inferred_terms_have_their_sorts v.declared q.sorts h.scope over.data_are is e.right small_right i.term i.sort there in
-    subst (λ (j : Inferred). IsSort g j.sort × HasSort g q.sorts j.term j.sort) same
-    (its_sort.0, checked_terms_have_the_sort v.declared q.sorts h.scope over.data_are is e.left small_left i.sort t its_sort.0 checks)))) in (
-      h.sort,
-      left.1,
-      checked_terms_have_the_sort v.declared q.sorts h.scope over.data_are is e.right small_right h.sort q.right left.0 h.right,
-      condition_sort v over q.sorts h.scope is e.condition q.condition small_condition h.condition,
-    )

@@ -1,4 +1,6 @@
 pub mod SingleFaults
+pub mod Members
+pub mod VariableWords
 pub mod RelatedTypings
 pub mod OtherNumbers
 pub mod EquationNumbers
@@ -9,6 +11,7 @@ pub mod AgainNames
 pub mod ScopedLists
 pub mod SortedParts
 pub mod FittingElaborations
+pub mod FittingEquations
 pub mod WorkedTexts
 pub mod WorkedDefinitions
 pub mod LeftSides
@@ -16,6 +19,8 @@ pub mod StayingAlike
 pub mod SoundElaborations
 pub mod MeantWords
 pub mod ElaboratedSound
+pub mod TypedEquations
 pub mod WellTypedTexts
 pub mod FirstsFound
 pub mod NumberedActions
+pub mod ElaboratedEquations

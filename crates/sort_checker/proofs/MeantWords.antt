@@ -41,7 +41,7 @@ meant_among [] c g h = absurd h
 meant_among (f ∷ fs) c g h = refl
 
 mutual
-  reads_words : {m : Name → Meaning} {e : Expression} {t : Term} → Reads m e t → AreMeant m (words_in e)
+  pub reads_words : {m : Name → Meaning} {e : Expression} {t : Term} → Reads m e t → AreMeant m (words_in e)
   reads_words (a_numeral n s) = tt
   reads_words (a_variable f v s h) = (ap is_meant h, tt)
   reads_words (a_call f es fs c g us h among rs) = (ap is_meant h ∙ meant_among fs c g among, reads_each rs)
@@ -107,14 +107,14 @@ one_more_name true b c h = refl
 one_more_name false true c h = refl
 one_more_name false false c h = h
 
-some_cond : {A : Type 0} (b : Bool) (x : A) (o : Option A) → is_some (cond b (Some x) o) ≡ (b || is_some o)
+pub some_cond : {A : Type 0} (b : Bool) (x : A) (o : Option A) → is_some (cond b (Some x) o) ≡ (b || is_some o)
 some_cond true x o = refl
 some_cond false x o = refl
 
-abbrev in_scope : Name → Scope → Bool
+abbrev pub in_scope : Name → Scope → Bool
 in_scope f scope = is_some (first_named f (map bound_row scope))
 
-scope_names : (v : Vocabulary) (f : Name) (scope : Scope) (xs : Variables) → in_scope f (scope_behind v scope xs) ≡ true → (in_scope f scope || stands_in f (names_of_variables xs)) ≡ true
+pub scope_names : (v : Vocabulary) (f : Name) (scope : Scope) (xs : Variables) → in_scope f (scope_behind v scope xs) ≡ true → (in_scope f scope || stands_in f (names_of_variables xs)) ≡ true
 scope_names v f scope [] h = ap (λ (b : Bool). b || false) h
 scope_names v f scope (x ∷ xs) h = by_sort (sort_in v.sort_names x.1) (scope_names v f (option_to_list (numbered v scope x) ++ scope) xs h)
   where

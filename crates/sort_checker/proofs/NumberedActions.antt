@@ -19,6 +19,7 @@ use Rattle.sort_table.specs.SignatureVocabularies.{text_under, action_under}
 use Rattle.data_typing.specs.Typings.{sort_eq, sorts_eq}
 use Rattle.data_typing.proofs.SortTests.{sorts_told, sort_told_itself}
 use Rattle.sort_checker.specs.ActionLaws.{ActionsAreFoundByNumbers}
+use Rattle.sort_checker.proofs.Members.{contains_first, contains_later, contains_cases, contains_none}
 use Rattle.sort_checker.proofs.SoundElaborations.{both_true}
 
 -- ---- elements of lists
@@ -26,29 +27,13 @@ all_by : {A : Type 0} (P : A → Type 0) (xs : List A) → All P xs → AllByRec
 all_by P [] h = tt
 all_by P (x ∷ xs) h = (h 0 x (omega arith), all_by P xs (λ k d l. h (suc k) d (omega (arith, l))))
 
-contains_first : {A : Type 0} (x : A) (xs : List A) → Contains (x ∷ xs) x
-contains_first x xs = (0, omega arith, refl)
-
-contains_later : {A : Type 0} (x v : A) (xs : List A) → Contains xs v → Contains (x ∷ xs) v
-contains_later x v xs h = let l = h.1 in (suc h.0, omega arith, h.2)
-
-contains_cases : {A : Type 0} (x v : A) (xs : List A) → Contains (x ∷ xs) v → (x ≡ v) ⊎ Contains xs v
-contains_cases {A} x v xs h = by_place h.0 h.1 h.2
-  where
-    by_place : (k : ℕ) → k < length (x ∷ xs) → slice_index_or (x ∷ xs) k v ≡ v → (x ≡ v) ⊎ Contains xs v
-    by_place zero l e = inl e
-    by_place (suc k) l e = inr (k, omega arith, e)
-
-contains_none : {A : Type 0} (v : A) → Contains [] v → ⊥
-contains_none v h = let l = h.1 in omega arith
-
 -- ---- texts
 text_at : (ts : List Name) (i : ℕ) (x : Name) → slice_get ts i ≡ Some x → get_or ts i [] ≡ x
 text_at [] i x h = absurd (none-some x h)
 text_at (t ∷ ts) zero x h = same_Some t x h
 text_at (t ∷ ts) (suc i) x h = text_at ts i x h
 
-text_there : (ts : List Name) (i : ℕ) → i < length ts → slice_get ts i ≡ Some (get_or ts i [])
+pub text_there : (ts : List Name) (i : ℕ) → i < length ts → slice_get ts i ≡ Some (get_or ts i [])
 text_there [] i l = let never : ⊥ = omega (arith, l) in absurd never
 text_there (t ∷ ts) zero l = refl
 text_there (t ∷ ts) (suc i) l = text_there ts i (omega (arith, l))

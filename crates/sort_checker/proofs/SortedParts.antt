@@ -1,8 +1,9 @@
 -- Labels, arguments and assignments have the sorts of their places.
-use Rattle.std.proofs.Common.{◌≡◌, ◌+◌, ℕ, suc, cond, List, [], ◌∷◌, map, refl, sym, ap, ◌∙◌, subst, arith}
+use Rattle.std.proofs.Common.{◌≡◌, ◌+◌, ℕ, suc, Bool, true, false, cond, List, [], ◌∷◌, map, refl, sym, ap, ◌∙◌, subst, arith}
 use Rattle.std.specs.Prelude.{Option, Some, None, option_map, bytes_eq, slice_get}
-use Rattle.std.specs.List.{AllByRecursion}
+use Rattle.std.specs.List.{Contains, AllByRecursion}
 use Rattle.std.proofs.lemmas.Option.{none-some, same_Some, option_and_then_some}
+use Rattle.std.proofs.lemmas.Slice.Eq.{bytes_eq-Decides}
 use Rattle.data_theory.specs.Terms.{Sort, boolean, positive, natural, integer, list, Term, Terms, variable}
 use Rattle.data_theory.specs.Terms as terms
 use Rattle.data_theory.specs.Environments as lists
@@ -26,7 +27,8 @@ use Rattle.data_typing.proofs.TypingSorts.{IsSound, AreSound, GivesSorts}
 use Rattle.data_typing.proofs.MeaningSorts.{inferred_terms_have_their_sorts, checked_terms_have_the_sort}
 use Rattle.sort_checker.specs.FullVocabularies.{Parameters, FullVocabulary, process_from, process_named}
 use Rattle.sort_checker.specs.PartTypings.{action_at, action_of, label_in, arguments_in, variable_at, left_out, assigned_or, assigned_in}
-use Rattle.sort_checker.specs.FittingBodies.{AreSorted, IsTermOver, AreTermsOver, IsLabelOver, IsOverSorts, EachValue, EachArgument, bounds_of, HasSorts, parameter_sorts, process_sorts}
+use Rattle.sort_checker.proofs.Members.{contains_first, contains_later}
+use Rattle.sort_checker.specs.FittingBodies.{AreSorted, IsTermOver, AreTermsOver, IsActionOver, IsLabelOver, IsOverSorts, EachValue, EachArgument, bounds_of, HasSorts, parameter_sorts, process_sorts}
 
 -- ---- one way to a term
 exact_has_sort : (g : Data) (vs : List Sort) → GivesSorts g vs exactly
@@ -68,6 +70,20 @@ all_sound v vs scope over is (e ∷ es) small = (sound v vs scope over is e smal
 listed_sorts : (g : Data) (vs : List Sort) (ss : List Sort) (us : Terms) → HaveSorts g vs us ss → HaveSorts g vs (terms_of (lists.list_of us)) ss
 listed_sorts g vs ss us h = subst (λ (ts : Terms). HaveSorts g vs ts ss) (sym (terms_of_lists us)) h
 
+-- ---- rows under a name
+all_weaker : {A : Type 0} (P Q : A → Type 0) → ((x : A) → P x → Q x) → (xs : List A) → AllByRecursion P xs → AllByRecursion Q xs
+all_weaker P Q f [] h = tt
+all_weaker P Q f (x ∷ xs) h = (f x h.0, all_weaker P Q f xs h.1)
+
+-- what stands under a name is in the list with that name
+pub named_rows : {A : Type 0} (x : Name) (rs : List (Name × A)) → AllByRecursion (λ a. Contains rs (x, a)) (all_named x rs)
+named_rows x [] = tt
+named_rows {A = A} x (r ∷ rs) = by_test (bytes_eq r.0 x) refl (all_weaker (λ a. Contains rs (x, a)) (λ a. Contains (r ∷ rs) (x, a)) (λ a c. contains_later r (x, a) rs c) (all_named x rs) (named_rows x rs))
+  where
+    by_test : (b : Bool) → bytes_eq r.0 x ≡ b → AllByRecursion (λ (a : A). Contains (r ∷ rs) (x, a)) (all_named x rs) → AllByRecursion (λ (a : A). Contains (r ∷ rs) (x, a)) (cond b (r.1 ∷ all_named x rs) (all_named x rs))
+    by_test true e h = (subst (λ (y : Name). Contains (r ∷ rs) (y, r.1)) ((bytes_eq-Decides r.0 x).0 e) (contains_first r rs), h)
+    by_test false e h = h
+
 module _ (v : FullVocabulary) (over : IsOverSorts v) (scope : Scope) (sorts : HasSorts v scope) where
   in_scope : (vs : List Sort) → AreSorted vs (bounds_of scope) → IsScope v.declared.tables vs scope
   in_scope vs h = is_scope v.declared.tables vs scope sorts h
@@ -76,30 +92,42 @@ module _ (v : FullVocabulary) (over : IsOverSorts v) (scope : Scope) (sorts : Ha
   term_fits s e t small is h vs sorted = checked_terms_have_the_sort v.declared vs scope over.data_are (in_scope vs sorted) e small s t is h
 
   -- ---- actions
+  -- sorts with which the action is declared, which are sorts of the data
+  IsDeclared : Name → List Sort → Type 0
+  IsDeclared x ss = AllByRecursion (IsSort v.declared.tables) ss × Contains v.declared.actions (x, ss)
+
   at_fits : (x : Name) (how : Sort → Typing → Option Term) → ((vs : List Sort) → GivesSorts v.declared.tables vs how) → (es : List Expression) → AllByRecursion HasSmallNumerals es
-      → (ss : List Sort) → AllByRecursion (IsSort v.declared.tables) ss → (a : written.Action) → action_at x how (map (typing_in v.declared scope) es) ss ≡ Some a → AreTermsOver v.declared.tables (bounds_of scope) a.sorts a.args
-  at_fits x how gives es small ss are a h vs sorted =
+      → (ss : List Sort) → IsDeclared x ss → (a : written.Action) → action_at x how (map (typing_in v.declared scope) es) ss ≡ Some a → IsActionOver v (bounds_of scope) a
+  unfolding IsDeclared
+  at_fits x how gives es small ss are a h =
       mapped (λ us. record { name = x; sorts = ss; args = lists.list_of us }) (all_at how ss (map (typing_in v.declared scope) es)) a h
-      (λ us there is. subst (λ (b : written.Action). HaveSorts v.declared.tables vs (terms_of b.args) b.sorts) is
-      (listed_sorts v.declared.tables vs ss us (all_have_sorts v.declared.tables vs how (gives vs) ss (map (typing_in v.declared scope) es) us are (all_sound v.declared vs scope over.data_are (in_scope vs sorted) es small) there)))
+      (λ us there is. subst (IsActionOver v (bounds_of scope)) is (
+        are.1,
+        λ vs sorted. listed_sorts v.declared.tables vs ss us (all_have_sorts v.declared.tables vs how (gives vs) ss (map (typing_in v.declared scope) es) us are.0 (all_sound v.declared vs scope over.data_are (in_scope vs sorted) es small) there),
+      ))
+
+  both_of : (P Q : List Sort → Type 0) (sss : List (List Sort)) → AllByRecursion P sss → AllByRecursion Q sss → AllByRecursion (λ ss. P ss × Q ss) sss
+  both_of P Q [] h k = tt
+  both_of P Q (ss ∷ sss) h k = ((h.0, k.0), both_of P Q sss h.1 k.1)
 
   action_fits : (x : Name) (es : List Expression) → AllByRecursion HasSmallNumerals es → (a : written.Action) → action_of x (map (typing_in v.declared scope) es) (all_named x v.declared.actions) ≡ Some a
-      → AreTermsOver v.declared.tables (bounds_of scope) a.sorts a.args
+      → IsActionOver v (bounds_of scope) a
+  unfolding IsDeclared
   action_fits x es small a h =
       let ts : List Typing = map (typing_in v.declared scope) es in
       let sss : List (List Sort) = all_named x v.declared.actions in
-      let are = all_named_are (AllByRecursion (IsSort v.declared.tables)) x v.declared.actions over.actions in
+      let are = both_of (AllByRecursion (IsSort v.declared.tables)) (λ ss. Contains v.declared.actions (x, ss)) sss (all_named_are (AllByRecursion (IsSort v.declared.tables)) x v.declared.actions over.actions) (named_rows x v.declared.actions) in
       one_or_other (first_of (action_at x exactly ts) sss) (first_of (action_at x checked ts) sss) a h
-      (λ w. first_there (AllByRecursion (IsSort v.declared.tables)) (action_at x exactly ts) sss a are w (λ ss is q. at_fits x exactly (exact_has_sort v.declared.tables) es small ss is a q))
-      (λ w. first_there (AllByRecursion (IsSort v.declared.tables)) (action_at x checked ts) sss a are w (λ ss is q. at_fits x checked (checked_has_sort v.declared.tables) es small ss is a q))
+      (λ w. first_there (IsDeclared x) (action_at x exactly ts) sss a are w (λ ss is q. at_fits x exactly (exact_has_sort v.declared.tables) es small ss is a q))
+      (λ w. first_there (IsDeclared x) (action_at x checked ts) sss a are w (λ ss is q. at_fits x checked (checked_has_sort v.declared.tables) es small ss is a q))
 
-  pub label_fits : (as_ : List Action) (m : Label) → AllByRecursion (EachArgument HasSmallNumerals) as_ → label_in v.declared scope as_ ≡ Some m → IsLabelOver v.declared.tables (bounds_of scope) m
-  label_fits [] m small h = subst (IsLabelOver v.declared.tables (bounds_of scope)) (same_Some _ _ h) tt
+  pub label_fits : (as_ : List Action) (m : Label) → AllByRecursion (EachArgument HasSmallNumerals) as_ → label_in v.declared scope as_ ≡ Some m → IsLabelOver v (bounds_of scope) m
+  label_fits [] m small h = subst (IsLabelOver v (bounds_of scope)) (same_Some _ _ h) tt
   label_fits (tau ∷ as_) m small h = label_fits as_ m small.1 h
   label_fits (act x es ∷ as_) m small h =
       option_and_then_some (λ (a : written.Action). option_map (λ (l : Label). a ∷ l) (label_in v.declared scope as_)) (action_of x (map (typing_in v.declared scope) es) (all_named x v.declared.actions)) m h
       (λ a first w. mapped (λ (l : Label). a ∷ l) (label_in v.declared scope as_) m w
-      (λ l others q. subst (IsLabelOver v.declared.tables (bounds_of scope)) q (action_fits x es small.0 a first, label_fits as_ l small.1 others)))
+      (λ l others q. subst (IsLabelOver v (bounds_of scope)) q (action_fits x es small.0 a first, label_fits as_ l small.1 others)))
 
   -- ---- calls
   pub arguments_fit : (ps : Parameters) (es : List Expression) (ts : List Term) → AllByRecursion (λ (x : Name × Sort). IsSort v.declared.tables x.1) ps → AllByRecursion HasSmallNumerals es

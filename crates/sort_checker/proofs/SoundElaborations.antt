@@ -25,11 +25,11 @@ use Rattle.sort_checker.specs.Elaborations.{Fits, Elaborates, nothing, label, ca
 use Rattle.sort_checker.specs.SoundTexts.{IsSoundPart, IsSoundOperator, HaveSorts, SoundProcessesElaborate, SoundDefinitionsElaborate}
 
 -- ---- options and tests
-there : {A : Type 0} (o : Option A) → is_some o ≡ true → (x : A) × (o ≡ Some x)
+pub there : {A : Type 0} (o : Option A) → is_some o ≡ true → (x : A) × (o ≡ Some x)
 there None h = let never : false ≡ true = h in cc
 there (Some x) h = (x, refl)
 
-there_then : {A B : Type 0} (f : A → Option B) (o : Option A) → is_some (option_and_then f o) ≡ true → (x : A) × ((o ≡ Some x) × (is_some (f x) ≡ true))
+pub there_then : {A B : Type 0} (f : A → Option B) (o : Option A) → is_some (option_and_then f o) ≡ true → (x : A) × ((o ≡ Some x) × (is_some (f x) ≡ true))
 there_then f None h = let never : false ≡ true = h in cc
 there_then f (Some x) h = (x, (refl, h))
 

@@ -1,4 +1,4 @@
--- The definitions and `init` of a well-typed text elaborate.
+-- The equations, definitions and `init` of a well-typed text elaborate.
 use Rattle.std.proofs.Common.{◌≡◌, ℕ, suc, Bool, true, false, not, cond, ◌||◌, List, [], ◌∷◌, ◌++◌, map, refl, sym, ap, ◌∙◌, subst}
 use Rattle.std.specs.Prelude.{Option, Some, None, is_some, option_map}
 use Rattle.std.specs.Option.{option_or}
@@ -7,6 +7,7 @@ use Rattle.std.proofs.lemmas.Grind.{flat_map-append}
 use Rattle.std.proofs.lemmas.Option.{none-some}
 use Rattle.std.proofs.lemmas.List.Folds.{find-append}
 use Rattle.data_theory.specs.Terms.{Sort, list}
+use Rattle.data_theory.specs.Provable.{Equation}
 use Rattle.process_terms.specs.Processes.{Around, Body, Definition}
 use Rattle.sort_table.specs.Expressions.{Name}
 use Rattle.sort_table.specs.NamedLists.{first_named}
@@ -24,13 +25,14 @@ use Rattle.data_typing.proofs.NamedParts.{all_appended}
 use Rattle.sort_checker.specs.FullVocabularies.{FullVocabulary, Written, process_by}
 use Rattle.sort_checker.specs.Operators.{has_comm_fault, renamed_twice}
 use Rattle.sort_checker.specs.Parts.{ScopedPart, ScopedDeclaration, variables_by, scoped_behind, scoped_declarations, parts_of}
-use Rattle.sort_checker.specs.Faults.{unknown_name, is_typed, free_variable, operators_of}
+use Rattle.sort_checker.specs.Faults.{unknown_name, is_typed, free_variable, is_left_variable, has_variable_left, operators_of}
 use Rattle.sort_checker.specs.Refusals.{unknown_in, untyped, free_in, variable_left, comm_shape, rename_twice, first_from, number_from, unknown_fault, untyped_fault, free_fault, left_fault, comm_fault, rename_fault}
-use Rattle.sort_checker.specs.Elaborations.{Elaborates, ElaboratesDefinition}
-use Rattle.sort_checker.specs.Systems.{initial_by}
+use Rattle.sort_checker.specs.Elaborations.{Elaborates, ElaboratesDefinition, WrittenEquation, ElaboratesEquation}
+use Rattle.sort_checker.specs.Systems.{equation_under, initial_by}
 use Rattle.sort_checker.specs.SoundTexts.{IsSoundPart, IsSoundOperator, HaveSorts}
 use Rattle.sort_checker.specs.WholeTexts.{WellTypedTextsElaborate}
 use Rattle.sort_checker.proofs.ScopedLists.{under}
+use Rattle.sort_checker.proofs.TypedEquations.{sound_equation_elaborates}
 use Rattle.sort_checker.proofs.SoundElaborations.{both_true, none_found, no_name, not_false, sound_processes_elaborate, sound_definitions_elaborate}
 
 -- ---- nothing is found
@@ -144,6 +146,59 @@ module _ (v : FullVocabulary) where
     of_initial xs (bare.equation c l r) h k = tt
     of_initial xs (bare.actions as_ es) h k = tt
 
+    of_equation : (xs : Variables) (d : Declaration) → HaveSorts v.declared xs → IsSoundDeclaration v (under xs d) → is_left_variable xs d ≡ false → AllByRecursion (λ (e : WrittenEquation). (q : Equation) × ElaboratesEquation v e q) (equation_under xs d)
+    of_equation xs (bare.equation c l r) sorts h lone = (sound_equation_elaborates v xs c l r sorts h.parts.0 lone, tt)
+    of_equation xs (bare.sorts ns) sorts h _ = tt
+    of_equation xs (bare.alias n e) sorts h _ = tt
+    of_equation xs (bare.struct n cs) sorts h _ = tt
+    of_equation xs (bare.constructors fs es to) sorts h _ = tt
+    of_equation xs (bare.mappings fs es to) sorts h _ = tt
+    of_equation xs (bare.variables ys) sorts h _ = tt
+    of_equation xs (bare.actions as_ es) sorts h _ = tt
+    of_equation xs (bare.process n ys p) sorts h _ = tt
+    of_equation xs (bare.initial p) sorts h _ = tt
+
+    -- the variables of a declaration
+    sorts_by : (d : Declaration) → HasKnownSorts all d → HaveSorts v.declared (variables_by d)
+    sorts_by (bare.variables ys) k = have_sorts ys k
+    sorts_by (bare.sorts ns) k = tt
+    sorts_by (bare.alias n e) k = tt
+    sorts_by (bare.struct n cs) k = tt
+    sorts_by (bare.constructors fs es to) k = tt
+    sorts_by (bare.mappings fs es to) k = tt
+    sorts_by (bare.equation c l r) k = tt
+    sorts_by (bare.actions as_ es) k = tt
+    sorts_by (bare.process n ys p) k = tt
+    sorts_by (bare.initial p) k = tt
+
+    sorts_of_section : (ds more : List Declaration) → AllByRecursion (HasKnownSorts all) (ds ++ more) → HaveSorts v.declared (flat_map variables_by ds) × AllByRecursion (HasKnownSorts all) more
+    sorts_of_section [] more k = (tt, k)
+    sorts_of_section (d ∷ ds) more k =
+        let r = sorts_of_section ds more k.1 in
+        (all_appended (λ (x : Name × SortExpression). (s : Sort) × (sort_in v.declared.sort_names x.1 ≡ Some s)) (variables_by d) (flat_map variables_by ds) (sorts_by d k.0) r.0, r.1)
+
+    abbrev equations_by : ScopedDeclaration → List WrittenEquation
+    equations_by d = equation_under d.variables d.declaration
+
+    equations_of_section : (xs : Variables) → HaveSorts v.declared xs → (ds : List Declaration) (rest : List ScopedDeclaration) → AllByRecursion (IsSoundDeclaration v) (map (under xs) ds ++ rest) → AllByRecursion (λ d. has_variable_left d ≡ false) (map (under xs) ds ++ rest)
+        → (AllByRecursion (λ (e : WrittenEquation). (q : Equation) × ElaboratesEquation v e q) (flat_map equations_by rest)) → AllByRecursion (λ (e : WrittenEquation). (q : Equation) × ElaboratesEquation v e q) (flat_map equations_by (map (under xs) ds ++ rest))
+    equations_of_section xs sorts [] rest h lone more = more
+    equations_of_section xs sorts (d ∷ ds) rest h lone more =
+        all_appended (λ (e : WrittenEquation). (q : Equation) × ElaboratesEquation v e q) (equation_under xs d) (flat_map equations_by (map (under xs) ds ++ rest)) (of_equation xs d sorts h.0 lone.0) (equations_of_section xs sorts ds rest h.1 lone.1 more)
+
+    behind_section : {A : Type 0} (P : A → Type 0) (xs ys : List A) → AllByRecursion P (xs ++ ys) → AllByRecursion P ys
+    behind_section P [] ys h = h
+    behind_section P (x ∷ xs) ys h = behind_section P xs ys h.1
+
+    equations_of_sections : (xs : Variables) → HaveSorts v.declared xs → (ss : List Section) → AllByRecursion (IsSoundDeclaration v) (scoped_behind xs ss) → AllByRecursion (λ d. has_variable_left d ≡ false) (scoped_behind xs ss)
+        → AllByRecursion (HasKnownSorts all) (declarations_in ss) → AllByRecursion (λ (e : WrittenEquation). (q : Equation) × ElaboratesEquation v e q) (flat_map equations_by (scoped_behind xs ss))
+    equations_of_sections xs sorts [] h lone k = tt
+    equations_of_sections xs sorts (s ∷ ss) h lone k =
+        let rest : List ScopedDeclaration = scoped_behind (flat_map variables_by s.declarations) ss in
+        let next = sorts_of_section s.declarations (declarations_in ss) k in
+        equations_of_section xs sorts s.declarations rest h lone
+        (equations_of_sections (flat_map variables_by s.declarations) next.0 ss (behind_section (IsSoundDeclaration v) (map (under xs) s.declarations) rest h) (behind_section (λ d. has_variable_left d ≡ false) (map (under xs) s.declarations) rest lone) next.1)
+
     -- ---- of all
     module _ {A : Type 0} (P : A → Type 0) (by : Declaration → List A)
         (one : (xs : Variables) (d : Declaration) → IsSoundDeclaration v (record { variables = xs; declaration = d }) → HasKnownSorts all d → AllByRecursion P (by d)) where
@@ -181,7 +236,7 @@ none_of_six {A = A} a b c d e f h =
     record { first = one.0; second = two.0; third = three.0; fourth = four.0; fifth = five.0; sixth = six.0 }
 
 pub well_typed_texts_elaborate : WellTypedTextsElaborate
-well_typed_texts_elaborate v ss h w =
+well_typed_texts_elaborate v ss w =
     let all : List Declaration = declarations_in ss in
     let ds : List ScopedDeclaration = scoped_declarations ss in
     let stand : AllStand (under_names all) = declared_names_stand all w.sound.known w.sound.no_cycle in
@@ -196,7 +251,9 @@ well_typed_texts_elaborate v ss h w =
     (nowhere (λ (d : ScopedDeclaration). first_of (free_variable v) (parts_of d)) 1 ds (no_name (λ (r : ℕ × Name). free_in r.0 r.1) (free_fault v ss) none_at.third))
     (no_number (λ (d : ScopedDeclaration). list_any (has_comm_fault v.declared) (operators_of d.declaration)) 1 ds (no_name comm_shape (comm_fault v ss) none_at.fifth))
     (nowhere (λ (d : ScopedDeclaration). first_of renamed_twice (operators_of d.declaration)) 1 ds (no_name (λ (r : ℕ × Name). rename_twice r.0 r.1) (rename_fault ss) none_at.sixth)) in
+    let no_left = no_number has_variable_left 1 ds (no_name variable_left (left_fault ss) none_at.fourth) in
     record {
-      definitions = of_sections v all stand h.declared.sorts (λ (x : Written). (d : Definition) × ElaboratesDefinition v x d) process_by (of_declaration v all stand h.declared.sorts) [] ss sound w.sound.known;
-      initial = of_sections v all stand h.declared.sorts (λ (p : Process). (b : Body) × Elaborates v [] p b) initial_by (of_initial v all stand h.declared.sorts) [] ss sound w.sound.known;
+      equations = equations_of_sections v all stand w.vocabulary.declared.sorts [] tt ss sound no_left w.sound.known;
+      definitions = of_sections v all stand w.vocabulary.declared.sorts (λ (x : Written). (d : Definition) × ElaboratesDefinition v x d) process_by (of_declaration v all stand w.vocabulary.declared.sorts) [] ss sound w.sound.known;
+      initial = of_sections v all stand w.vocabulary.declared.sorts (λ (p : Process). (b : Body) × Elaborates v [] p b) initial_by (of_initial v all stand w.vocabulary.declared.sorts) [] ss sound w.sound.known;
     }

@@ -45,7 +45,7 @@ f_is_one_elaborates = record {
   scope = record { name = codes "y"; number = 0; sort = natural } ∷ record { name = codes "x"; number = 1; sort = natural } ∷ [];
   bounds = record { var = 1; sort = natural } ∷ record { var = 0; sort = natural } ∷ [];
   binds = binds_more refl (contains_nothing 1) (binds_more refl zero_not_one binds_none);
-  sorts = (refl, (refl, tt));
+  sorts = ((λ c. refl), ((λ c. refl), tt));
   sort = natural;
   left = refl;
   right = refl;

@@ -3,7 +3,7 @@ use Rattle.std.specs.Prelude.{◌≡◌, ◌++◌, ℕ, true, false, List, [], �
 use Rattle.std.specs.List.{Contains, AllByRecursion}
 use Rattle.data_theory.specs.Terms.{Sort, boolean, Term, variable, variables_of}
 use Rattle.data_theory.specs.Declarations.{Declares}
-use Rattle.data_theory.specs.Provable.{Equation}
+use Rattle.data_theory.specs.Provable.{Equation, variables_of_equation}
 use Rattle.process_terms.specs.Labels.{Label}
 use Rattle.process_terms.specs.Processes as written
 use Rattle.process_terms.specs.Processes.{Around, Bound, Body, written_delta, written_act, written_cond, written_call, written_around, choice_of, seq_of, merge_of, sums_around, Definition}
@@ -71,13 +71,13 @@ pub record WrittenEquation : Type 0 where
   pub left : Expression
   pub right : Expression
 
--- Each variable in scope has a number, which has its sort in the equation. The left side is no variable, and has all variables of
--- the condition and of the right side.
+-- Each variable in scope has a number. One that occurs has its sort in the equation. The left side is no variable, and has all
+-- variables of the condition and of the right side.
 pub record ElaboratesEquation (v : FullVocabulary) (e : WrittenEquation) (q : Equation) : Type 0 where
   pub scope : Scope
   pub bounds : List Bound
   pub binds : Binds v.declared [] e.variables scope bounds
-  pub sorts : AllByRecursion (λ (x : Bound). Declares q.sorts x.var x.sort) bounds
+  pub sorts : AllByRecursion (λ (x : Bound). Contains (variables_of_equation q) x.var → Declares q.sorts x.var x.sort) bounds
   pub sort : Sort
   pub left : left_side (typing_in v.declared scope e.left) (typing_in v.declared scope e.right) ≡ Some (record { term = q.left; sort = sort })
   pub right : ChecksAs v.declared scope e.right sort q.right

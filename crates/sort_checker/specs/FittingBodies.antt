@@ -28,22 +28,32 @@ IsTermOver g xs s t = (vs : List Sort) → AreSorted vs xs → HasSort g vs t s
 abbrev pub AreTermsOver : Data → List Bound → List Sort → List Term → Type 0
 AreTermsOver g xs ss ts = (vs : List Sort) → AreSorted vs xs → HaveSorts g vs (terms_of ts) ss
 
--- each argument of an action has its sort
-abbrev pub IsLabelOver : Data → List Bound → Label → Type 0
-IsLabelOver g xs m = AllByRecursion (λ (a : Action). AreTermsOver g xs a.sorts a.args) m
+-- an action that is declared, each argument of which has its sort
+abbrev pub IsActionOver : FullVocabulary → List Bound → Action → Type 0
+IsActionOver v xs a = Contains v.declared.actions (a.name, a.sorts) × AreTermsOver v.declared.tables xs a.sorts a.args
 
--- Terms have the sorts of their places, each call has one argument for each parameter, no variable stands outside its scope, and a
--- sum takes a number that isn't in scope.
-abbrev pub BodyFits : Data → List (List Sort) → List Bound → Body → Type 0
-BodyFits g ps xs written_delta = Unit {0}
-BodyFits g ps xs (written_act m) = IsLabelOver g xs m
-BodyFits g ps xs (written_choice p q) = BodyFits g ps xs p × BodyFits g ps xs q
-BodyFits g ps xs (written_seq p q) = BodyFits g ps xs p × BodyFits g ps xs q
-BodyFits g ps xs (written_cond c p q) = IsTermOver g xs boolean c × BodyFits g ps xs p × BodyFits g ps xs q
-BodyFits g ps xs (written_sum x p) = IsSort g x.sort × ¬ (Contains (map (λ (y : Bound). y.var) xs) x.var) × BodyFits g ps (x ∷ xs) p
-BodyFits g ps xs (written_call k ts) = (ss : List Sort) × (slice_get ps k ≡ Some ss) × AreTermsOver g xs ss ts
-BodyFits g ps xs (written_merge p q) = BodyFits g ps xs p × BodyFits g ps xs q
-BodyFits g ps xs (written_around o p) = BodyFits g ps xs p
+abbrev pub IsLabelOver : FullVocabulary → List Bound → Label → Type 0
+IsLabelOver v xs m = AllByRecursion (IsActionOver v xs) m
+
+abbrev pub parameter_sorts : Name × Parameters → List Sort
+parameter_sorts p = map (λ (x : Name × Sort). x.1) p.1
+
+-- the sorts of each process's parameters
+abbrev pub process_sorts : FullVocabulary → List (List Sort)
+process_sorts v = map parameter_sorts v.processes
+
+-- Terms have the sorts of their places, actions are declared, each call has one argument for each parameter, no variable stands
+-- outside its scope, and a sum takes a number that isn't in scope.
+abbrev pub BodyFits : FullVocabulary → List Bound → Body → Type 0
+BodyFits v xs written_delta = Unit {0}
+BodyFits v xs (written_act m) = IsLabelOver v xs m
+BodyFits v xs (written_choice p q) = BodyFits v xs p × BodyFits v xs q
+BodyFits v xs (written_seq p q) = BodyFits v xs p × BodyFits v xs q
+BodyFits v xs (written_cond c p q) = IsTermOver v.declared.tables xs boolean c × BodyFits v xs p × BodyFits v xs q
+BodyFits v xs (written_sum x p) = IsSort v.declared.tables x.sort × ¬ (Contains (map (λ (y : Bound). y.var) xs) x.var) × BodyFits v (x ∷ xs) p
+BodyFits v xs (written_call k ts) = (ss : List Sort) × (slice_get (process_sorts v) k ≡ Some ss) × AreTermsOver v.declared.tables xs ss ts
+BodyFits v xs (written_merge p q) = BodyFits v xs p × BodyFits v xs q
+BodyFits v xs (written_around o p) = BodyFits v xs p
 
 -- ---- what the laws ask
 -- functions' numbers and all sorts are those of the tables
@@ -93,24 +103,17 @@ bounds_of scope = map (λ (b : meanings.Bound). record { var = b.number; sort = 
 abbrev pub HasSorts : FullVocabulary → Scope → Type 0
 HasSorts v scope = AllByRecursion (λ (b : meanings.Bound). IsSort v.declared.tables b.sort) scope
 
-abbrev pub parameter_sorts : Name × Parameters → List Sort
-parameter_sorts p = map (λ (x : Name × Sort). x.1) p.1
-
--- the sorts of each process's parameters
-abbrev pub process_sorts : FullVocabulary → List (List Sort)
-process_sorts v = map parameter_sorts v.processes
-
 -- ---- laws; numerals are at most 2^128 - 1
 abbrev pub WhatElaboratesFits : Type 0
 WhatElaboratesFits =
     (v : FullVocabulary) → IsOverSorts v → (scope : Scope) → HasSorts v scope
-    → (p : Process) (b : Body) → EachExpression HasSmallNumerals p → Elaborates v scope p b → BodyFits v.declared.tables (process_sorts v) (bounds_of scope) b
+    → (p : Process) (b : Body) → EachExpression HasSmallNumerals p → Elaborates v scope p b → BodyFits v (bounds_of scope) b
 
 -- a definition's body is over its parameters
 abbrev pub DefinitionsFit : Type 0
 DefinitionsFit =
     (v : FullVocabulary) → IsOverSorts v → (w : Written) (d : Definition) → EachExpression HasSmallNumerals w.body
-    → (h : ElaboratesDefinition v w d) → BodyFits v.declared.tables (process_sorts v) (bounds_of h.scope) d.body
+    → (h : ElaboratesDefinition v w d) → BodyFits v (bounds_of h.scope) d.body
 
 -- both sides of an equation have one sort, and its condition is a truth value
 abbrev pub EquationsFit : Type 0

@@ -2,9 +2,11 @@
 use Rattle.std.specs.Prelude.{◌≡◌, ℕ, zero, suc, cond, List, [], ◌∷◌, Option, Some, None, option_map, option_and_then, bytes_eq}
 use Rattle.std.specs.List.{flat_map}
 use Rattle.data_theory.specs.Terms.{Sort}
+use Rattle.data_theory.specs.Signature.{Sig}
 use Rattle.sort_table.specs.Expressions.{Name}
 use Rattle.sort_table.specs.BareProcesses.{Variables, Process}
-use Rattle.sort_table.specs.BareDeclarations.{Declaration, process}
+use Rattle.sort_table.specs.BareDeclarations.{Declaration, process, Section, declarations_in}
+use Rattle.sort_table.specs.SignatureVocabularies.{vocabulary_of}
 use Rattle.sort_table.specs.SortMeanings.{under_names}
 use Rattle.sort_table.specs.Vocabularies.{Vocabulary, sort_in, EachPair, IsVocabularyOf}
 
@@ -52,3 +54,8 @@ pub record IsEntry (v : Vocabulary) (w : Written) (e : Name × Parameters) : Typ
 pub record IsFullVocabularyOf (ds : List Declaration) (v : FullVocabulary) : Type 0 where
   pub declared : IsVocabularyOf (under_names ds) v.declared
   pub processes : EachPair (IsEntry v.declared) (processes_in ds) v.processes
+
+-- sorts, functions and actions are those of a signature, and the processes those of a text
+pub record IsOver (g : Sig) (ss : List Section) (v : FullVocabulary) : Type 0 where
+  pub declared : v.declared ≡ vocabulary_of g
+  pub processes : EachPair (IsEntry v.declared) (processes_in (declarations_in ss)) v.processes

@@ -3,10 +3,10 @@ use Rattle.std.specs.Prelude.{◌≡◌, ℕ, suc, Bool, not, cond, List, [], �
 use Rattle.std.specs.Option.{option_or}
 use Rattle.std.specs.List.{list_any, list_all}
 use Rattle.sort_table.specs.Expressions.{Name}
-use Rattle.sort_table.specs.BareDeclarations.{Section}
+use Rattle.sort_table.specs.BareDeclarations.{Section, declarations_in}
 use Rattle.sort_table.specs.Refusals.{IsSoundlyDeclared}
 use Rattle.data_typing.specs.Typings.{first_of}
-use Rattle.sort_checker.specs.FullVocabularies.{FullVocabulary}
+use Rattle.sort_checker.specs.FullVocabularies.{FullVocabulary, IsFullVocabularyOf}
 use Rattle.sort_checker.specs.Operators.{renamed_twice, has_comm_fault}
 use Rattle.sort_checker.specs.Parts.{ScopedDeclaration, scoped_declarations, parts_of}
 use Rattle.sort_checker.specs.Faults.{unknown_name, is_typed, free_variable, has_variable_left, operators_of}
@@ -61,13 +61,15 @@ type_fault v ss =
     ∷ option_map (λ (r : ℕ × Name). rename_twice r.0 r.1) (rename_fault ss)
     ∷ [])
 
--- a text whose declarations are sound is refused with this fault
+-- a text whose declarations are sound is refused with this fault, over a vocabulary of it
 pub record IsRefusedWith (v : FullVocabulary) (ss : List Section) (fault : TypeFault) : Type 0 where
+  pub vocabulary : IsFullVocabularyOf (declarations_in ss) v
   pub sound : IsSoundlyDeclared ss
   pub first : type_fault v ss ≡ Some fault
 
 -- none of the conditions holds, from 8 to 17
 pub record IsWellTyped (v : FullVocabulary) (ss : List Section) : Type 0 where
+  pub vocabulary : IsFullVocabularyOf (declarations_in ss) v
   pub sound : IsSoundlyDeclared ss
   pub no_fault : type_fault v ss ≡ None
 

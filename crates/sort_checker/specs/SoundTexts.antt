@@ -1,18 +1,19 @@
 -- What has no fault elaborates.
-use Rattle.std.specs.Prelude.{◌≡◌, true, false, Some, None}
+use Rattle.std.specs.Prelude.{◌≡◌, true, false, Option, Some, None}
 use Rattle.std.specs.List.{AllByRecursion}
 use Rattle.data_theory.specs.Terms.{Sort}
+use Rattle.data_theory.specs.Provable.{Equation}
 use Rattle.process_terms.specs.Processes.{Around, Body, Definition}
-use Rattle.sort_table.specs.Expressions.{Name}
+use Rattle.sort_table.specs.Expressions.{Name, Expression}
 use Rattle.sort_table.specs.BareSorts.{SortExpression}
 use Rattle.sort_table.specs.BareProcesses.{Variables, Process, sums_in}
 use Rattle.sort_table.specs.Vocabularies.{Vocabulary, sort_in}
 use Rattle.sort_checker.specs.FullVocabularies.{FullVocabulary, Written}
 use Rattle.sort_checker.specs.Operators.{operators_in, renamed_twice, has_comm_fault}
-use Rattle.sort_checker.specs.Parts.{ScopedPart, parts_in}
+use Rattle.sort_checker.specs.Parts.{an_equation, ScopedPart, scoped, parts_in}
 use Rattle.sort_checker.specs.Scopes.{scope_of}
-use Rattle.sort_checker.specs.Faults.{unknown_name, is_typed, free_variable}
-use Rattle.sort_checker.specs.Elaborations.{Elaborates, ElaboratesDefinition}
+use Rattle.sort_checker.specs.Faults.{unknown_name, is_typed, free_variable, is_variable}
+use Rattle.sort_checker.specs.Elaborations.{Elaborates, ElaboratesDefinition, WrittenEquation, ElaboratesEquation}
 
 -- none of the faults 12 to 14
 pub record IsSoundPart (v : FullVocabulary) (p : ScopedPart) : Type 0 where
@@ -44,3 +45,9 @@ SoundDefinitionsElaborate = (v : FullVocabulary) (w : Written) → HaveSorts v.d
 -- and what elaborates has none
 abbrev pub ElaboratedProcessesAreSound : Type 0
 ElaboratedProcessesAreSound = (v : FullVocabulary) (xs : Variables) (p : Process) (b : Body) → Elaborates v (scope_of v.declared xs) p b → IsSoundProcess v xs p
+
+-- an equation that elaborates has none, and its left side is no variable
+abbrev pub ElaboratedEquationsAreSound : Type 0
+ElaboratedEquationsAreSound =
+    (v : FullVocabulary) (xs : Variables) (c : Option Expression) (l r : Expression) (q : Equation) → ElaboratesEquation v (record { variables = xs; condition = c; left = l; right = r }) q
+    → IsSoundPart v (scoped xs (an_equation c l r)) × (is_variable xs l ≡ false)

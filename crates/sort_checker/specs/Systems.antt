@@ -7,7 +7,7 @@ use Rattle.sort_table.specs.BareProcesses as bare
 use Rattle.sort_table.specs.BareProcesses.{Variables}
 use Rattle.sort_table.specs.BareDeclarations.{Declaration, equation, initial, Section, declarations_in}
 use Rattle.sort_table.specs.Vocabularies.{EachPair}
-use Rattle.sort_checker.specs.FullVocabularies.{FullVocabulary, processes_in, IsFullVocabularyOf}
+use Rattle.sort_checker.specs.FullVocabularies.{FullVocabulary, processes_in}
 use Rattle.sort_checker.specs.Parts.{ScopedDeclaration, scoped_declarations}
 use Rattle.sort_checker.specs.Elaborations.{Elaborates, ElaboratesDefinition, WrittenEquation, ElaboratesEquation}
 use Rattle.sort_checker.specs.Refusals.{IsWellTyped}
@@ -26,7 +26,6 @@ initial_by _ = []
 -- Over a vocabulary of a well-typed text, its equations are those of the theory, its definitions the table, and its one `init` under
 -- that table is the process.
 pub record IsSystem (ss : List Section) (v : FullVocabulary) (th : Theory) (p : Process) : Type 0 where
-  pub vocabulary : IsFullVocabularyOf (declarations_in ss) v
   pub well_typed : IsWellTyped v ss
   pub data_of : th.declared ≡ v.declared.tables
   pub equations : EachPair (ElaboratesEquation v) (equations_in ss) th.equations

@@ -7,7 +7,7 @@ ghost use Rattle.sort_checker.specs.ScopeLaws.{TypingsAreRenamed, TypingNeedsNoN
 ghost use Rattle.sort_checker.specs.ClosingLaws.{ElaborationsCloseAlike};
 ghost use Rattle.sort_checker.specs.FittingBodies.{WhatElaboratesFits, DefinitionsFit, EquationsFit};
 ghost use Rattle.sort_checker.specs.GrowthLaws.{ProcessesStayAlike, DefinitionsStayAlike, EquationsStayAlike};
-ghost use Rattle.sort_checker.specs.SoundTexts.{SoundProcessesElaborate, SoundDefinitionsElaborate, ElaboratedProcessesAreSound};
+ghost use Rattle.sort_checker.specs.SoundTexts.{SoundProcessesElaborate, SoundDefinitionsElaborate, ElaboratedProcessesAreSound, ElaboratedEquationsAreSound};
 ghost use Rattle.sort_checker.specs.WholeTexts.{WellTypedTextsElaborate};
 ghost use Rattle.sort_checker.specs.WorkedFaults.{TheseHaveFaults};
 ghost use Rattle.sort_checker.specs.WorkedElaborations.{TheseElaborate};
@@ -74,12 +74,13 @@ pub fn what_has_no_fault_elaborates()
     ensures definitions { SoundDefinitionsElaborate }
 {}
 
-/// A process term that elaborates has no fault.
+/// What elaborates has no fault: process terms and equations.
 pub fn what_elaborates_has_no_fault()
-    ensures { ElaboratedProcessesAreSound }
+    ensures processes { ElaboratedProcessesAreSound }
+    ensures equations { ElaboratedEquationsAreSound }
 {}
 
-/// The definitions and `init` of a well-typed text elaborate.
+/// The equations, definitions and `init` of a well-typed text elaborate.
 pub fn well_typed_texts_elaborate()
     ensures { WellTypedTextsElaborate }
 {}

@@ -40,7 +40,7 @@ pub fn variable_left<'a>(alloc: Global, spec: &'a Spec) -> Result<Option<usize>,
 }
 
 /// The number behind those of some declarations.
-fn number_behind(number: usize, count: usize) -> Result<usize, NoMemory>
+pub(crate) fn number_behind(number: usize, count: usize) -> Result<usize, NoMemory>
     ensures { IfOk result (λ sum. sum ≡ number + count) }
 {
     match number.checked_add(count) {
@@ -177,7 +177,7 @@ fn add_groups<'a>(names: &mut NameNumbers<'a>, groups: &'a [VarGroup]) -> Result
 }
 
 /// Adds names.
-fn add_words<'a>(names: &mut NameNumbers<'a>, words: &'a [Word]) -> Result<(), NoMemory>
+pub(crate) fn add_words<'a>(names: &mut NameNumbers<'a>, words: &'a [Word]) -> Result<(), NoMemory>
     ensures { OnOk result (AddsNames names.old names.new (names_of_words words.now)) }
 {
     for word in words {
