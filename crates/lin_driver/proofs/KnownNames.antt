@@ -1,5 +1,5 @@
 -- Names by an index that finds the place of each of them.
-use Rattle.std.proofs.Common.{◌≡◌, ℕ, List, [], ◌∷◌, ◌++◌, ◌<◌, ◌≤◌, Bool, true, false, cond, Option, None, Some, length, get_or, map, refl, sym, ap, ◌∙◌, subst, arith, position, nat_lt}
+use Rattle.std.proofs.Common.{◌≡◌, ℕ, List, ◌<◌, ◌≤◌, Bool, true, false, cond, None, Some, length, get_or, map, refl, sym, ap, ◌∙◌, arith, position, nat_lt}
 use Rattle.std.specs.Prelude.{slice_get, is_some, option_map, bytes_eq, Contains}
 use Rattle.std.specs.List.{position_or_len}
 use Rattle.std.specs.BTreeMap.{BTreeMap}
@@ -9,7 +9,6 @@ use Rattle.std.proofs.lemmas.List.Sums.{position_or_len_is, fails_before_first}
 use Rattle.std.proofs.lemmas.Slice.Eq.{bytes_eq-Decides}
 use denote.Ref.{Bor}
 use Rattle.data_theory.specs.Places.{HaveOnePlace}
-use Rattle.data_theory.proofs.PlaceLemmas.{contains_read}
 use Rattle.process_terms.specs.Names.{Name}
 use Rattle.lin_driver.specs.Naming.{is_among}
 use Rattle.lin_driver.specs.NamePlaces.{place_under}

@@ -8,7 +8,6 @@ use Rattle.mcrl2_syntax.specs.declared.word.Span.{Span}
 use Rattle.mcrl2_syntax.specs.declared.declaration.Decl.{Decl}
 use Rattle.mcrl2_syntax.specs.declared.declaration.Section.{Section}
 use Rattle.mcrl2_syntax.specs.declared.declaration.SectionWord.{SectionWord}
-use Rattle.mcrl2_syntax.specs.Words.{span_of}
 use Rattle.mcrl2_syntax.specs.Declarations.{PlainDecl, PlainSection, PlainSpec, plain_decl, section_of}
 use Rattle.mcrl2_syntax.specs.SpelledDeclarations.{section_word, IsInside, SpellsDecls, no_decls, more_decls, SpellsSections, no_sections, more_sections, SpellsSpec}
 use Rattle.mcrl2_parser.specs.Sections.{is_semicolon, declarations_in, lengthened, with_last, Built, having, past, past_all, Placed, begin_at, begin_in, put_in}
@@ -76,12 +75,6 @@ nothing_filled tokens = record {
 }
 
 -- ---- up to the next `;`
-pub begun_there : (token : Token) (tokens : List Token) (sections : List PlainSection) → section_word token.kind ≡ None → is_semicolon token.kind ≡ true
-    → begin_in (token ∷ tokens) sections ≡ record { rest = tokens; sections = sections }
-begun_there token tokens sections e f =
-    ap (λ (o : Option SectionWord). begin_at o (is_semicolon token.kind) token tokens sections (begin_in tokens)) e
-    ∙ ap (λ (b : Bool). begin_at None b token tokens sections (begin_in tokens)) f
-
 -- a declaration goes where the next `;` stands, or there is none, and then no token is left
 data GoesOn (tree : PlainDecl) (tokens : List Token) (sections : List PlainSection) (begun : Placed) : Type 0 where
   there : ((left : List PlainDecl) → past_all tokens (record { sections = sections; left = tree ∷ left }) ≡ past_all begun.rest (record { sections = with_last tree begun.sections; left = left }))

@@ -17,7 +17,7 @@ loop-index-init c = (rw c.new-sections.ensures.items (none_read c.args.text.now 
 pub loop-index-preserved : goal.loop-index-preserved
 loop-index-preserved c = (
   one_read c.args.list.now c.loop-index.index _ _ c.loop-index.rest.now (map section_of c.loop-index.sections.items) (record { rest = c.in_ok-rest.rest.now; sections = map section_of c.put_next.new.sections.items })
-  c.loop-index-test.true c.loop-index.invariant.0 c.in_ok-tree.ensures.spelled c.in_ok-rest.ensures,
+      c.loop-index-test.true c.loop-index.invariant.0 c.in_ok-tree.ensures.spelled c.in_ok-rest.ensures,
   one_more c.args.text.now c.args.tokens.now c.args.list.now c.loop-index.index _ c.loop-index-test.true c.loop-index.invariant.1 c.in_ok-tree.ensures.sound,
 )
 
