@@ -21,14 +21,12 @@ use Rattle.sort_table.specs.BareDeclarations.{Declaration, sorts, alias, struct,
 use Rattle.sort_table.specs.NamedLists.{first_named}
 use Rattle.sort_table.specs.SortMeanings.{Kind, actions_by, actions_in}
 use Rattle.sort_table.specs.DeclarationTrees.{declaration_of, declarations_under}
-use Rattle.sort_table.specs.NamedSorts.{AddsLists, no_lists, one_list, AreIdsOf, ReadsSorts}
+use Rattle.sort_table.specs.NamedSorts.{AreIdsOf, ReadsSorts}
 use Rattle.sort_table.specs.EnteredFunctions.{HasSortOf, HaveSortsOf, IsNameId, IsKnownName, IsReadable, Keeps}
 use Rattle.sort_table.specs.EnteredActions.{no_actions, IsActionAs, ComeNext, no_actions_left, one_there, one_next, AddsActions, EntersAct, was_there, is_new, actions_named, IsReadyAction}
 use Rattle.sort_table.proofs.Growing.{pairs_with}
-use Rattle.sort_table.proofs.KeptFunctions.{keeps_all, keeps_then, lists_keep, has_sort_kept, name_kept, known_kept, named_kept, all_with}
-use Rattle.sort_table.proofs.EnteringFunctions.{same_declared}
+use Rattle.sort_table.proofs.KeptFunctions.{keeps_all, keeps_then, has_sort_kept, name_kept, known_kept, all_with}
 use Rattle.mcrl2_syntax.proofs.Lists.{all_back}
-use Rattle.sort_table.proofs.AddedStructs.{sorts_with_lists}
 use Rattle.sort_table.proofs.AddedDeclarations.{split_declarations, more_declarations}
 
 -- ---- what doesn't hang on the actions
@@ -64,7 +62,7 @@ pub no_acts : (g : Sig) → AddsActions [] g g
 no_acts g = record {
   keeps = keeps_all (no_actions g);
   declared = refl;
-  sorts = λ s t at. at;
+  sorts = refl;
   added = [];
   behind = sym (append-nil g.actions);
   in_order = no_actions_left g.actions;
@@ -74,39 +72,10 @@ pub acts_then : (g h k : Sig) (new more : List (Name × List SortExpression)) �
 acts_then g h k new more a b = record {
   keeps = keeps_then (no_actions g) (no_actions h) (no_actions k) a.keeps b.keeps;
   declared = b.declared ∙ a.declared;
-  sorts = λ s t at. b.sorts s t (a.sorts s t at);
+  sorts = b.sorts ∙ a.sorts;
   added = a.added ++ b.added;
   behind = b.behind ∙ (ap (λ ks. ks ++ b.added) a.behind ∙ append_assoc g.actions a.added b.added);
   in_order = come_then k g.actions new more a.added b.added (come_later h k b.keeps g.actions new a.added a.in_order) (subst (λ ks. ComeNext k ks more b.added) a.behind b.in_order);
-}
-
--- ---- list sorts
-same_acts : (g h : Sig) → AddsLists g h → h.actions ≡ g.actions
-same_acts g _ no_lists = refl
-same_acts g _ (one_list h e l absent a) = same_acts g h a
-
-but_actions : (g h : Sig) → Keeps g h → Keeps (no_actions g) (no_actions h)
-but_actions g h k = record {
-  texts = k.texts;
-  taken = k.taken;
-  variables = k.variables;
-  actions = refl;
-  names = k.names;
-  count = k.count;
-  sorts = k.sorts;
-  functions = k.functions;
-  free = k.free;
-  constructs = k.constructs;
-}
-
-pub lists_add_no_acts : (g h : Sig) → IsSignature g → AddsLists g h → AddsActions [] g h
-lists_add_no_acts g h stands lists = record {
-  keeps = but_actions g h (lists_keep g h stands lists);
-  declared = same_declared g h lists;
-  sorts = sorts_with_lists g h lists;
-  added = [];
-  behind = same_acts g h lists ∙ sym (append-nil g.actions);
-  in_order = no_actions_left g.actions;
 }
 
 -- ---- one action
@@ -129,7 +98,7 @@ pub act_adds : (g h : Sig) (n : Name) (es : List SortExpression) (ss : List Sort
 act_adds g _ n es ss have (was_there i at among) = record {
   keeps = keeps_all (no_actions g);
   declared = refl;
-  sorts = λ s t at. at;
+  sorts = refl;
   added = [];
   behind = sym (append-nil g.actions);
   in_order = one_there g.actions n es (key i ss) [] [] among (record { name = at; sorts = have }) (no_actions_left g.actions);
@@ -137,7 +106,7 @@ act_adds g _ n es ss have (was_there i at among) = record {
 act_adds g _ n es ss have (is_new i at) = record {
   keeps = keeps_all (no_actions g);
   declared = refl;
-  sorts = λ s t here. here;
+  sorts = refl;
   added = key i ss ∷ [];
   behind = refl;
   in_order = one_next g.actions n es (key i ss) [] [] (record { name = at; sorts = have_still }) (no_actions_left (g.actions ++ key i ss ∷ []));
@@ -160,7 +129,7 @@ next_acts old g h ws ss i w l same enters es have adds =
 
 -- ---- declarations
 readable_later : (g h : Sig) → Keeps (no_actions g) (no_actions h) → (e : SortExpression) → IsReadable g e → IsReadable h e
-readable_later g h keeps e is = λ n leaf. named_kept (no_actions g) (no_actions h) keeps n (is n leaf)
+readable_later g h keeps e is = (is.0, from_these h [] e is.0 (has_sort_kept (no_actions g) (no_actions h) keeps e is.0 (to_these g [] e is.0 is.1)))
 
 pub ready_act_kept : (g h : Sig) → Keeps (no_actions g) (no_actions h) → (d : Declaration) → IsReadyAction g d → IsReadyAction h d
 ready_act_kept g h keeps (actions as_ es) is = (all_with (IsKnownName g) (IsKnownName h) (known_later g h keeps) as_ is.0, all_with (IsReadable g) (IsReadable h) (readable_later g h keeps) es is.1)

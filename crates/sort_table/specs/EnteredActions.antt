@@ -11,7 +11,6 @@ use Rattle.sort_table.specs.BareSorts.{SortExpression}
 use Rattle.sort_table.specs.BareDeclarations.{Declaration, actions}
 use Rattle.sort_table.specs.NamedFunctions.{names_of}
 use Rattle.sort_table.specs.EnteredFunctions.{HaveSortsOf, IsNameId, IsReadable, IsKnownName, Keeps}
-use Rattle.sort_table.specs.FunctionStates.{KeepsSorts}
 
 -- the signature without its actions
 abbrev pub no_actions : Sig → Sig
@@ -32,7 +31,7 @@ pub data ComeNext (g : Sig) : List Key → List (Name × List SortExpression) �
 pub record AddsActions (new : List (Name × List SortExpression)) (g h : Sig) : Type 0 where
   pub keeps : Keeps (no_actions g) (no_actions h)
   pub declared : h.declared ≡ g.declared
-  pub sorts : KeepsSorts g h
+  pub sorts : h.sorts ≡ g.sorts
   pub added : List Key
   pub behind : h.actions ≡ g.actions ++ added
   pub in_order : ComeNext h g.actions new added
