@@ -17,6 +17,7 @@ use Rattle.data_theory.specs.IdData.{data_meant}
 use Rattle.data_theory.specs.IdTrees.{Tree}
 use Rattle.data_theory.specs.IdTerms.{symbol_under}
 use Rattle.data_theory.proofs.IdSymbolLemmas.{different_functions_mean_different_symbols}
+use Rattle.data_rewriter.specs.declared.rights.Right.TheVariants.{Truth}
 use Rattle.data_rewriter.specs.declared.rights.Line.{Line}
 use Rattle.data_rewriter.specs.declared.signs.Equals.TheVariants.{Other}
 use Rattle.data_rewriter.specs.Standing.{IsSymbolOf}
@@ -251,3 +252,26 @@ made_number e = ap number_of (ap symbol_of e)
 
 pub made_by : (sig : Sig) (f h : FunId) (m k : ℕ) → IsSymbolOf sig f (function m) → IsSymbolOf sig h (function k) → f ≡ h → m ≡ k
 made_by sig f h m k a b e = ap number_of (sym a.is ∙ (ap (symbol_under sig) e ∙ b.is))
+
+pub same_decided : (sig : Sig) (ts : List Tree) (a : Sort) (t u : Term) → t ≡ u → (o : Option Line) → o ≡ Some (record { number = 16; above_zero = None; right = Truth true }) → IsFirstLine sig ts (equals a t u) o
+same_decided sig ts a t u e o is = subst (IsFirstLine sig ts (equals a t u)) (sym is) (record
+    { condition = trueᵗ
+    ; right = trueᵗ
+    ; matches_there = same_there (data_meant sig) a t u e
+    ; condition_is = refl
+    ; right_is = refl
+    ; none_before = λ i c r l b. not_before i b.0 b.1 l })
+  where
+    not_before : {g : Data} {a : Sort} {x y c r : Term} (i : ℕ) (b : BuiltIn g c (equals a x y) r) → place_of b ≡ Some i → i < 16 → ⊥
+    not_before i equal_itself e l = let n = number_is e in omega (arith, n, l)
+    not_before i equal_commutes e l = no_number e
+    not_before i equal_true e l = let n = number_is e in omega (arith, n, l)
+    not_before i true_equal e l = let n = number_is e in omega (arith, n, l)
+    not_before i equal_false e l = let n = number_is e in omega (arith, n, l)
+    not_before i false_equal e l = let n = number_is e in omega (arith, n, l)
+    not_before i equal_numerals e l = let n = number_is e in omega (arith, n, l)
+    not_before i empty_equal_cons e l = let n = number_is e in omega (arith, n, l)
+    not_before i cons_equal_empty e l = let n = number_is e in omega (arith, n, l)
+    not_before i cons_equal_cons e l = let n = number_is e in omega (arith, n, l)
+    not_before i (different_constructors k p q m) e l = let n = number_is e in omega (arith, n, l)
+    not_before i (same_constructor k p) e l = let n = number_is e in omega (arith, n, l)

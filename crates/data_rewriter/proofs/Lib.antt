@@ -6,3 +6,4 @@ pub mod NumberSorts
 pub mod ListClauses
 pub mod EqualClauses
 pub mod ViewLemmas
+pub mod Arities

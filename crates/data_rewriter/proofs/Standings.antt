@@ -1,26 +1,28 @@
 -- Ids that stand for terms, and pools that grow.
-use Rattle.std.proofs.Common.{◌≡◌, ℕ, ◌<◌, List, [], ◌∷◌, ◌++◌, length, map, refl, sym, ap, ◌∙◌, subst, arith, length-append, Bool, true, false, cond}
-use Rattle.std.specs.Prelude.{ℤ, pos, ◌&&◌, ◌||◌}
+use Rattle.std.proofs.Common.{◌≡◌, ℕ, zero, suc, ◌<◌, ◌≤◌, get_or, List, [], ◌∷◌, ◌++◌, length, map, refl, sym, ap, ◌∙◌, subst, arith, length-append, Bool, true, false, cond}
+use Rattle.std.specs.Prelude.{◌↔◌, ℤ, pos, ◌&&◌, ◌||◌}
 use Rattle.std.proofs.lemmas.Option.{slice_get_within}
 use lib.Signed.{lt_z}
 use lib.IntN.{neg_ℤ}
 use Rattle.data_theory.specs.Table.{pos_sort, nat_sort, int_sort}
 use Rattle.std.specs.List.{All}
-use Rattle.std.proofs.lemmas.List.{get_or_append_left}
+use Rattle.std.proofs.lemmas.List.{get_or_append_left, get_or_default}
 use Rattle.std.proofs.lemmas.List.Elements.{All-nil, All-cons, All-head, All-tail, All-weaker}
 use Rattle.data_theory.specs.declared.ids.TermId.{TermId}
 use Rattle.data_theory.specs.declared.ids.FunId.{FunId}
 use Rattle.data_theory.specs.Terms as terms
+use Rattle.data_theory.specs.Equations as equations
+use Rattle.data_theory.specs.Whole.{whole_of}
 use Rattle.data_theory.specs.Terms.{Symbol, Term, Terms, application, apply}
 use Rattle.data_theory.specs.Signature.{Sig}
 use Rattle.data_theory.specs.IdTables.{IsTable}
 use Rattle.data_theory.specs.IdTrees.{Tree, Trees, variable, numeral, function, none, more, trees_of, is_over, is_minus, apply_tree}
 use Rattle.data_theory.specs.IdTerms.{term_under, terms_under, symbol_under, IsTreeWithin, AreTreesWithin}
-use Rattle.data_theory.proofs.IdTermLemmas.{merging_trees_merges_terms}
+use Rattle.data_theory.proofs.IdTermLemmas.{merging_trees_merges_terms, different_trees_mean_different_terms}
 use Rattle.term_pool.specs.declared.terms.Head.{Head}
 use Rattle.term_pool.specs.declared.terms.Head.TheVariants.{Var, Num as Number, Fun}
 use Rattle.term_pool.specs.HeadTrees.{no_tree, written_tree, head_tree, tree_at, trees_at, IsIn, AreIn}
-use Rattle.term_pool.specs.Pools.{Extends}
+use Rattle.term_pool.specs.Pools.{Extends, AreDistinct}
 use Rattle.term_pool.proofs.NodeTrees.{stays_in, tree_kept}
 use Rattle.data_rewriter.specs.Standing.{IsTerm, StandsFor, IsSymbolOf, term_at, listed_at, terms_of}
 
@@ -112,3 +114,38 @@ module _ (sig : Sig) (old new : List Tree) (id : TermId) where
 
   pub called_two : (x y : TermId) (z : Symbol) (t u : Term) → StandsFor sig old x t → StandsFor sig old y u → (All (IsTerm sig old) (x ∷ y ∷ []) → StandsFor sig new id (apply z (terms_of (listed_at sig old (x ∷ y ∷ []))))) → StandsFor sig new id (apply z (terms.more t (terms.more u terms.none)))
   called_two x y z t u h k made = let a = two_arguments sig old x y t u h k in subst (λ us. StandsFor sig new id (apply z us)) a.1 (made a.0)
+
+-- ---- the argument at a place
+module _ (sig : Sig) (ts : List Tree) where
+  pub arguments_are : (t : TermId) (h : Head) (ids : List TermId) (y : Symbol) (us : Terms) → tree_at ts t ≡ written_tree h (trees_at ts ids) → term_at sig ts t ≡ application y us → us ≡ terms_of (listed_at sig ts ids)
+  arguments_are t (Var v) ids y us e is = absurd (let a : terms.variable v.0 ≡ application y us = ap (term_under sig) (sym e) ∙ is in cc)
+  arguments_are t (Number s n) ids y us e is = absurd (let a : term_under sig (numeral s (whole_of n)) ≡ application y us = ap (term_under sig) (sym e) ∙ is in cc)
+  arguments_are t (Fun f) ids y us e is =
+      let a : application y us ≡ application (symbol_under sig f) (terms_of (listed_at sig ts ids)) = sym is ∙ application_at sig ts t f ids e in
+      arguments_in a
+    where
+      arguments_in : {f g : Symbol} {us vs : Terms} → application f us ≡ application g vs → us ≡ vs
+      arguments_in e = cc
+
+  pub at_place : (ids : List TermId) (k : ℕ) (id : TermId) → k < length ids → id ≡ get_or ids k id → All (IsTerm sig ts) ids → StandsFor sig ts id (equations.term_at (terms_of (listed_at sig ts ids)) k)
+  at_place [] k id l e h = absurd (omega (arith, l))
+  at_place (a ∷ ids) zero id l e h = subst (λ x. StandsFor sig ts x (term_at sig ts a)) (sym e) (record { term = All-head (IsTerm sig ts) a ids h; is = refl })
+  at_place (a ∷ ids) (suc k) id l e h = at_place ids k id (omega (arith, l)) e (All-tail (IsTerm sig ts) a ids h)
+
+  pub past_places : (ids : List TermId) (k : ℕ) → length ids ≤ k → equations.term_at (terms_of (listed_at sig ts ids)) k ≡ equations.trueᵗ
+  past_places [] k l = refl
+  past_places (a ∷ ids) zero l = absurd (omega (arith, l))
+  past_places (a ∷ ids) (suc k) l = past_places ids k (omega (arith, l))
+
+  pub all_arguments : (t : TermId) (h : Head) (ids : List TermId) (y : Symbol) (us : Terms) → tree_at ts t ≡ written_tree h (trees_at ts ids) → All (λ (a : TermId). a.0 < t.0) ids → IsTerm sig ts t → term_at sig ts t ≡ application y us → All (IsTerm sig ts) ids
+  all_arguments t (Var v) ids y us e below term is = absurd (let a : terms.variable v.0 ≡ application y us = ap (term_under sig) (sym e) ∙ is in cc)
+  all_arguments t (Number s n) ids y us e below term is = absurd (let a : term_under sig (numeral s (whole_of n)) ≡ application y us = ap (term_under sig) (sym e) ∙ is in cc)
+  all_arguments t (Fun f) ids y us e below term is = (call_at sig ts t f (Fun f) ids refl e below term).arguments
+
+  pub same_terms : IsTable sig → AreDistinct ts → (x y : TermId) (t u : Term) → StandsFor sig ts x t → StandsFor sig ts y u → (x ≡ y) ↔ (t ≡ u)
+  same_terms table apart x y t u h k =
+      ((λ e. sym h.is ∙ (ap (term_at sig ts) e ∙ k.is)),
+      (λ e. let n : x.0 ≡ y.0 = apart x.0 y.0 h.term.inside k.term.inside (different_trees_mean_different_terms sig table (tree_at ts x) (tree_at ts y) h.term.within k.term.within (h.is ∙ (e ∙ sym k.is))) in λ i. record { 0 = n i }))
+
+pub at_slice : (k : ℕ) (ids slice : List TermId) → slice ≡ ids → k < length ids → get_or slice k (record { 0 = 0 }) ≡ get_or ids k (get_or slice k (record { 0 = 0 }))
+at_slice k ids slice e l = ap (λ (xs : List TermId). get_or xs k (record { 0 = 0 })) e ∙ get_or_default ids k (record { 0 = 0 }) (get_or slice k (record { 0 = 0 })) l

@@ -20,7 +20,7 @@ use crate::views::{View, constructor_of, is_empty_over, number_over, parts_over}
 use data_theory::{FunId, SortId, TermId};
 
 /// The first equation at the equality of a sort without equations of its own, where both sides differ.
-fn other_line(sort: SortId, left: View, right: View) -> Option<Line>
+pub fn other_line(sort: SortId, left: View, right: View) -> Option<Line>
     ensures { (sig : Sig) (ts : List Tree) (a : Sort) (t u : Term) → IsTable sig → IsSortOf sig sort a → LooksAt sig Other a → IsView sig ts t left → IsView sig ts u right → (t ≡ u → ⊥) → IsFirstLine sig ts (equals a t u) result }
 {
     let Some(first) = number_over(left, sort) else {
@@ -33,7 +33,7 @@ fn other_line(sort: SortId, left: View, right: View) -> Option<Line>
 }
 
 /// The first equation at the equality of truth values that differ.
-fn bool_line(sort: SortId, x: TermId, y: TermId, left: View, right: View) -> Option<Line>
+pub fn bool_line(sort: SortId, x: TermId, y: TermId, left: View, right: View) -> Option<Line>
     ensures { (sig : Sig) (ts : List Tree) (t u : Term) → IsTable sig → IsSortOf sig sort boolean → StandsFor sig ts x t → StandsFor sig ts y u → IsView sig ts t left → IsView sig ts u right → (t ≡ u → ⊥) → IsFirstLine sig ts (equals boolean t u) result }
 {
     if is_true(right) {
@@ -58,7 +58,7 @@ fn bool_line(sort: SortId, x: TermId, y: TermId, left: View, right: View) -> Opt
 }
 
 /// The first equation at the equality of lists that differ.
-fn list_line(sort: SortId, element: SortId, equal: FunId, fun: FunId, left: View, right: View) -> Option<Line>
+pub fn list_line(sort: SortId, element: SortId, equal: FunId, fun: FunId, left: View, right: View) -> Option<Line>
     ensures { (sig : Sig) (ts : List Tree) (b : Sort) (t u : Term) → IsTable sig → IsSortOf sig sort (list b) → IsSortOf sig element b → IsSymbolOf sig equal (equality b) → IsSymbolOf sig fun (equality (list b)) → IsView sig ts t left → IsView sig ts u right → (t ≡ u → ⊥) → IsFirstLine sig ts (equals (list b) t u) result }
 {
     if let Some(first) = number_over(left, sort) {
@@ -89,7 +89,7 @@ fn list_line(sort: SortId, element: SortId, equal: FunId, fun: FunId, left: View
 }
 
 /// The first equation at the equality of values of a `struct` that differ.
-fn struct_line(sort: SortId, x: TermId, y: TermId, left: View, right: View) -> Option<Line>
+pub fn struct_line(sort: SortId, x: TermId, y: TermId, left: View, right: View) -> Option<Line>
     ensures { (sig : Sig) (ts : List Tree) (d : ℕ) (t u : Term) → IsTable sig → IsSortOf sig sort (named d) → sort_at (data_meant sig) d ≡ structured → StandsFor sig ts x t → StandsFor sig ts y u → IsView sig ts t left → IsView sig ts u right → (t ≡ u → ⊥) → IsFirstLine sig ts (equals (named d) t u) result }
 {
     if let Some(first) = number_over(left, sort) {

@@ -2,6 +2,7 @@
 #![tactic(auto)]
 
 mod equal_lines;
+mod lines;
 mod list_lines;
 mod making;
 mod number_lines;
