@@ -16,7 +16,10 @@ pub mod FirstEmpty
 pub mod SortsOfLists
 pub mod IndexPlaces
 pub mod Searches
+pub mod PushedLists
+pub mod MarkLemmas
 pub mod SortTreeSteps
+pub mod IdentifierSteps
 pub mod UsedNameLemmas
 pub mod AliasPlaces
 pub mod AliasCycles
@@ -27,6 +30,7 @@ pub mod FirstPlaces
 pub mod WrittenListLemmas
 pub mod DeclaringLemmas
 pub mod KeptFunctions
+pub mod TakenTextLemmas
 pub mod WrittenSortLemmas
 pub mod TextNames
 pub mod WordNames

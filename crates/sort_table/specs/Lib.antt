@@ -27,10 +27,12 @@ pub mod Refusals
 pub mod Identifiers
 pub mod Built
 pub mod EnteredFunctions
+pub mod TakenTexts
 pub mod WrittenSorts
 pub mod FunctionStates
 pub mod LentTexts
 pub mod LentTrees
+pub mod ConstructorMarks
 pub mod NamedFunctions
 pub mod EnteredActions
 pub mod VocabularyLaws
