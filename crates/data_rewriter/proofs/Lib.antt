@@ -19,3 +19,4 @@ pub mod Running
 pub mod PatternMoves
 pub mod LastLine
 pub mod Looking
+pub mod FixedFunctions

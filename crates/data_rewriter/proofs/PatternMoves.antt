@@ -1,4 +1,7 @@
 -- The steps of a match.
+use Rattle.std.specs.Prelude.{Bool, true, false, cond, ◌==◌}
+use Rattle.std.proofs.lemmas.Bool.Decides.{Decides-eqb}
+use Rattle.term_pool.specs.Bindings.{listed}
 use Rattle.std.proofs.Common.{◌≡◌, ◌↔◌, ℕ, zero, suc, ◌+◌, ◌<◌, take, get_or, append_assoc, List, [], ◌∷◌, ◌++◌, refl, sym, ap, ◌∙◌, subst, arith, length}
 use Rattle.std.specs.List.{All, Contains}
 use Rattle.std.proofs.lemmas.List.Elements.{All-nil, All-cons, All-head, All-tail, All-append, All-contains, All-weaker}
@@ -18,7 +21,7 @@ use Rattle.term_pool.specs.Pools.{AreDistinct}
 use Rattle.term_pool.specs.declared.terms.Head.{Head}
 use Rattle.term_pool.specs.declared.terms.Head.TheVariants.{Var, Num as Number, Fun}
 use Rattle.term_pool.specs.HeadTrees.{IsIn, tree_at, trees_at, written_tree}
-use Rattle.data_rewriter.specs.Matching.{Separates, Agrees, Lays, IsMatching, Misses, pairs}
+use Rattle.data_rewriter.specs.Matching.{AreListed, Separates, Agrees, Lays, IsMatching, Misses, pairs}
 use Rattle.data_rewriter.proofs.Standings.{application_at}
 use Rattle.data_rewriter.specs.Standing.{IsTerm, terms_of, term_at, listed_at}
 
@@ -193,3 +196,27 @@ separates sig ts table apart = record
   where
     function_inside : (t : Tree) (f : FunId) (us : List Tree) → t ≡ written_tree (Fun f) us → IsTreeWithin sig t → f.0 < length sig.functions
     function_inside t f us e w = let v : IsTreeWithin sig (written_tree (Fun f) us) = subst (IsTreeWithin sig) e w in v.0
+
+-- ---- what is listed for variables
+pub fresh_as : {v : VarId} {xs ys : List (VarId × TermId)} → xs ≡ ys → All (λ (p : VarId × TermId). p.0.0 ≡ v.0 → ⊥) xs → All (λ (p : VarId × TermId). p.0.0 ≡ v.0 → ⊥) ys
+fresh_as {v} e h = subst (λ l. All (λ (p : VarId × TermId). p.0.0 ≡ v.0 → ⊥) l) e h
+
+listed_new : (ts : List Tree) (found : List (VarId × TermId)) (v : VarId) (t : TermId) (more : List (VarId × TermId)) → All (λ (p : VarId × TermId). p.0.0 ≡ v.0 → ⊥) found → listed ts (found ++ (v, t) ∷ more) v ≡ tree_at ts t
+listed_new ts [] v t more h = ap (λ (b : Bool). cond b (tree_at ts t) (listed ts more v)) ((Decides-eqb v.0 v.0).1 refl)
+listed_new ts (p ∷ found) v t more h =
+    let other = All-head (λ (p : VarId × TermId). p.0.0 ≡ v.0 → ⊥) p found h in
+    let e : (p.0.0 == v.0) ≡ false = not_same (p.0.0 == v.0) (λ b. other ((Decides-eqb p.0.0 v.0).0 b)) in
+    ap (λ (b : Bool). cond b (tree_at ts p.1) (listed ts (found ++ (v, t) ∷ more) v)) e ∙ listed_new ts found v t more (All-tail (λ (p : VarId × TermId). p.0.0 ≡ v.0 → ⊥) p found h)
+  where
+    not_same : (b : Bool) → (b ≡ true → ⊥) → b ≡ false
+    not_same true n = absurd (n refl)
+    not_same false n = refl
+
+pub listed_more : (ts : List Tree) (found : List (VarId × TermId)) (v : VarId) (t : TermId) → All (λ (p : VarId × TermId). p.0.0 ≡ v.0 → ⊥) found → AreListed ts found found → AreListed ts (found ++ (v, t) ∷ []) (found ++ (v, t) ∷ [])
+listed_more ts found v t fresh old =
+    All-append (IsListedIn) found ((v, t) ∷ [])
+    (All-weaker (λ (p : VarId × TermId). (more : List (VarId × TermId)) → listed ts (found ++ more) p.0 ≡ tree_at ts p.1) IsListedIn (λ p h more. ap (λ (l : List (VarId × TermId)). listed ts l p.0) (append_assoc found ((v, t) ∷ []) more) ∙ h ((v, t) ∷ more)) found old)
+    (All-cons IsListedIn (v, t) [] (λ more. ap (λ (l : List (VarId × TermId)). listed ts l v) (append_assoc found ((v, t) ∷ []) more) ∙ listed_new ts found v t more fresh) (All-nil IsListedIn))
+  where
+    IsListedIn : VarId × TermId → Type 0
+    IsListedIn p = (more : List (VarId × TermId)) → listed ts ((found ++ (v, t) ∷ []) ++ more) p.0 ≡ tree_at ts p.1

@@ -1,5 +1,5 @@
 -- Patterns laid over terms of a pool.
-use Rattle.std.specs.Prelude.{◌≡◌, ◌↔◌, ℕ, List, [], ◌∷◌}
+use Rattle.std.specs.Prelude.{◌≡◌, ◌↔◌, ℕ, List, [], ◌∷◌, ◌++◌}
 use Rattle.std.specs.List.{All}
 use Rattle.data_theory.specs.declared.ids.TermId.{TermId}
 use Rattle.data_theory.specs.declared.ids.FunId.{FunId}
@@ -10,6 +10,7 @@ use Rattle.data_theory.specs.Signature.{Sig}
 use Rattle.data_theory.specs.IdTrees.{Tree}
 use Rattle.data_theory.specs.IdTerms.{symbol_under}
 use Rattle.term_pool.specs.declared.terms.Head.TheVariants.{Fun}
+use Rattle.term_pool.specs.Bindings.{listed}
 use Rattle.term_pool.specs.HeadTrees.{IsIn, tree_at, trees_at, written_tree}
 use Rattle.data_rewriter.specs.Standing.{IsTerm, term_at}
 
@@ -28,10 +29,14 @@ Lays sig ts e p = laid e (term_at sig ts p.0) ≡ term_at sig ts p.1
 abbrev pub IsMatching : Sig → List Tree → TermId → TermId → List (VarId × TermId) → List (TermId × TermId) → Type 0
 IsMatching sig ts pattern term found left = (e : ℕ → Term) → Lays sig ts e (pattern, term) ↔ (All (Agrees sig ts e) found × All (Lays sig ts e) left)
 
+-- what is listed for the variables that were found is what was found for them, whatever comes behind
+abbrev pub AreListed : List Tree → List (VarId × TermId) → List (VarId × TermId) → Type 0
+AreListed ts found ps = All (λ (p : VarId × TermId). (more : List (VarId × TermId)) → listed ts (found ++ more) p.0 ≡ tree_at ts p.1) ps
+
 -- the state of a match
 abbrev pub IsMatchState : Sig → List Tree → TermId → TermId → List (VarId × TermId) → List (TermId × TermId) → Type 0
 IsMatchState sig ts pattern term found left =
-    IsMatching sig ts pattern term found left × All (λ (q : TermId × TermId). IsTerm sig ts q.0 × IsTerm sig ts q.1) left × All (λ (p : VarId × TermId). IsTerm sig ts p.1) found
+    IsMatching sig ts pattern term found left × All (λ (q : TermId × TermId). IsTerm sig ts q.0 × IsTerm sig ts q.1) left × All (λ (p : VarId × TermId). IsTerm sig ts p.1) found × AreListed ts found found
 
 abbrev pub ArePairsIn : List Tree → List (TermId × TermId) → Type 0
 ArePairsIn ts left = All (λ (p : TermId × TermId). IsIn ts p.0 × IsIn ts p.1) left

@@ -16,11 +16,12 @@ use term_pool::{Head, Pool};
 
 /// The term that was found for a variable.
 fn found_for(var: VarId, found: &[(VarId, TermId)]) -> Option<TermId>
-    ensures { IfSome result (λ term. Contains found.now (var, term)) }
+    ensures { MatchOption result (All (λ p. p.0.0 ≡ var.0 → ⊥) found.now) (λ term. Contains found.now (var, term)) }
 {
-    for (other, term) in found {
-        if *other == var {
-            return Some(*term);
+    for i in 0..found.len() {
+        let (other, term) = found[i];
+        if other == var {
+            return Some(term);
         }
     }
     None
