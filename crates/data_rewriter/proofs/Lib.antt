@@ -7,3 +7,16 @@ pub mod ListClauses
 pub mod EqualClauses
 pub mod ViewLemmas
 pub mod Arities
+pub mod Stacking
+pub mod Leading
+pub mod Waiting
+pub mod Moving
+pub mod StateMoves
+pub mod StepMoves
+pub mod ArgumentMoves
+pub mod RootMoves
+pub mod Running
+pub mod PatternMoves
+pub mod LastLine
+pub mod Looking
+pub mod FixedFunctions

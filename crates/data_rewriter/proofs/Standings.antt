@@ -10,10 +10,12 @@ use Rattle.std.proofs.lemmas.List.{get_or_append_left, get_or_default}
 use Rattle.std.proofs.lemmas.List.Elements.{All-nil, All-cons, All-head, All-tail, All-weaker}
 use Rattle.data_theory.specs.declared.ids.TermId.{TermId}
 use Rattle.data_theory.specs.declared.ids.FunId.{FunId}
+use Rattle.data_theory.specs.declared.ids.SortId.{SortId}
+use Rattle.data_theory.specs.declared.num.Num.{Num}
 use Rattle.data_theory.specs.Terms as terms
 use Rattle.data_theory.specs.Equations as equations
 use Rattle.data_theory.specs.Whole.{whole_of}
-use Rattle.data_theory.specs.Terms.{Symbol, Term, Terms, application, apply}
+use Rattle.data_theory.specs.Terms.{Sort, Symbol, Term, Terms, application, apply}
 use Rattle.data_theory.specs.Signature.{Sig}
 use Rattle.data_theory.specs.IdTables.{IsTable}
 use Rattle.data_theory.specs.IdTrees.{Tree, Trees, variable, numeral, function, none, more, trees_of, is_over, is_minus, apply_tree}
@@ -24,7 +26,7 @@ use Rattle.term_pool.specs.declared.terms.Head.TheVariants.{Var, Num as Number, 
 use Rattle.term_pool.specs.HeadTrees.{no_tree, written_tree, head_tree, tree_at, trees_at, IsIn, AreIn}
 use Rattle.term_pool.specs.Pools.{Extends, AreDistinct}
 use Rattle.term_pool.proofs.NodeTrees.{stays_in, tree_kept}
-use Rattle.data_rewriter.specs.Standing.{IsTerm, StandsFor, IsSymbolOf, term_at, listed_at, terms_of}
+use Rattle.data_rewriter.specs.Standing.{IsTerm, StandsFor, IsSymbolOf, IsSortOf, term_at, listed_at, terms_of}
 
 -- ---- terms of nodes
 pub terms_listed : (sig : Sig) (ts : List Tree) (ids : List TermId) → terms_under sig (trees_of (trees_at ts ids)) ≡ terms_of (listed_at sig ts ids)
@@ -149,3 +151,8 @@ module _ (sig : Sig) (ts : List Tree) where
 
 pub at_slice : (k : ℕ) (ids slice : List TermId) → slice ≡ ids → k < length ids → get_or slice k (record { 0 = 0 }) ≡ get_or ids k (get_or slice k (record { 0 = 0 }))
 at_slice k ids slice e l = ap (λ (xs : List TermId). get_or xs k (record { 0 = 0 })) e ∙ get_or_default ids k (record { 0 = 0 }) (get_or slice k (record { 0 = 0 })) l
+
+pub interned_numeral : (sig : Sig) (new : List Tree) (id : TermId) (s : SortId) (n : Num) (a : Sort) → IsSortOf sig s a → IsIn new id → tree_at new id ≡ head_tree (Number s n) [] → StandsFor sig new id (terms.numeral a (whole_of n))
+interned_numeral sig new id s n a so inside e = record
+    { term = record { inside = inside; within = subst (IsTreeWithin sig) (sym e) so.inside }
+    ; is = ap (term_under sig) e ∙ ap (λ b. terms.numeral b (whole_of n)) so.is }

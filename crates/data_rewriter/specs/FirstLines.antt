@@ -1,5 +1,5 @@
 -- The first built-in equation that matches at a root.
-use Rattle.std.specs.Prelude.{◌≡◌, ◌<◌, ℕ, List, [], ◌∷◌, Bool, true, Option, Some, None}
+use Rattle.std.specs.Prelude.{◌≡◌, ◌<◌, ℕ, List, [], ◌∷◌, Bool, true, Option, Some, None, IfSome}
 use Rattle.data_theory.specs.declared.ids.FunId.{FunId}
 use Rattle.data_theory.specs.declared.ids.SortId.{SortId}
 use Rattle.data_theory.specs.declared.ids.TermId.{TermId}
@@ -12,6 +12,7 @@ use Rattle.data_theory.specs.Rewriting.{place_of}
 use Rattle.data_theory.specs.Signature.{Sig}
 use Rattle.data_theory.specs.IdData.{data_meant}
 use Rattle.data_theory.specs.IdTrees.{Tree}
+use Rattle.term_pool.specs.HeadTrees.{IsIn}
 use Rattle.data_rewriter.specs.declared.rights.Right.{Right}
 use Rattle.data_rewriter.specs.declared.rights.Right.TheVariants.{Is, Truth, Numeral, Not, NotTwo, NotOr, One, Two, TwoOne, TwoTwo, Both, Either, Longer, Later, Places}
 use Rattle.data_rewriter.specs.declared.rights.Line.{Line}
@@ -57,3 +58,30 @@ pub record IsFirstAt (sig : Sig) (ts : List Tree) (t : Term) (l : Line) : Type 0
 abbrev pub IsFirstLine : Sig → List Tree → Term → Option Line → Type 0
 IsFirstLine sig ts t None = (i : ℕ) (c r : Term) → LineAt (data_meant sig) i t c r → ⊥
 IsFirstLine sig ts t (Some l) = IsFirstAt sig ts t l
+
+-- the ids of a right side are in the pool
+abbrev pub IsRightIn : List Tree → Right → Type 0
+IsRightIn ts (Is x) = IsIn ts x
+IsRightIn ts (Truth b) = Unit {0}
+IsRightIn ts (Numeral s n) = Unit {0}
+IsRightIn ts (Not x) = IsIn ts x
+IsRightIn ts (NotTwo f x y) = IsIn ts x × IsIn ts y
+IsRightIn ts (NotOr x y) = IsIn ts x × IsIn ts y
+IsRightIn ts (One f x) = IsIn ts x
+IsRightIn ts (Two f x y) = IsIn ts x × IsIn ts y
+IsRightIn ts (TwoOne f x g y) = IsIn ts x × IsIn ts y
+IsRightIn ts (TwoTwo f x g y z) = IsIn ts x × IsIn ts y × IsIn ts z
+IsRightIn ts (Both f x y g k l) = (IsIn ts x × IsIn ts y) × IsIn ts k × IsIn ts l
+IsRightIn ts (Either f x y g k l) = (IsIn ts x × IsIn ts y) × IsIn ts k × IsIn ts l
+IsRightIn ts (Longer f x) = IsIn ts x
+IsRightIn ts (Later f x y) = IsIn ts x × IsIn ts y
+IsRightIn ts (Places f x y) = IsIn ts x × IsIn ts y
+
+-- the ids of an equation that matches
+abbrev pub IsLineIn : List Tree → Line → Type 0
+IsLineIn ts l = IsRightIn ts l.right × IfSome l.above_zero (IsIn ts)
+
+-- a condition that was made: none where it is `true`
+abbrev pub IsConditionMade : Sig → List Tree → Option TermId → Term → Type 0
+IsConditionMade sig ts None c = c ≡ trueᵗ
+IsConditionMade sig ts (Some id) c = StandsFor sig ts id c × (c ≡ trueᵗ → ⊥)

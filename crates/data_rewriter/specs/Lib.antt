@@ -3,3 +3,7 @@ pub mod Signs
 pub mod Views
 pub mod FirstLines
 pub mod Signatures
+pub mod Places
+pub mod Frames
+pub mod States
+pub mod Matching

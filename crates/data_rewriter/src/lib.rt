@@ -2,12 +2,16 @@
 #![tactic(auto)]
 
 mod equal_lines;
+mod equations;
 mod lines;
 mod list_lines;
+mod machine;
 mod making;
+mod matching;
 mod number_lines;
 mod rights;
 mod signs;
+mod stack;
 mod struct_lines;
 mod tables;
 mod truth_lines;

@@ -1,16 +1,20 @@
 //! Right sides, made in a pool.
 
-ghost use Rattle.std.specs.Prelude.{◌≡◌, ◌<◌, List, IfOk, length};
+ghost use Rattle.std.specs.Prelude.{◌≡◌, ◌<◌, List, [], ◌∷◌, IfOk, IsTrue, length};
 ghost use Rattle.std.specs.List.{All};
 ghost use Rattle.data_theory.specs.Signature.{Sig};
 ghost use Rattle.data_theory.specs.IdTables.{IsTable};
-ghost use Rattle.data_theory.specs.Terms.{Symbol, Term, none, more, apply};
+ghost use Rattle.data_theory.specs.Terms as terms;
+ghost use Rattle.data_theory.specs.Terms.{Sort, positive, natural, integer, Symbol, Term, none, more, apply};
+ghost use Rattle.data_theory.specs.Equations.{number, truth_of, one as one_term, two as two_terms};
+ghost use Rattle.data_theory.specs.Whole.{whole_of};
+ghost use Rattle.data_theory.specs.IdTreeSorts.{HasNumber};
 ghost use Rattle.data_theory.specs.WholeSignatures.{IsSignature};
 ghost use Rattle.term_pool.specs.HeadTrees.{IsIn, AreIn};
 ghost use Rattle.term_pool.specs.Pools.{Extends};
-ghost use Rattle.data_rewriter.specs.Standing.{IsTerm, StandsFor, IsSymbolOf, listed_at, terms_of};
+ghost use Rattle.data_rewriter.specs.Standing.{IsTerm, StandsFor, IsSymbolOf, IsSortOf, listed_at, terms_of};
 
-use data_theory::{FunId, NoMemory, TermId};
+use data_theory::{FunId, NoMemory, Num, SortId, TermId};
 use term_pool::{Head, Pool};
 
 /// A function over arguments.
@@ -105,5 +109,117 @@ pub fn two_twos(
     let first = two(pool, f, x, y)?;
     let second = two(pool, g, z, w)?;
     let made = two(pool, fun, first, second)?;
+    Ok(made)
+}
+
+const TRUE: FunId = FunId(6);
+
+const FALSE: FunId = FunId(7);
+
+const NOT: FunId = FunId(8);
+
+const AND: FunId = FunId(9);
+
+const OR: FunId = FunId(10);
+
+const POS_TO_NAT: FunId = FunId(3);
+
+const LESS_NAT: FunId = FunId(25);
+
+const MINUS_NAT: FunId = FunId(42);
+
+const SUCC_NAT: FunId = FunId(62);
+
+const INT_TO_NAT: FunId = FunId(68);
+
+const POS: SortId = SortId(1);
+
+const NAT: SortId = SortId(2);
+
+const INT: SortId = SortId(3);
+
+/// Whether a sort of numbers has a number.
+fn has_number(sort: SortId, num: Num) -> bool
+    ensures { IsTrue result → HasNumber sort (whole_of num) }
+{
+    match sort {
+        POS => !num.negative && num.magnitude > 0,
+        NAT => !num.negative,
+        INT => true,
+        _ => false,
+    }
+}
+
+/// A numeral. The values of the operations at their sorts have one, so that no want of memory is due to it.
+pub fn numeral(pool: &mut Pool, sort: SortId, num: Num) -> Result<TermId, NoMemory>
+    ensures kept { Extends pool.old.trees pool.new.trees }
+    ensures inside { IfOk result (λ id. IsIn pool.new.trees id) }
+    ensures made { IfOk result (λ id. (sig : Sig) (a : Sort) → IsSortOf sig sort a → StandsFor sig pool.new.trees id (terms.numeral a (whole_of num))) }
+{
+    if !has_number(sort, num) {
+        return Err(NoMemory);
+    }
+    let made = pool.intern(Head::Num(sort, num), &[])?;
+    Ok(made)
+}
+
+/// `true` or `false`
+fn truth(pool: &mut Pool, value: bool) -> Result<TermId, NoMemory>
+    ensures kept { Extends pool.old.trees pool.new.trees }
+    ensures inside { IfOk result (λ id. IsIn pool.new.trees id) }
+    ensures made { IfOk result (λ id. (sig : Sig) → IsSignature sig → StandsFor sig pool.new.trees id (truth_of value)) }
+{
+    if value {
+        let made = call(pool, TRUE, &[])?;
+        return Ok(made);
+    }
+    let made = call(pool, FALSE, &[])?;
+    Ok(made)
+}
+
+/// `Pos2Nat(succ(f(x)))`
+fn longer(pool: &mut Pool, size: FunId, x: TermId) -> Result<TermId, NoMemory>
+    requires { IsIn pool.old.trees x }
+    ensures kept { Extends pool.old.trees pool.new.trees }
+    ensures inside { IfOk result (λ id. IsIn pool.new.trees id) }
+    ensures made { IfOk result (λ id. (sig : Sig) → IsSignature sig → (a : Sort) (t : Term) → IsSymbolOf sig size (terms.size a) → StandsFor sig pool.old.trees x t → StandsFor sig pool.new.trees id (one_term (terms.upcast positive natural) (one_term (terms.arithmetic terms.successor (natural ∷ []) positive) (one_term (terms.size a) t)))) }
+{
+    let count = one(pool, size, x)?;
+    let next = one(pool, SUCC_NAT, count)?;
+    let made = one(pool, POS_TO_NAT, next)?;
+    Ok(made)
+}
+
+/// `f(x, Int2Nat(y - 1))`
+fn later(pool: &mut Pool, fun: FunId, x: TermId, y: TermId) -> Result<TermId, NoMemory>
+    requires left { IsIn pool.old.trees x }
+    requires right { IsIn pool.old.trees y }
+    ensures kept { Extends pool.old.trees pool.new.trees }
+    ensures inside { IfOk result (λ id. IsIn pool.new.trees id) }
+    ensures made { IfOk result (λ id. (sig : Sig) → IsSignature sig → (z : Symbol) (t u : Term) → IsSymbolOf sig fun z → StandsFor sig pool.old.trees x t → StandsFor sig pool.old.trees y u → StandsFor sig pool.new.trees id (apply z (more t (more (one_term (terms.arithmetic terms.to_natural (integer ∷ []) natural) (two_terms (terms.arithmetic terms.subtract (natural ∷ natural ∷ []) integer) u (number 1))) none)))) }
+{
+    let step = Num {
+        negative: false,
+        magnitude: 1,
+    };
+    let less = numeral(pool, NAT, step)?;
+    let rest = two(pool, MINUS_NAT, y, less)?;
+    let made = two_one(pool, fun, x, INT_TO_NAT, rest)?;
+    Ok(made)
+}
+
+/// `0 < x`
+fn above_zero(pool: &mut Pool, x: TermId) -> Result<TermId, NoMemory>
+    requires { IsIn pool.old.trees x }
+    ensures kept { Extends pool.old.trees pool.new.trees }
+    ensures inside { IfOk result (λ id. IsIn pool.new.trees id) }
+    ensures made { IfOk result (λ id. (sig : Sig) → IsSignature sig → (t : Term) → StandsFor sig pool.old.trees x t → StandsFor sig pool.new.trees id (two_terms (terms.comparison terms.less natural) (number 0) t)) }
+{
+    let zero = Num {
+        negative: false,
+        magnitude: 0,
+    };
+    let least = numeral(pool, NAT, zero)?;
+    let made = two(pool, LESS_NAT, least, x)?;
     Ok(made)
 }

@@ -5,7 +5,6 @@ ghost use Rattle.data_rewriter.specs.Signs.{sign_at};
 
 use crate::signs::Sign;
 use data_theory::{FunId, TermId};
-use std::collections::HashMap;
 
 /// A written equation.
 #[derive(Clone, Copy)]
@@ -25,8 +24,8 @@ pub struct Tables {
     /// For each function the equalities of its arguments' sorts.
     pub places: Vec<Vec<FunId>>,
     pub rules: Vec<Rule>,
-    /// The numbers of the rules with a function at the root of their left side.
-    pub by_head: HashMap<FunId, Vec<usize>>,
+    /// For each function the numbers of the rules that have it at the root of their left side.
+    pub by_head: Vec<Vec<usize>>,
 }
 
 impl Tables {

@@ -1,0 +1,176 @@
+-- The only built-in equation with a condition.
+use Rattle.std.proofs.Common.{◌≡◌, ◌≢◌, ℕ, ◌+◌, ◌<◌, ◌≤◌, List, refl, sym, ap, ◌∙◌, subst, arith}
+use Rattle.std.specs.Prelude.{Some}
+use Rattle.data_theory.specs.Terms.{Sort, element_at, Term, Terms}
+use Rattle.data_theory.specs.Declarations.{Data}
+use Rattle.data_theory.specs.Equations.{BuiltIn, two, trueᵗ, not_true, not_false, not_not, true_and, and_true, false_and, and_false, and_same, true_or, or_true, false_or, or_false, or_same, true_implies, false_implies, implies, and_commutes, or_commutes, and_associates, or_associates, and_distributes, or_distributes, and_absorbs, or_absorbs, not_and, not_or, and_not, or_not, equal_itself, not_equal, if_true, if_false, if_same, equal_commutes, equal_true, true_equal, equal_false, false_equal, operation_of_one, operation_of_two, minus_of, compared, equal_numerals, empty_equal_cons, cons_equal_empty, cons_equal_cons, empty_concat, concat_empty, cons_concat, empty_snoc, cons_snoc, size_empty, size_cons, head_cons, tail_cons, rhead_one, rhead_more, rtail_one, rtail_more, at_zero, at_later, in_empty, in_cons, different_constructors, same_constructor, projected, recognised, not_recognised}
+use Rattle.data_theory.specs.Provable.{Equation}
+use Rattle.data_theory.specs.Rewriting.{lines, place_of, Applies, a_line, an_equation}
+use Rattle.data_rewriter.proofs.Deciding.{number_is, no_number}
+
+-- it stands at the root of `x . n`, at 47, and none comes behind it there
+record IsAt (t : Term) : Type 0 where
+  sort : Sort
+  list : Term
+  index : Term
+  is : t ≡ two (element_at sort) list index
+
+has_condition : {g : Data} {c l r : Term} (b : BuiltIn g c l r) → c ≢ trueᵗ → IsAt l × (place_of b ≡ Some 47)
+has_condition not_true h = absurd (h refl)
+has_condition not_false h = absurd (h refl)
+has_condition not_not h = absurd (h refl)
+has_condition true_and h = absurd (h refl)
+has_condition and_true h = absurd (h refl)
+has_condition false_and h = absurd (h refl)
+has_condition and_false h = absurd (h refl)
+has_condition and_same h = absurd (h refl)
+has_condition true_or h = absurd (h refl)
+has_condition or_true h = absurd (h refl)
+has_condition false_or h = absurd (h refl)
+has_condition or_false h = absurd (h refl)
+has_condition or_same h = absurd (h refl)
+has_condition true_implies h = absurd (h refl)
+has_condition false_implies h = absurd (h refl)
+has_condition implies h = absurd (h refl)
+has_condition and_commutes h = absurd (h refl)
+has_condition or_commutes h = absurd (h refl)
+has_condition and_associates h = absurd (h refl)
+has_condition or_associates h = absurd (h refl)
+has_condition and_distributes h = absurd (h refl)
+has_condition or_distributes h = absurd (h refl)
+has_condition and_absorbs h = absurd (h refl)
+has_condition or_absorbs h = absurd (h refl)
+has_condition not_and h = absurd (h refl)
+has_condition not_or h = absurd (h refl)
+has_condition and_not h = absurd (h refl)
+has_condition or_not h = absurd (h refl)
+has_condition equal_itself h = absurd (h refl)
+has_condition not_equal h = absurd (h refl)
+has_condition if_true h = absurd (h refl)
+has_condition if_false h = absurd (h refl)
+has_condition if_same h = absurd (h refl)
+has_condition equal_commutes h = absurd (h refl)
+has_condition equal_true h = absurd (h refl)
+has_condition true_equal h = absurd (h refl)
+has_condition equal_false h = absurd (h refl)
+has_condition false_equal h = absurd (h refl)
+has_condition (operation_of_one p f) h = absurd (h refl)
+has_condition (operation_of_two p f) h = absurd (h refl)
+has_condition (minus_of f) h = absurd (h refl)
+has_condition compared h = absurd (h refl)
+has_condition equal_numerals h = absurd (h refl)
+has_condition empty_equal_cons h = absurd (h refl)
+has_condition cons_equal_empty h = absurd (h refl)
+has_condition cons_equal_cons h = absurd (h refl)
+has_condition empty_concat h = absurd (h refl)
+has_condition concat_empty h = absurd (h refl)
+has_condition cons_concat h = absurd (h refl)
+has_condition empty_snoc h = absurd (h refl)
+has_condition cons_snoc h = absurd (h refl)
+has_condition size_empty h = absurd (h refl)
+has_condition size_cons h = absurd (h refl)
+has_condition head_cons h = absurd (h refl)
+has_condition tail_cons h = absurd (h refl)
+has_condition rhead_one h = absurd (h refl)
+has_condition rhead_more h = absurd (h refl)
+has_condition rtail_one h = absurd (h refl)
+has_condition rtail_more h = absurd (h refl)
+has_condition at_zero h = absurd (h refl)
+has_condition (at_later {s = s} {n = n}) h = (record { sort = s; list = _; index = n; is = refl }, refl)
+has_condition in_empty h = absurd (h refl)
+has_condition in_cons h = absurd (h refl)
+has_condition (different_constructors k p q n) h = absurd (h refl)
+has_condition (same_constructor k p) h = absurd (h refl)
+has_condition (projected p) h = absurd (h refl)
+has_condition (recognised p) h = absurd (h refl)
+has_condition (not_recognised p q n) h = absurd (h refl)
+
+at_most : {g : Data} {s : Sort} {x n c r : Term} (i : ℕ) (b : BuiltIn g c (two (element_at s) x n) r) → place_of b ≡ Some i → i < 48
+at_most i at_zero e = let n = number_is e in omega (arith, n)
+at_most i at_later e = let n = number_is e in omega (arith, n)
+
+at_root : {g : Data} {t c r : Term} (i : ℕ) (b : BuiltIn g c t r) → place_of b ≡ Some i → IsAt t → i < 48
+at_root {g} {t} {c} {r} i b e h = moved t h.is b e
+  where
+    moved : (u : Term) → u ≡ two (element_at h.sort) h.list h.index → (b : BuiltIn g c u r) → place_of b ≡ Some i → i < 48
+    moved u is b e = (subst (λ v. (b : BuiltIn g c v r) → place_of b ≡ Some i → i < 48) (sym is) (λ b e. at_most i b e)) b e
+
+pub only_condition : {g : Data} {own : List Equation} {k : ℕ} {t c r : Term} {x : ℕ} → Applies g own k t c r x → k < lines → c ≢ trueᵗ → (i : ℕ) (d s : Term) (y : ℕ) → k < i → i < lines → Applies g own i t d s y → ⊥
+only_condition (an_equation j e at is l) less h i d s y behind inside b = omega (arith, is, less)
+only_condition (a_line a p) less h i d s y behind inside (an_equation j e at is l) = omega (arith, is, inside)
+only_condition {k = k} (a_line a p) less h i d s y behind inside (a_line b q) =
+    let found = has_condition a h in
+    let n : 47 ≡ k = number_is (sym found.1 ∙ p) in
+    let m = at_root i b q found.0 in
+    omega (arith, n, m, behind)
+
+-- each built-in equation stands before the written ones
+pub line_inside : {g : Data} {k : ℕ} {t c r : Term} (b : BuiltIn g c t r) → place_of b ≡ Some k → k < lines
+line_inside not_true e = let n = number_is e in omega (arith, n)
+line_inside not_false e = let n = number_is e in omega (arith, n)
+line_inside not_not e = let n = number_is e in omega (arith, n)
+line_inside true_and e = let n = number_is e in omega (arith, n)
+line_inside and_true e = let n = number_is e in omega (arith, n)
+line_inside false_and e = let n = number_is e in omega (arith, n)
+line_inside and_false e = let n = number_is e in omega (arith, n)
+line_inside and_same e = let n = number_is e in omega (arith, n)
+line_inside true_or e = let n = number_is e in omega (arith, n)
+line_inside or_true e = let n = number_is e in omega (arith, n)
+line_inside false_or e = let n = number_is e in omega (arith, n)
+line_inside or_false e = let n = number_is e in omega (arith, n)
+line_inside or_same e = let n = number_is e in omega (arith, n)
+line_inside true_implies e = let n = number_is e in omega (arith, n)
+line_inside false_implies e = let n = number_is e in omega (arith, n)
+line_inside implies e = let n = number_is e in omega (arith, n)
+line_inside and_commutes e = absurd (no_number e)
+line_inside or_commutes e = absurd (no_number e)
+line_inside and_associates e = absurd (no_number e)
+line_inside or_associates e = absurd (no_number e)
+line_inside and_distributes e = absurd (no_number e)
+line_inside or_distributes e = absurd (no_number e)
+line_inside and_absorbs e = absurd (no_number e)
+line_inside or_absorbs e = absurd (no_number e)
+line_inside not_and e = absurd (no_number e)
+line_inside not_or e = absurd (no_number e)
+line_inside and_not e = absurd (no_number e)
+line_inside or_not e = absurd (no_number e)
+line_inside equal_itself e = let n = number_is e in omega (arith, n)
+line_inside not_equal e = let n = number_is e in omega (arith, n)
+line_inside if_true e = let n = number_is e in omega (arith, n)
+line_inside if_false e = let n = number_is e in omega (arith, n)
+line_inside if_same e = let n = number_is e in omega (arith, n)
+line_inside equal_commutes e = absurd (no_number e)
+line_inside equal_true e = let n = number_is e in omega (arith, n)
+line_inside true_equal e = let n = number_is e in omega (arith, n)
+line_inside equal_false e = let n = number_is e in omega (arith, n)
+line_inside false_equal e = let n = number_is e in omega (arith, n)
+line_inside (operation_of_one p f) e = let n = number_is e in omega (arith, n)
+line_inside (operation_of_two p f) e = let n = number_is e in omega (arith, n)
+line_inside (minus_of f) e = let n = number_is e in omega (arith, n)
+line_inside compared e = let n = number_is e in omega (arith, n)
+line_inside equal_numerals e = let n = number_is e in omega (arith, n)
+line_inside empty_equal_cons e = let n = number_is e in omega (arith, n)
+line_inside cons_equal_empty e = let n = number_is e in omega (arith, n)
+line_inside cons_equal_cons e = let n = number_is e in omega (arith, n)
+line_inside empty_concat e = let n = number_is e in omega (arith, n)
+line_inside concat_empty e = let n = number_is e in omega (arith, n)
+line_inside cons_concat e = let n = number_is e in omega (arith, n)
+line_inside empty_snoc e = let n = number_is e in omega (arith, n)
+line_inside cons_snoc e = let n = number_is e in omega (arith, n)
+line_inside size_empty e = let n = number_is e in omega (arith, n)
+line_inside size_cons e = let n = number_is e in omega (arith, n)
+line_inside head_cons e = let n = number_is e in omega (arith, n)
+line_inside tail_cons e = let n = number_is e in omega (arith, n)
+line_inside rhead_one e = let n = number_is e in omega (arith, n)
+line_inside rhead_more e = let n = number_is e in omega (arith, n)
+line_inside rtail_one e = let n = number_is e in omega (arith, n)
+line_inside rtail_more e = let n = number_is e in omega (arith, n)
+line_inside at_zero e = let n = number_is e in omega (arith, n)
+line_inside in_empty e = let n = number_is e in omega (arith, n)
+line_inside in_cons e = let n = number_is e in omega (arith, n)
+line_inside (different_constructors k p q n) e = let n = number_is e in omega (arith, n)
+line_inside (same_constructor k p) e = let n = number_is e in omega (arith, n)
+line_inside (projected p) e = let n = number_is e in omega (arith, n)
+line_inside (recognised p) e = let n = number_is e in omega (arith, n)
+line_inside (not_recognised p q n) e = let n = number_is e in omega (arith, n)
+line_inside at_later e = let n = number_is e in omega (arith, n)

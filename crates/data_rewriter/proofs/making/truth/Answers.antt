@@ -1,0 +1,17 @@
+use Rattle.std.proofs.Common.{◌≡◌, List, [], ◌∷◌, refl, sym, subst, ap, ◌∙◌}
+use Rattle.std.specs.List.{All}
+use Rattle.std.proofs.lemmas.List.Elements.{All-nil}
+use Rattle.data_theory.specs.Terms as terms
+use Rattle.data_theory.specs.Terms.{Term, Terms, apply, more, none, natural}
+use Rattle.data_theory.specs.Equations.{number, truth_of}
+use Rattle.data_rewriter.specs.Standing.{IsTerm, StandsFor, listed_at, terms_of}
+use Rattle.data_rewriter.proofs.Standings.{called, called_one, called_two, stands_still_for, interned_numeral}
+use Rattle.data_rewriter.proofs.NumberSorts.{naturals_are}
+use Rattle.data_rewriter.proofs.FixedFunctions.{true_at, false_at, not_at, and_at, or_at, pos_to_nat_at, less_at, minus_at, succ_at, int_to_nat_at}
+use Rattle.data_rewriter.proofs.making.truth.Goals as goal
+
+pub returns-then-value-clause-made : goal.returns-then-value-clause-made
+returns-then-value-clause-made c = λ sig ok. subst (λ b. StandsFor sig c.call.new.pool.trees c.in_ok-made.made (truth_of b)) (sym c.if-value.true) (c.in_ok-made.ensures.made sig ok.table terms.truth (true_at sig ok) (All-nil (IsTerm sig c.args.pool.now.trees)))
+
+pub returns-clause-made : goal.returns-clause-made
+returns-clause-made c = λ sig ok. subst (λ b. StandsFor sig c.call-2.new.pool.trees c.in_ok-made-2.made (truth_of b)) (sym c.if-value.false) (c.in_ok-made-2.ensures.made sig ok.table terms.falsity (false_at sig ok) (All-nil (IsTerm sig c.args.pool.now.trees)))
