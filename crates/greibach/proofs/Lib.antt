@@ -15,3 +15,14 @@ pub mod NumberedPlaces
 pub mod StandingRests
 pub mod GrowingTexts
 pub mod FormsOfComponents
+pub mod OneByOne
+pub mod Meeting
+pub mod AddedVariables
+pub mod OccurringLemmas
+pub mod ReadPlaces
+pub mod ReadParts
+pub mod Reversed
+pub mod ListedTerms
+pub mod TablesOfPlaces
+pub mod TreeCalls
+pub mod NumberedOneByOne

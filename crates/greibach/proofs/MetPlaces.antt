@@ -16,7 +16,7 @@ contains_behind : (ks : List Place) (p : Place) → Contains (ks ++ p ∷ []) p
 contains_behind ks p = contains_read (ks ++ p ∷ []) (length ks) p (read_last ks p)
 
 -- what is met comes behind
-pub meets_behind : {ks ps ls : List Place} → Meets ks ps ls → (more : List Place) × (ls ≡ ks ++ more)
+pub meets_behind : {A : Type 0} {ks ps ls : List A} → Meets ks ps ls → (more : List A) × (ls ≡ ks ++ more)
 meets_behind (none_met {ks = ks}) = ([], sym (append-nil ks))
 meets_behind (met_before c h) = meets_behind h
 meets_behind (met_now {ks = ks} {p = p} n h) = let r = meets_behind h in (p ∷ r.0, r.1 ∙ append_assoc ks (p ∷ []) r.0)

@@ -9,3 +9,11 @@ pub mod Unfolding
 pub mod UnfoldedForms
 pub mod MeetingOrder
 pub mod ComponentForms
+pub mod RenewedVariables
+pub mod PlacesInCode
+pub mod ListedVariables
+pub mod OnwardCalls
+pub mod NumberedCalls
+pub mod OccurringVariables
+pub mod FittingPlaces
+pub mod Readings

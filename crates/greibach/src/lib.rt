@@ -1,7 +1,15 @@
-//! Greibach forms: the types, and what a form means.
+//! Greibach forms: the types, what a form means, and the form of a component.
 #![tactic(auto)]
 
+mod calls;
+mod environments;
 mod forms;
 pub mod laws;
+mod lists;
+mod numbers;
+mod places;
+mod reading;
+mod renewing;
+mod variables;
 
 pub use forms::{Greibach, GreibachEquation, GreibachSummand};
