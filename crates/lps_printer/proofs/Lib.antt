@@ -24,3 +24,5 @@ pub mod PrintedTrees
 pub mod LinearBack
 pub mod SummandTexts
 pub mod PrintedSystems
+pub mod FilledLinears
+pub mod CopiedDeclarations
