@@ -11,7 +11,6 @@ use Rattle.sort_table.specs.NamedSorts.{AddsLists, no_lists, one_list}
 use Rattle.sort_table.specs.SignatureVocabularies.{sort_name_under, function_names_from, vocabulary_of}
 use Rattle.sort_table.proofs.KeptFunctions.{lists_stand}
 use Rattle.sort_table.proofs.DeclaringLemmas.{same_ids, same_count}
-use Rattle.sort_table.proofs.EnteringFunctions.{same_declared}
 use Rattle.sort_table.proofs.GrowingSignatures.{grown_signatures_have_more}
 use Rattle.data_typing.specs.ContextLaws.{ListSortsKeepTheVocabulary}
 use Rattle.data_typing.proofs.TableLemmas.{lists_grow}
@@ -19,6 +18,10 @@ use Rattle.data_typing.proofs.TableLemmas.{lists_grow}
 same_actions : (g h : Sig) → AddsLists g h → h.actions ≡ g.actions
 same_actions g _ no_lists = refl
 same_actions g _ (one_list h e l absent a) = same_actions g h a
+
+same_declared : (g h : Sig) → AddsLists g h → h.declared ≡ g.declared
+same_declared g _ no_lists = refl
+same_declared g _ (one_list h e l absent a) = same_declared g h a
 
 names_long : (g : Sig) (k : ℕ) (is : List FunId) → length (function_names_from g k is) ≡ length is
 names_long g k [] = refl

@@ -50,11 +50,6 @@ pub fn calls_go_by_plan()
     ensures { CallsGoByPlan }
 {}
 
-/// A data expression that tokens spell can be read.
-pub fn spelled_data_are_readable()
-    ensures { (d : PlainData) → IsDataOfWords d → IsReadable d }
-{}
-
 /// List sorts come behind what was there, and change nothing in the vocabulary.
 pub fn list_sorts_keep_the_vocabulary()
     ensures behind { ListSortsComeBehind }
@@ -67,4 +62,9 @@ pub fn contexts_stay()
     ensures scopes { ScopesStay }
     ensures wishes { WishesStay }
     ensures readings { ReadingsStay }
+{}
+
+/// A data expression that tokens spell can be read.
+pub fn spelled_data_are_readable()
+    ensures { (d : PlainData) → IsDataOfWords d → IsReadable d }
 {}

@@ -38,9 +38,10 @@ lexed_are_read : (text : List ℕ) (at to : ℕ) (tokens : List Token) → Lexes
 lexed_are_read text at to tokens nothing all = tt
 lexed_are_read text at to tokens (after_space inside space more) all = lexed_are_read text (suc at) to tokens more all
 lexed_are_read text at to tokens (after_comment {next = next} further comment more) all = lexed_are_read text next to tokens more all
-lexed_are_read text at to tokens (after_token {first = first} {others = others} start some longest more) all =
-    (record { token = subst (λ (from : ℕ). IsToken (take (first.end - from) (drop from text)) first.kind) (sym start) longest.token; accepted = All-head (IsAccepted text) first others all }
-    , lexed_are_read text first.end to others more (All-tail (IsAccepted text) first others all))
+lexed_are_read text at to tokens (after_token {first = first} {others = others} start some longest more) all = (
+  record { token = subst (λ (from : ℕ). IsToken (take (first.end - from) (drop from text)) first.kind) (sym start) longest.token; accepted = All-head (IsAccepted text) first others all },
+  lexed_are_read text first.end to others more (All-tail (IsAccepted text) first others all),
+)
 
 are_read : (text : List ℕ) (tokens : List Token) → HasTokens text tokens → AreRead text tokens
 are_read text tokens has = lexed_are_read text 0 (length text) tokens has.lexes has.accepted

@@ -112,8 +112,7 @@ module _ (v : FullVocabulary) (xs : Variables) where
       let right = there (rt.checks left.0.sort) left.1.1 in
       let i = bind_all v.declared [] xs none_below sorts in
       let reads = left_reads l r left.0.term left.0.sort left.1.0 in
-      let q : Equation = record { sorts = sorts_for i.bounds; condition = condition.0; left = left.0.term; right = right.0 } in
-      (
+      let q : Equation = record { sorts = sorts_for i.bounds; condition = condition.0; left = left.0.term; right = right.0 } in (
         q,
         record {
           scope = scope_of v.declared xs;

@@ -37,8 +37,7 @@ stacked_good th vs k c v form q init con is sorted fits declared at init_sorted 
     push_sorted th.declared k c.columns fits.stack [] 0 (numbered_in c v form 0 q fits.layout at) (columns_of c (slice_get c.places 0) init) (pushed k.names c [])
     (subst (λ o. HaveSorts th.declared [] (terms_of (columns_of c o init)) (sorts c.columns)) (sym stands)
     (columns_sorted th.declared [] c q place init fits.layout.distinct p fits.defaults init_sorted))
-    (empty_sorted th.declared k c.columns fits.stack []) in
-    (
+    (empty_sorted th.declared k c.columns fits.stack []) in (
       record {
         starts = up_to (alike_refl th _)
             (stack_state (one_piece is_call) (record { place = place; at = stands; long = sorted_long th.declared [] init q.params init_sorted ∙ sym (length-map q.params (λ (x : Bound). x.var)) ∙ sym (place_long c q place p) }, tt) whole whole reflexive)
