@@ -1,21 +1,19 @@
 -- An equation that elaborates has no fault.
 use Rattle.std.proofs.Common.{◌≡◌, ℕ, Bool, true, false, not, cond, ◌&&◌, ◌||◌, List, [], ◌∷◌, ◌++◌, ⊎_elim, map, length, refl, sym, ap, ap₂, ◌∙◌, subst}
 use Rattle.std.specs.Prelude.{Option, Some, None, is_some, option_map, option_and_then, option_to_list, bytes_eq}
-use Rattle.std.specs.List.{Contains, AllByRecursion, find, list_any}
+use Rattle.std.specs.List.{Contains, find}
 use Rattle.std.proofs.lemmas.Option.{none-some, same_Some}
 use Rattle.std.proofs.lemmas.List.Elements.{Contains-append_left, Contains-append_right, Contains-append_cases}
 use Rattle.std.proofs.lemmas.Slice.Eq.{bytes_eq-Decides}
 use Rattle.data_theory.specs.Terms.{Sort, boolean, Term, variable, variables_of}
 use Rattle.data_theory.specs.Provable.{Equation}
-use Rattle.process_terms.specs.Processes as processes
 use Rattle.sort_table.specs.Expressions.{Name, Expression, word, none}
 use Rattle.sort_table.specs.Expressions as expressions
 use Rattle.sort_table.specs.NamedLists.{first_named}
 use Rattle.sort_table.specs.BareProcesses.{Variables}
-use Rattle.sort_table.specs.BareSorts.{SortExpression}
-use Rattle.sort_table.specs.Vocabularies.{Vocabulary, sort_in}
+use Rattle.sort_table.specs.Vocabularies.{Vocabulary}
 use Rattle.data_typing.specs.BuiltIns.{scheme_named}
-use Rattle.data_typing.specs.Typings.{Inferred, Typing, Meaning, bound, functions, word_typing}
+use Rattle.data_typing.specs.Typings.{Inferred, Meaning, bound, functions, word_typing}
 use Rattle.data_typing.specs.TypingLaws.{Reads}
 use Rattle.data_typing.specs.Meanings.{Bound, Scope, bound_row, meaning, meaning_or, signatures_named, typing_in}
 use Rattle.data_typing.proofs.NamedParts.{all_appended}
@@ -24,9 +22,8 @@ use Rattle.sort_checker.specs.FullVocabularies.{FullVocabulary}
 use Rattle.sort_checker.specs.Operators.{stands_in}
 use Rattle.sort_checker.specs.Parts.{an_equation, scoped}
 use Rattle.sort_checker.specs.Scopes.{numbers_of, numbered, scope_behind, scope_of}
-use Rattle.sort_checker.specs.PartTypings.{left_side, right_side, condition_at}
-use Rattle.sort_checker.specs.Faults.{words_in, words_of_option, of_data, name_of, is_known, names_of_variables, first_free, is_variable}
-use Rattle.sort_checker.specs.Elaborations.{WrittenEquation, ElaboratesEquation}
+use Rattle.sort_checker.specs.PartTypings.{left_side, condition_at}
+use Rattle.sort_checker.specs.Faults.{words_in, words_of_option, name_of, names_of_variables, first_free, is_variable}
 use Rattle.sort_checker.specs.SoundTexts.{IsSoundPart, HaveSorts, ElaboratedEquationsAreSound}
 use Rattle.sort_checker.proofs.Members.{contains_first, contains_later, contains_cases, contains_none}
 use Rattle.sort_checker.proofs.SoundElaborations.{bind_all, none_below}
@@ -35,7 +32,7 @@ use Rattle.sort_checker.proofs.MeantWords.{AreMeant, reads_words, some_cond, in_
 use Rattle.sort_checker.proofs.ElaboratedSound.{data_known, bound_sorts}
 use Rattle.sort_checker.proofs.FittingEquations.{word_in_scope}
 use Rattle.sort_checker.proofs.VariableWords.{variable_is_word, word_is_variable}
-use Rattle.sort_checker.proofs.TypedEquations.{left_reads, stands_among}
+use Rattle.sort_checker.proofs.TypedEquations.{left_reads}
 
 -- ---- lists
 nothing_passes : {A : Type 0} (p : A → Bool) (xs : List A) → ((x : A) → Contains xs x → p x ≡ false) → find p xs ≡ None
@@ -46,7 +43,7 @@ or_true : (b : Bool) → (b || true) ≡ true
 or_true true = refl
 or_true false = refl
 
-among_stands : (x : Name) (ys : List Name) → Contains ys x → stands_in x ys ≡ true
+pub among_stands : (x : Name) (ys : List Name) → Contains ys x → stands_in x ys ≡ true
 among_stands x [] c = absurd (contains_none x c)
 among_stands x (y ∷ ys) c =
     ⊎_elim (λ (e : y ≡ x). ap (λ (b : Bool). b || stands_in x ys) ((bytes_eq-Decides y x).1 e)) (λ d. ap (λ (b : Bool). bytes_eq y x || b) (among_stands x ys d) ∙ or_true (bytes_eq y x)) (contains_cases y x ys c)

@@ -1,25 +1,17 @@
 -- What elaborates fits: process terms, definitions and equations.
 use Rattle.std.proofs.Common.{◌≡◌, ℕ, List, [], ◌∷◌, map, refl, ap, subst}
-use Rattle.std.specs.Prelude.{Option, Some, None, option_map, option_and_then}
 use Rattle.std.specs.List.{Contains, AllByRecursion}
-use Rattle.std.proofs.lemmas.Option.{same_Some, option_and_then_some}
-use Rattle.data_theory.specs.Terms.{Sort, boolean, Term}
-use Rattle.data_theory.specs.Declarations.{Data, IsSort, HasSort}
+use Rattle.data_theory.specs.Terms.{boolean}
 use Rattle.process_terms.specs.Processes as processes
 use Rattle.process_terms.specs.Processes.{Body, written_delta, written_choice, written_seq, written_merge, choice_of, seq_of, merge_of, merged_with, sums_around}
-use Rattle.sort_table.specs.Expressions.{Expression}
 use Rattle.sort_table.specs.BareProcesses.{Variables, Process, Processes}
-use Rattle.data_typing.specs.Typings.{Inferred, Typing}
-use Rattle.data_typing.specs.TypingLaws.{HasSmallNumerals, IsScope}
-use Rattle.data_typing.specs.Meanings.{Scope, typing_in}
-use Rattle.data_typing.proofs.Options.{one_or_other, mapped}
-use Rattle.data_typing.proofs.MeaningSorts.{inferred_terms_have_their_sorts, checked_terms_have_the_sort}
+use Rattle.data_typing.specs.TypingLaws.{HasSmallNumerals}
+use Rattle.data_typing.specs.Meanings.{Scope}
 use Rattle.sort_checker.specs.FullVocabularies.{FullVocabulary}
 use Rattle.sort_checker.specs.Scopes.{numbers_of, Binds, binds_none, binds_more}
-use Rattle.sort_checker.specs.PartTypings.{condition_at}
 use Rattle.sort_checker.specs.Elaborations.{Elaborates, nothing, label, call_in_order, call_by_name, only_these, none_of_these, unseen, renamed, joined, in_sequence, one_of, side_by_side, for_each, where_true, by_truth, AllElaborate, all_done, one_and_more}
-use Rattle.sort_checker.specs.FittingBodies.{AreSorted, BodyFits, IsOverSorts, EachExpression, EachExpressionOf, EachOption, bounds_of, HasSorts, process_sorts, WhatElaboratesFits, DefinitionsFit, EquationsFit}
-use Rattle.sort_checker.proofs.SortedParts.{is_scope, term_fits, label_fits, arguments_fit, assigned_fit, process_found, sort_is}
+use Rattle.sort_checker.specs.FittingBodies.{BodyFits, IsOverSorts, EachExpression, EachExpressionOf, bounds_of, HasSorts, WhatElaboratesFits, DefinitionsFit}
+use Rattle.sort_checker.proofs.SortedParts.{term_fits, label_fits, arguments_fit, assigned_fit, process_found, sort_is}
 
 -- ---- several operands
 module _ (v : FullVocabulary) (xs : List processes.Bound) where

@@ -2,10 +2,9 @@
 use Rattle.std.proofs.Common.{◌≡◌, ℕ, List, [], ◌∷◌, ◌++◌, map, refl, ap, subst}
 use Rattle.std.specs.Prelude.{Option, Some, None, option_map, option_and_then}
 use Rattle.std.specs.List.{Contains, AllByRecursion}
-use Rattle.std.proofs.lemmas.Option.{none-some, same_Some, option_and_then_some}
+use Rattle.std.proofs.lemmas.Option.{same_Some, option_and_then_some}
 use Rattle.std.proofs.lemmas.List.Elements.{Contains-append_left, Contains-append_right}
 use Rattle.data_theory.specs.Terms.{Sort, boolean, Term, Terms, variable, numeral, unknown, application, none, more, variables_of, variables_of_all}
-use Rattle.data_theory.specs.Equations.{trueᵗ}
 use Rattle.data_theory.specs.Declarations.{Data, IsSort, Declares, argument_sorts, HasSort, HaveSorts}
 use Rattle.data_theory.specs.Provable.{Equation, variables_of_equation}
 use Rattle.data_theory.proofs.EnvironmentLemmas.{one_sort}
@@ -14,7 +13,7 @@ use Rattle.sort_table.specs.Expressions.{Name, Expression}
 use Rattle.sort_table.specs.NamedLists.{first_named}
 use Rattle.sort_table.specs.BareProcesses.{Variables}
 use Rattle.sort_table.specs.Vocabularies.{Vocabulary}
-use Rattle.data_typing.specs.Typings.{Inferred, Typing, Meaning, bound, functions}
+use Rattle.data_typing.specs.Typings.{Inferred, Typing, bound, functions}
 use Rattle.data_typing.specs.TypingLaws.{HasSmallNumerals, IsScope, Reads}
 use Rattle.data_typing.specs.BuiltIns.{scheme_named}
 use Rattle.data_typing.specs.Meanings.{Bound, Scope, bound_row, meaning, meaning_or, signatures_named, typing_in}

@@ -23,4 +23,12 @@ pub mod TypedEquations
 pub mod WellTypedTexts
 pub mod FirstsFound
 pub mod NumberedActions
+pub mod StopParts
+pub mod UnknownWords
+pub mod UnknownParts
+pub mod CommRules
+pub mod NamesKnown
 pub mod ElaboratedEquations
+pub mod NameLists
+pub mod ScopeLists
+pub mod ActionGroups

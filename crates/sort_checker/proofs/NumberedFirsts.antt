@@ -1,5 +1,5 @@
 -- Searches for the first declaration with a fault.
-use Rattle.std.proofs.Common.{◌≡◌, ◌<◌, ◌+◌, ℕ, zero, suc, List, [], ◌∷◌, ◌++◌, length, map, take, get_or, refl, ap, ap₂, sym, ◌∙◌, arith}
+use Rattle.std.proofs.Common.{◌≡◌, ◌<◌, ◌≤◌, ◌+◌, ℕ, zero, suc, List, [], ◌∷◌, ◌++◌, length, map, take, drop, get_or, refl, ap, ap₂, sym, ◌∙◌, arith}
 use Rattle.std.specs.Prelude.{Option, Some, None, option_map}
 use Rattle.std.specs.Option.{option_or}
 use Rattle.std.proofs.lemmas.Option.{none-some}
@@ -39,3 +39,26 @@ pub not_at : {D C A : Type 0} (g : C → D) (f : D → Option A) (k : ℕ) (cs :
 not_at {C = C} g f k cs i c l e none absent =
     ap (λ (xs : List C). first_from f k (map g xs)) (take_more cs i c l)
     ∙ (ap (first_from f k) (map-append g (take i cs) (get_or cs i c ∷ [])) ∙ first_behind f k (map g (take i cs)) (g (get_or cs i c)) none (ap (λ (x : C). f (g x)) (sym e) ∙ absent))
+
+-- ---- in front, or behind
+from_append : {D A : Type 0} (f : D → Option A) (k : ℕ) (xs ys : List D) → first_from f k (xs ++ ys) ≡ option_or (first_from f k xs) (first_from f (k + length xs) ys)
+from_append f k [] ys = ap (λ (n : ℕ). first_from f n ys) (omega arith)
+from_append {A = A} f k (x ∷ xs) ys =
+    ap (λ (o : Option (ℕ × A)). option_or (option_map (λ (a : A). (k, a)) (f x)) o) (from_append f (suc k) xs ys ∙ ap (λ (n : ℕ). option_or (first_from f (suc k) xs) (first_from f n ys)) (omega arith))
+    ∙ or_again (option_map (λ (a : A). (k, a)) (f x)) (first_from f (suc k) xs) (first_from f (k + suc (length xs)) ys)
+  where
+    or_again : {B : Type 0} (o p q : Option B) → option_or o (option_or p q) ≡ option_or (option_or o p) q
+    or_again None p q = refl
+    or_again (Some b) p q = refl
+
+pub from_found : {D A : Type 0} (f : D → Option A) (k : ℕ) (a : ℕ × A) (xs ys : List D) → first_from f k xs ≡ Some a → first_from f k (xs ++ ys) ≡ Some a
+from_found {A = A} f k a xs ys h = from_append f k xs ys ∙ ap (λ (o : Option (ℕ × A)). option_or o (first_from f (k + length xs) ys)) h
+
+pub from_behind : {D A : Type 0} (f : D → Option A) (k : ℕ) (xs ys : List D) → first_from f k xs ≡ None → first_from f k (xs ++ ys) ≡ first_from f (k + length xs) ys
+from_behind {A = A} f k xs ys h = from_append f k xs ys ∙ ap (λ (o : Option (ℕ × A)). option_or o (first_from f (k + length xs) ys)) h
+
+pub drop_beyond : {A : Type 0} (xs : List A) (n : ℕ) → length xs ≤ n → drop n xs ≡ []
+drop_beyond [] zero h = refl
+drop_beyond [] (suc n) h = refl
+drop_beyond (x ∷ xs) zero h = let never : ⊥ = omega (arith, h) in absurd never
+drop_beyond (x ∷ xs) (suc n) h = drop_beyond xs n (omega (arith, h))

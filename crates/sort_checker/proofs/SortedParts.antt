@@ -71,7 +71,7 @@ listed_sorts : (g : Data) (vs : List Sort) (ss : List Sort) (us : Terms) → Hav
 listed_sorts g vs ss us h = subst (λ (ts : Terms). HaveSorts g vs ts ss) (sym (terms_of_lists us)) h
 
 -- ---- rows under a name
-all_weaker : {A : Type 0} (P Q : A → Type 0) → ((x : A) → P x → Q x) → (xs : List A) → AllByRecursion P xs → AllByRecursion Q xs
+pub all_weaker : {A : Type 0} (P Q : A → Type 0) → ((x : A) → P x → Q x) → (xs : List A) → AllByRecursion P xs → AllByRecursion Q xs
 all_weaker P Q f [] h = tt
 all_weaker P Q f (x ∷ xs) h = (f x h.0, all_weaker P Q f xs h.1)
 

@@ -1,30 +1,27 @@
 -- An equation without a fault elaborates.
-use Rattle.std.proofs.Common.{◌≡◌, ℕ, Bool, true, false, not, cond, ◌&&◌, ◌||◌, List, [], ◌∷◌, ◌++◌, ⊎_elim, map, refl, sym, ap, ◌∙◌, subst}
+use Rattle.std.proofs.Common.{◌≡◌, ℕ, Bool, true, false, not, ◌&&◌, ◌||◌, List, [], ◌∷◌, ◌++◌, ⊎_elim, refl, sym, ap, ◌∙◌, subst}
 use Rattle.std.specs.Prelude.{Option, Some, None, is_some, option_map, option_and_then, bytes_eq}
-use Rattle.std.specs.List.{Contains, find, list_any}
-use Rattle.std.proofs.lemmas.Option.{none-some, same_Some, option_and_then_some}
+use Rattle.std.specs.List.{Contains, find}
+use Rattle.std.proofs.lemmas.Option.{same_Some, option_and_then_some}
 use Rattle.std.proofs.lemmas.List.Elements.{Contains-append_left, Contains-append_right, Contains-append_cases}
 use Rattle.std.proofs.lemmas.Slice.Eq.{bytes_eq-Decides}
 use Rattle.data_theory.specs.Terms.{Sort, boolean, Term, variable, variables_of}
 use Rattle.data_theory.specs.Equations.{trueᵗ}
 use Rattle.data_theory.specs.Provable.{Equation, variables_of_equation}
-use Rattle.sort_table.specs.Expressions.{Name, Expression, word}
-use Rattle.sort_table.specs.Expressions as expressions
-use Rattle.sort_table.specs.NamedLists.{first_named}
+use Rattle.sort_table.specs.Expressions.{Name, Expression}
 use Rattle.sort_table.specs.BareProcesses.{Variables}
-use Rattle.sort_table.specs.Vocabularies.{Vocabulary}
-use Rattle.data_typing.specs.Typings.{Inferred, Typing, Meaning, bound, functions}
+use Rattle.data_typing.specs.Typings.{Inferred, Typing, bound}
 use Rattle.data_typing.specs.TypingLaws.{Reads}
-use Rattle.data_typing.specs.Meanings.{Bound, Scope, bound_row, meaning, typing_in}
+use Rattle.data_typing.specs.Meanings.{Scope, meaning, typing_in}
 use Rattle.data_typing.proofs.Options.{one_or_other, mapped}
 use Rattle.data_typing.proofs.Readings.{typing_reads_the_expression}
 use Rattle.sort_checker.specs.FullVocabularies.{FullVocabulary}
 use Rattle.sort_checker.specs.Operators.{stands_in}
 use Rattle.sort_checker.specs.Parts.{an_equation, scoped}
-use Rattle.sort_checker.specs.Scopes.{scope_behind, scope_of}
+use Rattle.sort_checker.specs.Scopes.{scope_of}
 use Rattle.sort_checker.specs.PartTypings.{left_side, right_side, condition_at}
 use Rattle.sort_checker.specs.Faults.{words_in, words_of_option, names_of_variables, first_free, is_variable}
-use Rattle.sort_checker.specs.Elaborations.{WrittenEquation, ElaboratesEquation}
+use Rattle.sort_checker.specs.Elaborations.{ElaboratesEquation}
 use Rattle.sort_checker.specs.SoundTexts.{IsSoundPart, HaveSorts}
 use Rattle.sort_checker.proofs.Members.{contains_first, contains_later, contains_cases, contains_none}
 use Rattle.sort_checker.proofs.SoundElaborations.{there, there_then, both_true, none_found, bind_all, none_below}

@@ -21,3 +21,10 @@ pub mod SoundTexts
 pub mod WholeTexts
 pub mod FirstFaults
 pub mod ActionLaws
+pub mod Stops
+pub mod StopTrees
+pub mod ScopeNames
+pub mod KnownNames
+pub mod UnknownTrees
+pub mod ActionTables
+pub mod CommTrees

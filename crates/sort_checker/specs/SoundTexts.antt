@@ -13,7 +13,7 @@ use Rattle.sort_checker.specs.Operators.{operators_in, renamed_twice, has_comm_f
 use Rattle.sort_checker.specs.Parts.{an_equation, ScopedPart, scoped, parts_in}
 use Rattle.sort_checker.specs.Scopes.{scope_of}
 use Rattle.sort_checker.specs.Faults.{unknown_name, is_typed, free_variable, is_variable}
-use Rattle.sort_checker.specs.Elaborations.{Elaborates, ElaboratesDefinition, WrittenEquation, ElaboratesEquation}
+use Rattle.sort_checker.specs.Elaborations.{Elaborates, ElaboratesDefinition, ElaboratesEquation}
 
 -- none of the faults 12 to 14
 pub record IsSoundPart (v : FullVocabulary) (p : ScopedPart) : Type 0 where

@@ -4,11 +4,19 @@
 //! bodies: the contract of each is a law of these definitions, so that the crates above can cite it.
 #![tactic(auto)]
 
+mod action_tables;
+mod comm_shapes;
+mod known_names;
 pub mod laws;
 mod left_sides;
 mod name_numbers;
 mod renamings;
+mod scope_names;
 mod scoped_declarations;
+mod stops;
+mod unknown_names;
 
+pub use comm_shapes::comm_shape;
 pub use left_sides::variable_left;
 pub use renamings::renamed_twice;
+pub use unknown_names::unknown_name;

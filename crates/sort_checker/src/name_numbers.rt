@@ -1,6 +1,6 @@
 //! Numbers under names.
 
-ghost use Rattle.std.specs.Prelude.{◌≡◌, None, Some, cond, bytes_eq, OnOk};
+ghost use Rattle.std.specs.Prelude.{◌≡◌, None, Some, cond, bytes_eq, OnOk, OnErr};
 ghost use Rattle.sort_table.specs.Expressions.{Name};
 ghost use Rattle.sort_checker.specs.NameNumbers.{number_under};
 
@@ -40,7 +40,8 @@ impl<'a> NameNumbers<'a> {
     ///
     /// `NoMemory` where there is none for it.
     pub(crate) fn put(&mut self, name: &'a [u8], number: usize) -> Result<(), NoMemory>
-        ensures { OnOk result ((n : Name) → number_under self.new n ≡ cond (bytes_eq name.now n) (Some number) (number_under self.old n)) }
+        ensures put { OnOk result ((n : Name) → number_under self.new n ≡ cond (bytes_eq name.now n) (Some number) (number_under self.old n)) }
+        ensures unchanged { OnErr result ((n : Name) → number_under self.new n ≡ number_under self.old n) }
     {
         self.numbers.insert(name, number)?;
         Ok(())
