@@ -26,3 +26,10 @@ pub mod ListedTerms
 pub mod TablesOfPlaces
 pub mod TreeCalls
 pub mod NumberedOneByOne
+pub mod GrownFits
+pub mod PutFitting
+pub mod ConditionTrees
+pub mod FittingHeads
+pub mod HeadArms
+pub mod AssembledForms
+pub mod LabelMade

@@ -17,3 +17,5 @@ pub mod NumberedCalls
 pub mod OccurringVariables
 pub mod FittingPlaces
 pub mod Readings
+pub mod Surroundings
+pub mod AddedLabels

@@ -4,6 +4,7 @@
 mod calls;
 mod environments;
 mod forms;
+mod heads;
 pub mod laws;
 mod lists;
 mod numbers;
