@@ -84,13 +84,13 @@ pub one_column : (xs : List Bound) (x y : Bound) → AreDistinct (variables xs) 
 one_column [] x y d i j e = absurd (contains_none x i)
 one_column (z ∷ xs) x y d i j e = ⊎_elim
     (λ p. ⊎_elim
-      (λ q. sym p ∙ q)
-      (λ k. absurd (d.0 (subst (λ n. Contains (variables xs) n) (sym (ap (λ b. b.var) p ∙ e)) (variable_among xs y k))))
-      (contains_cases z y xs j))
+    (λ q. sym p ∙ q)
+    (λ k. absurd (d.0 (subst (λ n. Contains (variables xs) n) (sym (ap (λ b. b.var) p ∙ e)) (variable_among xs y k))))
+    (contains_cases z y xs j))
     (λ k. ⊎_elim
-      (λ q. absurd (d.0 (subst (λ n. Contains (variables xs) n) (e ∙ sym (ap (λ b. b.var) q)) (variable_among xs x k))))
-      (λ m. one_column xs x y d.1 k m e)
-      (contains_cases z y xs j))
+    (λ q. absurd (d.0 (subst (λ n. Contains (variables xs) n) (e ∙ sym (ap (λ b. b.var) q)) (variable_among xs x k))))
+    (λ m. one_column xs x y d.1 k m e)
+    (contains_cases z y xs j))
     (contains_cases z x xs i)
 
 -- terms for some of the columns, in front of others
@@ -136,4 +136,3 @@ place_sorted g vs c q place us n p h =
     subst (λ ss. HaveSorts g vs (terms_of (reading (bound (variables c.columns) us) place)) ss) (sym (same_sorts p.same))
     (subst (λ z. HaveSorts g vs (terms_of (reading (bound (variables c.columns) us) z)) (sorts p.bounds)) (sym p.is)
     (read_sorted g vs (bound (variables c.columns) us) p.bounds (λ y i. column_sorted g vs c.columns us y n (p.among y i) h)))
-

@@ -92,9 +92,9 @@ module _ (g : Data) (k : StackSymbols) (c : Columns) (v : ℕ) (form : Form) (is
   frames_over ys (a ∷ cs) u h i = (
     tt,
     join_over ys (columns_of c (slice_get c.places a.equation) a.args) (pushed_on k.names c cs u)
-    (beside_over ys _ _ (columns_beside (λ x y. IsOver ys x) c (slice_get c.places a.equation) a.args a.args defaults_match
-    (over_beside ys c.defaults (all_closed_over g ys (terms_of c.defaults) (sorts c.columns) fits.defaults)) (over_beside ys a.args (h a (contains_first a cs)))))
-    (frames_over ys cs u (λ b j. h b (contains_later a b cs j)) i),
+        (beside_over ys _ _ (columns_beside (λ x y. IsOver ys x) c (slice_get c.places a.equation) a.args a.args defaults_match
+        (over_beside ys c.defaults (all_closed_over g ys (terms_of c.defaults) (sorts c.columns) fits.defaults)) (over_beside ys a.args (h a (contains_first a cs)))))
+        (frames_over ys cs u (λ b j. h b (contains_later a b cs j)) i),
   )
 
   module _ (i : ℕ) (q : FormEquation) (s : FormSummand) (at : slice_get form i ≡ Some q) (among : Contains q.summands s) where
@@ -207,9 +207,10 @@ module _ (g : Data) (vs : List Sort) (k : StackSymbols) (c : Columns) (v : ℕ) 
         → ((a : GreibachCall) (p : FormEquation) → Contains cs a → slice_get form a.equation ≡ Some p → HaveSorts g vs (terms_of a.args) (sorts p.params)) → CallsSorted vs (map (put_call e) cs)
     calls_sorted [] h w = tt
     calls_sorted (a ∷ cs) h w =
-        let o = h a (contains_first a cs) in
-        ((o.equation, (o.stands, puts_sorted g vs vs (term_in e) moves_sorted a.args (sorts o.equation.params) (w a o.equation (contains_first a cs) o.stands))),
-        calls_sorted cs (λ b j. h b (contains_later a b cs j)) (λ b p j. w b p (contains_later a b cs j)))
+        let o = h a (contains_first a cs) in (
+          (o.equation, (o.stands, puts_sorted g vs vs (term_in e) moves_sorted a.args (sorts o.equation.params) (w a o.equation (contains_first a cs) o.stands))),
+          calls_sorted cs (λ b j. h b (contains_later a b cs j)) (λ b p j. w b p (contains_later a b cs j)),
+        )
 
     has_rest : HasSort g vs (is_pushed k (rest_of k (variable v))) boolean
     has_rest = one_sorted g k vs k.is_push boolean _ (rest_of k (variable v)) fits.stack.is_push (λ q. cc) rest_sorted
@@ -221,8 +222,10 @@ module _ (g : Data) (vs : List Sort) (k : StackSymbols) (c : Columns) (v : ℕ) 
     pub parts_sorted : (w : Way) → Contains (ways k c v e s.next) w → AllByRecursion (λ t. HasSort g vs t boolean) (stack_parts k v i (put (term_in e) s.condition) w.further)
     parts_sorted w o = (
       one_sorted g k vs k.is_push boolean _ (variable v) fits.stack.is_push (λ q. cc) declared,
-      ((tt, (one_sorted g k vs k.pc positive _ (variable v) fits.stack.pc (λ q. cc) declared, ((refl, numbered_in c v form i q fits.layout at), tt)), refl, refl),
-      (putting_in_keeps_sorts g vs vs (term_in e) moves_sorted s.condition boolean ((sorted i q at).summands s among).condition, further_sorted s.next w o)),
+      (
+        (tt, (one_sorted g k vs k.pc positive _ (variable v) fits.stack.pc (λ q. cc) declared, ((refl, numbered_in c v form i q fits.layout at), tt)), refl, refl),
+        (putting_in_keeps_sorts g vs vs (term_in e) moves_sorted s.condition boolean ((sorted i q at).summands s among).condition, further_sorted s.next w o),
+      ),
     )
 
     next_is_sorted : (cs : List GreibachCall) → CallsSorted vs (map (put_call e) cs) → (w : Way) → Contains (ways k c v e cs) w → NextIsSorted g vs (sorts (stack_params k v)) w.next

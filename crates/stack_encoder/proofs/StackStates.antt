@@ -243,20 +243,22 @@ module _ (th : Theory) (vs : List Sort) (k : StackSymbols) (c : Columns) (v : �
             → CallsSorted th.declared vs k c v form is sorted fits declared [] (map (put_call e) cs)
         new_sorted e f [] h w = tt
         new_sorted e f (b ∷ cs) h w =
-            let o = h b (contains_first b cs) in
-            ((o.equation, (o.stands, closed_args th.declared vs xs (term_in e) f b.args (sorts o.equation.params) o.args (w b o.equation (contains_first b cs) o.stands))),
-            new_sorted e f cs (λ z j. h z (contains_later b z cs j)) (λ z p j. w z p (contains_later b z cs j)))
+            let o = h b (contains_first b cs) in (
+              (o.equation, (o.stands, closed_args th.declared vs xs (term_in e) f b.args (sorts o.equation.params) o.args (w b o.equation (contains_first b cs) o.stands))),
+              new_sorted e f cs (λ z j. h z (contains_later b z cs j)) (λ z p j. w z p (contains_later b z cs j)),
+            )
 
         new_have : (e : Environment) (cs : List GreibachCall) → ((b : GreibachCall) → Contains cs b → CallIsOver form xs b) → AllByRecursion (HasItsArguments c) (map (put_call e) cs)
         new_have e [] h = tt
         new_have e (b ∷ cs) h =
-            let o = h b (contains_first b cs) in
-            (record {
-              place = place_of c b.equation;
-              at = place_at c v form b.equation o.equation fits.layout o.stands;
-              long = length-map b.args (put (term_in e)) ∙ o.long ∙ sym (length-map o.equation.params (λ (x : Bound). x.var)) ∙ sym (place_long c o.equation (place_of c b.equation) (fits.layout.places b.equation o.equation o.stands));
-            },
-            new_have e cs (λ z j. h z (contains_later b z cs j)))
+            let o = h b (contains_first b cs) in (
+              record {
+                place = place_of c b.equation;
+                at = place_at c v form b.equation o.equation fits.layout o.stands;
+                long = length-map b.args (put (term_in e)) ∙ o.long ∙ sym (length-map o.equation.params (λ (x : Bound). x.var)) ∙ sym (place_long c o.equation (place_of c b.equation) (fits.layout.places b.equation o.equation o.stands));
+              },
+              new_have e cs (λ z j. h z (contains_later b z cs j)),
+            )
 
         -- where a way leads
         leads : (e : Environment) → EqualThrough th xs r d e → HaveTerms th.declared vs xs (term_in e) → (cs : List GreibachCall) → ((b : GreibachCall) → Contains cs b → CallIsOver form xs b)
@@ -282,9 +284,13 @@ module _ (th : Theory) (vs : List Sort) (k : StackSymbols) (c : Columns) (v : �
 
         -- some way is open
         open_below : (os : List GreibachCall) → IsOfSort th (stack_sort k) (pushed k.names c os) → Equal th on_rest (pushed k.names c os) → (w : Way) × (Contains (ways k c v r []) w × AllTrue th (map (put (term_in d)) w.further))
-        open_below [] n u =
-            (way_out k v, (contains_later (way_down k v) (way_out k v) (way_out k v ∷ []) (contains_first (way_out k v) []),
-            true_and_more ((negation_true th.declared th.equations (is_pushed k on_rest) (one_sorted th.declared k [] k.is_push boolean _ on_rest fits.stack.is_push (λ q. cc) rest_sorted)).1 (empty_rejected th fits.is_data k c.columns fits.stack on_rest u)) none_left))
+        open_below [] n u = (
+          way_out k v,
+          (
+            contains_later (way_down k v) (way_out k v) (way_out k v ∷ []) (contains_first (way_out k v) []),
+            true_and_more ((negation_true th.declared th.equations (is_pushed k on_rest) (one_sorted th.declared k [] k.is_push boolean _ on_rest fits.stack.is_push (λ q. cc) rest_sorted)).1 (empty_rejected th fits.is_data k c.columns fits.stack on_rest u)) none_left,
+          ),
+        )
         open_below (b ∷ os) n u = (way_down k v, (contains_first (way_down k v) (way_out k v ∷ []), true_and_more (rest_of_frames os b on_rest n u) none_left))
 
         open_way : (cs : List GreibachCall) → (w : Way) × (Contains (ways k c v r cs) w × AllTrue th (map (put (term_in d)) w.further))
@@ -319,9 +325,9 @@ module _ (th : Theory) (vs : List Sort) (k : StackSymbols) (c : Columns) (v : �
           bound = b;
           does = record {
             holds = (joined_true th (term_in d) cs (conditions_at d stack i q s o.0 o.1.0 b at f.among)).0
-            (true_and_more (push_accepted th fits.is_data k c.columns fits.stack i cols below (term_in d v) whole equal)
-            (true_and_more (pc_holds th fits.is_data k c.columns fits.stack i cols below (term_in d v) whole equal)
-            (true_and_more (transitive (term_through th xs y d e thr s.condition is_s.condition) f.holds) o.1.1)));
+                (true_and_more (push_accepted th fits.is_data k c.columns fits.stack i cols below (term_in d v) whole equal)
+                (true_and_more (pc_holds th fits.is_data k c.columns fits.stack i cols below (term_in d v) whole equal)
+                (true_and_more (transitive (term_through th xs y d e thr s.condition is_s.condition) f.holds) o.1.1)));
             label = refl;
             onward = refl;
           };
@@ -332,7 +338,7 @@ module _ (th : Theory) (vs : List Sort) (k : StackSymbols) (c : Columns) (v : �
           fires = fires;
           agree = subst (λ z. AgreeInOrder th z (put_label d x.label)) (sym f.label) (agree_sym (label_through th xs y d e thr s.label is_s.label));
           left = leads d stack equal s f.among e thr (terms_at d stack equal s f.among e f.reads f.bound) s.next is_s.next ((sorted i q at).summands s f.among).next o.0 o.1.0 o.1.1
-          (λ us w. firings_keep th vs L (t ∷ []) us (put_label d x.label) linear well (st, tt) (subst (λ z. Fires th L (t ∷ []) (put_label d x.label) z) (sym w) fires));
+              (λ us w. firings_keep th vs L (t ∷ []) us (put_label d x.label) linear well (st, tt) (subst (λ z. Fires th L (t ∷ []) (put_label d x.label) z) (sym w) fires));
         }
 
     back_at : (t : Term) → IsOfSort th (stack_sort k) t → Equal th t (pushed k.names c (a ∷ others)) → {m : Label} {next : Option (List Term)} (f : Fires th L (t ∷ []) m next)
@@ -372,8 +378,8 @@ module _ (th : Theory) (vs : List Sort) (k : StackSymbols) (c : Columns) (v : �
           };
           agree = subst (λ z. AgreeInOrder th z (put_label e s.label)) (sym does.label) (label_through th xs y d e thr s.label is_s.label);
           left = subst (λ z. StackLeft th k c z (map (put_call e) s.next ++ others)) (sym does.onward)
-          (leads d stack equal s among e thr (terms_at d stack equal s among e reads be) s.next is_s.next ((sorted i q at).summands s among).next w o own.1
-          (λ us u. firings_keep th vs L (t ∷ []) us m linear well (st, tt) (subst (λ z. Fires th L (t ∷ []) m z) (does.onward ∙ sym u) f)));
+              (leads d stack equal s among e thr (terms_at d stack equal s among e reads be) s.next is_s.next ((sorted i q at).summands s among).next w o own.1
+              (λ us u. firings_keep th vs L (t ∷ []) us m linear well (st, tt) (subst (λ z. Fires th L (t ∷ []) m z) (does.onward ∙ sym u) f)));
         }
 
   -- a summand that fires is one of the top call's equation

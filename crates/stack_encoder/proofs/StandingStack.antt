@@ -53,7 +53,7 @@ module _ (g : Sig) (i : StackIds) (columns : List SortId) (table : IsTable g) (r
       → function_at D (declared_number g.functions p) ≡ record { arguments = map (sort_under g) f.sorts; result = sort_under g f.result; role = r }
   entry p f r at w e = (declared_functions_stand_in_the_data g p f at w).1 ∙ ap (λ z. record { arguments = map (sort_under g) f.sorts; result = sort_under g f.result; role = z }) e
 
-  sort_is : sort_under g i.sort ≡ stack_sort k
+  pub sort_is : sort_under g i.sort ≡ stack_sort k
   sort_is = read_sort g table i.sort stands.info stands.sort_at ∙ ap (meaning_of (sort_under g) _) stands.kind
 
   -- a constructor's entry
@@ -102,8 +102,7 @@ module _ (g : Sig) (i : StackIds) (columns : List SortId) (table : IsTable g) (r
   fields_stand j (x ∷ xs) [] ps l e h w = absurd (omega (arith, ap length e))
   fields_stand j (x ∷ xs) (s ∷ ss) [] l e h w = absurd (omega (arith, l))
   fields_stand j (x ∷ xs) (s ∷ ss) (p ∷ ps) l e h w =
-      let here : j ≡ 0 + j = omega arith in
-      (
+      let here : j ≡ 0 + j = omega arith in (
         projects_to p j s x.sort (ap (slice_get stands.push.projections) here ∙ h 0) (ap (slice_get stands.push.sorts) here ∙ w 0) (sym (head_same e)),
         fields_stand (suc j) xs ss ps (omega (arith, l)) (tail_same e)
             (λ n. ap (slice_get stands.push.projections) (let m : n + suc j ≡ suc n + j = omega arith in m) ∙ h (suc n))
@@ -131,7 +130,7 @@ module _ (g : Sig) (i : StackIds) (columns : List SortId) (table : IsTable g) (r
             (ap₂ (λ l m. slice_get l (suc m)) stands.push_projections (sym (length-map i.fields Some ∙ stands.long ∙ columns_long)) ∙ at_end (map Some i.fields) (Some i.rest))
             (ap₂ (λ l m. slice_get l (suc m)) stands.push_sorts (sym columns_long) ∙ at_end columns i.sort) sort_is;
         differ = λ n. stands.differ (ap (λ z. z.0) (different_functions_mean_different_symbols g table i.empty i.push (slice_get_within g.functions i.empty.0 stands.empty stands.empty_at) (slice_get_within g.functions i.push.0 stands.push stands.push_at)
-        ((declared_functions_stand_in_the_data g i.empty stands.empty stands.empty_at empty_is.0).0 ∙ ap function n ∙ sym (declared_functions_stand_in_the_data g i.push stands.push stands.push_at push_is.0).0)));
+            ((declared_functions_stand_in_the_data g i.empty stands.empty stands.empty_at empty_is.0).0 ∙ ap function n ∙ sym (declared_functions_stand_in_the_data g i.push stands.push stands.push_at push_is.0).0)));
       }
     where
       joined : (cs : List SortId) → map (sort_under g) (cs ++ i.sort ∷ []) ≡ map (sort_under g) cs ++ stack_sort k ∷ []
@@ -156,6 +155,7 @@ module _ (g : Sig) (i : StackIds) (columns : List SortId) (table : IsTable g) (r
       let r = roles.recognisers i.push i.is_push stands.push stands.push_at stands.push_test in
       record {
         push = symbol i.push stands.push stands.push_at push_is.0;
+        empty = symbol i.empty stands.empty stands.empty_at empty_is.0;
         is_push = symbol i.is_push r.1.0 r.1.1 r.1.2;
         pc = projection_symbol i.pc 0 (ap (λ l. slice_get l 0) stands.push_projections);
         rest = projection_symbol i.rest (suc (length (map Some i.fields))) (ap (λ l. slice_get l (suc (length (map Some i.fields)))) stands.push_projections ∙ at_end (map Some i.fields) (Some i.rest));
