@@ -19,7 +19,7 @@ use Rattle.regular_encoder.specs.FormColumns.{IsFirstTerm, an_argument, a_closed
 constant_sorts : (d : SortId) (g : Sig) (cs : List (SortId × FunId)) (h : Sig) (ds : List (SortId × FunId)) → DeclaresConstant d g cs h ds → h.sorts ≡ g.sorts
 constant_sorts d g cs h ds k = ap (λ (z : Sig). z.sorts) k.declared ∙ ap (λ (z : Sig). z.sorts) k.fresh.taken
 
-constants_sorts : (sorts : List SortId) (g : Sig) (cs : List (SortId × FunId)) (h : Sig) (ds : List (SortId × FunId)) → DeclaresConstants sorts g cs h ds → h.sorts ≡ g.sorts
+pub constants_sorts : (sorts : List SortId) (g : Sig) (cs : List (SortId × FunId)) (h : Sig) (ds : List (SortId × FunId)) → DeclaresConstants sorts g cs h ds → h.sorts ≡ g.sorts
 constants_sorts _ g cs _ _ none_left = refl
 constants_sorts _ g cs i es (declares {d = d} {sorts = sorts} {h = h} {ds = ds} k more) = constants_sorts sorts h ds i es more ∙ constant_sorts d g cs h ds k
 

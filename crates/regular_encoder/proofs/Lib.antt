@@ -18,7 +18,7 @@ pub mod LayingOut
 mod Refused
 mod EncodedEquations
 pub mod FormsInPlace
-mod SortedTrees
+pub mod SortedTrees
 mod EncodedForms
 pub mod OneEquation
 pub mod KeptEquation

@@ -43,11 +43,11 @@ and_at : (texts : List (List ℕ)) (new : List Function) → slice_get (built_in
 unfolding first_table first_rows truth_rows sort_rows
 and_at texts new = refl
 
-equal_at : (texts : List (List ℕ)) (new : List Function) → slice_get (built_ins texts first_table ++ new) 15 ≡ Some (built_in texts (rows.Two words.Equal pos_sort pos_sort bool_sort))
+pub equal_at : (texts : List (List ℕ)) (new : List Function) → slice_get (built_ins texts first_table ++ new) 15 ≡ Some (built_in texts (rows.Two words.Equal pos_sort pos_sort bool_sort))
 unfolding first_table first_rows truth_rows sort_rows
 equal_at texts new = refl
 
-read_at : (g : Sig) → IsComplete g → (k : ℕ) (f : Function) → ((new : List Function) → slice_get (built_ins g.texts first_table ++ new) k ≡ Some f) → slice_get g.functions k ≡ Some f
+pub read_at : (g : Sig) → IsComplete g → (k : ℕ) (f : Function) → ((new : List Function) → slice_get (built_ins g.texts first_table ++ new) k ≡ Some f) → slice_get g.functions k ≡ Some f
 read_at g c k f h = ap (λ fs. slice_get fs k) c.first_functions_stay.1 ∙ h c.first_functions_stay.0
 
 one_function : {e f : Function} → Some e ≡ Some f → e ≡ f
@@ -79,17 +79,17 @@ module _ (g : Sig) (complete : IsComplete g) where
       by_test false s r = (h, tt)
   parts_sorted (function f (more t (more u (more v ts)))) h = (h, tt)
 
-  without_sorted : (ts : List Tree) → AllByRecursion (IsTruth g) ts → AllByRecursion (IsTruth g) (trees_without_true ts)
+  pub without_sorted : (ts : List Tree) → AllByRecursion (IsTruth g) ts → AllByRecursion (IsTruth g) (trees_without_true ts)
   without_sorted [] h = tt
   without_sorted (t ∷ ts) h = elim (is_true_tree t) as (λ b. AllByRecursion (IsTruth g) (if b then trees_without_true ts else t ∷ trees_without_true ts)) [ true ↦ without_sorted ts h.1 | false ↦ (h.0, without_sorted ts h.1) ]
 
-  chain_sorted : (ts : List Tree) → AllByRecursion (IsTruth g) ts → IsTruth g (conjunction_tree ts)
+  pub chain_sorted : (ts : List Tree) → AllByRecursion (IsTruth g) ts → IsTruth g (conjunction_tree ts)
   chain_sorted [] h = (built_in g.texts (rows.Constant words.True bool_sort), read_at g complete 6 _ (true_at g.texts), refl, tt, refl)
   chain_sorted (t ∷ []) h = h.0
   chain_sorted (t ∷ u ∷ ts) h = and_sorted t (conjunction_tree (u ∷ ts)) h.0 (chain_sorted (u ∷ ts) h.1)
 
   -- ---- the control number
-  number_sorted : (i : ℕ) → 1 ≤ i → i < 340282366920938463463374607431768211456 → HasTreeSort g (number_tree i) pos_sort
+  pub number_sorted : (i : ℕ) → 1 ≤ i → i < 340282366920938463463374607431768211456 → HasTreeSort g (number_tree i) pos_sort
   number_sorted i one few = (refl, (inl (refl, let l : pos 1 ≤ℤ pos i = omega (arith, ints, one) in l), few))
 
   control_part_sorted : (o : Option VarId) (i : ℕ) (ts : List Tree) → 1 ≤ i → i < 340282366920938463463374607431768211456 → ((x : VarId) → o ≡ Some x → IsVariableOf g x pos_sort) → AllByRecursion (IsTruth g) ts
@@ -144,7 +144,7 @@ one_sort_at_least g c =
     omega (arith, e, f)
 
 module _ (g : Sig) (table : IsTable g) (complete : IsComplete g) where
-  sort_meant : (x : VarId) → IsVariable g x → (bound_at (entries_of g []) x).sort ≡ sort_under g (sort_of_variable g x)
+  pub sort_meant : (x : VarId) → IsVariable g x → (bound_at (entries_of g []) x).sort ≡ sort_under g (sort_of_variable g x)
   sort_meant x w = read_mapped (λ (v : Variable). sort_under g v.sort) g.variables x.0 boolean (record { name = record { 0 = 0 }; sort = bool_sort }) w
 
   pub positive_sort : (x : VarId) → IsVariable g x → (bound_at (entries_of g []) x).sort ≡ positive → sort_of_variable g x ≡ pos_sort

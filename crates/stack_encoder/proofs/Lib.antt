@@ -7,3 +7,16 @@ pub mod StackStates
 pub mod Starting
 pub mod StandingStack
 pub mod MeantStack
+pub mod FreshWords
+pub mod FrameTrees
+pub mod StackedTrees
+pub mod FieldLists
+pub mod ClosedColumns
+pub mod NewWords
+pub mod NeededColumns
+pub mod ServingStacks
+pub mod SortedStacks
+pub mod StackLayouts
+pub mod InhabitedStacks
+pub mod WholeStacks
+pub mod LaidOutStacks

@@ -65,7 +65,7 @@ columns_from_mean : (g : Sig) (place : List ℕ) (us : List Tree) (e : Environme
 columns_from_mean g place us e x [] h = refl
 columns_from_mean g place us e x (d ∷ ds) h = ap₂ (λ t ts. t ∷ ts) (front_means g place us x d e (head_same h)) (columns_from_mean g place us e (suc x) ds (tail_same h))
 
-numbers_long : (x : ℕ) (ds : List Tree) → length (column_numbers x ds) ≡ length ds
+pub numbers_long : (x : ℕ) (ds : List Tree) → length (column_numbers x ds) ≡ length ds
 numbers_long x [] = refl
 numbers_long x (d ∷ ds) = ap suc (numbers_long (suc x) ds)
 
@@ -86,7 +86,7 @@ module _ (g : Sig) (table : IsTable g) (complete : IsComplete g) (y : StackIds) 
       (bound_reads (column_numbers 0 l.defaults) (map T l.defaults) (length-map l.defaults T ∙ sym (numbers_long 0 l.defaults)) (subst (λ z. AreDistinct z) f.columns f.distinct))
       ∙ ap₂ (λ xs ds. reading (bound place (map T us) ++ bound xs ds) xs) (sym f.columns) (sym f.defaults)
 
-  frame_means : (i : ℕ) (us : List Tree) (below : Tree) → 1 ≤ i → i ≤ length l.places
+  pub frame_means : (i : ℕ) (us : List Tree) (below : Tree) → 1 ≤ i → i ≤ length l.places
       → T (frame_tree y l i us below) ≡ application (named_function k.names.push) (terms_of (number_of (i - 1) ∷ (columns_of c (slice_get c.places (i - 1)) (map T us) ++ (T below ∷ []))))
   frame_means i us below a b =
       let stands : slice_get c.places (i - 1) ≡ Some (place_at l i) = ap (λ ps. slice_get ps (i - 1)) f.places ∙ slice_get-get_or l.places (i - 1) [] (omega (arith, a, b)) in

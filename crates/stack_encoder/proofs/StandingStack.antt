@@ -53,7 +53,7 @@ module _ (g : Sig) (i : StackIds) (columns : List SortId) (table : IsTable g) (r
       → function_at D (declared_number g.functions p) ≡ record { arguments = map (sort_under g) f.sorts; result = sort_under g f.result; role = r }
   entry p f r at w e = (declared_functions_stand_in_the_data g p f at w).1 ∙ ap (λ z. record { arguments = map (sort_under g) f.sorts; result = sort_under g f.result; role = z }) e
 
-  sort_is : sort_under g i.sort ≡ stack_sort k
+  pub sort_is : sort_under g i.sort ≡ stack_sort k
   sort_is = read_sort g table i.sort stands.info stands.sort_at ∙ ap (meaning_of (sort_under g) _) stands.kind
 
   -- a constructor's entry
@@ -155,6 +155,7 @@ module _ (g : Sig) (i : StackIds) (columns : List SortId) (table : IsTable g) (r
       let r = roles.recognisers i.push i.is_push stands.push stands.push_at stands.push_test in
       record {
         push = symbol i.push stands.push stands.push_at push_is.0;
+        empty = symbol i.empty stands.empty stands.empty_at empty_is.0;
         is_push = symbol i.is_push r.1.0 r.1.1 r.1.2;
         pc = projection_symbol i.pc 0 (ap (λ l. slice_get l 0) stands.push_projections);
         rest = projection_symbol i.rest (suc (length (map Some i.fields))) (ap (λ l. slice_get l (suc (length (map Some i.fields)))) stands.push_projections ∙ at_end (map Some i.fields) (Some i.rest));

@@ -3,7 +3,7 @@ use Rattle.std.proofs.Common.{◌≡◌, ◌≢◌, ◌+◌, ◌<◌, ℕ, suc, 
 use Rattle.std.specs.Prelude.{Contains, slice_get}
 use Rattle.std.proofs.lemmas.List.{get_or_append_left, length-append}
 use Rattle.data_theory.specs.Terms.{Sort, boolean, Term, Terms, none, more}
-use Rattle.data_theory.specs.Declarations.{Data, DeclaredFunction, structured, by_declarations, mapping, function_at, sort_at, HaveSorts}
+use Rattle.data_theory.specs.Declarations.{Data, DeclaredFunction, structured, by_declarations, mapping, function_at, sort_at, HasSort, HaveSorts}
 use Rattle.data_theory.specs.Environments.{Environment, terms_of}
 use Rattle.data_theory.specs.EqualityLaws.{Grows}
 use Rattle.data_theory.specs.Provable.{reflexive}
@@ -28,16 +28,20 @@ use Rattle.lps_core.proofs.GrowingData.{terms_grown}
 use Rattle.regular_encoder.proofs.GoodOver.{form_grown}
 use Rattle.regular_encoder.specs.Encoding.{place_of}
 
+-- the first stack is one
+pub first_sorted : (g : Data) (k : StackSymbols) (c : Columns) (v : ℕ) (form : Form) (q : FormEquation) (init : List Term) → StackFits g k c v form → slice_get form 0 ≡ Some q → HaveSorts g [] (terms_of init) (sorts q.params) → HasSort g [] (first_stack k c init) (stack_sort k)
+first_sorted g k c v form q init fits at init_sorted =
+    push_sorted g k c.columns fits.stack [] 0 (numbered_in c v form 0 q fits.layout at) (columns_of c (slice_get c.places 0) init) (pushed k.names c [])
+    (subst (λ o. HaveSorts g [] (terms_of (columns_of c o init)) (sorts c.columns)) (sym (place_at c v form 0 q fits.layout at))
+    (columns_sorted g [] c q (place_of c 0) init fits.layout.distinct (fits.layout.places 0 q at) fits.defaults init_sorted))
+    (empty_sorted g k c.columns fits.stack [])
+
 pub stacked_good : StackIsGood
 stacked_good th vs k c v form q init con is sorted fits declared at init_sorted =
     let place = place_of c 0 in
     let p = fits.layout.places 0 q at in
     let stands = place_at c v form 0 q fits.layout at in
-    let whole : IsOfSort th (stack_sort k) (first_stack k c init) =
-    push_sorted th.declared k c.columns fits.stack [] 0 (numbered_in c v form 0 q fits.layout at) (columns_of c (slice_get c.places 0) init) (pushed k.names c [])
-    (subst (λ o. HaveSorts th.declared [] (terms_of (columns_of c o init)) (sorts c.columns)) (sym stands)
-    (columns_sorted th.declared [] c q place init fits.layout.distinct p fits.defaults init_sorted))
-    (empty_sorted th.declared k c.columns fits.stack []) in (
+    let whole : IsOfSort th (stack_sort k) (first_stack k c init) = first_sorted th.declared k c v form q init fits at init_sorted in (
       record {
         starts = up_to (alike_refl th _)
             (stack_state (one_piece is_call) (record { place = place; at = stands; long = sorted_long th.declared [] init q.params init_sorted ∙ sym (length-map q.params (λ (x : Bound). x.var)) ∙ sym (place_long c q place p) }, tt) whole whole reflexive)

@@ -106,6 +106,7 @@ fields_for y l q i params = bound_tree params (map (field_tree y q) (place_at l 
 -- the functions are the symbols of the stack
 pub record MeansSymbols (g : Sig) (y : StackIds) (k : StackSymbols) : Type 0 where
   pub push : symbol_under g y.push ≡ terms.function k.names.push
+  pub empty : symbol_under g y.empty ≡ terms.function k.names.empty
   pub is_push : symbol_under g y.is_push ≡ terms.function k.is_push
   pub pc : symbol_under g y.pc ≡ terms.function k.pc
   pub rest : symbol_under g y.rest ≡ terms.function k.rest
