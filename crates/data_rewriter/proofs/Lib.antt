@@ -20,3 +20,4 @@ pub mod PatternMoves
 pub mod LastLine
 pub mod Looking
 pub mod FixedFunctions
+pub mod WrittenRules

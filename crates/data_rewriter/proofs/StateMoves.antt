@@ -172,7 +172,7 @@ rule_kept sig old new e r i = record
     ; right = term_stays sig old new e r.right i.right
     ; no_variable = subst IsLeft (sym (tree_kept old new r.left e i.left.inside)) i.no_variable }
 
-at_rule : (sig : Sig) (ts : List Tree) (rs : List Rule) (n : ℕ) (r : Rule) → All (IsRule sig ts) rs → slice_get rs n ≡ Some r → IsRule sig ts r
+pub at_rule : (sig : Sig) (ts : List Tree) (rs : List Rule) (n : ℕ) (r : Rule) → All (IsRule sig ts) rs → slice_get rs n ≡ Some r → IsRule sig ts r
 at_rule sig ts [] n r h e = absurd cc
 at_rule sig ts (x ∷ rs) zero r h e = let same : x ≡ r = cc in subst (IsRule sig ts) same (All-head (IsRule sig ts) x rs h)
 at_rule sig ts (x ∷ rs) (suc n) r h e = at_rule sig ts rs n r (All-tail (IsRule sig ts) x rs h) e

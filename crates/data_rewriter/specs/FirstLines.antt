@@ -37,7 +37,7 @@ RightIs sig ts (TwoTwo f x g y k) t = (z w : Symbol) × (u v m : Term) × IsSymb
 RightIs sig ts (Both f x y g k l) t = (z w : Symbol) × (u v m n : Term) × IsSymbolOf sig f z × IsSymbolOf sig g w × StandsFor sig ts x u × StandsFor sig ts y v × StandsFor sig ts k m × StandsFor sig ts l n × (t ≡ apply z (more u (more v none)) ∧ᵗ apply w (more m (more n none)))
 RightIs sig ts (Either f x y g k l) t = (z w : Symbol) × (u v m n : Term) × IsSymbolOf sig f z × IsSymbolOf sig g w × StandsFor sig ts x u × StandsFor sig ts y v × StandsFor sig ts k m × StandsFor sig ts l n × (t ≡ apply z (more u (more v none)) ∨ᵗ apply w (more m (more n none)))
 RightIs sig ts (Longer f x) t = (z : Sort) × (u : Term) × IsSymbolOf sig f (terms.size z) × StandsFor sig ts x u × (t ≡ one (terms.upcast positive natural) (one (terms.arithmetic terms.successor (natural ∷ []) positive) (one (terms.size z) u)))
-RightIs sig ts (Later f x y) t = (z : Symbol) × (u v : Term) × IsSymbolOf sig f z × StandsFor sig ts x u × StandsFor sig ts y v × (t ≡ two z u (one (terms.arithmetic terms.to_natural (integer ∷ []) natural) (two (terms.arithmetic terms.subtract (natural ∷ natural ∷ []) integer) v (number 1))))
+RightIs sig ts (Later f x y) t = (z : Symbol) × (u v : Term) × IsSymbolOf sig f z × StandsFor sig ts x u × StandsFor sig ts y v × (t ≡ apply z (more u (more (one (terms.arithmetic terms.to_natural (integer ∷ []) natural) (two (terms.arithmetic terms.subtract (natural ∷ natural ∷ []) integer) v (number 1))) none)))
 RightIs sig ts (Places f x y) t = (c : ℕ) × (us vs : Terms) × IsSymbolOf sig f (terms.function c) × StandsFor sig ts x (application (terms.function c) us) × StandsFor sig ts y (application (terms.function c) vs) × (t ≡ all_equal (function_at (data_meant sig) c).arguments us vs)
 
 -- a condition: `true`, or `0 < n` for this n

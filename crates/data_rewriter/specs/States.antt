@@ -24,6 +24,7 @@ use Rattle.data_rewriter.specs.declared.tables.Rule.{Rule}
 use Rattle.data_rewriter.specs.declared.tables.Tables.{Tables}
 use Rattle.data_rewriter.specs.declared.equations.Found.{Found}
 use Rattle.data_rewriter.specs.Standing.{IsTerm, term_at, listed_at, terms_of}
+use Rattle.data_rewriter.specs.Rules.{numbers_at}
 use Rattle.data_rewriter.specs.Signatures.{AreSignTables}
 use Rattle.data_rewriter.specs.Places.{whole, from_equation, Leads, Pending, applying, deciding, Waits}
 use Rattle.data_rewriter.specs.Frames.{Plain, applies, decides}
@@ -99,10 +100,6 @@ Follows Over old new stack start hand stack' start' hand' fuel fuel' =
     → AreWithin sig new stack' start' hand' × ((origin : Term) (before : ℕ) → Shows sig own old origin stack start hand before fuel → Shows sig own new origin stack' start' hand' before fuel')
 
 -- ---- what the parts of a machine give
--- the numbers that an index has for a function
-abbrev pub numbers_at : Tables → FunId → List ℕ
-numbers_at tables f = get_or (map (λ v. v.items) tables.by_head.items) f.0 []
-
 -- a written equation is over the signature, and its left side is no variable
 abbrev pub IsLeft : Tree → Type 0
 IsLeft (variable v) = ⊥
