@@ -21,3 +21,4 @@ pub mod LastLine
 pub mod Looking
 pub mod FixedFunctions
 pub mod WrittenRules
+pub mod TruthAnswers

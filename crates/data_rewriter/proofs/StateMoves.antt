@@ -4,6 +4,7 @@ use Rattle.std.proofs.lemmas.Bool.Decides.{Decides-eqb}
 use Rattle.std.specs.Prelude.{◌==◌, slice_get}
 use Rattle.std.specs.List.{All}
 use Rattle.std.specs.HashMap.{HashMap}
+use Rattle.std.specs.Map.{lookup}
 use Rattle.std.proofs.lemmas.List.Elements.{All-nil, All-cons, All-head, All-tail, All-weaker, All-take, All-drop}
 use Rattle.data_theory.specs.declared.ids.TermId.{TermId}
 use Rattle.data_theory.specs.declared.ids.FunId.{FunId}
@@ -248,3 +249,7 @@ within_kept sig old new e stack start root from ids w = record
     { frames = frames_within sig old new e stack ids.frames w.frames
     ; begin = tree_within sig old new e start ids.begin w.begin
     ; held = tree_within sig old new e root ids.held.0 w.held }
+
+pub nothing_stored : {S : Type 0} (sig : Sig) (own : List Equation) (ts : List Tree) (store : HashMap TermId TermId S) → store.entries ≡ [] → AreStored sig own ts store
+nothing_stored {S} sig own ts store empty t u e =
+    absurd (let n : None ≡ Some u = sym (ap (λ (es : List (TermId × TermId)). lookup (λ (x : TermId). t.0 == x.0) es) empty) ∙ e in cc)

@@ -30,3 +30,10 @@ IsDecision sig own old new t fuel fuel' Yes = (n : ℕ) × (fuel ≤ n + fuel') 
 IsDecision sig own old new t fuel fuel' No = (n : ℕ) × (fuel ≤ n + fuel') × GoesTo (data_meant sig) own (term_at sig old t) falseᵗ n
 IsDecision sig own old new t fuel fuel' (Stuck u) = IsTerm sig new u × ((n : ℕ) × (fuel ≤ n + fuel') × GoesTo (data_meant sig) own (term_at sig old t) (term_at sig new u) n) × (term_at sig new u ≢ trueᵗ) × (term_at sig new u ≢ falseᵗ)
 IsDecision sig own old new t fuel fuel' (Spent u) = (u ≡ t) × (fuel' ≡ 0) × ChainOfMoreThan (data_meant sig) own fuel (term_at sig old t)
+
+-- what a term is as a truth value
+abbrev pub IsTruthOf : Sig → List Tree → TermId → Truth → Type 0
+IsTruthOf sig ts t Yes = term_at sig ts t ≡ trueᵗ
+IsTruthOf sig ts t No = term_at sig ts t ≡ falseᵗ
+IsTruthOf sig ts t (Stuck u) = (u ≡ t) × (term_at sig ts t ≢ trueᵗ) × (term_at sig ts t ≢ falseᵗ)
+IsTruthOf sig ts t (Spent u) = ⊥

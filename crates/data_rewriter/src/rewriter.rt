@@ -7,7 +7,9 @@ ghost use Rattle.number_rules.specs.Rule.{IsExact, rule_of};
 ghost use Rattle.term_pool.specs.Pools.{Extends};
 ghost use Rattle.data_rewriter.specs.Standing.{IsTerm};
 ghost use Rattle.data_rewriter.specs.States.{Says};
-ghost use Rattle.data_rewriter.specs.Rewriters.{Fits, IsDecision, number_rules};
+ghost use Rattle.data_rewriter.specs.Rewriters.{Fits, IsDecision, IsTruthOf, number_rules};
+ghost use Rattle.data_rewriter.specs.Signatures.{AreSignTables};
+ghost use Rattle.term_pool.specs.HeadTrees.{IsIn};
 
 use crate::machine::{Normal, run};
 use crate::tables::Tables;
@@ -76,4 +78,43 @@ impl<F: Fn(NumOp, Num, Num) -> Option<Num>> Rewriter<F> {
         };
         Ok(normal)
     }
+
+    /// How a term of sort Bool is decided with some fuel.
+    ///
+    /// `Yes` comes only where the term goes to `true`, `No` only where it goes to `false`, and `Stuck` only where it goes to the
+    /// answer, which is neither. `Spent` is as in [`normalise`](Self::normalise).
+    pub fn decide(
+        &mut self,
+        pool: &mut Pool,
+        term: TermId,
+        fuel: &mut u64,
+    ) -> Result<Truth, NoMemory>
+        requires known { (sig : Sig) × (own : List Equation) × Fits self.old sig own pool.old.trees × IsTerm sig pool.old.trees term }
+        requires rules { IsExact (F.pre (rule_of (number_rules self.old))) (F.post (rule_of (number_rules self.old))) }
+        ensures kept { Extends pool.old.trees pool.new.trees }
+        ensures rules { number_rules self.new ≡ number_rules self.old }
+        ensures fits { (sig : Sig) (own : List Equation) → Fits self.old sig own pool.old.trees → IsTerm sig pool.old.trees term → Fits self.new sig own pool.new.trees }
+        ensures says { IfOk result (λ r. (sig : Sig) (own : List Equation) → Fits self.old sig own pool.old.trees → IsTerm sig pool.old.trees term → IsDecision sig own pool.old.trees pool.new.trees term fuel.old fuel.new r) }
+    {
+        let normal = self.normalise(pool, term, fuel)?;
+        match normal {
+            Normal::Spent(spent) => Ok(Truth::Spent(spent)),
+            Normal::Done(done) => Ok(truth_of(&self.tables, pool, done)),
+        }
+    }
+}
+
+/// What a normal term decides.
+fn truth_of(tables: &Tables, pool: &Pool, term: TermId) -> Truth
+    requires { IsIn pool.now.trees term }
+    ensures { (sig : Sig) → AreSignTables tables.now sig → IsTerm sig pool.now.trees term → IsTruthOf sig pool.now.trees term result }
+{
+    let shown = view_of(tables, pool, term);
+    if is_true(shown) {
+        return Truth::Yes;
+    }
+    if is_false(shown) {
+        return Truth::No;
+    }
+    Truth::Stuck(term)
 }
