@@ -1,5 +1,5 @@
 -- Tests that are made one after another.
-use Rattle.std.proofs.Common.{◌≡◌, ◌⊎◌, ℕ, suc, ◌<◌, ◌≤◌, List, refl, sym, ap, ◌∙◌, subst, arith, inl, inr, ⊎_elim}
+use Rattle.std.proofs.Common.{◌≡◌, ◌⊎◌, ℕ, suc, ◌<◌, ◌≤◌, List, refl, sym, subst, arith, inl, inr}
 use Rattle.std.specs.Prelude.{Option, Some, None, Bool, false, IsTrue, IsFalse, ◌↔◌, IfSome}
 use Rattle.data_theory.specs.declared.ids.TermId.{TermId}
 use Rattle.data_theory.specs.Terms as terms
@@ -84,13 +84,14 @@ module _ (sig : Sig) (ts : List Tree) (t : Term) where
   decided cs s all None f = λ i c r b. none_holds cs i f (all i c r b)
   decided cs s all (Some l) f =
       let is = found cs 0 l s f in
-      record
-      { condition = trueᵗ
-      ; right = is.right
-      ; matches_there = is.there
-      ; condition_is = subst (λ n. ConditionIs sig ts n trueᵗ) (sym is.plain) refl
-      ; right_is = is.makes
-      ; none_before = λ i c r less b. none_before cs 0 i l s f (all i c r b) less }
+      record {
+        condition = trueᵗ;
+        right = is.right;
+        matches_there = is.there;
+        condition_is = subst (λ n. ConditionIs sig ts n trueᵗ) (sym is.plain) refl;
+        right_is = is.makes;
+        none_before = λ i c r less b. none_before cs 0 i l s f (all i c r b) less;
+      }
 
 pub plainly : (sig : Sig) (ts : List Tree) (k : ℕ) (x : Right) (r : Term) (o : Option Line) → o ≡ Some (record { number = k; above_zero = None; right = x }) → RightIs sig ts x r → IsPlain sig ts k r o
 plainly sig ts k x r o e h = subst (IsPlain sig ts k r) (sym e) (refl, refl, h)

@@ -1,5 +1,5 @@
 -- Answers of decisions.
-use Rattle.std.proofs.Common.{◌≡◌, ℕ, List, sym, subst}
+use Rattle.std.proofs.Common.{ℕ, List, sym, subst}
 use Rattle.data_theory.specs.declared.ids.TermId.{TermId}
 use Rattle.data_theory.specs.Terms.{Term}
 use Rattle.data_theory.specs.Provable.{Equation}
@@ -10,7 +10,7 @@ use Rattle.data_theory.specs.IdTrees.{Tree}
 use Rattle.data_rewriter.specs.declared.machine.Normal.TheVariants.{Done}
 use Rattle.data_rewriter.specs.declared.rewriter.Truth.{Truth}
 use Rattle.data_rewriter.specs.declared.rewriter.Truth.TheVariants.{Yes, No, Stuck, Spent}
-use Rattle.data_rewriter.specs.Standing.{IsTerm, term_at}
+use Rattle.data_rewriter.specs.Standing.{term_at}
 use Rattle.data_rewriter.specs.States.{Says}
 use Rattle.data_rewriter.specs.Rewriters.{IsDecision, IsTruthOf}
 

@@ -1,10 +1,10 @@
 -- Written equations that match.
-use Rattle.std.proofs.Common.{◌≡◌, ◌↔◌, ℕ, zero, suc, ◌+◌, ◌-◌, ◌<◌, ◌≤◌, take, get_or, List, [], ◌∷◌, ◌++◌, append-nil, map, length, refl, sym, ap, ◌∙◌, subst, arith, Some, None, Bool, true, false, cond, ⊎_elim}
+use Rattle.std.proofs.Common.{◌≡◌, ℕ, zero, suc, ◌+◌, ◌-◌, ◌<◌, ◌≤◌, take, get_or, List, [], ◌∷◌, ◌++◌, append-nil, map, length, refl, sym, ap, ◌∙◌, subst, arith, Some, None, Bool, true, false, cond, ⊎_elim}
 use Rattle.std.proofs.Common.{Vec}
 use Rattle.std.specs.Prelude.{MatchOption, ◌⊎◌, option_map, Option, IfSome, slice_get, ◌==◌}
 use Rattle.std.specs.List.{All, Contains}
 use Rattle.std.proofs.lemmas.Option.{slice_get_read, slice_get_within, get_or_from_slice_get}
-use Rattle.std.proofs.lemmas.List.Elements.{Contains-append_cases, All-nil, All-cons, All-head, All-tail, All-append, All-contains, All-weaker}
+use Rattle.std.proofs.lemmas.List.Elements.{Contains-append_cases, All-nil, All-cons, All-head, All-tail, All-contains, All-weaker}
 use Rattle.data_theory.specs.declared.ids.TermId.{TermId}
 use Rattle.data_theory.specs.declared.ids.FunId.{FunId}
 use Rattle.data_theory.specs.declared.ids.VarId.{VarId}
@@ -12,12 +12,12 @@ use Rattle.data_theory.specs.Terms as terms
 use Rattle.data_theory.specs.Terms.{Symbol, truth, Term, Terms, put}
 use Rattle.data_theory.specs.Equations.{trueᵗ}
 use Rattle.data_theory.specs.Provable.{Equation}
-use Rattle.data_theory.specs.Rewriting.{lines, laid, laid_all, Applies, a_line, an_equation, charge_of}
+use Rattle.data_theory.specs.Rewriting.{lines, laid, Applies, a_line, an_equation, charge_of}
 use Rattle.data_theory.specs.Signature.{Sig}
 use Rattle.data_theory.specs.IdTables.{IsTable}
 use Rattle.data_theory.specs.IdData.{data_meant}
 use Rattle.data_theory.specs.IdTrees.{Tree, Trees, variable, numeral, function, none, more, put_tree, put_trees}
-use Rattle.data_theory.specs.IdTerms.{term_under, terms_under, symbol_under, sort_under, variable_sorts, IsTreeWithin, AreTreesWithin}
+use Rattle.data_theory.specs.IdTerms.{term_under, IsTreeWithin, AreTreesWithin}
 use Rattle.data_theory.proofs.IdTermLemmas.{putting_in_trees_puts_in_terms}
 use Rattle.data_theory.proofs.IdSymbolLemmas.{different_functions_mean_different_symbols}
 use Rattle.term_pool.specs.HeadTrees.{written_tree, tree_at, trees_at, IsIn, AreIn}
@@ -77,9 +77,10 @@ pub put_stands : (sig : Sig) → IsTable sig → (old mid new : List Tree) → E
 put_stands sig table old mid new grows found all t it id inside e =
     let same : listed mid found ≡ listed old found = listed_same old mid found grows (listed_in sig old found all) in
     let e' : tree_at new id ≡ put_tree (listed old found) (tree_at old t) = e ∙ (λ i. put_tree (same i) (tree_kept old mid t grows it.inside i)) in
-    record
-    { term = record { inside = inside; within = subst (IsTreeWithin sig) (sym e') (put_within sig table (listed old found) (listed_within sig old found all) (tree_at old t) it.within) }
-    ; is = ap (term_under sig) e' ∙ putting_in_trees_puts_in_terms sig table (listed old found) (tree_at old t) }
+    record {
+      term = record { inside = inside; within = subst (IsTreeWithin sig) (sym e') (put_within sig table (listed old found) (listed_within sig old found all) (tree_at old t) it.within) };
+      is = ap (term_under sig) e' ∙ putting_in_trees_puts_in_terms sig table (listed old found) (tree_at old t);
+    }
 
 -- ---- a left side that lies over a root has the root's function
 abbrev symbol_in : Term → Symbol
@@ -216,20 +217,23 @@ module _ (tables : Tables) (sig : Sig) (own : List Equation) (old : List Tree) (
       let lays : laid e (term_at sig old h.rule.left) ≡ term_at sig old root = (h.state.0 e).1 (all_agree sig old m.found.items m.found.items h.state.3, All-nil (Lays sig old e)) in
       let there : Applies (data_meant sig) own (lines + m.number) (term_at sig old root) (put e q.condition) (put e q.right) (charge_of (put e q.condition)) = an_equation m.number e at refl lays in
       let kept = term_kept sig old new root grows root_term.inside in
-      let l = h.behind in
-      (record
-      { is_behind = ⊎_elim (λ z. omega (arith, z)) (λ k. omega (arith, k, number, l, first_is)) start
-      ; is_inside = omega (arith, number, inside)
-      ; passed_over = λ i c r x behind before b. no_rule m.number (λ n s k less at. h.none_before n s k less at) i c r x behind (omega (arith, before, number)) (subst (λ t. Applies (data_meant sig) own i t c r x) kept b)
-      ; condition = put e q.condition
-      ; charge = charge_of (put e q.condition)
-      ; applies_there = subst (λ k. Applies (data_meant sig) own k (term_at sig new root) (put e q.condition) (term_at sig new f.right) (charge_of (put e q.condition))) (sym number) (subst (λ t. Applies (data_meant sig) own (lines + m.number) t (put e q.condition) (term_at sig new f.right) (charge_of (put e q.condition))) (sym kept) (subst (λ r. Applies (data_meant sig) own (lines + m.number) (term_at sig old root) (put e q.condition) r (charge_of (put e q.condition))) (sym made.0.is) there))
-      ; has_condition = condition_as f.cond (put e q.condition) made.1 },
-      (made.0.term.within, within_as f.cond (put e q.condition) made.1))
+      let l = h.behind in (
+        record {
+          is_behind = ⊎_elim (λ z. omega (arith, z)) (λ k. omega (arith, k, number, l, first_is)) start;
+          is_inside = omega (arith, number, inside);
+          passed_over = λ i c r x behind before b. no_rule m.number (λ n s k less at. h.none_before n s k less at) i c r x behind (omega (arith, before, number)) (subst (λ t. Applies (data_meant sig) own i t c r x) kept b);
+          condition = put e q.condition;
+          charge = charge_of (put e q.condition);
+          applies_there = subst (λ k. Applies (data_meant sig) own k (term_at sig new root) (put e q.condition) (term_at sig new f.right) (charge_of (put e q.condition))) (sym number) (subst (λ t. Applies (data_meant sig) own (lines + m.number) t (put e q.condition) (term_at sig new f.right) (charge_of (put e q.condition))) (sym kept) (subst (λ r. Applies (data_meant sig) own (lines + m.number) (term_at sig old root) (put e q.condition) r (charge_of (put e q.condition))) (sym made.0.is) there));
+          has_condition = condition_as f.cond (put e q.condition) made.1;
+        },
+        (made.0.term.within, within_as f.cond (put e q.condition) made.1),
+      )
     where
       condition_as : (o : Option TermId) (c : Term) → IsConditionMade sig new o c → HasCondition sig new f.number c (charge_of c) o
       condition_as None c h = h
       condition_as (Some id) c h = (h.0.is, h.1, (λ l. charged c h.1))
+
       within_as : (o : Option TermId) (c : Term) → IsConditionMade sig new o c → IfSome o (λ (a : TermId). IsTreeWithin sig (tree_at new a))
       within_as None c h = tt
       within_as (Some id) c h = h.0.term.within
@@ -244,23 +248,27 @@ read_rule rs n r x at e = e ∙ get_or_from_slice_get rs n r x at
 pub found_line : (sig : Sig) (own : List Equation) (old new : List Tree) → Extends old new → (root : TermId) → IsTerm sig old root → (from : ℕ) → from ≡ 0 → (l : Line) (h : IsFirstAt sig old (term_at sig old root) l) (f : Found) → f.number ≡ l.number → StandsFor sig new f.right h.right × IsConditionMade sig new f.cond h.condition → IsFirst sig own new root from f × IsFoundWithin sig new f
 found_line sig own old new grows root term from at_front l h f number made =
     let kept = term_kept sig old new root grows term.inside in
-    let inside : l.number < lines = line_inside h.matches_there.0 h.matches_there.1 in
-    (record
-    { is_behind = omega (arith, at_front)
-    ; is_inside = omega (arith, number, inside)
-    ; passed_over = λ i c r x behind before b. passed i c r x (omega (arith, before, number)) (subst (λ t. Applies (data_meant sig) own i t c r x) kept b)
-    ; condition = h.condition
-    ; charge = 0
-    ; applies_there = subst (λ k. Applies (data_meant sig) own k (term_at sig new root) h.condition (term_at sig new f.right) 0) (sym number) (subst (λ t. Applies (data_meant sig) own l.number t h.condition (term_at sig new f.right) 0) (sym kept) (subst (λ r. Applies (data_meant sig) own l.number (term_at sig old root) h.condition r 0) (sym made.0.is) (a_line h.matches_there.0 h.matches_there.1)))
-    ; has_condition = condition_as f.cond h.condition (omega (arith, number, inside)) made.1 },
-    (made.0.term.within, within_as f.cond h.condition made.1))
+    let inside : l.number < lines = line_inside h.matches_there.0 h.matches_there.1 in (
+      record {
+        is_behind = omega (arith, at_front);
+        is_inside = omega (arith, number, inside);
+        passed_over = λ i c r x behind before b. passed i c r x (omega (arith, before, number)) (subst (λ t. Applies (data_meant sig) own i t c r x) kept b);
+        condition = h.condition;
+        charge = 0;
+        applies_there = subst (λ k. Applies (data_meant sig) own k (term_at sig new root) h.condition (term_at sig new f.right) 0) (sym number) (subst (λ t. Applies (data_meant sig) own l.number t h.condition (term_at sig new f.right) 0) (sym kept) (subst (λ r. Applies (data_meant sig) own l.number (term_at sig old root) h.condition r 0) (sym made.0.is) (a_line h.matches_there.0 h.matches_there.1)));
+        has_condition = condition_as f.cond h.condition (omega (arith, number, inside)) made.1;
+      },
+      (made.0.term.within, within_as f.cond h.condition made.1),
+    )
   where
     passed : (i : ℕ) (c r : Term) (x : ℕ) → i < l.number → Applies (data_meant sig) own i (term_at sig old root) c r x → ⊥
     passed i c r x before (a_line b p) = h.none_before i c r before (b, p)
     passed i c r x before (an_equation j e at is lays) = let inside : l.number < lines = line_inside h.matches_there.0 h.matches_there.1 in omega (arith, before, inside, is)
+
     condition_as : (o : Option TermId) (c : Term) → f.number < lines → IsConditionMade sig new o c → HasCondition sig new f.number c 0 o
     condition_as None c less h = h
     condition_as (Some id) c less h = (h.0.is, h.1, (λ k. absurd (omega (arith, k, less))))
+
     within_as : (o : Option TermId) (c : Term) → IsConditionMade sig new o c → IfSome o (λ (a : TermId). IsTreeWithin sig (tree_at new a))
     within_as None c h = tt
     within_as (Some id) c h = h.0.term.within

@@ -1,13 +1,11 @@
 -- The first built-in equation that matches at a root.
-use Rattle.std.specs.Prelude.{◌≡◌, ◌<◌, ℕ, List, [], ◌∷◌, Bool, true, Option, Some, None, IfSome}
-use Rattle.data_theory.specs.declared.ids.FunId.{FunId}
-use Rattle.data_theory.specs.declared.ids.SortId.{SortId}
+use Rattle.std.specs.Prelude.{◌≡◌, ◌<◌, ℕ, List, [], ◌∷◌, Option, Some, None, IfSome}
 use Rattle.data_theory.specs.declared.ids.TermId.{TermId}
 use Rattle.data_theory.specs.Whole.{whole_of}
 use Rattle.data_theory.specs.Terms as terms
 use Rattle.data_theory.specs.Terms.{Sort, natural, positive, integer, Symbol, Term, Terms, application, none, more, numeral, apply}
 use Rattle.data_theory.specs.Declarations.{Data, function_at}
-use Rattle.data_theory.specs.Equations.{BuiltIn, one, two, trueᵗ, falseᵗ, !ᵗ◌, ◌∧ᵗ◌, ◌∨ᵗ◌, number, truth_of, all_equal}
+use Rattle.data_theory.specs.Equations.{BuiltIn, one, two, trueᵗ, !ᵗ◌, ◌∧ᵗ◌, ◌∨ᵗ◌, number, truth_of, all_equal}
 use Rattle.data_theory.specs.Rewriting.{place_of}
 use Rattle.data_theory.specs.Signature.{Sig}
 use Rattle.data_theory.specs.IdData.{data_meant}

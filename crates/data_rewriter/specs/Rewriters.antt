@@ -1,5 +1,5 @@
 -- What a rewriter keeps, and what its answers say.
-use Rattle.std.specs.Prelude.{◌≡◌, ◌≢◌, ◌<◌, ◌≤◌, ◌+◌, ℕ, List}
+use Rattle.std.specs.Prelude.{◌≡◌, ◌≢◌, ◌≤◌, ◌+◌, ℕ, List}
 use Rattle.data_theory.specs.declared.ids.TermId.{TermId}
 use Rattle.data_theory.specs.Equations.{trueᵗ, falseᵗ}
 use Rattle.data_theory.specs.Provable.{Equation}

@@ -1,5 +1,5 @@
 -- The rules of a function.
-use Rattle.std.specs.Prelude.{◌≡◌, ◌≤◌, ◌<◌, ℕ, List, [], map, get_or, slice_get, Some, None, Option}
+use Rattle.std.specs.Prelude.{ℕ, List, [], map, get_or}
 use Rattle.data_theory.specs.declared.ids.FunId.{FunId}
 use Rattle.data_rewriter.specs.declared.tables.Tables.{Tables}
 

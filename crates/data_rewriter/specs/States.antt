@@ -1,16 +1,15 @@
 -- What a rewriting in progress has shown of the term that it began with.
-use Rattle.std.specs.Prelude.{◌≡◌, ◌≢◌, ◌⊎◌, slice_get, get_or, ℕ, suc, ◌+◌, ◌<◌, ◌≤◌, List, [], ◌∷◌, map, take, drop, length, Option, Some, None, IfSome, ℤ}
+use Rattle.std.specs.Prelude.{◌≡◌, ◌≢◌, ◌⊎◌, slice_get, ℕ, suc, ◌+◌, ◌<◌, ◌≤◌, List, [], ◌∷◌, map, take, drop, length, Option, Some, None, IfSome, ℤ}
 use Rattle.std.specs.List.{All, Contains}
 use Rattle.data_theory.specs.declared.ids.FunId.{FunId}
 use Rattle.std.specs.HashMap.{HashMap}
 use Rattle.data_theory.specs.declared.ids.TermId.{TermId}
-use Rattle.data_theory.specs.Terms.{Term, Terms, Sort, Symbol, truth, falsity, numeral, application, apply}
+use Rattle.data_theory.specs.Terms.{Term, Terms, Sort, Symbol, numeral, application, apply}
 use Rattle.data_theory.specs.Equations.{trueᵗ}
 use Rattle.data_theory.specs.Declarations.{Data}
 use Rattle.data_theory.specs.Provable.{Equation}
 use Rattle.data_theory.specs.Rewriting.{lines, Applies, GoesTo, Chain, ChainOfMoreThan}
 use Rattle.data_theory.specs.Signature.{Sig}
-use Rattle.data_theory.specs.IdTables.{IsTable}
 use Rattle.data_theory.specs.IdData.{data_meant}
 use Rattle.data_theory.specs.IdTrees.{Tree, variable, function}
 use Rattle.data_theory.specs.IdTerms.{symbol_under, variable_sorts, IsTreeWithin}

@@ -389,7 +389,9 @@ pub fn run<F: Fn(NumOp, Num, Num) -> Option<Num>>(
         place = match place.hand {
             Hand::Visit(next) => visit(alloc, pool, normal_forms, &mut stack, start, next)?,
             Hand::Root(root, from) => {
-                at_root(alloc, tables, rules, pool, &mut stack, fuel, start, root, from)?
+                at_root(
+                    alloc, tables, rules, pool, &mut stack, fuel, start, root, from,
+                )?
             }
             Hand::Answer(normal) => {
                 keep(normal_forms, start, normal)?;

@@ -1,4 +1,4 @@
-use Rattle.std.proofs.Common.{◌≡◌, ◌≤◌, ⊎_elim, arith}
+use Rattle.std.proofs.Common.{◌≤◌, ⊎_elim, arith}
 use Rattle.data_theory.specs.Rewriting.{lines}
 use Rattle.data_rewriter.proofs.LastLine.{line_inside}
 use Rattle.data_rewriter.proofs.WrittenRules.{found_line}

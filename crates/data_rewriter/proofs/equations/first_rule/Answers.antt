@@ -1,10 +1,10 @@
-use Rattle.std.proofs.Common.{◌≡◌, ◌<◌, ◌≤◌, ◌+◌, suc, ℕ, List, [], length, get_or, take, refl, sym, subst, ap, ◌∙◌, rules, arith, Some, None}
-use Rattle.std.specs.Prelude.{slice_get, MatchOption, Option}
+use Rattle.std.proofs.Common.{◌≡◌, ◌<◌, ◌≤◌, ◌+◌, ℕ, List, length, get_or, refl, sym, subst, arith, Some}
+use Rattle.std.specs.Prelude.{slice_get}
 use Rattle.std.specs.List.{All, Contains}
 use Rattle.std.proofs.lemmas.List.Elements.{All-contains}
 use Rattle.term_pool.specs.HeadTrees.{tree_at}
 use Rattle.data_rewriter.specs.declared.tables.Rule.{Rule}
-use Rattle.data_rewriter.specs.Matching.{Misses, IsMatchState}
+use Rattle.data_rewriter.specs.Matching.{Misses}
 use Rattle.data_rewriter.specs.States.{Rise}
 use Rattle.data_rewriter.proofs.StateMoves.{at_rule}
 use Rattle.data_rewriter.proofs.WrittenRules.{in_front, all_more, all_taken, at_number, head_inside, rule_at, same_rule, left_has_head, misses_as, matched_none, matched_some}
@@ -46,15 +46,16 @@ returns-in-Some c = λ sig own all root head.
     let there = rule_at c.args.tables.now.rules.items number c.index.result.now less c.index.ensures in
     let is = at_rule sig c.args.pool.now.trees c.args.tables.now.rules.items number c.index.result.now all.rules there in
     let matched = c.in_ok-found.ensures sig table is.left root in
-    record
-    { rule = c.index.result.now
-    ; there = there
-    ; behind = let a = c.if-number-first.false in omega (arith, a)
-    ; state = matched_some sig c.args.pool.now.trees c.index.result.now.left c.args.root c.in_ok-found.field-0 c.in-Some.found c.in-Some.is matched
-    ; none_before = λ n r l before at e lays.
-    let ruled = at_rule sig c.args.pool.now.trees c.args.tables.now.rules.items n r all.rules at in
-    let has = heads.all n r at (left_has_head sig c.args.pool.now.trees table r ruled c.args.root root c.args.fun head e lays) in
-    in_front P c.numbers-numbers.result.now c.loop-i.i number n 0 (subst Rise (sym numbers) heads.rise) c.loop-i-test.true refl (subst (λ (l : List ℕ). Contains l n) (sym numbers) has) before (c.loop-i.invariant sig own all root head) l r at e lays }
+    record {
+      rule = c.index.result.now;
+      there = there;
+      behind = let a = c.if-number-first.false in omega (arith, a);
+      state = matched_some sig c.args.pool.now.trees c.index.result.now.left c.args.root c.in_ok-found.field-0 c.in-Some.found c.in-Some.is matched;
+      none_before = λ n r l before at e lays.
+          let ruled = at_rule sig c.args.pool.now.trees c.args.tables.now.rules.items n r all.rules at in
+          let has = heads.all n r at (left_has_head sig c.args.pool.now.trees table r ruled c.args.root root c.args.fun head e lays) in
+          in_front P c.numbers-numbers.result.now c.loop-i.i number n 0 (subst Rise (sym numbers) heads.rise) c.loop-i-test.true refl (subst (λ (l : List ℕ). Contains l n) (sym numbers) has) before (c.loop-i.invariant sig own all root head) l r at e lays;
+    }
 
 pub returns : goal.returns
 returns c = λ sig own all root head.

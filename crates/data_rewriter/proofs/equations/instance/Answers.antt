@@ -1,7 +1,4 @@
-use Rattle.std.proofs.Common.{◌≡◌, ℕ, List, sym, subst, ap, ◌∙◌}
-use Rattle.data_theory.specs.Terms.{Term, put}
-use Rattle.data_rewriter.specs.Standing.{IsTerm, StandsFor, term_at}
-use Rattle.data_rewriter.specs.FirstRules.{put_by}
+use Rattle.std.proofs.Common.{sym, ◌∙◌}
 use Rattle.term_pool.proofs.NodeTrees.{extends_itself, extends_on}
 use Rattle.data_rewriter.proofs.Standings.{stands_still_for}
 use Rattle.data_rewriter.proofs.StateMoves.{tables_kept}

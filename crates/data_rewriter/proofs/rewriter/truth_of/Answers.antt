@@ -1,4 +1,4 @@
-use Rattle.std.proofs.Common.{◌≡◌, refl}
+use Rattle.std.proofs.Common.{refl}
 use Rattle.data_rewriter.proofs.Deciding.{told, denied}
 use Rattle.data_rewriter.proofs.rewriter.truth_of.Goals as goal
 

@@ -1,4 +1,4 @@
-use Rattle.std.proofs.Common.{◌≡◌, subst}
+use Rattle.std.proofs.Common.{subst}
 use Rattle.data_rewriter.specs.States.{Says}
 use Rattle.data_rewriter.proofs.TruthAnswers.{decided_by}
 use Rattle.data_rewriter.proofs.rewriter.Rewriter.decide.Goals as goal
