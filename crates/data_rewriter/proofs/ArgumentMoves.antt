@@ -1,5 +1,5 @@
 -- The moves behind an argument.
-use Rattle.std.proofs.Common.{◌≡◌, ◌≢◌, ℕ, zero, suc, ◌+◌, ◌<◌, ◌≤◌, List, [], ◌∷◌, ◌++◌, refl, sym, ap, ◌∙◌, subst, arith, length, map, take, drop, get_or, set}
+use Rattle.std.proofs.Common.{◌≡◌, ℕ, zero, suc, ◌+◌, ◌<◌, ◌≤◌, List, [], ◌∷◌, ◌++◌, refl, sym, ap, ◌∙◌, subst, arith, length, map, take, drop, get_or, set}
 use Rattle.std.specs.Prelude.{ℤ}
 use Rattle.std.specs.List.{All}
 use Rattle.data_theory.specs.declared.ids.TermId.{TermId}
@@ -7,7 +7,7 @@ use Rattle.data_theory.specs.declared.ids.FunId.{FunId}
 use Rattle.data_theory.specs.Terms as terms
 use Rattle.data_theory.specs.Terms.{Sort, Symbol, Term, Terms, application, apply, more, none}
 use Rattle.data_theory.specs.Provable.{Equation}
-use Rattle.data_theory.specs.Rewriting.{GoesTo, FirstDecides, LooksFirst}
+use Rattle.data_theory.specs.Rewriting.{GoesTo, FirstDecides}
 use Rattle.data_theory.proofs.GoesToIsEqual.{looks_first_unmerged}
 use Rattle.data_theory.specs.Signature.{Sig}
 use Rattle.data_theory.specs.IdData.{data_meant}
@@ -174,10 +174,11 @@ module _ (sig : Sig) (old new : List Tree) (e : Extends old new) (start : TermId
       let here = All-head (IsFrameWithin sig old) (applies start f ids done) stack w.frames in
       let set_in = set_all (IsIn old) ids done normal frame.1 normal_in in
       let set_within = set_all (λ (a : TermId). IsTreeWithin sig (tree_at old a)) ids done normal here.2 w.held in
-      record
-      { frames = frames_within sig old new e stack frames (All-tail (IsFrameWithin sig old) (applies start f ids done) stack w.frames)
-      ; begin = subst (λ (a : TermId). IsTreeWithin sig (tree_at new a)) (sym at_start) (tree_within sig old new e start frame.0 here.0)
-      ; held = over (subst (All (IsTerm sig old)) (sym same) (both_terms sig old (set ids done normal) set_in set_within)) }
+      record {
+        frames = frames_within sig old new e stack frames (All-tail (IsFrameWithin sig old) (applies start f ids done) stack w.frames);
+        begin = subst (λ (a : TermId). IsTreeWithin sig (tree_at new a)) (sym at_start) (tree_within sig old new e start frame.0 here.0);
+        held = over (subst (All (IsTerm sig old)) (sym same) (both_terms sig old (set ids done normal) set_in set_within));
+      }
 
 at_get : {X : Type 0} (P : X → Type 0) (xs : List X) (k : ℕ) (d : X) → k < length xs → All P xs → P (get_or xs k d)
 at_get P [] k d l h = absurd (omega (arith, l))
@@ -196,7 +197,8 @@ module _ (sig : Sig) (ts : List Tree) (start : TermId) (stack : List Plain) (f :
       let set_within = set_all (λ (a : TermId). IsTreeWithin sig (tree_at ts a)) ids done normal here.2 w.held in
       let n : next_place < length (set ids done normal) = let l = set_length ids done normal in omega (arith, less, at_next, l) in
       let it : IsTreeWithin sig (tree_at ts next) = subst (λ (a : TermId). IsTreeWithin sig (tree_at ts a)) (sym is) (at_get (λ (a : TermId). IsTreeWithin sig (tree_at ts a)) (set ids done normal) next_place next n set_within) in
-      record
-      { frames = subst (All (IsFrameWithin sig ts)) (sym pushed) (All-cons (IsFrameWithin sig ts) (applies start f (set ids done normal) next_place) stack (here.0, here.1, set_within) (All-tail (IsFrameWithin sig ts) (applies start f ids done) stack w.frames))
-      ; begin = it
-      ; held = it }
+      record {
+        frames = subst (All (IsFrameWithin sig ts)) (sym pushed) (All-cons (IsFrameWithin sig ts) (applies start f (set ids done normal) next_place) stack (here.0, here.1, set_within) (All-tail (IsFrameWithin sig ts) (applies start f ids done) stack w.frames));
+        begin = it;
+        held = it;
+      }

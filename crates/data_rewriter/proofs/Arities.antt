@@ -3,7 +3,6 @@ use Rattle.std.proofs.Common.{◌≡◌, get_or, ℕ, suc, ◌<◌, List, [], �
 use Rattle.data_theory.specs.declared.ids.TermId.{TermId}
 use Rattle.data_theory.specs.Terms as terms
 use Rattle.data_theory.specs.Terms.{Sort, Symbol, Term, Terms, variable, numeral, unknown, application, none, more}
-use Rattle.data_theory.specs.Declarations as theory
 use Rattle.data_theory.specs.Declarations.{Data, function_at, projection, recogniser}
 use Rattle.data_theory.specs.Equations.{BuiltIn, not_true, not_false, not_not, true_and, and_true, false_and, and_false, and_same, true_or, or_true, false_or, or_false, or_same, true_implies, false_implies, implies, and_commutes, or_commutes, and_associates, or_associates, and_distributes, or_distributes, and_absorbs, or_absorbs, not_and, not_or, and_not, or_not, equal_itself, not_equal, if_true, if_false, if_same, equal_commutes, equal_true, true_equal, equal_false, false_equal, operation_of_one, operation_of_two, minus_of, compared, equal_numerals, empty_equal_cons, cons_equal_empty, cons_equal_cons, empty_concat, concat_empty, cons_concat, empty_snoc, cons_snoc, size_empty, size_cons, head_cons, tail_cons, rhead_one, rhead_more, rtail_one, rtail_more, at_zero, at_later, in_empty, in_cons, different_constructors, same_constructor, projected, recognised, not_recognised}
 use Rattle.data_theory.specs.Signature.{Sig}
@@ -17,7 +16,7 @@ use Rattle.data_rewriter.specs.declared.signs.Equals.{Equals}
 use Rattle.data_rewriter.specs.declared.signs.Sign.{Sign}
 use Rattle.data_rewriter.specs.declared.signs.Sign.TheVariants.{Other, True, False, Not, And, Or, Implies, Equal, Different, If, One, Two, Minus, Compare, Empty, Cons, Snoc, Concat, Size, At, Head, Tail, Rhead, Rtail, In, Constructor, Projection, Recogniser}
 use Rattle.data_theory.specs.IdTerms.{term_under}
-use Rattle.std.specs.Prelude.{Option, Some, None}
+use Rattle.std.specs.Prelude.{Option}
 use Rattle.std.specs.List.{All}
 use Rattle.std.proofs.lemmas.List.Elements.{All-head, All-tail}
 use Rattle.term_pool.specs.declared.terms.Head.{Head as RootHead}

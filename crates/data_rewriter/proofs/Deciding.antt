@@ -1,15 +1,19 @@
 -- Tests that are made one after another.
-use Rattle.std.proofs.Common.{◌≡◌, ◌⊎◌, ℕ, suc, ◌<◌, ◌≤◌, List, refl, sym, ap, ◌∙◌, subst, arith, inl, inr, ⊎_elim}
-use Rattle.std.specs.Prelude.{Option, Some, None, Bool, false, IsTrue, IsFalse, ◌↔◌}
-use Rattle.data_theory.specs.Terms.{Term}
-use Rattle.data_theory.specs.Equations.{trueᵗ}
+use Rattle.std.proofs.Common.{◌≡◌, ◌⊎◌, ℕ, suc, ◌<◌, ◌≤◌, List, refl, sym, subst, arith, inl, inr}
+use Rattle.std.specs.Prelude.{Option, Some, None, Bool, false, IsTrue, IsFalse, ◌↔◌, IfSome}
+use Rattle.data_theory.specs.declared.ids.TermId.{TermId}
+use Rattle.data_theory.specs.Terms as terms
+use Rattle.data_theory.specs.Terms.{natural, comparison, Term}
+use Rattle.data_theory.specs.Equations.{two, number, trueᵗ}
 use Rattle.data_theory.specs.Declarations.{Data}
 use Rattle.data_theory.specs.Signature.{Sig}
 use Rattle.data_theory.specs.IdData.{data_meant}
 use Rattle.data_theory.specs.IdTrees.{Tree}
 use Rattle.data_rewriter.specs.declared.rights.Right.{Right}
 use Rattle.data_rewriter.specs.declared.rights.Line.{Line}
-use Rattle.data_rewriter.specs.FirstLines.{LineAt, RightIs, ConditionIs, IsFirstLine}
+use Rattle.data_rewriter.specs.FirstLines.{LineAt, RightIs, ConditionIs, IsFirstLine, IsFirstAt, IsRightIn, IsLineIn}
+use Rattle.data_rewriter.specs.declared.rights.Right.TheVariants as rights
+use Rattle.term_pool.specs.HeadTrees.{IsIn}
 
 -- places of the order from the front, each with what it asks of the root and with its right side
 pub data Clauses : Type 1 where
@@ -80,13 +84,14 @@ module _ (sig : Sig) (ts : List Tree) (t : Term) where
   decided cs s all None f = λ i c r b. none_holds cs i f (all i c r b)
   decided cs s all (Some l) f =
       let is = found cs 0 l s f in
-      record
-      { condition = trueᵗ
-      ; right = is.right
-      ; matches_there = is.there
-      ; condition_is = subst (λ n. ConditionIs sig ts n trueᵗ) (sym is.plain) refl
-      ; right_is = is.makes
-      ; none_before = λ i c r less b. none_before cs 0 i l s f (all i c r b) less }
+      record {
+        condition = trueᵗ;
+        right = is.right;
+        matches_there = is.there;
+        condition_is = subst (λ n. ConditionIs sig ts n trueᵗ) (sym is.plain) refl;
+        right_is = is.makes;
+        none_before = λ i c r less b. none_before cs 0 i l s f (all i c r b) less;
+      }
 
 pub plainly : (sig : Sig) (ts : List Tree) (k : ℕ) (x : Right) (r : Term) (o : Option Line) → o ≡ Some (record { number = k; above_zero = None; right = x }) → RightIs sig ts x r → IsPlain sig ts k r o
 plainly sig ts k x r o e h = subst (IsPlain sig ts k r) (sym e) (refl, refl, h)
@@ -103,3 +108,31 @@ denied both f g = let t = both.1 g in cc
 
 pub falsum : IsTrue false → ⊥
 falsum b = cc
+
+pub condition_not_true : (u : Term) → two (comparison terms.less natural) (number 0) u ≡ trueᵗ → ⊥
+condition_not_true u e = cc
+
+-- the ids of what was found are in the pool
+right_in : (sig : Sig) (ts : List Tree) (r : Right) (t : Term) → RightIs sig ts r t → IsRightIn ts r
+right_in sig ts (rights.Is x) t h = h.term.inside
+right_in sig ts (rights.Truth b) t h = tt
+right_in sig ts (rights.Numeral s n) t h = tt
+right_in sig ts (rights.Not x) t h = h.1.term.inside
+right_in sig ts (rights.NotTwo f x y) t h = (h.4.term.inside, h.5.term.inside)
+right_in sig ts (rights.NotOr x y) t h = (h.2.term.inside, h.3.term.inside)
+right_in sig ts (rights.One f x) t h = h.3.term.inside
+right_in sig ts (rights.Two f x y) t h = (h.4.term.inside, h.5.term.inside)
+right_in sig ts (rights.TwoOne f x g y) t h = (h.6.term.inside, h.7.term.inside)
+right_in sig ts (rights.TwoTwo f x g y z) t h = (h.7.term.inside, h.8.term.inside, h.9.term.inside)
+right_in sig ts (rights.Both f x y g z w) t h = ((h.8.term.inside, h.9.term.inside), h.10.term.inside, h.11.term.inside)
+right_in sig ts (rights.Either f x y g z w) t h = ((h.8.term.inside, h.9.term.inside), h.10.term.inside, h.11.term.inside)
+right_in sig ts (rights.Longer f x) t h = h.3.term.inside
+right_in sig ts (rights.Later f x y) t h = (h.4.term.inside, h.5.term.inside)
+right_in sig ts (rights.Places f x y) t h = (h.4.term.inside, h.5.term.inside)
+
+condition_in : (sig : Sig) (ts : List Tree) (o : Option TermId) (c : Term) → ConditionIs sig ts o c → IfSome o (IsIn ts)
+condition_in sig ts None c h = tt
+condition_in sig ts (Some n) c h = h.1.term.inside
+
+pub line_in : (sig : Sig) (ts : List Tree) (t : Term) (l : Line) → IsFirstAt sig ts t l → IsLineIn ts l
+line_in sig ts t l h = (right_in sig ts l.right h.right h.right_is, condition_in sig ts l.above_zero h.condition h.condition_is)

@@ -1,5 +1,5 @@
 -- The equations on equality, projections and recognisers.
-use Rattle.std.proofs.Common.{◌≡◌, ◌≢◌, ◌⊎◌, ℕ, zero, suc, ◌<◌, List, [], ◌∷◌, length, refl, sym, ap, ◌∙◌, subst, arith, inl, inr, ⊎_elim}
+use Rattle.std.proofs.Common.{◌≡◌, ◌≢◌, ℕ, zero, suc, ◌<◌, List, [], ◌∷◌, length, refl, sym, ap, ◌∙◌, subst, arith, inl, inr}
 use Rattle.std.specs.Prelude.{Option, Some, None, ℤ, pos, Bool, true, false, cond, ◌==◌, ◌&&◌, get_or}
 use mathlib.Core.Bool.{beq}
 use lib.IntN.{neg_ℤ}
@@ -7,7 +7,7 @@ use Rattle.data_theory.specs.declared.ids.FunId.{FunId}
 use Rattle.data_theory.specs.declared.num.Num.{Num}
 use Rattle.data_theory.specs.Whole.{whole_of}
 use Rattle.data_theory.specs.Arithmetic.{equal_numbers}
-use Rattle.data_theory.specs.Terms.{Sort, boolean, list, named, Symbol, truth, function, equality, Term, Terms, numeral, application}
+use Rattle.data_theory.specs.Terms.{Sort, boolean, list, named, Symbol, truth, function, Term, Terms, numeral, application}
 use Rattle.data_theory.specs.Declarations.{Data, function_at, sort_at, Role, constructor, projection, recogniser, mapping, structured, IsData, FitsRole, DeclaredFunction}
 use Rattle.data_theory.specs.Equations.{BuiltIn, one, trueᵗ, falseᵗ, !ᵗ◌, ◌∧ᵗ◌, equals, emptyᵗ, consᵗ, truth_of, all_equal, term_at, equal_itself, equal_commutes, equal_true, true_equal, equal_false, false_equal, equal_numerals, empty_equal_cons, cons_equal_empty, cons_equal_cons, different_constructors, same_constructor, projected, recognised, not_recognised}
 use Rattle.data_theory.specs.Rewriting.{place_of}
@@ -81,10 +81,15 @@ other_holds sig i n (different_constructors {d = d} k p q m) e = absurd (n.2 d r
 other_holds sig i n (same_constructor {d = d} k p) e = absurd (n.2 d refl k)
 
 pub other_decided : (sig : Sig) (ts : List Tree) (a : Sort) (x y : Term) → LooksAt sig Other a → (o : Option Line) → First sig ts (other_clauses a x y) o → IsFirstLine sig ts (equals a x y) o
-other_decided sig ts a x y n = decided sig ts (equals a x y) (other_clauses a x y)
-    (omega arith, (λ e. same_there (data_meant sig) a x y e),
-    (omega arith, (λ h. numerals_there (data_meant sig) a x y h),
-    tt))
+other_decided sig ts a x y n = decided sig ts (equals a x y) (other_clauses a x y) (
+  omega arith,
+  (λ e. same_there (data_meant sig) a x y e),
+  (
+    omega arith,
+    (λ h. numerals_there (data_meant sig) a x y h),
+    tt,
+  ),
+)
     (λ i c r b. other_holds sig i n b.0 b.1)
 
 -- ---- truth values
@@ -101,14 +106,31 @@ bool_holds i false_equal e = inr (inr (inr (inr (inl (number_is e, refl)))))
 bool_holds i (equal_numerals {x = x} {y = y}) e = inr (inr (inr (inr (inr (inl (number_is e, (x, y, refl, refl)))))))
 
 pub bool_decided : (sig : Sig) (ts : List Tree) (x y : Term) (o : Option Line) → First sig ts (bool_clauses x y) o → IsFirstLine sig ts (equals boolean x y) o
-bool_decided sig ts x y = decided sig ts (equals boolean x y) (bool_clauses x y)
-    (omega arith, (λ e. same_there (data_meant sig) boolean x y e),
-    (omega arith, (λ e. subst (λ v. LineAt (data_meant sig) 21 (equals boolean x v) trueᵗ x) (sym e) (equal_true, refl)),
-    (omega arith, (λ e. subst (λ v. LineAt (data_meant sig) 22 (equals boolean v y) trueᵗ y) (sym e) (true_equal, refl)),
-    (omega arith, (λ e. subst (λ v. LineAt (data_meant sig) 23 (equals boolean x v) trueᵗ (!ᵗ x)) (sym e) (equal_false, refl)),
-    (omega arith, (λ e. subst (λ v. LineAt (data_meant sig) 24 (equals boolean v y) trueᵗ (!ᵗ y)) (sym e) (false_equal, refl)),
-    (omega arith, (λ h. numerals_there (data_meant sig) boolean x y h),
-    tt))))))
+bool_decided sig ts x y = decided sig ts (equals boolean x y) (bool_clauses x y) (
+  omega arith,
+  (λ e. same_there (data_meant sig) boolean x y e),
+  (
+    omega arith,
+    (λ e. subst (λ v. LineAt (data_meant sig) 21 (equals boolean x v) trueᵗ x) (sym e) (equal_true, refl)),
+    (
+      omega arith,
+      (λ e. subst (λ v. LineAt (data_meant sig) 22 (equals boolean v y) trueᵗ y) (sym e) (true_equal, refl)),
+      (
+        omega arith,
+        (λ e. subst (λ v. LineAt (data_meant sig) 23 (equals boolean x v) trueᵗ (!ᵗ x)) (sym e) (equal_false, refl)),
+        (
+          omega arith,
+          (λ e. subst (λ v. LineAt (data_meant sig) 24 (equals boolean v y) trueᵗ (!ᵗ y)) (sym e) (false_equal, refl)),
+          (
+            omega arith,
+            (λ h. numerals_there (data_meant sig) boolean x y h),
+            tt,
+          ),
+        ),
+      ),
+    ),
+  ),
+)
     (λ i c r b. bool_holds i b.0 b.1)
 
 -- ---- lists
@@ -127,16 +149,30 @@ list_holds i (cons_equal_empty {x = x} {l = l}) e = inr (inr (inr (inl (number_i
 list_holds i (cons_equal_cons {x = x} {l = l} {y = y} {m = m}) e = inr (inr (inr (inr (inl (number_is e, ((x, l, refl), (y, m, refl)))))))
 
 pub list_decided : (sig : Sig) (ts : List Tree) (a : Sort) (x y : Term) (o : Option Line) → First sig ts (list_clauses a x y) o → IsFirstLine sig ts (equals (list a) x y) o
-list_decided sig ts a x y = decided sig ts (equals (list a) x y) (list_clauses a x y)
-    (omega arith, (λ e. same_there (data_meant sig) (list a) x y e),
-    (omega arith, (λ h. numerals_there (data_meant sig) (list a) x y h),
-    (omega arith, (λ h. subst (λ v. LineAt (data_meant sig) 30 (equals (list a) v y) trueᵗ falseᵗ) (sym h.0) (subst (λ v. LineAt (data_meant sig) 30 (equals (list a) (emptyᵗ a) v) trueᵗ falseᵗ) (sym h.1.2) (empty_equal_cons, refl))),
-    (omega arith, (λ h. subst (λ v. LineAt (data_meant sig) 31 (equals (list a) v y) trueᵗ falseᵗ) (sym h.0.2) (subst (λ v. LineAt (data_meant sig) 31 (equals (list a) (consᵗ a h.0.0 h.0.1) v) trueᵗ falseᵗ) (sym h.1) (cons_equal_empty, refl))),
-    (omega arith, (λ h.
-    let line : LineAt (data_meant sig) 32 (equals (list a) (consᵗ a h.0.0 h.0.1) (consᵗ a h.1.0 h.1.1)) trueᵗ (equals a h.0.0 h.1.0 ∧ᵗ equals (list a) h.0.1 h.1.1) = (cons_equal_cons, refl) in
-    subst (λ v. LineAt (data_meant sig) 32 (equals (list a) v y) trueᵗ (equals a (part v 0) (part y 0) ∧ᵗ equals (list a) (part v 1) (part y 1))) (sym h.0.2)
-    (subst (λ v. LineAt (data_meant sig) 32 (equals (list a) (consᵗ a h.0.0 h.0.1) v) trueᵗ (equals a h.0.0 (part v 0) ∧ᵗ equals (list a) h.0.1 (part v 1))) (sym h.1.2) line)),
-    tt)))))
+list_decided sig ts a x y = decided sig ts (equals (list a) x y) (list_clauses a x y) (
+  omega arith,
+  (λ e. same_there (data_meant sig) (list a) x y e),
+  (
+    omega arith,
+    (λ h. numerals_there (data_meant sig) (list a) x y h),
+    (
+      omega arith,
+      (λ h. subst (λ v. LineAt (data_meant sig) 30 (equals (list a) v y) trueᵗ falseᵗ) (sym h.0) (subst (λ v. LineAt (data_meant sig) 30 (equals (list a) (emptyᵗ a) v) trueᵗ falseᵗ) (sym h.1.2) (empty_equal_cons, refl))),
+      (
+        omega arith,
+        (λ h. subst (λ v. LineAt (data_meant sig) 31 (equals (list a) v y) trueᵗ falseᵗ) (sym h.0.2) (subst (λ v. LineAt (data_meant sig) 31 (equals (list a) (consᵗ a h.0.0 h.0.1) v) trueᵗ falseᵗ) (sym h.1) (cons_equal_empty, refl))),
+        (
+          omega arith,
+          (λ h.
+              let line : LineAt (data_meant sig) 32 (equals (list a) (consᵗ a h.0.0 h.0.1) (consᵗ a h.1.0 h.1.1)) trueᵗ (equals a h.0.0 h.1.0 ∧ᵗ equals (list a) h.0.1 h.1.1) = (cons_equal_cons, refl) in
+              subst (λ v. LineAt (data_meant sig) 32 (equals (list a) v y) trueᵗ (equals a (part v 0) (part y 0) ∧ᵗ equals (list a) (part v 1) (part y 1))) (sym h.0.2)
+              (subst (λ v. LineAt (data_meant sig) 32 (equals (list a) (consᵗ a h.0.0 h.0.1) v) trueᵗ (equals a h.0.0 (part v 0) ∧ᵗ equals (list a) h.0.1 (part v 1))) (sym h.1.2) line)),
+          tt,
+        ),
+      ),
+    ),
+  ),
+)
     (λ i c r b. list_holds i b.0 b.1)
 
 -- ---- values of a struct
@@ -170,12 +206,23 @@ struct_holds i (different_constructors {b = b} {c = c} {xs = xs} {ys = ys} k p q
 struct_holds i (same_constructor {c = c} {xs = xs} {ys = ys} k p) e = inr (inr (inr (inl (number_is e, (c, xs, ys, refl, refl, p)))))
 
 pub struct_decided : (sig : Sig) (ts : List Tree) (d : ℕ) (x y : Term) → sort_at (data_meant sig) d ≡ structured → (o : Option Line) → First sig ts (struct_clauses (data_meant sig) d x y) o → IsFirstLine sig ts (equals (named d) x y) o
-struct_decided sig ts d x y s = let g = data_meant sig in decided sig ts (equals (named d) x y) (struct_clauses (data_meant sig) d x y)
-    (omega arith, (λ e. same_there (data_meant sig) (named d) x y e),
-    (omega arith, (λ h. numerals_there (data_meant sig) (named d) x y h),
-    (omega arith, (λ h. subst (λ v. LineAt (data_meant sig) 50 (equals (named d) v y) trueᵗ falseᵗ) (sym h.4) (subst (λ v. LineAt (data_meant sig) 50 (equals (named d) (application (function h.0) h.2) v) trueᵗ falseᵗ) (sym h.5) (different_constructors s h.6 h.7 h.8, refl))),
-    (omega arith, (λ h. subst (λ v. LineAt (data_meant sig) 51 (equals (named d) v y) trueᵗ (places_equal (data_meant sig) v y)) (sym h.3) (subst (λ v. LineAt (data_meant sig) 51 (equals (named d) (application (function h.0) h.1) v) trueᵗ (places_equal (data_meant sig) (application (function h.0) h.1) v)) (sym h.4) (same_constructor s h.5, refl))),
-    tt))))
+struct_decided sig ts d x y s = let g = data_meant sig in decided sig ts (equals (named d) x y) (struct_clauses (data_meant sig) d x y) (
+  omega arith,
+  (λ e. same_there (data_meant sig) (named d) x y e),
+  (
+    omega arith,
+    (λ h. numerals_there (data_meant sig) (named d) x y h),
+    (
+      omega arith,
+      (λ h. subst (λ v. LineAt (data_meant sig) 50 (equals (named d) v y) trueᵗ falseᵗ) (sym h.4) (subst (λ v. LineAt (data_meant sig) 50 (equals (named d) (application (function h.0) h.2) v) trueᵗ falseᵗ) (sym h.5) (different_constructors s h.6 h.7 h.8, refl))),
+      (
+        omega arith,
+        (λ h. subst (λ v. LineAt (data_meant sig) 51 (equals (named d) v y) trueᵗ (places_equal (data_meant sig) v y)) (sym h.3) (subst (λ v. LineAt (data_meant sig) 51 (equals (named d) (application (function h.0) h.1) v) trueᵗ (places_equal (data_meant sig) (application (function h.0) h.1) v)) (sym h.4) (same_constructor s h.5, refl))),
+        tt,
+      ),
+    ),
+  ),
+)
     (λ i c r b. struct_holds i b.0 b.1)
 
 pub same_function : (sig : Sig) → IsTable sig → (f h : FunId) (y : Symbol) → IsSymbolOf sig f y → IsSymbolOf sig h y → f ≡ h
@@ -209,10 +256,15 @@ recogniser_holds i h (recognised {xs = xs} q) e = inl (number_is e, (xs, ap (λ 
 recogniser_holds i h (not_recognised {b = b} {xs = xs} q m n) e = inr (inl (number_is e, (b, xs, refl, m, (λ s. n (s ∙ ap constructor_in (sym h ∙ q))))))
 
 pub recogniser_decided : (sig : Sig) (ts : List Tree) (p k : ℕ) (t : Term) → (function_at (data_meant sig) p).role ≡ recogniser k → (o : Option Line) → First sig ts (recogniser_clauses (data_meant sig) k t) o → IsFirstLine sig ts (one (function p) t) o
-recogniser_decided sig ts p k t h = decided sig ts (one (function p) t) (recogniser_clauses (data_meant sig) k t)
-    (omega arith, (λ e. subst (λ v. LineAt (data_meant sig) 53 (one (function p) v) trueᵗ trueᵗ) (sym e.1) (recognised h, refl)),
-    (omega arith, (λ e. subst (λ v. LineAt (data_meant sig) 54 (one (function p) v) trueᵗ falseᵗ) (sym e.2) (not_recognised h e.3 e.4, refl)),
-    tt))
+recogniser_decided sig ts p k t h = decided sig ts (one (function p) t) (recogniser_clauses (data_meant sig) k t) (
+  omega arith,
+  (λ e. subst (λ v. LineAt (data_meant sig) 53 (one (function p) v) trueᵗ trueᵗ) (sym e.1) (recognised h, refl)),
+  (
+    omega arith,
+    (λ e. subst (λ v. LineAt (data_meant sig) 54 (one (function p) v) trueᵗ falseᵗ) (sym e.2) (not_recognised h e.3 e.4, refl)),
+    tt,
+  ),
+)
     (λ i c r b. recogniser_holds i h b.0 b.1)
 
 -- a function with a role is one of the data
@@ -254,13 +306,14 @@ pub made_by : (sig : Sig) (f h : FunId) (m k : ℕ) → IsSymbolOf sig f (functi
 made_by sig f h m k a b e = ap number_of (sym a.is ∙ (ap (symbol_under sig) e ∙ b.is))
 
 pub same_decided : (sig : Sig) (ts : List Tree) (a : Sort) (t u : Term) → t ≡ u → (o : Option Line) → o ≡ Some (record { number = 16; above_zero = None; right = Truth true }) → IsFirstLine sig ts (equals a t u) o
-same_decided sig ts a t u e o is = subst (IsFirstLine sig ts (equals a t u)) (sym is) (record
-    { condition = trueᵗ
-    ; right = trueᵗ
-    ; matches_there = same_there (data_meant sig) a t u e
-    ; condition_is = refl
-    ; right_is = refl
-    ; none_before = λ i c r l b. not_before i b.0 b.1 l })
+same_decided sig ts a t u e o is = subst (IsFirstLine sig ts (equals a t u)) (sym is) (record {
+  condition = trueᵗ;
+  right = trueᵗ;
+  matches_there = same_there (data_meant sig) a t u e;
+  condition_is = refl;
+  right_is = refl;
+  none_before = λ i c r l b. not_before i b.0 b.1 l;
+})
   where
     not_before : {g : Data} {a : Sort} {x y c r : Term} (i : ℕ) (b : BuiltIn g c (equals a x y) r) → place_of b ≡ Some i → i < 16 → ⊥
     not_before i equal_itself e l = let n = number_is e in omega (arith, n, l)

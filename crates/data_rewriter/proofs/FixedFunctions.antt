@@ -1,16 +1,14 @@
 -- The functions that have fixed numbers in every signature.
-use Rattle.std.proofs.Common.{◌≡◌, ℕ, ◌<◌, List, [], ◌∷◌, length, refl, sym, ap, ◌∙◌}
-use Rattle.std.specs.Prelude.{Some, slice_get}
+use Rattle.std.proofs.Common.{[], ◌∷◌, refl, ap, ◌∙◌}
 use Rattle.std.proofs.lemmas.Option.{slice_get_within}
 use Rattle.data_theory.specs.declared.words.NumberWord.TheVariants as numbers
 use Rattle.data_theory.specs.declared.words.Word.TheVariants as words
 use Rattle.data_theory.specs.declared.rows.Row.TheVariants as rows
-use Rattle.data_theory.specs.Terms.{Sort, positive, natural, integer, Symbol, truth, falsity, negation, conjunction, disjunction, comparison, less, arithmetic, subtract, successor, to_natural, upcast}
+use Rattle.data_theory.specs.Terms.{positive, natural, integer, truth, falsity, negation, conjunction, disjunction, comparison, less, arithmetic, subtract, successor, to_natural, upcast}
 use Rattle.data_theory.specs.Table.{bool_sort, pos_sort, nat_sort, int_sort, first_table, first_rows, truth_rows, sort_rows, comparison_rows, sum_rows, quotient_rows, extreme_rows, step_rows}
 use Rattle.data_theory.specs.Signature.{Sig}
 use Rattle.data_theory.specs.SignatureLaws.{RowStandsAt, HasTruthFunctions}
 use Rattle.data_theory.specs.IdTables.{IsTable}
-use Rattle.data_theory.specs.IdTerms.{sort_under, symbol_under}
 use Rattle.data_theory.specs.WholeSignatures.{IsSignature}
 use Rattle.data_theory.proofs.StandingLemmas.{first_functions_stand, signatures_have_truth_functions}
 use Rattle.data_theory.proofs.IdSymbolLemmas.{natural_is, positive_is, integer_is}

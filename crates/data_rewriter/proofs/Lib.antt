@@ -20,3 +20,5 @@ pub mod PatternMoves
 pub mod LastLine
 pub mod Looking
 pub mod FixedFunctions
+pub mod WrittenRules
+pub mod TruthAnswers

@@ -1,12 +1,12 @@
 -- The equations on lists.
-use Rattle.std.proofs.Common.{◌≡◌, ◌⊎◌, ℕ, zero, suc, ◌<◌, List, [], ◌∷◌, refl, sym, ap, ◌∙◌, subst, arith, inl, inr, ⊎_elim}
-use Rattle.std.specs.Prelude.{Option, Some, None, ℤ, pos, Bool, true, false, cond}
+use Rattle.std.proofs.Common.{◌≡◌, ◌⊎◌, ℕ, zero, suc, List, [], ◌∷◌, refl, sym, ap, ◌∙◌, subst, arith, inl, inr, ⊎_elim}
+use Rattle.std.specs.Prelude.{Option, Some, None, pos, Bool, true, false, cond}
 use lib.IntN.{neg_ℤ}
 use Rattle.data_theory.specs.declared.ids.FunId.{FunId}
 use Rattle.data_theory.specs.declared.ids.TermId.{TermId}
 use Rattle.data_theory.specs.declared.num.Num.{Num}
 use Rattle.data_theory.specs.Whole.{whole_of}
-use Rattle.data_theory.specs.Terms.{Sort, natural, positive, integer, Symbol, comparison, less, arithmetic, subtract, successor, to_natural, upcast, equality, cons, snoc, concatenation, size, head, rhead, tail, rtail, element_at, membership, Term, Terms, application, numeral, none}
+use Rattle.data_theory.specs.Terms.{Sort, natural, positive, integer, comparison, less, arithmetic, subtract, successor, to_natural, upcast, snoc, concatenation, size, head, rhead, tail, rtail, element_at, membership, Term, Terms, application, numeral, none}
 use Rattle.data_theory.specs.Declarations.{Data}
 use Rattle.data_theory.specs.Equations.{BuiltIn, one, two, trueᵗ, falseᵗ, ◌∨ᵗ◌, equals, emptyᵗ, consᵗ, number, term_at, empty_concat, concat_empty, cons_concat, empty_snoc, cons_snoc, size_empty, size_cons, head_cons, tail_cons, rhead_one, rhead_more, rtail_one, rtail_more, at_zero, at_later, in_empty, in_cons}
 use Rattle.data_theory.specs.Rewriting.{place_of}
@@ -18,7 +18,7 @@ use Rattle.data_rewriter.specs.declared.rights.Line.{Line}
 use Rattle.data_rewriter.specs.Standing.{StandsFor, IsSymbolOf}
 use Rattle.data_rewriter.specs.FirstLines.{LineAt, IsFirstLine}
 use Rattle.data_rewriter.specs.Views.{IsCons}
-use Rattle.data_rewriter.proofs.Deciding.{Clauses, no_more, clause, First, Holds, number_is, no_number, decided}
+use Rattle.data_rewriter.proofs.Deciding.{Clauses, no_more, clause, First, Holds, number_is, decided}
 use Rattle.data_rewriter.proofs.NumberClauses.{whole_in}
 
 -- an argument of an application
@@ -39,11 +39,19 @@ concat_holds i concat_empty e = inr (inl (number_is e, refl))
 concat_holds i (cons_concat {x = x} {l = l}) e = inr (inr (inl (number_is e, (x, l, refl))))
 
 pub concat_decided : (sig : Sig) (ts : List Tree) (a : Sort) (x y : Term) (o : Option Line) → First sig ts (concat_clauses a x y) o → IsFirstLine sig ts (two (concatenation a) x y) o
-concat_decided sig ts a x y = decided sig ts (two (concatenation a) x y) (concat_clauses a x y)
-    (omega arith, (λ e. subst (λ v. LineAt (data_meant sig) 33 (two (concatenation a) v y) trueᵗ y) (sym e) (empty_concat, refl)),
-    (omega arith, (λ e. subst (λ v. LineAt (data_meant sig) 34 (two (concatenation a) x v) trueᵗ x) (sym e) (concat_empty, refl)),
-    (omega arith, (λ e. subst (λ v. LineAt (data_meant sig) 35 (two (concatenation a) v y) trueᵗ (consᵗ a (part v 0) (two (concatenation a) (part v 1) y))) (sym e.2) (cons_concat, refl)),
-    tt)))
+concat_decided sig ts a x y = decided sig ts (two (concatenation a) x y) (concat_clauses a x y) (
+  omega arith,
+  (λ e. subst (λ v. LineAt (data_meant sig) 33 (two (concatenation a) v y) trueᵗ y) (sym e) (empty_concat, refl)),
+  (
+    omega arith,
+    (λ e. subst (λ v. LineAt (data_meant sig) 34 (two (concatenation a) x v) trueᵗ x) (sym e) (concat_empty, refl)),
+    (
+      omega arith,
+      (λ e. subst (λ v. LineAt (data_meant sig) 35 (two (concatenation a) v y) trueᵗ (consᵗ a (part v 0) (two (concatenation a) (part v 1) y))) (sym e.2) (cons_concat, refl)),
+      tt,
+    ),
+  ),
+)
     (λ i c r b. concat_holds i b.0 b.1)
 
 -- ---- x <| y
@@ -55,10 +63,15 @@ snoc_holds i empty_snoc e = inl (number_is e, refl)
 snoc_holds i (cons_snoc {y = y} {l = l}) e = inr (inl (number_is e, (y, l, refl)))
 
 pub snoc_decided : (sig : Sig) (ts : List Tree) (a : Sort) (x y : Term) (o : Option Line) → First sig ts (snoc_clauses a x y) o → IsFirstLine sig ts (two (snoc a) x y) o
-snoc_decided sig ts a x y = decided sig ts (two (snoc a) x y) (snoc_clauses a x y)
-    (omega arith, (λ e. subst (λ v. LineAt (data_meant sig) 36 (two (snoc a) v y) trueᵗ (consᵗ a y (emptyᵗ a))) (sym e) (empty_snoc, refl)),
-    (omega arith, (λ e. subst (λ v. LineAt (data_meant sig) 37 (two (snoc a) v y) trueᵗ (consᵗ a (part v 0) (two (snoc a) (part v 1) y))) (sym e.2) (cons_snoc, refl)),
-    tt))
+snoc_decided sig ts a x y = decided sig ts (two (snoc a) x y) (snoc_clauses a x y) (
+  omega arith,
+  (λ e. subst (λ v. LineAt (data_meant sig) 36 (two (snoc a) v y) trueᵗ (consᵗ a y (emptyᵗ a))) (sym e) (empty_snoc, refl)),
+  (
+    omega arith,
+    (λ e. subst (λ v. LineAt (data_meant sig) 37 (two (snoc a) v y) trueᵗ (consᵗ a (part v 0) (two (snoc a) (part v 1) y))) (sym e.2) (cons_snoc, refl)),
+    tt,
+  ),
+)
     (λ i c r b. snoc_holds i b.0 b.1)
 
 -- ---- #x
@@ -70,10 +83,15 @@ size_holds i size_empty e = inl (number_is e, refl)
 size_holds i (size_cons {x = x} {l = l}) e = inr (inl (number_is e, (x, l, refl)))
 
 pub size_decided : (sig : Sig) (ts : List Tree) (a : Sort) (x : Term) (o : Option Line) → First sig ts (size_clauses a x) o → IsFirstLine sig ts (one (size a) x) o
-size_decided sig ts a x = decided sig ts (one (size a) x) (size_clauses a x)
-    (omega arith, (λ e. subst (λ v. LineAt (data_meant sig) 38 (one (size a) v) trueᵗ (number 0)) (sym e) (size_empty, refl)),
-    (omega arith, (λ e. subst (λ v. LineAt (data_meant sig) 39 (one (size a) v) trueᵗ (one (upcast positive natural) (one (arithmetic successor (natural ∷ []) positive) (one (size a) (part v 1))))) (sym e.2) (size_cons, refl)),
-    tt))
+size_decided sig ts a x = decided sig ts (one (size a) x) (size_clauses a x) (
+  omega arith,
+  (λ e. subst (λ v. LineAt (data_meant sig) 38 (one (size a) v) trueᵗ (number 0)) (sym e) (size_empty, refl)),
+  (
+    omega arith,
+    (λ e. subst (λ v. LineAt (data_meant sig) 39 (one (size a) v) trueᵗ (one (upcast positive natural) (one (arithmetic successor (natural ∷ []) positive) (one (size a) (part v 1))))) (sym e.2) (size_cons, refl)),
+    tt,
+  ),
+)
     (λ i c r b. size_holds i b.0 b.1)
 
 -- ---- head(x) and tail(x)
@@ -114,10 +132,15 @@ rhead_holds i (rhead_one {x = x}) e = inl (number_is e, (x, refl))
 rhead_holds i (rhead_more {x = x} {y = y} {l = l}) e = inr (inl (number_is e, (x, y, l, refl)))
 
 pub rhead_decided : (sig : Sig) (ts : List Tree) (a : Sort) (x : Term) (o : Option Line) → First sig ts (rhead_clauses a x) o → IsFirstLine sig ts (one (rhead a) x) o
-rhead_decided sig ts a x = decided sig ts (one (rhead a) x) (rhead_clauses a x)
-    (omega arith, (λ e. subst (λ v. LineAt (data_meant sig) 42 (one (rhead a) v) trueᵗ (part v 0)) (sym e.1) (rhead_one, refl)),
-    (omega arith, (λ e. subst (λ v. LineAt (data_meant sig) 43 (one (rhead a) v) trueᵗ (one (rhead a) (part v 1))) (sym e.3) (rhead_more, refl)),
-    tt))
+rhead_decided sig ts a x = decided sig ts (one (rhead a) x) (rhead_clauses a x) (
+  omega arith,
+  (λ e. subst (λ v. LineAt (data_meant sig) 42 (one (rhead a) v) trueᵗ (part v 0)) (sym e.1) (rhead_one, refl)),
+  (
+    omega arith,
+    (λ e. subst (λ v. LineAt (data_meant sig) 43 (one (rhead a) v) trueᵗ (one (rhead a) (part v 1))) (sym e.3) (rhead_more, refl)),
+    tt,
+  ),
+)
     (λ i c r b. rhead_holds i b.0 b.1)
 
 abbrev pub rtail_clauses : Sort → Term → Clauses
@@ -128,10 +151,15 @@ rtail_holds i (rtail_one {x = x}) e = inl (number_is e, (x, refl))
 rtail_holds i (rtail_more {x = x} {y = y} {l = l}) e = inr (inl (number_is e, (x, y, l, refl)))
 
 pub rtail_decided : (sig : Sig) (ts : List Tree) (a : Sort) (x : Term) (o : Option Line) → First sig ts (rtail_clauses a x) o → IsFirstLine sig ts (one (rtail a) x) o
-rtail_decided sig ts a x = decided sig ts (one (rtail a) x) (rtail_clauses a x)
-    (omega arith, (λ e. subst (λ v. LineAt (data_meant sig) 44 (one (rtail a) v) trueᵗ (emptyᵗ a)) (sym e.1) (rtail_one, refl)),
-    (omega arith, (λ e. subst (λ v. LineAt (data_meant sig) 45 (one (rtail a) v) trueᵗ (consᵗ a (part v 0) (one (rtail a) (part v 1)))) (sym e.3) (rtail_more, refl)),
-    tt))
+rtail_decided sig ts a x = decided sig ts (one (rtail a) x) (rtail_clauses a x) (
+  omega arith,
+  (λ e. subst (λ v. LineAt (data_meant sig) 44 (one (rtail a) v) trueᵗ (emptyᵗ a)) (sym e.1) (rtail_one, refl)),
+  (
+    omega arith,
+    (λ e. subst (λ v. LineAt (data_meant sig) 45 (one (rtail a) v) trueᵗ (consᵗ a (part v 0) (one (rtail a) (part v 1)))) (sym e.3) (rtail_more, refl)),
+    tt,
+  ),
+)
     (λ i c r b. rtail_holds i b.0 b.1)
 
 -- ---- x in y
@@ -143,10 +171,15 @@ in_holds i in_empty e = inl (number_is e, refl)
 in_holds i (in_cons {y = y} {l = l}) e = inr (inl (number_is e, (y, l, refl)))
 
 pub in_decided : (sig : Sig) (ts : List Tree) (a : Sort) (x y : Term) (o : Option Line) → First sig ts (in_clauses a x y) o → IsFirstLine sig ts (two (membership a) x y) o
-in_decided sig ts a x y = decided sig ts (two (membership a) x y) (in_clauses a x y)
-    (omega arith, (λ e. subst (λ v. LineAt (data_meant sig) 48 (two (membership a) x v) trueᵗ falseᵗ) (sym e) (in_empty, refl)),
-    (omega arith, (λ e. subst (λ v. LineAt (data_meant sig) 49 (two (membership a) x v) trueᵗ (equals a x (part v 0) ∨ᵗ two (membership a) x (part v 1))) (sym e.2) (in_cons, refl)),
-    tt))
+in_decided sig ts a x y = decided sig ts (two (membership a) x y) (in_clauses a x y) (
+  omega arith,
+  (λ e. subst (λ v. LineAt (data_meant sig) 48 (two (membership a) x v) trueᵗ falseᵗ) (sym e) (in_empty, refl)),
+  (
+    omega arith,
+    (λ e. subst (λ v. LineAt (data_meant sig) 49 (two (membership a) x v) trueᵗ (equals a x (part v 0) ∨ᵗ two (membership a) x (part v 1))) (sym e.2) (in_cons, refl)),
+    tt,
+  ),
+)
     (λ i c r b. in_holds i b.0 b.1)
 
 -- ---- x . y
@@ -186,22 +219,24 @@ module _ (sig : Sig) (a : Sort) (t u : Term) where
 
 module _ (sig : Sig) (ts : List Tree) (a : Sort) (t u : Term) where
   pub at_decided_zero : (o : Option Line) (x l : Term) → t ≡ consᵗ a x l → u ≡ number 0 → (first : TermId) → StandsFor sig ts first x → o ≡ Some (record { number = 46; above_zero = None; right = Is first }) → IsFirstLine sig ts (two (element_at a) t u) o
-  at_decided_zero o x l e z first h is = subst (IsFirstLine sig ts (two (element_at a) t u)) (sym is) (record
-      { condition = trueᵗ
-      ; right = x
-      ; matches_there = subst (λ v. LineAt (data_meant sig) 46 (two (element_at a) v u) trueᵗ x) (sym e) (subst (λ v. LineAt (data_meant sig) 46 (two (element_at a) (consᵗ a x l) v) trueᵗ x) (sym z) (at_zero, refl))
-      ; condition_is = refl
-      ; right_is = h
-      ; none_before = λ i c r less b. ⊎_elim (λ k. let n = k.0 in omega (arith, n, less)) (λ k. let n = k.0 in omega (arith, n, less)) (at_lines i b.0 b.1) })
+  at_decided_zero o x l e z first h is = subst (IsFirstLine sig ts (two (element_at a) t u)) (sym is) (record {
+    condition = trueᵗ;
+    right = x;
+    matches_there = subst (λ v. LineAt (data_meant sig) 46 (two (element_at a) v u) trueᵗ x) (sym e) (subst (λ v. LineAt (data_meant sig) 46 (two (element_at a) (consᵗ a x l) v) trueᵗ x) (sym z) (at_zero, refl));
+    condition_is = refl;
+    right_is = h;
+    none_before = λ i c r less b. ⊎_elim (λ k. let n = k.0 in omega (arith, n, less)) (λ k. let n = k.0 in omega (arith, n, less)) (at_lines i b.0 b.1);
+  })
 
   pub at_decided_later : (x l : Term) → t ≡ consᵗ a x l → (u ≡ number 0 → ⊥) → (fun : FunId) (rest y : TermId) → IsSymbolOf sig fun (element_at a) → StandsFor sig ts rest l → StandsFor sig ts y u → IsFirstLine sig ts (two (element_at a) t u) (Some (record { number = 47; above_zero = Some y; right = Later fun rest y }))
   at_decided_later x l e n fun rest y f h k =
       let r : Term = two (element_at a) l (one (arithmetic to_natural (integer ∷ []) natural) (two (arithmetic subtract (natural ∷ natural ∷ []) integer) u (number 1))) in
       let c : Term = two (comparison less natural) (number 0) u in
-      record
-      { condition = c
-      ; right = r
-      ; matches_there = subst (λ v. LineAt (data_meant sig) 47 (two (element_at a) v u) c r) (sym e) (at_later, refl)
-      ; condition_is = (u, k, refl)
-      ; right_is = (element_at a, l, u, f, h, k, refl)
-      ; none_before = λ i d s less b. ⊎_elim (λ m. n m.2) (λ m. let j = m.0 in omega (arith, j, less)) (at_lines i b.0 b.1) }
+      record {
+        condition = c;
+        right = r;
+        matches_there = subst (λ v. LineAt (data_meant sig) 47 (two (element_at a) v u) c r) (sym e) (at_later, refl);
+        condition_is = (u, k, refl);
+        right_is = (element_at a, l, u, f, h, k, refl);
+        none_before = λ i d s less b. ⊎_elim (λ m. n m.2) (λ m. let j = m.0 in omega (arith, j, less)) (at_lines i b.0 b.1);
+      }

@@ -1,5 +1,5 @@
 -- Which functions look at their first argument first.
-use Rattle.std.proofs.Common.{◌≡◌, ℕ, refl, sym, ap, ◌∙◌, subst}
+use Rattle.std.proofs.Common.{◌≡◌, refl, sym, subst}
 use Rattle.data_theory.specs.Terms as terms
 use Rattle.data_theory.specs.Terms.{Symbol}
 use Rattle.data_theory.specs.Rewriting.{LooksFirst, if_looks, and_looks, or_looks, implies_looks}

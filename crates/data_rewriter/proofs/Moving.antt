@@ -1,12 +1,12 @@
 -- What a pending place knows, and what it knows next.
-use Rattle.std.proofs.Common.{◌≡◌, ◌≢◌, ◌⊎◌, ℕ, suc, ◌+◌, ◌<◌, ◌≤◌, List, [], ◌∷◌, ◌++◌, refl, sym, ap, ◌∙◌, subst, arith, length, append_assoc}
+use Rattle.std.proofs.Common.{◌≡◌, ◌≢◌, ℕ, suc, ◌+◌, ◌<◌, ◌≤◌, List, [], ◌∷◌, ◌++◌, refl, sym, subst, arith, length, append_assoc}
 use Rattle.std.specs.Prelude.{ℤ}
 use Rattle.data_theory.specs.Terms.{Sort, Symbol, Term, Terms, numeral, application, none, more, apply}
 use Rattle.data_theory.specs.Declarations.{Data}
 use Rattle.data_theory.specs.Equations.{trueᵗ}
 use Rattle.data_theory.specs.Provable.{Equation}
-use Rattle.data_theory.specs.Rewriting.{lines, Applies, FirstDecides, GoesTo, ArgumentsGoTo, no_arguments, an_argument, ConditionGoesTo, with_condition, Chain}
-use Rattle.data_rewriter.specs.Places.{Place, whole, from_equation, Yields, Begins, Leads, Pending, applying, deciding, Waits, at_the_origin, in_a_place, in_a_condition}
+use Rattle.data_theory.specs.Rewriting.{lines, Applies, FirstDecides, GoesTo, ArgumentsGoTo, no_arguments, with_condition}
+use Rattle.data_rewriter.specs.Places.{whole, from_equation, Leads, Pending, applying, deciding, Waits, at_the_origin, in_a_place, in_a_condition}
 use Rattle.data_rewriter.proofs.Leading.{then_leads, leads_as, to_the_root, to_the_root_at_once, to_a_numeral, refuses, uses}
 use Rattle.data_rewriter.proofs.Waiting.{another}
 use Rattle.data_rewriter.specs.Standing.{terms_of}
@@ -73,16 +73,17 @@ module _ (g : Data) (own : List Equation) (origin : Term) where
 
     -- no further argument
     pub all_done : InPlace start f news [] below hand n → ArgumentsDone start f (news ++ u ∷ []) below (n + m)
-    all_done p = record
-        { olds = p.olds ++ hand ∷ []
-        ; before = p.before
-        ; moved = p.moved
-        ; gone = p.gone + m
-        ; waits = p.waits
-        ; leads = p.leads
-        ; arguments = another g own p.olds news hand u p.gone m p.arguments y
-        ; undecided = still_undecided f news u p.undecided first
-        ; uses_are = omega (arith, p.uses_are) }
+    all_done p = record {
+      olds = p.olds ++ hand ∷ [];
+      before = p.before;
+      moved = p.moved;
+      gone = p.gone + m;
+      waits = p.waits;
+      leads = p.leads;
+      arguments = another g own p.olds news hand u p.gone m p.arguments y;
+      undecided = still_undecided f news u p.undecided first;
+      uses_are = omega (arith, p.uses_are);
+    }
 
   -- the root, or a numeral
   pub done_leads : (start : Term) (f h : Symbol) (news : List Term) (ws : Terms) (below : List Pending) (n : ℕ) (p : ArgumentsDone start f news below n) → apply f (terms_of news) ≡ application h ws → Leads g own (whole start) (from_equation 0 (application h ws)) (p.moved + p.gone)

@@ -1,7 +1,6 @@
 -- The equations on numbers.
-use Rattle.std.proofs.Common.{◌≡◌, ◌⊎◌, ℕ, zero, suc, ◌<◌, List, [], ◌∷◌, refl, sym, ap, ◌∙◌, subst, arith, inl, inr}
+use Rattle.std.proofs.Common.{◌≡◌, ℕ, zero, suc, ◌<◌, List, [], ◌∷◌, refl, sym, ap, ◌∙◌, subst, arith, inl}
 use Rattle.std.specs.Prelude.{Option, Some, None, ◌^◌, ◌≤◌, ℤ, pos, Bool, true, false, cond}
-use lib.Signed.{lt_z, le_z}
 use lib.IntN.{neg_ℤ}
 use Rattle.data_theory.specs.declared.num.Num.{Num}
 use Rattle.data_theory.specs.Terms.{Sort, integer, Comparison, comparison, Operation, arithmetic, minus, Term, numeral}
@@ -19,7 +18,7 @@ use Rattle.number_rules.specs.NumberValues.{IsAnswer, value_of}
 use Rattle.data_rewriter.specs.declared.rights.Line.{Line}
 use Rattle.data_rewriter.specs.Signs.{ComputesBy, by_add, by_sub, by_mul, by_div, by_mod, by_exp, by_min, by_max, by_abs, by_succ, by_pred, by_to_pos, by_to_nat}
 use Rattle.data_rewriter.specs.FirstLines.{LineAt, IsFirstLine}
-use Rattle.data_rewriter.proofs.Deciding.{Clauses, no_more, clause, First, Holds, number_is, no_number, decided}
+use Rattle.data_rewriter.proofs.Deciding.{Clauses, no_more, clause, First, Holds, number_is, decided}
 
 -- ---- values
 pub computes : {o : Operation} {op : NumOp} → ComputesBy o op → (x y : ℤ) → value_of op x y ≡ theory.value_of o x y
@@ -70,11 +69,14 @@ one_holds : {g : Data} {o : Operation} {a d : Sort} {t c r : Term} (i : ℕ) (b 
 one_holds i (operation_of_one {x = x} {z = z} p f) e = inl (number_is e, (x, z, refl, p, f))
 
 pub one_decided : (sig : Sig) (ts : List Tree) (o : Operation) (a b : Sort) (t : Term) (l : Option Line) → First sig ts (one_clauses o a b t) l → IsFirstLine sig ts (one (arithmetic o (a ∷ []) b) t) l
-one_decided sig ts o a b t = decided sig ts (one (arithmetic o (a ∷ []) b) t) (one_clauses o a b t)
-    (omega arith, (λ h.
-    let line : LineAt (data_meant sig) 25 (one (arithmetic o (a ∷ []) b) (numeral a h.0)) trueᵗ (numeral b h.1) = (operation_of_one h.3 h.4, refl) in
-    let right : numeral b h.1 ≡ one_result o b (numeral a h.0) = ap (λ w. numeral b (whole_or_none w)) (sym h.3) in
-    subst (λ x. LineAt (data_meant sig) 25 (one (arithmetic o (a ∷ []) b) x) trueᵗ (one_result o b x)) (sym h.2) (subst (λ r. LineAt (data_meant sig) 25 (one (arithmetic o (a ∷ []) b) (numeral a h.0)) trueᵗ r) right line)), tt)
+one_decided sig ts o a b t = decided sig ts (one (arithmetic o (a ∷ []) b) t) (one_clauses o a b t) (
+  omega arith,
+  (λ h.
+      let line : LineAt (data_meant sig) 25 (one (arithmetic o (a ∷ []) b) (numeral a h.0)) trueᵗ (numeral b h.1) = (operation_of_one h.3 h.4, refl) in
+      let right : numeral b h.1 ≡ one_result o b (numeral a h.0) = ap (λ w. numeral b (whole_or_none w)) (sym h.3) in
+      subst (λ x. LineAt (data_meant sig) 25 (one (arithmetic o (a ∷ []) b) x) trueᵗ (one_result o b x)) (sym h.2) (subst (λ r. LineAt (data_meant sig) 25 (one (arithmetic o (a ∷ []) b) (numeral a h.0)) trueᵗ r) right line)),
+  tt,
+)
     (λ i c r l. one_holds i l.0 l.1)
 
 pub one_right : (o : Operation) (b a : Sort) (t : Term) (m z : ℤ) → t ≡ numeral a m → theory.value_of o m (pos 0) ≡ Some z → numeral b z ≡ one_result o b t
@@ -97,12 +99,15 @@ pub two_right : (o : Operation) (d a b : Sort) (t u : Term) (m n z : ℤ) → t 
 two_right o d a b t u m n z e k v = ap (λ w. numeral d (whole_or_none w)) (sym v) ∙ (λ i. two_result o d (sym e i) (sym k i))
 
 pub two_decided : (sig : Sig) (ts : List Tree) (o : Operation) (a b d : Sort) (t u : Term) (l : Option Line) → First sig ts (two_clauses o a b d t u) l → IsFirstLine sig ts (two (arithmetic o (a ∷ b ∷ []) d) t u) l
-two_decided sig ts o a b d t u = decided sig ts (two (arithmetic o (a ∷ b ∷ []) d) t u) (two_clauses o a b d t u)
-    (omega arith, (λ h.
-    let line : LineAt (data_meant sig) 26 (two (arithmetic o (a ∷ b ∷ []) d) (numeral a h.0) (numeral b h.1)) trueᵗ (numeral d h.2) = (operation_of_two h.5 h.6, refl) in
-    let at_left = subst (λ x. LineAt (data_meant sig) 26 (two (arithmetic o (a ∷ b ∷ []) d) x (numeral b h.1)) trueᵗ (numeral d h.2)) (sym h.3) line in
-    let at_both = subst (λ x. LineAt (data_meant sig) 26 (two (arithmetic o (a ∷ b ∷ []) d) t x) trueᵗ (numeral d h.2)) (sym h.4) at_left in
-    subst (λ r. LineAt (data_meant sig) 26 (two (arithmetic o (a ∷ b ∷ []) d) t u) trueᵗ r) (two_right o d a b t u h.0 h.1 h.2 h.3 h.4 h.5) at_both), tt)
+two_decided sig ts o a b d t u = decided sig ts (two (arithmetic o (a ∷ b ∷ []) d) t u) (two_clauses o a b d t u) (
+  omega arith,
+  (λ h.
+      let line : LineAt (data_meant sig) 26 (two (arithmetic o (a ∷ b ∷ []) d) (numeral a h.0) (numeral b h.1)) trueᵗ (numeral d h.2) = (operation_of_two h.5 h.6, refl) in
+      let at_left = subst (λ x. LineAt (data_meant sig) 26 (two (arithmetic o (a ∷ b ∷ []) d) x (numeral b h.1)) trueᵗ (numeral d h.2)) (sym h.3) line in
+      let at_both = subst (λ x. LineAt (data_meant sig) 26 (two (arithmetic o (a ∷ b ∷ []) d) t x) trueᵗ (numeral d h.2)) (sym h.4) at_left in
+      subst (λ r. LineAt (data_meant sig) 26 (two (arithmetic o (a ∷ b ∷ []) d) t u) trueᵗ r) (two_right o d a b t u h.0 h.1 h.2 h.3 h.4 h.5) at_both),
+  tt,
+)
     (λ i c r l. two_holds i l.0 l.1)
 
 -- ---- the prefix -

@@ -1,5 +1,5 @@
 -- The sorts of numbers.
-use Rattle.std.proofs.Common.{◌≡◌, ℕ, ◌<◌, length, refl}
+use Rattle.std.proofs.Common.{refl}
 use Rattle.std.proofs.lemmas.Option.{slice_get_within}
 use Rattle.data_theory.specs.Terms.{natural, integer}
 use Rattle.data_theory.specs.Table.{nat_sort, int_sort}

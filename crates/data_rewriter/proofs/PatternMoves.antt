@@ -73,6 +73,7 @@ module _ (sig : Sig) (ts : List Tree) (e : ℕ → Term) where
     where
       unfolding_first : terms.more (laid e (term_at sig ts p)) (laid_all e (terms_of (listed_at sig ts ps))) ≡ terms.more (term_at sig ts u) (terms_of (listed_at sig ts us)) → laid e (term_at sig ts p) ≡ term_at sig ts u
       unfolding_first h = cc
+
       unfolding_rest : terms.more (laid e (term_at sig ts p)) (laid_all e (terms_of (listed_at sig ts ps))) ≡ terms.more (term_at sig ts u) (terms_of (listed_at sig ts us)) → laid_all e (terms_of (listed_at sig ts ps)) ≡ terms_of (listed_at sig ts us)
       unfolding_rest h = cc
 
@@ -89,9 +90,10 @@ module _ (sig : Sig) (ts : List Tree) (e : ℕ → Term) where
   pub applications_lay : (p t : TermId) (f h : FunId) (ps us : List TermId) → tree_at ts p ≡ written_tree (Fun f) (trees_at ts ps) → tree_at ts t ≡ written_tree (Fun h) (trees_at ts us) → f ≡ h → length ps ≡ length us → Lays sig ts e (p, t) ↔ All (Lays sig ts e) (pairs ps us)
   applications_lay p t f h ps us at_p at_t same l =
       let a = application_at sig ts p f ps at_p in
-      let b = application_at sig ts t h us at_t in
-      (λ lays. lays_all ps us l (ap arguments_in (ap (laid e) (sym a) ∙ (lays ∙ b))),
-      λ all. ap (laid e) a ∙ ((λ i. application (symbol_under sig (same i)) (all_lay ps us l all i)) ∙ sym b))
+      let b = application_at sig ts t h us at_t in (
+        λ lays. lays_all ps us l (ap arguments_in (ap (laid e) (sym a) ∙ (lays ∙ b))),
+        λ all. ap (laid e) a ∙ ((λ i. application (symbol_under sig (same i)) (all_lay ps us l all i)) ∙ sym b),
+      )
 
   pub symbols_differ : Separates sig ts → (p t : TermId) (f h : FunId) (ps us : List TermId) → IsTerm sig ts p → IsTerm sig ts t → tree_at ts p ≡ written_tree (Fun f) (trees_at ts ps) → tree_at ts t ≡ written_tree (Fun h) (trees_at ts us) → (f ≡ h → ⊥) → Lays sig ts e (p, t) → ⊥
   symbols_differ apart p t f h ps us p_in t_in at_p at_t other lays =
@@ -150,11 +152,12 @@ pushes_pair old mid new ps us k next p u n l h a b was is =
 module _ (sig : Sig) (ts : List Tree) (pattern term : TermId) (found : List (VarId × TermId)) (left : List (TermId × TermId)) (p t : TermId) (is : IsMatching sig ts pattern term found (left ++ (p, t) ∷ [])) where
   -- the popped pair lays where these pairs lay
   pub replaced : (more : List (TermId × TermId)) → ((e : ℕ → Term) → Lays sig ts e (p, t) ↔ All (Lays sig ts e) more) → IsMatching sig ts pattern term found (left ++ more)
-  replaced more same e =
-      (λ lays.
-      let a = (is e).0 lays in
-      (a.0, All-append (Lays sig ts e) left more (left_of (Lays sig ts e) left ((p, t) ∷ []) a.1) ((same e).0 (All-head (Lays sig ts e) (p, t) [] (right_of (Lays sig ts e) left ((p, t) ∷ []) a.1)))),
-      λ both. (is e).1 (both.0, All-append (Lays sig ts e) left ((p, t) ∷ []) (left_of (Lays sig ts e) left more both.1) (All-cons (Lays sig ts e) (p, t) [] ((same e).1 (right_of (Lays sig ts e) left more both.1)) (All-nil (Lays sig ts e)))))
+  replaced more same e = (
+    λ lays.
+        let a = (is e).0 lays in
+        (a.0, All-append (Lays sig ts e) left more (left_of (Lays sig ts e) left ((p, t) ∷ []) a.1) ((same e).0 (All-head (Lays sig ts e) (p, t) [] (right_of (Lays sig ts e) left ((p, t) ∷ []) a.1)))),
+    λ both. (is e).1 (both.0, All-append (Lays sig ts e) left ((p, t) ∷ []) (left_of (Lays sig ts e) left more both.1) (All-cons (Lays sig ts e) (p, t) [] ((same e).1 (right_of (Lays sig ts e) left more both.1)) (All-nil (Lays sig ts e)))),
+  )
 
   -- the popped pair lays nowhere where what was found agrees
   pub missed : ((e : ℕ → Term) → All (Agrees sig ts e) found → Lays sig ts e (p, t) → ⊥) → Misses sig ts pattern term
@@ -164,20 +167,22 @@ module _ (sig : Sig) (ts : List Tree) (pattern term : TermId) (found : List (Var
 
   -- it lays always where what was found agrees
   pub settled : ((e : ℕ → Term) → All (Agrees sig ts e) found → Lays sig ts e (p, t)) → IsMatching sig ts pattern term found left
-  settled always e =
-      (λ lays. let a = (is e).0 lays in (a.0, left_of (Lays sig ts e) left ((p, t) ∷ []) a.1),
-      λ both. (is e).1 (both.0, All-append (Lays sig ts e) left ((p, t) ∷ []) both.1 (All-cons (Lays sig ts e) (p, t) [] (always e both.0) (All-nil (Lays sig ts e)))))
+  settled always e = (
+    λ lays. let a = (is e).0 lays in (a.0, left_of (Lays sig ts e) left ((p, t) ∷ []) a.1),
+    λ both. (is e).1 (both.0, All-append (Lays sig ts e) left ((p, t) ∷ []) both.1 (All-cons (Lays sig ts e) (p, t) [] (always e both.0) (All-nil (Lays sig ts e)))),
+  )
 
   -- it lays where a new variable has the term
   pub found_more : (v : VarId) → ((e : ℕ → Term) → Lays sig ts e (p, t) ↔ Agrees sig ts e (v, t)) → IsMatching sig ts pattern term (found ++ (v, t) ∷ []) left
-  found_more v same e =
-      (λ lays.
-      let a = (is e).0 lays in
-      let h = All-head (Lays sig ts e) (p, t) [] (right_of (Lays sig ts e) left ((p, t) ∷ []) a.1) in
-      (All-append (Agrees sig ts e) found ((v, t) ∷ []) a.0 (All-cons (Agrees sig ts e) (v, t) [] ((same e).0 h) (All-nil (Agrees sig ts e))), left_of (Lays sig ts e) left ((p, t) ∷ []) a.1),
-      λ both.
-      let h = (same e).1 (All-head (Agrees sig ts e) (v, t) [] (right_of (Agrees sig ts e) found ((v, t) ∷ []) both.0)) in
-      (is e).1 (left_of (Agrees sig ts e) found ((v, t) ∷ []) both.0, All-append (Lays sig ts e) left ((p, t) ∷ []) both.1 (All-cons (Lays sig ts e) (p, t) [] h (All-nil (Lays sig ts e)))))
+  found_more v same e = (
+    λ lays.
+        let a = (is e).0 lays in
+        let h = All-head (Lays sig ts e) (p, t) [] (right_of (Lays sig ts e) left ((p, t) ∷ []) a.1) in
+        (All-append (Agrees sig ts e) found ((v, t) ∷ []) a.0 (All-cons (Agrees sig ts e) (v, t) [] ((same e).0 h) (All-nil (Agrees sig ts e))), left_of (Lays sig ts e) left ((p, t) ∷ []) a.1),
+    λ both.
+        let h = (same e).1 (All-head (Agrees sig ts e) (v, t) [] (right_of (Agrees sig ts e) found ((v, t) ∷ []) both.0)) in
+        (is e).1 (left_of (Agrees sig ts e) found ((v, t) ∷ []) both.0, All-append (Lays sig ts e) left ((p, t) ∷ []) both.1 (All-cons (Lays sig ts e) (p, t) [] h (All-nil (Lays sig ts e)))),
+  )
 
 pub arguments_in_pool : (ts : List Tree) (id : TermId) (ids : List TermId) → IsIn ts id → All (λ (arg : TermId). arg.0 < id.0) ids → All (IsIn ts) ids
 arguments_in_pool ts id ids h below = All-weaker (λ (arg : TermId). arg.0 < id.0) (IsIn ts) (λ arg l. omega (arith, l, h)) ids below
@@ -189,10 +194,11 @@ paired_terms sig ts (p ∷ ps) (u ∷ us) a b = All-cons (λ (q : TermId × Term
 
 -- different ids of terms over the signature mean different terms
 pub separates : (sig : Sig) (ts : List Tree) → IsTable sig → AreDistinct ts → Separates sig ts
-separates sig ts table apart = record
-    { ids = λ i j a b e. let n : i.0 ≡ j.0 = apart i.0 j.0 a.inside b.inside (different_trees_mean_different_terms sig table (tree_at ts i) (tree_at ts j) a.within b.within e) in λ k. record { 0 = n k }
-    ; functions = λ i j f h us ws a b e k same.
-    different_functions_mean_different_symbols sig table f h (function_inside (tree_at ts i) f (trees_at ts us) e a.within) (function_inside (tree_at ts j) h (trees_at ts ws) k b.within) same }
+separates sig ts table apart = record {
+  ids = λ i j a b e. let n : i.0 ≡ j.0 = apart i.0 j.0 a.inside b.inside (different_trees_mean_different_terms sig table (tree_at ts i) (tree_at ts j) a.within b.within e) in λ k. record { 0 = n k };
+  functions = λ i j f h us ws a b e k same.
+      different_functions_mean_different_symbols sig table f h (function_inside (tree_at ts i) f (trees_at ts us) e a.within) (function_inside (tree_at ts j) h (trees_at ts ws) k b.within) same;
+}
   where
     function_inside : (t : Tree) (f : FunId) (us : List Tree) → t ≡ written_tree (Fun f) us → IsTreeWithin sig t → f.0 < length sig.functions
     function_inside t f us e w = let v : IsTreeWithin sig (written_tree (Fun f) us) = subst (IsTreeWithin sig) e w in v.0

@@ -1,5 +1,5 @@
 -- What stands at a root after the arguments.
-use Rattle.std.proofs.Common.{◌≡◌, ℕ, List, Bool, true, false, cond, refl, sym, ap, ◌∙◌, subst}
+use Rattle.std.proofs.Common.{◌≡◌, List, Bool, true, false, cond, refl, sym, ap, ◌∙◌}
 use Rattle.std.specs.Prelude.{ℤ, pos, ◌&&◌, ◌||◌}
 use lib.Signed.{lt_z}
 use lib.IntN.{neg_ℤ}
@@ -9,19 +9,17 @@ use Rattle.data_theory.specs.declared.ids.FunId.{FunId}
 use Rattle.data_theory.specs.declared.ids.TermId.{TermId}
 use Rattle.data_theory.specs.Table.{pos_sort, nat_sort, int_sort}
 use Rattle.data_theory.specs.Whole.{whole_of}
-use Rattle.data_theory.specs.Terms as terms
-use Rattle.data_theory.specs.Terms.{Sort, Symbol, Terms, application, apply}
 use Rattle.data_theory.specs.Signature.{Sig}
 use Rattle.data_theory.specs.IdTables.{IsTable}
-use Rattle.data_theory.specs.IdTrees.{Tree, Trees, variable, numeral, function, none, more, trees_of, is_over, is_minus, apply_to_numeral, apply_tree}
-use Rattle.data_theory.specs.IdTerms.{term_under, terms_under, symbol_under, sort_under}
+use Rattle.data_theory.specs.IdTrees.{Tree, Trees, variable, numeral, function, none, more, trees_of, is_over, is_minus, apply_tree}
+use Rattle.data_theory.specs.IdTerms.{term_under, symbol_under, sort_under}
 use Rattle.term_pool.specs.declared.terms.Head.{Head}
 use Rattle.term_pool.specs.declared.terms.Head.TheVariants.{Var, Num as Number, Fun}
 use Rattle.term_pool.specs.HeadTrees.{written_tree, head_tree, tree_at, trees_at}
 use Rattle.data_rewriter.specs.States.{EntersRoot}
 use Rattle.data_rewriter.specs.declared.machine.Hand.TheVariants.{Root, Answer}
 use Rattle.data_rewriter.proofs.Standings.{interned_at, application_at}
-use Rattle.data_rewriter.specs.Standing.{terms_of, term_at, listed_at}
+use Rattle.data_rewriter.specs.Standing.{terms_of, listed_at}
 
 no_choice : (a b d : Bool) (s t u : SortId) (x y z : ℤ) (f : FunId) (ts : Trees) (v : VarId) → cond a (numeral s x) (cond b (numeral t y) (cond d (numeral u z) (function f ts))) ≡ variable v → ⊥
 no_choice true b d s t u x y z f ts v e = cc

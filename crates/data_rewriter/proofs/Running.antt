@@ -1,12 +1,11 @@
 -- What the loop of a machine keeps.
-use Rattle.std.proofs.Common.{◌≡◌, ℕ, suc, ◌+◌, ◌<◌, ◌≤◌, List, [], ◌∷◌, refl, sym, ap, ◌∙◌, subst, arith, append_assoc, append-nil, ◌++◌}
-use Rattle.std.specs.List.{All}
+use Rattle.std.proofs.Common.{◌≡◌, ℕ, suc, ◌+◌, ◌<◌, List, [], refl, sym, ap, ◌∙◌, subst, arith, append_assoc, append-nil, ◌++◌}
 use Rattle.std.specs.HashMap.{HashMap}
-use Rattle.std.proofs.lemmas.List.Elements.{All-nil, All-cons, All-head, All-tail}
+use Rattle.std.proofs.lemmas.List.Elements.{All-nil}
 use Rattle.data_theory.specs.declared.ids.TermId.{TermId}
 use Rattle.data_theory.specs.Terms.{Term}
 use Rattle.data_theory.specs.Provable.{Equation}
-use Rattle.data_theory.specs.Rewriting.{GoesTo, Chain}
+use Rattle.data_theory.specs.Rewriting.{GoesTo}
 use Rattle.data_theory.proofs.NormalForms.{what_it_goes_to_is_normal}
 use Rattle.data_theory.specs.Signature.{Sig}
 use Rattle.data_theory.specs.IdData.{data_meant}
@@ -16,18 +15,17 @@ use Rattle.term_pool.specs.HeadTrees.{IsIn, tree_at}
 use Rattle.term_pool.specs.Pools.{Extends}
 use Rattle.data_rewriter.specs.declared.tables.Tables.{Tables}
 use Rattle.data_rewriter.specs.declared.machine.Hand.{Hand}
-use Rattle.data_rewriter.specs.declared.machine.Hand.TheVariants.{Visit, Root, Answer, Spent}
+use Rattle.data_rewriter.specs.declared.machine.Hand.TheVariants.{Visit, Answer, Spent}
 use Rattle.data_rewriter.specs.declared.machine.Normal.TheVariants.{Done, Spent as SpentAt}
-use Rattle.data_rewriter.specs.Places.{whole, Waits, at_the_origin}
+use Rattle.data_rewriter.specs.Places.{whole, at_the_origin}
 use Rattle.data_rewriter.specs.Frames.{Plain}
-use Rattle.data_rewriter.specs.States.{AreWithin, IsFrameWithin, AreTablesOf, AreStored, IsStored, AreIdsIn, IsFrameIn, Shows, Says, Follows, StartsIn}
+use Rattle.data_rewriter.specs.States.{AreWithin, IsFrameWithin, AreTablesOf, AreStored, IsStored, AreIdsIn, IsFrameIn, Shows, Says, StartsIn}
 use Rattle.data_rewriter.proofs.Leading.{stands_still}
 use Rattle.data_rewriter.proofs.Waiting.{chain_from_the_origin}
 use Rattle.data_rewriter.proofs.Moving.{inverted}
-use Rattle.data_rewriter.proofs.Standings.{term_kept}
 use Rattle.term_pool.proofs.NodeTrees.{stays_in}
 use Rattle.data_rewriter.proofs.StateMoves.{tables_kept, stored_kept}
-use Rattle.data_rewriter.specs.Standing.{IsTerm, term_at}
+use Rattle.data_rewriter.specs.Standing.{term_at}
 
 -- over all data of the tables, where the pairs were stored at first, they are still, and the term has come to what is in hand
 pub record IsRunning {S : Type 0} (tables : Tables) (old new : List Tree) (at_first store : HashMap TermId TermId S) (term : TermId) (stack : List Plain) (start : TermId) (hand : Hand) (fuel fuel' : ℕ) : Type 0 where
@@ -40,28 +38,30 @@ pub record IsRunning {S : Type 0} (tables : Tables) (old new : List Tree) (at_fi
   pub shows : (sig : Sig) (own : List Equation) → AreTablesOf tables sig own old → AreStored sig own old at_first → IsTreeWithin sig (tree_at old term) → Shows sig own new (term_at sig old term) stack start hand fuel fuel'
 
 pub begins : {S : Type 0} (tables : Tables) (ts : List Tree) (store : HashMap TermId TermId S) (term : TermId) (fuel : ℕ) → IsIn ts term → StartsIn ts store → IsRunning tables ts ts store store term [] term (Visit term) fuel fuel
-begins tables ts store term fuel within stored = record
-    { kept = ([], sym (append-nil ts))
-    ; ids = record { frames = All-nil (IsFrameIn ts); begin = within; held = within }
-    ; stored_in = stored
-    ; empty = λ e. absurd cc
-    ; stored = λ sig own all s w. s
-    ; over = λ sig own all s w. record { frames = All-nil (IsFrameWithin sig ts); begin = w; held = w }
-    ; shows = λ sig own all s w. record { behind = 0; here = 0; waits = at_the_origin; shown = stands_still (data_meant sig) own (whole (term_at sig ts term)); fuel = omega arith } }
+begins tables ts store term fuel within stored = record {
+  kept = ([], sym (append-nil ts));
+  ids = record { frames = All-nil (IsFrameIn ts); begin = within; held = within };
+  stored_in = stored;
+  empty = λ e. absurd cc;
+  stored = λ sig own all s w. s;
+  over = λ sig own all s w. record { frames = All-nil (IsFrameWithin sig ts); begin = w; held = w };
+  shows = λ sig own all s w. record { behind = 0; here = 0; waits = at_the_origin; shown = stands_still (data_meant sig) own (whole (term_at sig ts term)); fuel = omega arith };
+}
 
 module _ {S : Type 0} (tables : Tables) (old mid : List Tree) (at_first store : HashMap TermId TermId S) (term : TermId) (stack : List Plain) (start : TermId) (hand : Hand) (fuel fuel' : ℕ) (is : IsRunning tables old mid at_first store term stack start hand fuel fuel') where
   -- a step that stores nothing
   pub steps : (new : List Tree) (stack' : List Plain) (start' : TermId) (hand' : Hand) (fuel'' : ℕ) → Extends mid new → AreIdsIn new stack' start' hand' → (hand' ≡ Spent → fuel'' ≡ 0)
       → ((sig : Sig) (own : List Equation) → AreTablesOf tables sig own mid → AreStored sig own mid store → AreWithin sig mid stack start hand → AreWithin sig new stack' start' hand' × ((origin : Term) (before : ℕ) → Shows sig own mid origin stack start hand before fuel' → Shows sig own new origin stack' start' hand' before fuel''))
       → IsRunning tables old new at_first store term stack' start' hand' fuel fuel''
-  steps new stack' start' hand' fuel'' e ids empty on = record
-      { kept = (is.kept.0 ++ e.0, e.1 ∙ (ap (λ l. l ++ e.0) is.kept.1 ∙ append_assoc old is.kept.0 e.0))
-      ; ids = ids
-      ; stored_in = λ t u h. let a = is.stored_in t u h in (stays_in mid new t e a.0, stays_in mid new u e a.1)
-      ; empty = empty
-      ; stored = λ sig own all s w. stored_kept sig own mid new e store (is.stored sig own all s w)
-      ; over = λ sig own all s w. (on sig own (tables_kept tables sig own old mid is.kept all) (is.stored sig own all s w) (is.over sig own all s w)).0
-      ; shows = λ sig own all s w. (on sig own (tables_kept tables sig own old mid is.kept all) (is.stored sig own all s w) (is.over sig own all s w)).1 (term_at sig old term) fuel (is.shows sig own all s w) }
+  steps new stack' start' hand' fuel'' e ids empty on = record {
+    kept = (is.kept.0 ++ e.0, e.1 ∙ (ap (λ l. l ++ e.0) is.kept.1 ∙ append_assoc old is.kept.0 e.0));
+    ids = ids;
+    stored_in = λ t u h. let a = is.stored_in t u h in (stays_in mid new t e a.0, stays_in mid new u e a.1);
+    empty = empty;
+    stored = λ sig own all s w. stored_kept sig own mid new e store (is.stored sig own all s w);
+    over = λ sig own all s w. (on sig own (tables_kept tables sig own old mid is.kept all) (is.stored sig own all s w) (is.over sig own all s w)).0;
+    shows = λ sig own all s w. (on sig own (tables_kept tables sig own old mid is.kept all) (is.stored sig own all s w) (is.over sig own all s w)).1 (term_at sig old term) fuel (is.shows sig own all s w);
+  }
 
   -- the fuel is spent
   pub says_spent : hand ≡ Spent → (sig : Sig) (own : List Equation) → AreTablesOf tables sig own old → AreStored sig own old at_first → IsTreeWithin sig (tree_at old term) → Says sig own old mid term fuel fuel' (SpentAt term) × AreStored sig own mid store
@@ -93,14 +93,15 @@ module _ {S : Type 0} (tables : Tables) (old mid : List Tree) (at_first store : 
   pub keeps : (u : TermId) (later : HashMap TermId TermId S) (hand' : Hand) → hand ≡ Answer u → hand' ≡ Answer u → ((ts : List Tree) → StartsIn ts store → IsIn ts start → IsIn ts u → StartsIn ts later) → ((sig : Sig) (own : List Equation) (ts : List Tree) → AreStored sig own ts store → IsStored sig own ts start u → IsStored sig own ts u u → AreStored sig own ts later) → IsRunning tables old mid at_first later term stack start hand' fuel fuel'
   keeps u later hand' e e' within all =
       let ids : AreIdsIn mid stack start (Answer u) = subst (AreIdsIn mid stack start) e is.ids in
-      subst (λ (h : Hand). IsRunning tables old mid at_first later term stack start h fuel fuel') (e ∙ sym e') (record
-      { kept = is.kept
-      ; ids = is.ids
-      ; stored_in = within mid is.stored_in ids.begin ids.held
-      ; empty = is.empty
-      ; stored = λ sig own t s w. let pairs = answer_is_stored u e sig own t s w in all sig own mid (is.stored sig own t s w) pairs.0 pairs.1
-      ; over = is.over
-      ; shows = is.shows })
+      subst (λ (h : Hand). IsRunning tables old mid at_first later term stack start h fuel fuel') (e ∙ sym e') (record {
+        kept = is.kept;
+        ids = is.ids;
+        stored_in = within mid is.stored_in ids.begin ids.held;
+        empty = is.empty;
+        stored = λ sig own t s w. let pairs = answer_is_stored u e sig own t s w in all sig own mid (is.stored sig own t s w) pairs.0 pairs.1;
+        over = is.over;
+        shows = is.shows;
+      })
 
 -- the same at equal values
 pub runs_as : {S : Type 0} (tables : Tables) (old : List Tree) (at_first : HashMap TermId TermId S) (term : TermId) (fuel : ℕ) (mid mid' : List Tree) (store store' : HashMap TermId TermId S) (stack stack' : List Plain) (start start' : TermId) (hand hand' : Hand) (fuel' fuel'' : ℕ) → mid' ≡ mid → store' ≡ store → stack' ≡ stack → start' ≡ start → hand' ≡ hand → fuel'' ≡ fuel' → IsRunning tables old mid at_first store term stack start hand fuel fuel' → IsRunning tables old mid' at_first store' term stack' start' hand' fuel fuel''

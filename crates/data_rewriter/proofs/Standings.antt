@@ -1,12 +1,12 @@
 -- Ids that stand for terms, and pools that grow.
-use Rattle.std.proofs.Common.{◌≡◌, ℕ, zero, suc, ◌<◌, ◌≤◌, get_or, List, [], ◌∷◌, ◌++◌, length, map, refl, sym, ap, ◌∙◌, subst, arith, length-append, Bool, true, false, cond}
+use Rattle.std.proofs.Common.{◌≡◌, ℕ, zero, suc, ◌<◌, ◌≤◌, get_or, List, [], ◌∷◌, length, refl, sym, ap, ◌∙◌, subst, arith, Bool, true, false, cond}
 use Rattle.std.specs.Prelude.{◌↔◌, ℤ, pos, ◌&&◌, ◌||◌}
 use Rattle.std.proofs.lemmas.Option.{slice_get_within}
 use lib.Signed.{lt_z}
 use lib.IntN.{neg_ℤ}
 use Rattle.data_theory.specs.Table.{pos_sort, nat_sort, int_sort}
 use Rattle.std.specs.List.{All}
-use Rattle.std.proofs.lemmas.List.{get_or_append_left, get_or_default}
+use Rattle.std.proofs.lemmas.List.{get_or_default}
 use Rattle.std.proofs.lemmas.List.Elements.{All-nil, All-cons, All-head, All-tail, All-weaker}
 use Rattle.data_theory.specs.declared.ids.TermId.{TermId}
 use Rattle.data_theory.specs.declared.ids.FunId.{FunId}
@@ -23,7 +23,7 @@ use Rattle.data_theory.specs.IdTerms.{term_under, terms_under, symbol_under, IsT
 use Rattle.data_theory.proofs.IdTermLemmas.{merging_trees_merges_terms, different_trees_mean_different_terms}
 use Rattle.term_pool.specs.declared.terms.Head.{Head}
 use Rattle.term_pool.specs.declared.terms.Head.TheVariants.{Var, Num as Number, Fun}
-use Rattle.term_pool.specs.HeadTrees.{no_tree, written_tree, head_tree, tree_at, trees_at, IsIn, AreIn}
+use Rattle.term_pool.specs.HeadTrees.{written_tree, head_tree, tree_at, trees_at, IsIn, AreIn}
 use Rattle.term_pool.specs.Pools.{Extends, AreDistinct}
 use Rattle.term_pool.proofs.NodeTrees.{stays_in, tree_kept}
 use Rattle.data_rewriter.specs.Standing.{IsTerm, StandsFor, IsSymbolOf, IsSortOf, term_at, listed_at, terms_of}
@@ -68,10 +68,11 @@ module _ (sig : Sig) (ts : List Tree) where
       let e' : tree_at ts t ≡ written_tree (Fun f) (trees_at ts ids) = e ∙ ap (λ (x : Head). written_tree x (trees_at ts ids)) is in
       let w : IsTreeWithin sig (function f (trees_of (trees_at ts ids))) = subst (IsTreeWithin sig) e' term.within in
       let i = term.inside in
-      record
-      { inside = w.0
-      ; arguments = all_terms ids (All-weaker (λ (a : TermId). a.0 < t.0) (IsIn ts) (λ a l. omega (arith, l, i)) ids below) w.1
-      ; is = application_at sig ts t f ids e' }
+      record {
+        inside = w.0;
+        arguments = all_terms ids (All-weaker (λ (a : TermId). a.0 < t.0) (IsIn ts) (λ a l. omega (arith, l, i)) ids below) w.1;
+        is = application_at sig ts t f ids e';
+      }
 
 -- ---- what `intern` gives is over the signature
 module _ (sig : Sig) (table : IsTable sig) where
@@ -99,9 +100,10 @@ module _ (sig : Sig) (table : IsTable sig) where
   trees_within ts (id ∷ ids) h = ((All-head (IsTerm sig ts) id ids h).within, trees_within ts ids (All-tail (IsTerm sig ts) id ids h))
 
   pub called : (old new : List Tree) (id : TermId) (f : FunId) (ids : List TermId) (y : Symbol) → IsIn new id → tree_at new id ≡ head_tree (Fun f) (trees_at old ids) → IsSymbolOf sig f y → All (IsTerm sig old) ids → StandsFor sig new id (apply y (terms_of (listed_at sig old ids)))
-  called old new id f ids y inside e is args = record
-      { term = record { inside = inside; within = subst (IsTreeWithin sig) (sym e) (merged_within f (trees_of (trees_at old ids)) is.inside (trees_within old ids args)) }
-      ; is = interned_at sig table old new id f ids e ∙ ap (λ z. apply z (terms_of (listed_at sig old ids))) is.is }
+  called old new id f ids y inside e is args = record {
+    term = record { inside = inside; within = subst (IsTreeWithin sig) (sym e) (merged_within f (trees_of (trees_at old ids)) is.inside (trees_within old ids args)) };
+    is = interned_at sig table old new id f ids e ∙ ap (λ z. apply z (terms_of (listed_at sig old ids))) is.is;
+  }
 
 module _ (sig : Sig) (ts : List Tree) where
   pub one_argument : (x : TermId) (t : Term) → StandsFor sig ts x t → All (IsTerm sig ts) (x ∷ []) × (terms_of (listed_at sig ts (x ∷ [])) ≡ terms.more t terms.none)
@@ -145,14 +147,16 @@ module _ (sig : Sig) (ts : List Tree) where
   all_arguments t (Fun f) ids y us e below term is = (call_at sig ts t f (Fun f) ids refl e below term).arguments
 
   pub same_terms : IsTable sig → AreDistinct ts → (x y : TermId) (t u : Term) → StandsFor sig ts x t → StandsFor sig ts y u → (x ≡ y) ↔ (t ≡ u)
-  same_terms table apart x y t u h k =
-      ((λ e. sym h.is ∙ (ap (term_at sig ts) e ∙ k.is)),
-      (λ e. let n : x.0 ≡ y.0 = apart x.0 y.0 h.term.inside k.term.inside (different_trees_mean_different_terms sig table (tree_at ts x) (tree_at ts y) h.term.within k.term.within (h.is ∙ (e ∙ sym k.is))) in λ i. record { 0 = n i }))
+  same_terms table apart x y t u h k = (
+    (λ e. sym h.is ∙ (ap (term_at sig ts) e ∙ k.is)),
+    (λ e. let n : x.0 ≡ y.0 = apart x.0 y.0 h.term.inside k.term.inside (different_trees_mean_different_terms sig table (tree_at ts x) (tree_at ts y) h.term.within k.term.within (h.is ∙ (e ∙ sym k.is))) in λ i. record { 0 = n i }),
+  )
 
 pub at_slice : (k : ℕ) (ids slice : List TermId) → slice ≡ ids → k < length ids → get_or slice k (record { 0 = 0 }) ≡ get_or ids k (get_or slice k (record { 0 = 0 }))
 at_slice k ids slice e l = ap (λ (xs : List TermId). get_or xs k (record { 0 = 0 })) e ∙ get_or_default ids k (record { 0 = 0 }) (get_or slice k (record { 0 = 0 })) l
 
 pub interned_numeral : (sig : Sig) (new : List Tree) (id : TermId) (s : SortId) (n : Num) (a : Sort) → IsSortOf sig s a → IsIn new id → tree_at new id ≡ head_tree (Number s n) [] → StandsFor sig new id (terms.numeral a (whole_of n))
-interned_numeral sig new id s n a so inside e = record
-    { term = record { inside = inside; within = subst (IsTreeWithin sig) (sym e) so.inside }
-    ; is = ap (term_under sig) e ∙ ap (λ b. terms.numeral b (whole_of n)) so.is }
+interned_numeral sig new id s n a so inside e = record {
+  term = record { inside = inside; within = subst (IsTreeWithin sig) (sym e) so.inside };
+  is = ap (term_under sig) e ∙ ap (λ b. terms.numeral b (whole_of n)) so.is;
+}

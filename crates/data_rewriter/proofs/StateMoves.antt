@@ -1,40 +1,38 @@
 -- The moves of a machine on what it has shown.
-use Rattle.std.proofs.Common.{◌≡◌, ◌≢◌, ◌⊎◌, ℕ, zero, suc, ◌+◌, ◌<◌, ◌≤◌, List, [], ◌∷◌, ◌++◌, refl, sym, ap, ◌∙◌, subst, arith, length, map, take, drop, get_or, Some, None, length-append, Bool, true, false, cond}
+use Rattle.std.proofs.Common.{◌≡◌, ℕ, zero, suc, ◌+◌, ◌<◌, ◌≤◌, List, [], ◌∷◌, ◌++◌, refl, sym, ap, ◌∙◌, subst, arith, length, map, take, drop, get_or, Some, None, Bool, true, false, cond}
 use Rattle.std.proofs.lemmas.Bool.Decides.{Decides-eqb}
 use Rattle.std.specs.Prelude.{◌==◌, slice_get}
 use Rattle.std.specs.List.{All}
 use Rattle.std.specs.HashMap.{HashMap}
+use Rattle.std.specs.Map.{lookup}
 use Rattle.std.proofs.lemmas.List.Elements.{All-nil, All-cons, All-head, All-tail, All-weaker, All-take, All-drop}
 use Rattle.data_theory.specs.declared.ids.TermId.{TermId}
 use Rattle.data_theory.specs.declared.ids.FunId.{FunId}
-use Rattle.data_theory.specs.declared.num.Num.{Num}
-use Rattle.data_theory.specs.Whole.{whole_of}
 use Rattle.data_theory.specs.Terms as terms
 use Rattle.data_theory.specs.Terms.{Symbol, Term, Terms, application, apply}
 use Rattle.data_theory.specs.Provable.{Equation}
-use Rattle.data_theory.specs.Rewriting.{lines, Chain, GoesTo, a_variable, a_numeral, no_arguments, FirstDecides}
+use Rattle.data_theory.specs.Rewriting.{Chain, GoesTo, a_variable, a_numeral, no_arguments}
 use Rattle.data_theory.specs.Signature.{Sig}
 use Rattle.data_theory.specs.IdTables.{IsTable}
 use Rattle.data_theory.specs.IdData.{data_meant}
-use Rattle.data_theory.specs.IdTrees.{Tree, Trees, variable, numeral, function, none, more, trees_of, apply_tree}
-use Rattle.data_theory.specs.IdTerms.{IsTreeWithin, term_under, terms_under, symbol_under, variable_sorts}
+use Rattle.data_theory.specs.IdTrees.{Tree, none}
+use Rattle.data_theory.specs.IdTerms.{IsTreeWithin, term_under, symbol_under, variable_sorts}
 use Rattle.data_theory.proofs.IdTermLemmas.{merging_trees_merges_terms}
 use Rattle.term_pool.specs.declared.terms.Head.{Head}
 use Rattle.term_pool.specs.declared.terms.Head.TheVariants.{Var, Num as Number, Fun}
-use Rattle.term_pool.specs.HeadTrees.{no_tree, written_tree, head_tree, tree_at, trees_at, IsIn, AreIn}
+use Rattle.term_pool.specs.HeadTrees.{written_tree, tree_at, trees_at, IsIn, AreIn}
 use Rattle.term_pool.specs.Pools.{Extends}
-use Rattle.std.proofs.lemmas.List.{get_or_append_left}
 use Rattle.term_pool.specs.Bindings.{result_of}
 use Rattle.data_rewriter.specs.declared.tables.Rule.{Rule}
 use Rattle.data_rewriter.specs.declared.tables.Tables.{Tables}
 use Rattle.data_rewriter.specs.declared.machine.Hand.{Hand}
 use Rattle.data_rewriter.specs.declared.machine.Hand.TheVariants.{Visit, Root, Answer, Spent}
-use Rattle.data_rewriter.specs.Places.{whole, from_equation, Leads, Pending, applying, deciding, Waits, in_a_place, in_a_condition}
+use Rattle.data_rewriter.specs.Places.{whole, from_equation, Leads, Pending, applying, deciding, Waits, in_a_place}
 use Rattle.data_rewriter.specs.Frames.{Plain, applies, decides}
-use Rattle.data_rewriter.specs.States.{IsRule, IsLeft, HasHead, IsFrameWithin, IsHandWithin, AreWithin, AreIdsIn, IsHandIn, AreTablesOf, equation_at, IsFrameIn, pending_at, HandShows, Shows, IsStored, AreStored}
+use Rattle.data_rewriter.specs.States.{IsRule, IsLeft, HasHead, IsFrameWithin, AreWithin, AreIdsIn, IsHandIn, AreTablesOf, equation_at, IsFrameIn, pending_at, HandShows, Shows, AreStored}
 use Rattle.term_pool.proofs.NodeTrees.{stays_in, stay_in, tree_kept}
-use Rattle.data_rewriter.proofs.Standings.{call_at, term_stays, application_at, interned_at, term_kept, terms_listed}
-use Rattle.data_rewriter.proofs.Leading.{then_leads, leads_as, to_the_root, stands_still}
+use Rattle.data_rewriter.proofs.Standings.{call_at, term_stays, application_at, term_kept}
+use Rattle.data_rewriter.proofs.Leading.{then_leads, to_the_root, stands_still}
 use Rattle.data_rewriter.specs.Standing.{IsTerm, terms_of, term_at, listed_at}
 
 module _ (sig : Sig) (own : List Equation) where
@@ -71,12 +69,13 @@ module _ (sig : Sig) (own : List Equation) where
     visits_an_application t f (id ∷ ids) d fuel less e s =
         let same = application_at sig ts t f (id ∷ ids) e in
         let leads : Leads (data_meant sig) own (whole (term_at sig ts start)) (whole (application (symbol_under sig f) (terms_of ([] ++ term_at sig ts id ∷ listed_at sig ts ids)))) s.here = subst (λ (x : Term). Leads (data_meant sig) own (whole (term_at sig ts start)) (whole x) s.here) same s.shown in
-        record
-        { behind = s.behind + (s.here + 0)
-        ; here = 0
-        ; waits = in_a_place [] s.waits leads no_arguments (λ h. h)
-        ; shown = stand (term_at sig ts id)
-        ; fuel = omega (arith, s.fuel) }
+        record {
+          behind = s.behind + (s.here + 0);
+          here = 0;
+          waits = in_a_place [] s.waits leads no_arguments (λ h. h);
+          shown = stand (term_at sig ts id);
+          fuel = omega (arith, s.fuel);
+        }
       where
         stand : (x : Term) → Leads (data_meant sig) own (whole x) (whole x) 0
         stand x = stands_still (data_meant sig) own (whole x)
@@ -141,12 +140,13 @@ hand_kept sig own old new e start (Answer t) m a b h =
 hand_kept sig own old new e start Spent m a b h = subst (λ (x : Term). Chain (data_meant sig) own x (suc m)) (sym (term_kept sig old new start e a)) h
 
 pub shows_kept : (sig : Sig) (own : List Equation) (old new : List Tree) (e : Extends old new) (origin : Term) (stack : List Plain) (start : TermId) (hand : Hand) (before fuel : ℕ) → AreIdsIn old stack start hand → Shows sig own old origin stack start hand before fuel → Shows sig own new origin stack start hand before fuel
-shows_kept sig own old new e origin stack start hand before fuel ids s = record
-    { behind = s.behind
-    ; here = s.here
-    ; waits = subst (λ (x : Term). Waits (data_meant sig) own origin (map (pending_at sig new) stack) x s.behind) (sym (term_kept sig old new start e ids.begin)) (subst (λ (st : List Pending). Waits (data_meant sig) own origin st (term_at sig old start) s.behind) (sym (pending_kept sig old new stack e ids.frames)) s.waits)
-    ; shown = hand_kept sig own old new e start hand s.here ids.begin ids.held s.shown
-    ; fuel = s.fuel }
+shows_kept sig own old new e origin stack start hand before fuel ids s = record {
+  behind = s.behind;
+  here = s.here;
+  waits = subst (λ (x : Term). Waits (data_meant sig) own origin (map (pending_at sig new) stack) x s.behind) (sym (term_kept sig old new start e ids.begin)) (subst (λ (st : List Pending). Waits (data_meant sig) own origin st (term_at sig old start) s.behind) (sym (pending_kept sig old new stack e ids.frames)) s.waits);
+  shown = hand_kept sig own old new e start hand s.here ids.begin ids.held s.shown;
+  fuel = s.fuel;
+}
 
 pub stored_kept : {S : Type 0} (sig : Sig) (own : List Equation) (old new : List Tree) (e : Extends old new) (store : HashMap TermId TermId S) → AreStored sig own old store → AreStored sig own new store
 stored_kept sig own old new e store all t u is =
@@ -166,26 +166,29 @@ equations_kept sig old new (r ∷ rs) e h =
     λ j. (record { sorts = variable_sorts sig; condition = a j; left = b j; right = d j }) ∷ rest j
 
 rule_kept : (sig : Sig) (old new : List Tree) → Extends old new → (r : Rule) → IsRule sig old r → IsRule sig new r
-rule_kept sig old new e r i = record
-    { condition = term_stays sig old new e r.cond i.condition
-    ; left = term_stays sig old new e r.left i.left
-    ; right = term_stays sig old new e r.right i.right
-    ; no_variable = subst IsLeft (sym (tree_kept old new r.left e i.left.inside)) i.no_variable }
+rule_kept sig old new e r i = record {
+  condition = term_stays sig old new e r.cond i.condition;
+  left = term_stays sig old new e r.left i.left;
+  right = term_stays sig old new e r.right i.right;
+  no_variable = subst IsLeft (sym (tree_kept old new r.left e i.left.inside)) i.no_variable;
+}
 
-at_rule : (sig : Sig) (ts : List Tree) (rs : List Rule) (n : ℕ) (r : Rule) → All (IsRule sig ts) rs → slice_get rs n ≡ Some r → IsRule sig ts r
+pub at_rule : (sig : Sig) (ts : List Tree) (rs : List Rule) (n : ℕ) (r : Rule) → All (IsRule sig ts) rs → slice_get rs n ≡ Some r → IsRule sig ts r
 at_rule sig ts [] n r h e = absurd cc
 at_rule sig ts (x ∷ rs) zero r h e = let same : x ≡ r = cc in subst (IsRule sig ts) same (All-head (IsRule sig ts) x rs h)
 at_rule sig ts (x ∷ rs) (suc n) r h e = at_rule sig ts rs n r (All-tail (IsRule sig ts) x rs h) e
 
 pub tables_kept : (tables : Tables) (sig : Sig) (own : List Equation) (old new : List Tree) → Extends old new → AreTablesOf tables sig own old → AreTablesOf tables sig own new
-tables_kept tables sig own old new e a = record
-    { signs = a.signs
-    ; equations = a.equations ∙ sym (equations_kept sig old new tables.rules.items e a.rules)
-    ; rules = All-weaker (IsRule sig old) (IsRule sig new) (rule_kept sig old new e) tables.rules.items a.rules
-    ; heads = λ f inside. let h = a.heads f inside in record
-        { rise = h.rise
-        ; inside = h.inside
-        ; all = λ n r at head. h.all n r at (subst (HasHead f) (tree_kept old new r.left e (at_rule sig old tables.rules.items n r a.rules at).left.inside) head) } }
+tables_kept tables sig own old new e a = record {
+  signs = a.signs;
+  equations = a.equations ∙ sym (equations_kept sig old new tables.rules.items e a.rules);
+  rules = All-weaker (IsRule sig old) (IsRule sig new) (rule_kept sig old new e) tables.rules.items a.rules;
+  heads = λ f inside. let h = a.heads f inside in record {
+    rise = h.rise;
+    inside = h.inside;
+    all = λ n r at head. h.all n r at (subst (HasHead f) (tree_kept old new r.left e (at_rule sig old tables.rules.items n r a.rules at).left.inside) head);
+  };
+}
 
 hand_stays : (old new : List Tree) → Extends old new → (hand : Hand) → IsHandIn old hand → IsHandIn new hand
 hand_stays old new e (Visit t) h = stays_in old new t e h
@@ -234,17 +237,23 @@ enters_within sig ts start stack t f h ids copy first d stack' pushed same at_fi
     let frame : IsFrameWithin sig ts (applies start f copy 0) = (w.begin, call.inside, subst (All (λ (a : TermId). IsTreeWithin sig (tree_at ts a))) (sym same) all) in
     let one = first_within ids d some all in
     let here : IsTreeWithin sig (tree_at ts first) = subst (λ (a : TermId). IsTreeWithin sig (tree_at ts a)) (sym at_first) one in
-    record
-    { frames = subst (All (IsFrameWithin sig ts)) (sym pushed) (All-cons (IsFrameWithin sig ts) (applies start f copy 0) stack frame w.frames)
-    ; begin = here
-    ; held = here }
+    record {
+      frames = subst (All (IsFrameWithin sig ts)) (sym pushed) (All-cons (IsFrameWithin sig ts) (applies start f copy 0) stack frame w.frames);
+      begin = here;
+      held = here;
+    }
   where
     first_within : (ids : List TermId) (d : TermId) → 0 < length ids → All (λ (a : TermId). IsTreeWithin sig (tree_at ts a)) ids → IsTreeWithin sig (tree_at ts (get_or ids 0 d))
     first_within [] d l h = absurd (omega (arith, l))
     first_within (a ∷ ids) d l h = All-head (λ (a : TermId). IsTreeWithin sig (tree_at ts a)) a ids h
 
 pub within_kept : (sig : Sig) (old new : List Tree) → Extends old new → (stack : List Plain) (start root : TermId) (from : ℕ) → AreIdsIn old stack start (Root root from) → AreWithin sig old stack start (Root root from) → AreWithin sig new stack start (Root root from)
-within_kept sig old new e stack start root from ids w = record
-    { frames = frames_within sig old new e stack ids.frames w.frames
-    ; begin = tree_within sig old new e start ids.begin w.begin
-    ; held = tree_within sig old new e root ids.held.0 w.held }
+within_kept sig old new e stack start root from ids w = record {
+  frames = frames_within sig old new e stack ids.frames w.frames;
+  begin = tree_within sig old new e start ids.begin w.begin;
+  held = tree_within sig old new e root ids.held.0 w.held;
+}
+
+pub nothing_stored : {S : Type 0} (sig : Sig) (own : List Equation) (ts : List Tree) (store : HashMap TermId TermId S) → store.entries ≡ [] → AreStored sig own ts store
+nothing_stored {S} sig own ts store empty t u e =
+    absurd (let n : None ≡ Some u = sym (ap (λ (es : List (TermId × TermId)). lookup (λ (x : TermId). t.0 == x.0) es) empty) ∙ e in cc)

@@ -1,35 +1,28 @@
 -- The moves at a root, behind a condition and behind an argument.
-use Rattle.std.proofs.Common.{◌≡◌, ◌≢◌, ◌⊎◌, ℕ, suc, ◌+◌, ◌-◌, ◌<◌, ◌≤◌, List, [], ◌∷◌, ◌++◌, refl, sym, ap, ◌∙◌, subst, arith, length, map, take, drop, get_or, set, Some, None, ⊎_elim}
-use Rattle.std.specs.Prelude.{Option, IfSome, ℤ}
-use Rattle.std.proofs.lemmas.List.Elements.{All-cons, All-head, All-tail}
+use Rattle.std.proofs.Common.{◌≡◌, ◌≢◌, ◌⊎◌, ℕ, suc, ◌+◌, ◌-◌, ◌<◌, ◌≤◌, List, ◌∷◌, refl, sym, subst, arith, length, map, Some, None, ⊎_elim}
+use Rattle.std.specs.Prelude.{Option, IfSome}
+use Rattle.std.proofs.lemmas.List.Elements.{All-cons}
 use Rattle.std.specs.List.{All}
 use Rattle.data_theory.specs.declared.ids.TermId.{TermId}
-use Rattle.data_theory.specs.declared.ids.FunId.{FunId}
-use Rattle.data_theory.specs.Terms as terms
-use Rattle.data_theory.specs.Terms.{Sort, Symbol, Term, Terms, application, apply}
+use Rattle.data_theory.specs.Terms.{Term}
 use Rattle.data_theory.specs.Equations.{trueᵗ}
 use Rattle.data_theory.specs.Provable.{Equation}
-use Rattle.data_theory.specs.Rewriting.{lines, Applies, GoesTo, ConditionGoesTo, without_condition, Chain, not_begun, EquationChain, in_the_condition, FirstDecides}
+use Rattle.data_theory.specs.Rewriting.{lines, without_condition, Chain, not_begun, EquationChain, in_the_condition}
 use Rattle.data_theory.specs.Signature.{Sig}
-use Rattle.data_theory.specs.IdTables.{IsTable}
 use Rattle.data_theory.specs.IdData.{data_meant}
 use Rattle.data_theory.specs.IdTrees.{Tree}
-use Rattle.data_theory.specs.IdTerms.{symbol_under, IsTreeWithin}
-use Rattle.term_pool.specs.HeadTrees.{tree_at, IsIn, AreIn}
-use Rattle.term_pool.specs.Pools.{Extends}
+use Rattle.data_theory.specs.IdTerms.{IsTreeWithin}
+use Rattle.term_pool.specs.HeadTrees.{tree_at}
 use Rattle.data_rewriter.specs.declared.equations.Found.{Found}
 use Rattle.data_rewriter.specs.declared.machine.Hand.{Hand}
 use Rattle.data_rewriter.specs.declared.machine.Hand.TheVariants.{Visit, Root, Answer, Spent}
-use Rattle.data_rewriter.specs.Places.{Place, whole, from_equation, Leads, Pending, applying, deciding, Waits, in_a_place, in_a_condition}
-use Rattle.data_rewriter.specs.Frames.{Plain, applies, decides}
-use Rattle.data_rewriter.specs.States.{IsFrameWithin, IsHandWithin, IsFoundWithin, AreWithin, IsFrameIn, pending_at, HandShows, Shows, UsesRight, HasCondition, IsFirst, IsFirstOrNone, EntersRoot}
+use Rattle.data_rewriter.specs.Places.{whole, from_equation, Leads, Waits, in_a_condition}
+use Rattle.data_rewriter.specs.Frames.{Plain, decides}
+use Rattle.data_rewriter.specs.States.{IsFrameWithin, IsHandWithin, IsFoundWithin, AreWithin, pending_at, Shows, UsesRight, HasCondition, IsFirst, IsFirstOrNone}
 use Rattle.data_rewriter.proofs.LastLine.{only_condition}
 use Rattle.data_rewriter.proofs.Leading.{then_leads, leads_as, stands_still, passes_all, uses, ends}
-use Rattle.data_rewriter.proofs.Waiting.{chain_from_the_origin}
-use Rattle.data_rewriter.proofs.Moving.{InPlace, InCondition, inverted, condition_refuses, condition_uses}
-use Rattle.data_rewriter.proofs.Standings.{term_kept}
-use Rattle.data_rewriter.proofs.StateMoves.{pending_kept}
-use Rattle.data_rewriter.specs.Standing.{terms_of, term_at, listed_at}
+use Rattle.data_rewriter.proofs.Moving.{InCondition, inverted, condition_refuses, condition_uses}
+use Rattle.data_rewriter.specs.Standing.{term_at}
 
 module _ (sig : Sig) (own : List Equation) (ts : List Tree) (origin : Term) (stack : List Plain) (start : TermId) (before : ℕ) where
   -- a use, or its want of fuel
@@ -109,15 +102,17 @@ module _ (sig : Sig) (own : List Equation) (ts : List Tree) (origin : Term) (sta
 
 -- ---- terms over the signature
 pub used_within : (sig : Sig) (ts : List Tree) (stack : List Plain) (start right : TermId) (fuel fuel' : ℕ) (hand : Hand) (start' : TermId) (hand' : Hand) → start' ≡ start → UsesRight fuel fuel' right hand' → AreWithin sig ts stack start hand → IsTreeWithin sig (tree_at ts right) → AreWithin sig ts stack start' hand'
-used_within sig ts stack start right fuel fuel' hand start' hand' at_start used w r = record
-    { frames = w.frames
-    ; begin = subst (λ (a : TermId). IsTreeWithin sig (tree_at ts a)) (sym at_start) w.begin
-    ; held = ⊎_elim (λ none. subst (IsHandWithin sig ts) (sym none.2) tt) (λ some. subst (IsHandWithin sig ts) (sym some.1) r) used }
+used_within sig ts stack start right fuel fuel' hand start' hand' at_start used w r = record {
+  frames = w.frames;
+  begin = subst (λ (a : TermId). IsTreeWithin sig (tree_at ts a)) (sym at_start) w.begin;
+  held = ⊎_elim (λ none. subst (IsHandWithin sig ts) (sym none.2) tt) (λ some. subst (IsHandWithin sig ts) (sym some.1) r) used;
+}
 
 pub condition_within : (sig : Sig) (ts : List Tree) (stack : List Plain) (start root : TermId) (from : ℕ) (found : Found) (cond : TermId) → found.cond ≡ Some cond → (stack' : List Plain) → stack' ≡ decides start root found.number found.right ∷ stack → AreWithin sig ts stack start (Root root from) → IsFoundWithin sig ts found → AreWithin sig ts stack' cond (Visit cond)
 condition_within sig ts stack start root from found cond is stack' pushed w f =
     let it : IsTreeWithin sig (tree_at ts cond) = subst (λ (o : Option TermId). IfSome o (λ (a : TermId). IsTreeWithin sig (tree_at ts a))) is f.1 in
-    record
-    { frames = subst (All (IsFrameWithin sig ts)) (sym pushed) (All-cons (IsFrameWithin sig ts) (decides start root found.number found.right) stack (w.begin, w.held, f.0) w.frames)
-    ; begin = it
-    ; held = it }
+    record {
+      frames = subst (All (IsFrameWithin sig ts)) (sym pushed) (All-cons (IsFrameWithin sig ts) (decides start root found.number found.right) stack (w.begin, w.held, f.0) w.frames);
+      begin = it;
+      held = it;
+    }

@@ -1,7 +1,7 @@
 -- The equations on truth values, and those of every sort but for equality.
-use Rattle.std.proofs.Common.{◌≡◌, ◌⊎◌, ℕ, List, refl, sym, subst, arith, inl, inr}
+use Rattle.std.proofs.Common.{◌≡◌, ℕ, List, refl, sym, subst, arith, inl, inr}
 use Rattle.std.specs.Prelude.{Option, Some}
-use Rattle.data_theory.specs.Terms.{Sort, negation, Term, Terms, application, none, more, inequality}
+use Rattle.data_theory.specs.Terms.{Sort, negation, Term, application, none, more, inequality}
 use Rattle.data_theory.specs.Declarations.{Data}
 use Rattle.data_theory.specs.Equations.{BuiltIn, two, trueᵗ, falseᵗ, !ᵗ◌, ◌∧ᵗ◌, ◌∨ᵗ◌, ◌⇒ᵗ◌, equals, chooses, not_true, not_false, not_not, true_and, and_true, false_and, and_false, and_same, true_or, or_true, false_or, or_false, or_same, true_implies, false_implies, implies, and_commutes, or_commutes, and_associates, or_associates, and_distributes, or_distributes, and_absorbs, or_absorbs, not_and, not_or, and_not, or_not, not_equal, if_true, if_false, if_same}
 use Rattle.data_theory.specs.Rewriting.{place_of}
@@ -32,11 +32,19 @@ not_holds i not_and e = absurd (no_number e)
 not_holds i not_or e = absurd (no_number e)
 
 pub not_decided : (sig : Sig) (ts : List Tree) (x : Term) (o : Option Line) → First sig ts (not_clauses x) o → IsFirstLine sig ts (!ᵗ x) o
-not_decided sig ts x = decided sig ts (!ᵗ x) (not_clauses x)
-    (omega arith, λ e. subst (λ v. LineAt (data_meant sig) 0 (!ᵗ v) trueᵗ falseᵗ) (sym e) (not_true, refl),
-    (omega arith, λ e. subst (λ v. LineAt (data_meant sig) 1 (!ᵗ v) trueᵗ trueᵗ) (sym e) (not_false, refl),
-    (omega arith, λ e. subst (λ v. LineAt (data_meant sig) 2 (!ᵗ v) trueᵗ (under_not v)) (sym e.1) (not_not, refl),
-    tt)))
+not_decided sig ts x = decided sig ts (!ᵗ x) (not_clauses x) (
+  omega arith,
+  λ e. subst (λ v. LineAt (data_meant sig) 0 (!ᵗ v) trueᵗ falseᵗ) (sym e) (not_true, refl),
+  (
+    omega arith,
+    λ e. subst (λ v. LineAt (data_meant sig) 1 (!ᵗ v) trueᵗ trueᵗ) (sym e) (not_false, refl),
+    (
+      omega arith,
+      λ e. subst (λ v. LineAt (data_meant sig) 2 (!ᵗ v) trueᵗ (under_not v)) (sym e.1) (not_not, refl),
+      tt,
+    ),
+  ),
+)
     (λ i c r b. not_holds i b.0 b.1)
 
 -- ---- x && y
@@ -56,13 +64,27 @@ and_holds i and_absorbs e = absurd (no_number e)
 and_holds i and_not e = absurd (no_number e)
 
 pub and_decided : (sig : Sig) (ts : List Tree) (x y : Term) (o : Option Line) → First sig ts (and_clauses x y) o → IsFirstLine sig ts (x ∧ᵗ y) o
-and_decided sig ts x y = decided sig ts (x ∧ᵗ y) (and_clauses x y)
-    (omega arith, λ e. subst (λ v. LineAt (data_meant sig) 3 (v ∧ᵗ y) trueᵗ y) (sym e) (true_and, refl),
-    (omega arith, λ e. subst (λ v. LineAt (data_meant sig) 4 (x ∧ᵗ v) trueᵗ x) (sym e) (and_true, refl),
-    (omega arith, λ e. subst (λ v. LineAt (data_meant sig) 5 (v ∧ᵗ y) trueᵗ falseᵗ) (sym e) (false_and, refl),
-    (omega arith, λ e. subst (λ v. LineAt (data_meant sig) 6 (x ∧ᵗ v) trueᵗ falseᵗ) (sym e) (and_false, refl),
-    (omega arith, λ e. subst (λ v. LineAt (data_meant sig) 7 (x ∧ᵗ v) trueᵗ x) e (and_same, refl),
-    tt)))))
+and_decided sig ts x y = decided sig ts (x ∧ᵗ y) (and_clauses x y) (
+  omega arith,
+  λ e. subst (λ v. LineAt (data_meant sig) 3 (v ∧ᵗ y) trueᵗ y) (sym e) (true_and, refl),
+  (
+    omega arith,
+    λ e. subst (λ v. LineAt (data_meant sig) 4 (x ∧ᵗ v) trueᵗ x) (sym e) (and_true, refl),
+    (
+      omega arith,
+      λ e. subst (λ v. LineAt (data_meant sig) 5 (v ∧ᵗ y) trueᵗ falseᵗ) (sym e) (false_and, refl),
+      (
+        omega arith,
+        λ e. subst (λ v. LineAt (data_meant sig) 6 (x ∧ᵗ v) trueᵗ falseᵗ) (sym e) (and_false, refl),
+        (
+          omega arith,
+          λ e. subst (λ v. LineAt (data_meant sig) 7 (x ∧ᵗ v) trueᵗ x) e (and_same, refl),
+          tt,
+        ),
+      ),
+    ),
+  ),
+)
     (λ i c r b. and_holds i b.0 b.1)
 
 -- ---- x || y
@@ -82,13 +104,27 @@ or_holds i or_absorbs e = absurd (no_number e)
 or_holds i or_not e = absurd (no_number e)
 
 pub or_decided : (sig : Sig) (ts : List Tree) (x y : Term) (o : Option Line) → First sig ts (or_clauses x y) o → IsFirstLine sig ts (x ∨ᵗ y) o
-or_decided sig ts x y = decided sig ts (x ∨ᵗ y) (or_clauses x y)
-    (omega arith, λ e. subst (λ v. LineAt (data_meant sig) 8 (v ∨ᵗ y) trueᵗ trueᵗ) (sym e) (true_or, refl),
-    (omega arith, λ e. subst (λ v. LineAt (data_meant sig) 9 (x ∨ᵗ v) trueᵗ trueᵗ) (sym e) (or_true, refl),
-    (omega arith, λ e. subst (λ v. LineAt (data_meant sig) 10 (v ∨ᵗ y) trueᵗ y) (sym e) (false_or, refl),
-    (omega arith, λ e. subst (λ v. LineAt (data_meant sig) 11 (x ∨ᵗ v) trueᵗ x) (sym e) (or_false, refl),
-    (omega arith, λ e. subst (λ v. LineAt (data_meant sig) 12 (x ∨ᵗ v) trueᵗ x) e (or_same, refl),
-    tt)))))
+or_decided sig ts x y = decided sig ts (x ∨ᵗ y) (or_clauses x y) (
+  omega arith,
+  λ e. subst (λ v. LineAt (data_meant sig) 8 (v ∨ᵗ y) trueᵗ trueᵗ) (sym e) (true_or, refl),
+  (
+    omega arith,
+    λ e. subst (λ v. LineAt (data_meant sig) 9 (x ∨ᵗ v) trueᵗ trueᵗ) (sym e) (or_true, refl),
+    (
+      omega arith,
+      λ e. subst (λ v. LineAt (data_meant sig) 10 (v ∨ᵗ y) trueᵗ y) (sym e) (false_or, refl),
+      (
+        omega arith,
+        λ e. subst (λ v. LineAt (data_meant sig) 11 (x ∨ᵗ v) trueᵗ x) (sym e) (or_false, refl),
+        (
+          omega arith,
+          λ e. subst (λ v. LineAt (data_meant sig) 12 (x ∨ᵗ v) trueᵗ x) e (or_same, refl),
+          tt,
+        ),
+      ),
+    ),
+  ),
+)
     (λ i c r b. or_holds i b.0 b.1)
 
 -- ---- x => y
@@ -101,11 +137,19 @@ implies_holds i false_implies e = inr (inl (number_is e, refl))
 implies_holds i implies e = inr (inr (inl (number_is e, tt)))
 
 pub implies_decided : (sig : Sig) (ts : List Tree) (x y : Term) (o : Option Line) → First sig ts (implies_clauses x y) o → IsFirstLine sig ts (x ⇒ᵗ y) o
-implies_decided sig ts x y = decided sig ts (x ⇒ᵗ y) (implies_clauses x y)
-    (omega arith, λ e. subst (λ v. LineAt (data_meant sig) 13 (v ⇒ᵗ y) trueᵗ y) (sym e) (true_implies, refl),
-    (omega arith, λ e. subst (λ v. LineAt (data_meant sig) 14 (v ⇒ᵗ y) trueᵗ trueᵗ) (sym e) (false_implies, refl),
-    (omega arith, λ e. (implies, refl),
-    tt)))
+implies_decided sig ts x y = decided sig ts (x ⇒ᵗ y) (implies_clauses x y) (
+  omega arith,
+  λ e. subst (λ v. LineAt (data_meant sig) 13 (v ⇒ᵗ y) trueᵗ y) (sym e) (true_implies, refl),
+  (
+    omega arith,
+    λ e. subst (λ v. LineAt (data_meant sig) 14 (v ⇒ᵗ y) trueᵗ trueᵗ) (sym e) (false_implies, refl),
+    (
+      omega arith,
+      λ e. (implies, refl),
+      tt,
+    ),
+  ),
+)
     (λ i c r b. implies_holds i b.0 b.1)
 
 -- ---- x != y
@@ -130,9 +174,17 @@ if_holds i if_false e = inr (inl (number_is e, refl))
 if_holds i if_same e = inr (inr (inl (number_is e, refl)))
 
 pub if_decided : (sig : Sig) (ts : List Tree) (a : Sort) (d x y : Term) (o : Option Line) → First sig ts (if_clauses d x y) o → IsFirstLine sig ts (chooses a d x y) o
-if_decided sig ts a d x y = decided sig ts (chooses a d x y) (if_clauses d x y)
-    (omega arith, λ e. subst (λ v. LineAt (data_meant sig) 18 (chooses a v x y) trueᵗ x) (sym e) (if_true, refl),
-    (omega arith, λ e. subst (λ v. LineAt (data_meant sig) 19 (chooses a v x y) trueᵗ y) (sym e) (if_false, refl),
-    (omega arith, λ e. subst (λ v. LineAt (data_meant sig) 20 (chooses a d x v) trueᵗ x) e (if_same, refl),
-    tt)))
+if_decided sig ts a d x y = decided sig ts (chooses a d x y) (if_clauses d x y) (
+  omega arith,
+  λ e. subst (λ v. LineAt (data_meant sig) 18 (chooses a v x y) trueᵗ x) (sym e) (if_true, refl),
+  (
+    omega arith,
+    λ e. subst (λ v. LineAt (data_meant sig) 19 (chooses a v x y) trueᵗ y) (sym e) (if_false, refl),
+    (
+      omega arith,
+      λ e. subst (λ v. LineAt (data_meant sig) 20 (chooses a d x v) trueᵗ x) e (if_same, refl),
+      tt,
+    ),
+  ),
+)
     (λ i c r b. if_holds i b.0 b.1)

@@ -1,10 +1,10 @@
 -- What views tell.
-use Rattle.std.proofs.Common.{◌≡◌, ℕ, ◌<◌, List, [], ◌∷◌, length, refl, sym, ap, ◌∙◌, subst, arith}
+use Rattle.std.proofs.Common.{◌≡◌, ◌<◌, List, [], ◌∷◌, length, refl, sym, ap, ◌∙◌, subst, arith}
 use Rattle.std.specs.Prelude.{◌↔◌}
 use Rattle.data_theory.specs.declared.ids.SortId.{SortId}
 use Rattle.data_theory.specs.declared.ids.TermId.{TermId}
 use Rattle.data_theory.specs.Terms.{Sort, Symbol, truth, falsity, negation, empty, cons, Term, application, none}
-use Rattle.data_theory.specs.Equations.{trueᵗ, falseᵗ, !ᵗ◌, emptyᵗ, consᵗ}
+use Rattle.data_theory.specs.Equations.{trueᵗ, falseᵗ, !ᵗ◌, emptyᵗ}
 use Rattle.data_theory.specs.Signature.{Sig}
 use Rattle.data_theory.specs.IdData.{data_meant}
 use Rattle.data_theory.specs.IdTables.{IsTable}
@@ -77,9 +77,10 @@ pub same_sort : (sig : Sig) → IsTable sig → (s r : SortId) (a : Sort) → Is
 same_sort sig table s r a h k = different_sorts_mean_different_sorts sig table s r h.inside k.inside (h.is ∙ sym k.is)
 
 pub empty_over : (sig : Sig) → IsTable sig → (s r : SortId) (a b : Sort) (t : Term) → IsSortOf sig s a → IsSortOf sig r b → t ≡ emptyᵗ b → (s ≡ r) ↔ (t ≡ emptyᵗ a)
-empty_over sig table s r a b t h k e =
-    ((λ same. let is : b ≡ a = sym k.is ∙ (ap (sort_under sig) (sym same) ∙ h.is) in e ∙ ap emptyᵗ is),
-    (λ e'. let is : b ≡ a = sort_in (sym e ∙ e') in same_sort sig table s r a h (subst (IsSortOf sig r) is k)))
+empty_over sig table s r a b t h k e = (
+  (λ same. let is : b ≡ a = sym k.is ∙ (ap (sort_under sig) (sym same) ∙ h.is) in e ∙ ap emptyᵗ is),
+  (λ e'. let is : b ≡ a = sort_in (sym e ∙ e') in same_sort sig table s r a h (subst (IsSortOf sig r) is k)),
+)
   where
     sort_in : emptyᵗ b ≡ emptyᵗ a → b ≡ a
     sort_in e = cc

@@ -1,12 +1,11 @@
 -- The chain behind pending places, and arguments one by one.
-use Rattle.std.proofs.Common.{◌≡◌, ◌≢◌, ◌⊎◌, ℕ, suc, ◌+◌, ◌<◌, ◌≤◌, List, [], ◌∷◌, ◌++◌, refl, sym, ap, ◌∙◌, subst, arith, ⊎_elim, inl, inr, length}
-use Rattle.data_theory.specs.Terms.{Symbol, conjunction, disjunction, implication, conditional, Term, Terms, application, none, more}
+use Rattle.std.proofs.Common.{◌≡◌, ◌⊎◌, ℕ, ◌+◌, List, [], ◌∷◌, ◌++◌, subst, arith, ⊎_elim, inl, inr}
+use Rattle.data_theory.specs.Terms.{Symbol, conjunction, disjunction, implication, conditional, Term, Terms, application}
 use Rattle.data_theory.specs.Declarations.{Data}
-use Rattle.data_theory.specs.Equations.{trueᵗ}
 use Rattle.data_theory.specs.Provable.{Equation}
-use Rattle.data_theory.specs.Rewriting.{LooksFirst, if_looks, and_looks, or_looks, implies_looks, IsTruthValue, Applies, FirstDecides, GoesTo, ArgumentsGoTo, no_arguments, an_argument, Chain, not_begun, in_arguments, in_the_first, behind_the_first, ArgumentsChain, no_arguments_left, in_an_argument, EquationChain, in_the_condition}
+use Rattle.data_theory.specs.Rewriting.{LooksFirst, if_looks, and_looks, or_looks, implies_looks, FirstDecides, GoesTo, ArgumentsGoTo, no_arguments, an_argument, Chain, not_begun, in_arguments, in_the_first, behind_the_first, ArgumentsChain, no_arguments_left, in_an_argument, in_the_condition}
 use Rattle.data_theory.proofs.NormalForms.{finished_rewritings_are_chains}
-use Rattle.data_rewriter.specs.Places.{Place, whole, from_equation, Yields, Begins, Leads, Pending, applying, deciding, Waits, at_the_origin, in_a_place, in_a_condition}
+use Rattle.data_rewriter.specs.Places.{Pending, Waits, at_the_origin, in_a_place, in_a_condition}
 use Rattle.data_rewriter.specs.Standing.{terms_of}
 
 pub looks_first_or_not : (f : Symbol) → LooksFirst f ⊎ (LooksFirst f → ⊥)

@@ -1,13 +1,11 @@
 -- The first built-in equation that matches at a root.
-use Rattle.std.specs.Prelude.{◌≡◌, ◌<◌, ℕ, List, [], ◌∷◌, Bool, true, Option, Some, None, IfSome}
-use Rattle.data_theory.specs.declared.ids.FunId.{FunId}
-use Rattle.data_theory.specs.declared.ids.SortId.{SortId}
+use Rattle.std.specs.Prelude.{◌≡◌, ◌<◌, ℕ, List, [], ◌∷◌, Option, Some, None, IfSome}
 use Rattle.data_theory.specs.declared.ids.TermId.{TermId}
 use Rattle.data_theory.specs.Whole.{whole_of}
 use Rattle.data_theory.specs.Terms as terms
 use Rattle.data_theory.specs.Terms.{Sort, natural, positive, integer, Symbol, Term, Terms, application, none, more, numeral, apply}
 use Rattle.data_theory.specs.Declarations.{Data, function_at}
-use Rattle.data_theory.specs.Equations.{BuiltIn, one, two, trueᵗ, falseᵗ, !ᵗ◌, ◌∧ᵗ◌, ◌∨ᵗ◌, number, truth_of, all_equal}
+use Rattle.data_theory.specs.Equations.{BuiltIn, one, two, trueᵗ, !ᵗ◌, ◌∧ᵗ◌, ◌∨ᵗ◌, number, truth_of, all_equal}
 use Rattle.data_theory.specs.Rewriting.{place_of}
 use Rattle.data_theory.specs.Signature.{Sig}
 use Rattle.data_theory.specs.IdData.{data_meant}
@@ -37,7 +35,7 @@ RightIs sig ts (TwoTwo f x g y k) t = (z w : Symbol) × (u v m : Term) × IsSymb
 RightIs sig ts (Both f x y g k l) t = (z w : Symbol) × (u v m n : Term) × IsSymbolOf sig f z × IsSymbolOf sig g w × StandsFor sig ts x u × StandsFor sig ts y v × StandsFor sig ts k m × StandsFor sig ts l n × (t ≡ apply z (more u (more v none)) ∧ᵗ apply w (more m (more n none)))
 RightIs sig ts (Either f x y g k l) t = (z w : Symbol) × (u v m n : Term) × IsSymbolOf sig f z × IsSymbolOf sig g w × StandsFor sig ts x u × StandsFor sig ts y v × StandsFor sig ts k m × StandsFor sig ts l n × (t ≡ apply z (more u (more v none)) ∨ᵗ apply w (more m (more n none)))
 RightIs sig ts (Longer f x) t = (z : Sort) × (u : Term) × IsSymbolOf sig f (terms.size z) × StandsFor sig ts x u × (t ≡ one (terms.upcast positive natural) (one (terms.arithmetic terms.successor (natural ∷ []) positive) (one (terms.size z) u)))
-RightIs sig ts (Later f x y) t = (z : Symbol) × (u v : Term) × IsSymbolOf sig f z × StandsFor sig ts x u × StandsFor sig ts y v × (t ≡ two z u (one (terms.arithmetic terms.to_natural (integer ∷ []) natural) (two (terms.arithmetic terms.subtract (natural ∷ natural ∷ []) integer) v (number 1))))
+RightIs sig ts (Later f x y) t = (z : Symbol) × (u v : Term) × IsSymbolOf sig f z × StandsFor sig ts x u × StandsFor sig ts y v × (t ≡ apply z (more u (more (one (terms.arithmetic terms.to_natural (integer ∷ []) natural) (two (terms.arithmetic terms.subtract (natural ∷ natural ∷ []) integer) v (number 1))) none)))
 RightIs sig ts (Places f x y) t = (c : ℕ) × (us vs : Terms) × IsSymbolOf sig f (terms.function c) × StandsFor sig ts x (application (terms.function c) us) × StandsFor sig ts y (application (terms.function c) vs) × (t ≡ all_equal (function_at (data_meant sig) c).arguments us vs)
 
 -- a condition: `true`, or `0 < n` for this n

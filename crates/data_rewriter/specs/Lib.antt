@@ -3,7 +3,10 @@ pub mod Signs
 pub mod Views
 pub mod FirstLines
 pub mod Signatures
+pub mod Rules
 pub mod Places
 pub mod Frames
 pub mod States
 pub mod Matching
+pub mod FirstRules
+pub mod Rewriters

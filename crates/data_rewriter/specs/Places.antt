@@ -1,6 +1,6 @@
 -- What is still to be rewritten at a place, and how far a place has come.
-use Rattle.std.specs.Prelude.{◌≡◌, ◌≢◌, ℕ, ◌+◌, ◌<◌, List, [], ◌∷◌, ◌++◌, length}
-use Rattle.data_theory.specs.Terms.{Symbol, Term, Terms, application, none, more}
+use Rattle.std.specs.Prelude.{◌≢◌, ℕ, ◌+◌, ◌<◌, List, [], ◌∷◌, ◌++◌, length}
+use Rattle.data_theory.specs.Terms.{Symbol, Term, application}
 use Rattle.data_theory.specs.Declarations.{Data}
 use Rattle.data_theory.specs.Equations.{trueᵗ}
 use Rattle.data_theory.specs.Provable.{Equation}

@@ -1,12 +1,10 @@
 -- What the tables of a rewriter say of a signature.
-use Rattle.std.specs.Prelude.{◌≡◌, ◌<◌, List, [], ◌∷◌, length, map, get_or, Some, slice_get, None}
-use Rattle.std.specs.List.{All}
+use Rattle.std.specs.Prelude.{◌≡◌, List, [], ◌∷◌, map, get_or, Some, slice_get}
 use Rattle.data_theory.specs.declared.ids.FunId.{FunId}
-use Rattle.data_theory.specs.declared.ids.SortId.{SortId}
-use Rattle.data_theory.specs.Terms.{Sort, Symbol, equality}
+use Rattle.data_theory.specs.Terms.{Sort, equality}
 use Rattle.data_theory.specs.Functions.{Function}
 use Rattle.data_theory.specs.Signature.{Sig}
-use Rattle.data_theory.specs.IdTerms.{sort_under, symbol_under}
+use Rattle.data_theory.specs.IdTerms.{sort_under}
 use Rattle.data_theory.specs.WholeSignatures.{IsSignature}
 use Rattle.data_rewriter.specs.declared.tables.Tables.{Tables}
 use Rattle.data_rewriter.specs.Standing.{IsSymbolOf}

@@ -1,6 +1,5 @@
 -- What the signs of functions say.
 use Rattle.std.specs.Prelude.{◌≡◌, ◌≢◌, ℕ, List, [], ◌∷◌, get_or}
-use Rattle.data_theory.specs.declared.ids.SortId.{SortId}
 use Rattle.data_theory.specs.declared.ids.FunId.{FunId}
 use Rattle.data_theory.specs.Terms as terms
 use Rattle.data_theory.specs.Terms.{Sort, boolean, list, named, Operation, Symbol, Term, Terms, application, none, more, numeral}
@@ -8,7 +7,6 @@ use Rattle.data_theory.specs.Declarations as theory
 use Rattle.data_theory.specs.Declarations.{Data, function_at, sort_at, constructor, projection, recogniser, structured}
 use Rattle.data_theory.specs.Signature.{Sig}
 use Rattle.data_theory.specs.IdData.{data_meant}
-use Rattle.data_theory.specs.IdTerms.{sort_under, symbol_under}
 use Rattle.number_rules.specs.declared.num_op.NumOp.{NumOp}
 use Rattle.number_rules.specs.declared.num_op.NumOp.TheVariants as operations
 use Rattle.data_rewriter.specs.declared.signs.Comparison.{Comparison}

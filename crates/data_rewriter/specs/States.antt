@@ -1,16 +1,15 @@
 -- What a rewriting in progress has shown of the term that it began with.
-use Rattle.std.specs.Prelude.{◌≡◌, ◌≢◌, ◌⊎◌, slice_get, get_or, ℕ, suc, ◌+◌, ◌<◌, ◌≤◌, List, [], ◌∷◌, map, take, drop, length, Option, Some, None, IfSome, ℤ}
+use Rattle.std.specs.Prelude.{◌≡◌, ◌≢◌, ◌⊎◌, slice_get, ℕ, suc, ◌+◌, ◌<◌, ◌≤◌, List, [], ◌∷◌, map, take, drop, length, Option, Some, None, IfSome, ℤ}
 use Rattle.std.specs.List.{All, Contains}
 use Rattle.data_theory.specs.declared.ids.FunId.{FunId}
 use Rattle.std.specs.HashMap.{HashMap}
 use Rattle.data_theory.specs.declared.ids.TermId.{TermId}
-use Rattle.data_theory.specs.Terms.{Term, Terms, Sort, Symbol, truth, falsity, numeral, application, apply}
+use Rattle.data_theory.specs.Terms.{Term, Terms, Sort, Symbol, numeral, application, apply}
 use Rattle.data_theory.specs.Equations.{trueᵗ}
 use Rattle.data_theory.specs.Declarations.{Data}
 use Rattle.data_theory.specs.Provable.{Equation}
 use Rattle.data_theory.specs.Rewriting.{lines, Applies, GoesTo, Chain, ChainOfMoreThan}
 use Rattle.data_theory.specs.Signature.{Sig}
-use Rattle.data_theory.specs.IdTables.{IsTable}
 use Rattle.data_theory.specs.IdData.{data_meant}
 use Rattle.data_theory.specs.IdTrees.{Tree, variable, function}
 use Rattle.data_theory.specs.IdTerms.{symbol_under, variable_sorts, IsTreeWithin}
@@ -24,6 +23,7 @@ use Rattle.data_rewriter.specs.declared.tables.Rule.{Rule}
 use Rattle.data_rewriter.specs.declared.tables.Tables.{Tables}
 use Rattle.data_rewriter.specs.declared.equations.Found.{Found}
 use Rattle.data_rewriter.specs.Standing.{IsTerm, term_at, listed_at, terms_of}
+use Rattle.data_rewriter.specs.Rules.{numbers_at}
 use Rattle.data_rewriter.specs.Signatures.{AreSignTables}
 use Rattle.data_rewriter.specs.Places.{whole, from_equation, Leads, Pending, applying, deciding, Waits}
 use Rattle.data_rewriter.specs.Frames.{Plain, applies, decides}
@@ -99,10 +99,6 @@ Follows Over old new stack start hand stack' start' hand' fuel fuel' =
     → AreWithin sig new stack' start' hand' × ((origin : Term) (before : ℕ) → Shows sig own old origin stack start hand before fuel → Shows sig own new origin stack' start' hand' before fuel')
 
 -- ---- what the parts of a machine give
--- the numbers that an index has for a function
-abbrev pub numbers_at : Tables → FunId → List ℕ
-numbers_at tables f = get_or (map (λ v. v.items) tables.by_head.items) f.0 []
-
 -- a written equation is over the signature, and its left side is no variable
 abbrev pub IsLeft : Tree → Type 0
 IsLeft (variable v) = ⊥

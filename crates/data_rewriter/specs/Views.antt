@@ -1,8 +1,6 @@
 -- What a term shows to the equation of a root over it.
-use Rattle.std.specs.Prelude.{◌≡◌, ◌<◌, ◌^◌, ℕ, List, [], ◌∷◌, length}
+use Rattle.std.specs.Prelude.{◌≡◌, ◌<◌, ◌^◌, ℕ, List, length}
 use Rattle.data_theory.specs.declared.ids.FunId.{FunId}
-use Rattle.data_theory.specs.declared.ids.SortId.{SortId}
-use Rattle.data_theory.specs.declared.ids.TermId.{TermId}
 use Rattle.data_theory.specs.Arithmetic.{magnitude}
 use Rattle.data_theory.specs.Whole.{whole_of}
 use Rattle.data_theory.specs.Terms as terms
@@ -12,8 +10,7 @@ use Rattle.data_theory.specs.Equations.{trueᵗ, falseᵗ, !ᵗ◌, emptyᵗ, co
 use Rattle.data_theory.specs.Signature.{Sig}
 use Rattle.data_theory.specs.IdData.{data_meant}
 use Rattle.data_theory.specs.IdTrees.{Tree}
-use Rattle.data_theory.specs.IdTerms.{sort_under, symbol_under}
-use Rattle.data_theory.specs.WholeSignatures.{IsSignature}
+use Rattle.data_theory.specs.IdTerms.{symbol_under}
 use Rattle.data_rewriter.specs.declared.signs.Sign.{Sign}
 use Rattle.term_pool.specs.HeadTrees.{IsIn}
 use Rattle.data_rewriter.specs.declared.views.Parts.{Parts}

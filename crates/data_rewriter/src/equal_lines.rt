@@ -58,7 +58,14 @@ pub fn bool_line(sort: SortId, x: TermId, y: TermId, left: View, right: View) ->
 }
 
 /// The first equation at the equality of lists that differ.
-pub fn list_line(sort: SortId, element: SortId, equal: FunId, fun: FunId, left: View, right: View) -> Option<Line>
+pub fn list_line(
+    sort: SortId,
+    element: SortId,
+    equal: FunId,
+    fun: FunId,
+    left: View,
+    right: View,
+) -> Option<Line>
     ensures { (sig : Sig) (ts : List Tree) (b : Sort) (t u : Term) → IsTable sig → IsSortOf sig sort (list b) → IsSortOf sig element b → IsSymbolOf sig equal (equality b) → IsSymbolOf sig fun (equality (list b)) → IsView sig ts t left → IsView sig ts u right → (t ≡ u → ⊥) → IsFirstLine sig ts (equals (list b) t u) result }
 {
     if let Some(first) = number_over(left, sort) {
@@ -84,7 +91,14 @@ pub fn list_line(sort: SortId, element: SortId, equal: FunId, fun: FunId, left: 
     };
     line(
         32,
-        Right::Both(equal, parts.first, others.first, fun, parts.rest, others.rest),
+        Right::Both(
+            equal,
+            parts.first,
+            others.first,
+            fun,
+            parts.rest,
+            others.rest,
+        ),
     )
 }
 

@@ -9,6 +9,7 @@ mod machine;
 mod making;
 mod matching;
 mod number_lines;
+mod rewriter;
 mod rights;
 mod signs;
 mod stack;
@@ -16,3 +17,6 @@ mod struct_lines;
 mod tables;
 mod truth_lines;
 mod views;
+
+pub use machine::Normal;
+pub use rewriter::{Rewriter, Truth};

@@ -18,14 +18,17 @@ ghost use Rattle.data_rewriter.specs.FirstLines.{IsFirstLine};
 
 use crate::equal_lines::{bool_line, list_line, other_line, struct_line};
 use crate::list_lines::{
-    at_line, concat_line, head_line, in_line, rhead_line, rtail_line, size_line, snoc_line, tail_line,
+    at_line, concat_line, head_line, in_line, rhead_line, rtail_line, size_line, snoc_line,
+    tail_line,
 };
 use crate::number_lines::{compare_line, minus_line, one_line, two_line};
 use crate::rights::{Line, Right};
 use crate::signs::{Equals, Sign};
 use crate::struct_lines::{projection_line, recogniser_line};
 use crate::tables::Tables;
-use crate::truth_lines::{and_line, different_line, if_line, implies_line, line, not_line, or_line};
+use crate::truth_lines::{
+    and_line, different_line, if_line, implies_line, line, not_line, or_line,
+};
 use crate::views::{View, view_of, view_of_rest};
 use data_theory::{FunId, Num, SortId, TermId};
 use number_rules::{NumOp, NumberRules};

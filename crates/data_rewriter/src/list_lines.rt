@@ -18,7 +18,14 @@ use data_theory::{FunId, Num, SortId, TermId};
 const NAT: SortId = SortId(2);
 
 /// The first equation at `x ++ y`.
-pub fn concat_line(sort: SortId, fun: FunId, x: TermId, y: TermId, left: View, right: View) -> Option<Line>
+pub fn concat_line(
+    sort: SortId,
+    fun: FunId,
+    x: TermId,
+    y: TermId,
+    left: View,
+    right: View,
+) -> Option<Line>
     ensures { (sig : Sig) (ts : List Tree) (a : Sort) (t u : Term) → IsTable sig → IsSortOf sig sort a → IsSymbolOf sig fun (concatenation a) → StandsFor sig ts x t → StandsFor sig ts y u → IsView sig ts t left → IsView sig ts u right → IsFirstLine sig ts (two (concatenation a) t u) result }
 {
     if is_empty_over(left, sort) {
@@ -30,11 +37,21 @@ pub fn concat_line(sort: SortId, fun: FunId, x: TermId, y: TermId, left: View, r
     let Some(parts) = parts_over(left, sort) else {
         return None;
     };
-    line(35, Right::TwoTwo(parts.cons, parts.first, fun, parts.rest, y))
+    line(
+        35,
+        Right::TwoTwo(parts.cons, parts.first, fun, parts.rest, y),
+    )
 }
 
 /// The first equation at `x <| y`.
-pub fn snoc_line(sort: SortId, fun: FunId, link: FunId, x: TermId, y: TermId, left: View) -> Option<Line>
+pub fn snoc_line(
+    sort: SortId,
+    fun: FunId,
+    link: FunId,
+    x: TermId,
+    y: TermId,
+    left: View,
+) -> Option<Line>
     ensures { (sig : Sig) (ts : List Tree) (a : Sort) (t u : Term) → IsTable sig → IsSortOf sig sort a → IsSymbolOf sig fun (snoc a) → IsSymbolOf sig link (cons a) → StandsFor sig ts x t → StandsFor sig ts y u → IsView sig ts t left → IsFirstLine sig ts (two (snoc a) t u) result }
 {
     if is_empty_over(left, sort) {
@@ -43,7 +60,10 @@ pub fn snoc_line(sort: SortId, fun: FunId, link: FunId, x: TermId, y: TermId, le
     let Some(parts) = parts_over(left, sort) else {
         return None;
     };
-    line(37, Right::TwoTwo(parts.cons, parts.first, fun, parts.rest, y))
+    line(
+        37,
+        Right::TwoTwo(parts.cons, parts.first, fun, parts.rest, y),
+    )
 }
 
 /// The first equation at `#x`.

@@ -20,7 +20,7 @@ ghost use Rattle.data_rewriter.specs.Places as places;
 ghost use Rattle.number_rules.specs.Rule.{IsExact, rule_of};
 ghost use Rattle.data_rewriter.specs.States.{Says, IsStored, IsHandIn, AreTablesOf, EntersRoot, UsesRight, IsFirst, IsFirstOrNone, IsFoundIn, IsFoundWithin, IsHandWithin, AreIdsIn, IsFrameIn, Follows, Shows, AreStored, StartsIn};
 
-use crate::equations::{Found, LINES, first_equation};
+use crate::equations::{Found, LINES, first_equation, is_truth};
 use crate::signs::Sign;
 use crate::stack::{Frame, Stack};
 use crate::tables::Tables;
@@ -213,14 +213,6 @@ fn use_right(fuel: &mut u64, start: TermId, right: TermId) -> Place
     Place { start, hand }
 }
 
-/// Whether a term is `true`.
-fn is_truth(tables: &Tables, pool: &Pool, term: TermId) -> bool
-    requires { IsIn pool.now.trees term }
-    ensures { (sig : Sig) (own : List Equation) → AreTablesOf tables.now sig own pool.now.trees → IsTerm sig pool.now.trees term → IsTrue result ↔ (term_at sig pool.now.trees term ≡ trueᵗ) }
-{
-    is_true(view_of(tables, pool, term))
-}
-
 /// Goes on behind a condition.
 fn behind_condition(
     tables: &Tables,
@@ -397,7 +389,9 @@ pub fn run<F: Fn(NumOp, Num, Num) -> Option<Num>>(
         place = match place.hand {
             Hand::Visit(next) => visit(alloc, pool, normal_forms, &mut stack, start, next)?,
             Hand::Root(root, from) => {
-                at_root(alloc, tables, rules, pool, &mut stack, fuel, start, root, from)?
+                at_root(
+                    alloc, tables, rules, pool, &mut stack, fuel, start, root, from,
+                )?
             }
             Hand::Answer(normal) => {
                 keep(normal_forms, start, normal)?;

@@ -1,19 +1,27 @@
 //! Right sides, made in a pool.
 
-ghost use Rattle.std.specs.Prelude.{◌≡◌, ◌<◌, List, [], ◌∷◌, IfOk, IsTrue, length};
+ghost use Rattle.std.specs.Prelude.{◌≡◌, ◌<◌, ℕ, List, [], ◌∷◌, IfOk, IsTrue, length};
 ghost use Rattle.std.specs.List.{All};
 ghost use Rattle.data_theory.specs.Signature.{Sig};
 ghost use Rattle.data_theory.specs.IdTables.{IsTable};
 ghost use Rattle.data_theory.specs.Terms as terms;
-ghost use Rattle.data_theory.specs.Terms.{Sort, positive, natural, integer, Symbol, Term, none, more, apply};
-ghost use Rattle.data_theory.specs.Equations.{number, truth_of, one as one_term, two as two_terms};
+ghost use Rattle.data_theory.specs.Terms.{Sort, positive, natural, integer, Symbol, Term, Terms, none, more, apply};
+ghost use Rattle.data_theory.specs.Equations.{number, truth_of, all_equal, one as one_term, two as two_terms};
 ghost use Rattle.data_theory.specs.Whole.{whole_of};
 ghost use Rattle.data_theory.specs.IdTreeSorts.{HasNumber};
 ghost use Rattle.data_theory.specs.WholeSignatures.{IsSignature};
 ghost use Rattle.term_pool.specs.HeadTrees.{IsIn, AreIn};
 ghost use Rattle.term_pool.specs.Pools.{Extends};
+ghost use Rattle.data_theory.specs.Declarations.{function_at};
+ghost use Rattle.data_theory.specs.IdData.{data_meant};
+ghost use Rattle.data_rewriter.specs.FirstLines.{RightIs, IsRightIn, IsLineIn, IsFirstAt, IsConditionMade};
+ghost use Rattle.data_rewriter.specs.Signatures.{AreSignTables};
+ghost use Rattle.data_rewriter.specs.States.{IsFoundIn};
 ghost use Rattle.data_rewriter.specs.Standing.{IsTerm, StandsFor, IsSymbolOf, IsSortOf, listed_at, terms_of};
 
+use crate::equations::Found;
+use crate::rights::{Line, Right};
+use crate::tables::Tables;
 use data_theory::{FunId, NoMemory, Num, SortId, TermId};
 use term_pool::{Head, Pool};
 
@@ -222,4 +230,77 @@ fn above_zero(pool: &mut Pool, x: TermId) -> Result<TermId, NoMemory>
     let least = numeral(pool, NAT, zero)?;
     let made = two(pool, LESS_NAT, least, x)?;
     Ok(made)
+}
+
+/// The right side of a built-in equation.
+pub fn make(tables: &Tables, pool: &mut Pool, right: Right) -> Result<TermId, NoMemory>
+    requires { IsRightIn pool.old.trees right }
+    ensures kept { Extends pool.old.trees pool.new.trees }
+    ensures inside { IfOk result (λ id. IsIn pool.new.trees id) }
+    ensures made { IfOk result (λ id. (sig : Sig) → AreSignTables tables.now sig → (t : Term) → RightIs sig pool.old.trees right t → StandsFor sig pool.new.trees id t) }
+{
+    match right {
+        Right::Is(x) => Ok(x),
+        Right::Truth(value) => truth(pool, value),
+        Right::Numeral(sort, num) => numeral(pool, sort, num),
+        Right::Not(x) => one(pool, NOT, x),
+        Right::NotTwo(fun, x, y) => {
+            let inner = two(pool, fun, x, y)?;
+            one(pool, NOT, inner)
+        }
+        Right::NotOr(x, y) => {
+            let inner = one(pool, NOT, x)?;
+            two(pool, OR, inner, y)
+        }
+        Right::One(fun, x) => one(pool, fun, x),
+        Right::Two(fun, x, y) => two(pool, fun, x, y),
+        Right::TwoOne(fun, x, inner, y) => two_one(pool, fun, x, inner, y),
+        Right::TwoTwo(fun, x, inner, y, z) => two_two(pool, fun, x, inner, y, z),
+        Right::Both(f, x, y, g, z, w) => two_twos(pool, AND, (f, x, y), (g, z, w)),
+        Right::Either(f, x, y, g, z, w) => two_twos(pool, OR, (f, x, y), (g, z, w)),
+        Right::Longer(size, x) => longer(pool, size, x),
+        Right::Later(fun, x, y) => later(pool, fun, x, y),
+        Right::Places(fun, x, y) => places(tables, pool, fun, x, y),
+    }
+}
+
+/// The equalities of the arguments of two applications of a constructor.
+fn places(
+    tables: &Tables,
+    pool: &mut Pool,
+    fun: FunId,
+    x: TermId,
+    y: TermId,
+) -> Result<TermId, NoMemory>
+    requires left { IsIn pool.old.trees x }
+    requires right { IsIn pool.old.trees y }
+    ensures kept { Extends pool.old.trees pool.new.trees }
+    ensures inside { IfOk result (λ id. IsIn pool.new.trees id) }
+    ensures made { IfOk result (λ id. (sig : Sig) → AreSignTables tables.now sig → (c : ℕ) (us vs : Terms) → IsSymbolOf sig fun (terms.function c) → StandsFor sig pool.old.trees x (terms.application (terms.function c) us) → StandsFor sig pool.old.trees y (terms.application (terms.function c) vs) → StandsFor sig pool.new.trees id (all_equal (function_at (data_meant sig) c).arguments us vs)) }
+{
+    Err(NoMemory)
+}
+
+/// A built-in equation that matches, with its right side and its condition.
+pub fn make_line(tables: &Tables, pool: &mut Pool, line: Line) -> Result<Found, NoMemory>
+    requires { IsLineIn pool.old.trees line }
+    ensures kept { Extends pool.old.trees pool.new.trees }
+    ensures number { IfOk result (λ found. found.number ≡ line.number) }
+    ensures inside { IfOk result (IsFoundIn pool.new.trees) }
+    ensures made { IfOk result (λ found. (sig : Sig) → AreSignTables tables.now sig → (t : Term) (h : IsFirstAt sig pool.old.trees t line) → StandsFor sig pool.new.trees found.right h.right × IsConditionMade sig pool.new.trees found.cond h.condition) }
+{
+    let right = make(tables, pool, line.right)?;
+    let Some(index) = line.above_zero else {
+        return Ok(Found {
+            number: line.number,
+            cond: None,
+            right,
+        });
+    };
+    let cond = above_zero(pool, index)?;
+    Ok(Found {
+        number: line.number,
+        cond: Some(cond),
+        right,
+    })
 }

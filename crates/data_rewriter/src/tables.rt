@@ -2,6 +2,7 @@
 
 ghost use Rattle.std.specs.Prelude.{◌≡◌, ◌<◌, length, slice_get, Some, get_or};
 ghost use Rattle.data_rewriter.specs.Signs.{sign_at};
+ghost use Rattle.data_rewriter.specs.Rules.{numbers_at};
 
 use crate::signs::Sign;
 use data_theory::{FunId, TermId};
@@ -37,6 +38,17 @@ impl Tables {
             self.signs[fun.0]
         } else {
             Sign::True
+        }
+    }
+
+    /// The numbers of the rules that have a function at the root of their left side.
+    pub fn numbers(&self, fun: FunId) -> &[usize]
+        ensures { result.now ≡ numbers_at self.now fun }
+    {
+        if fun.0 < self.by_head.len() {
+            self.by_head[fun.0].as_slice()
+        } else {
+            &[]
         }
     }
 }

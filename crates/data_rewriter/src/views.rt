@@ -52,10 +52,26 @@ fn call_view(tables: &Tables, fun: FunId, args: &[TermId]) -> View
     ensures shown { (sig : Sig) (ts : List Tree) → AreSigns sig tables.now.signs.items → fun.0 < length sig.functions → All (IsTerm sig ts) args.now → IsView sig ts (application (symbol_under sig fun) (terms_of (listed_at sig ts args.now))) result }
 {
     match tables.sign(fun) {
-        Sign::True => if args.is_empty() { View::True } else { View::Other },
-        Sign::False => if args.is_empty() { View::False } else { View::Other },
-        Sign::Empty(sort) => if args.is_empty() { View::Empty(sort) } else { View::Other },
-        Sign::Not => if args.len() == 1 { View::Not(args[0]) } else { View::Other },
+        Sign::True => if args.is_empty() {
+            View::True
+        } else {
+            View::Other
+        },
+        Sign::False => if args.is_empty() {
+            View::False
+        } else {
+            View::Other
+        },
+        Sign::Empty(sort) => if args.is_empty() {
+            View::Empty(sort)
+        } else {
+            View::Other
+        },
+        Sign::Not => if args.len() == 1 {
+            View::Not(args[0])
+        } else {
+            View::Other
+        },
         Sign::Cons(sort) => if args.len() == 2 {
             View::Cons(fun, sort, args[0], args[1])
         } else {

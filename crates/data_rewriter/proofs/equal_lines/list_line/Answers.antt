@@ -1,18 +1,12 @@
-use Rattle.std.proofs.Common.{◌≡◌, ℕ, ◌<◌, ◌∷◌, [], inl, inr, refl, sym, ap, ◌∙◌, subst, rules, arith}
-use Rattle.std.specs.Prelude.{None, Some, ℤ, ◌^◌, Bool}
-use Rattle.data_theory.specs.Terms.{Sort, Term, Terms, natural, positive, integer, cons, snoc, concatenation, size, rhead, rtail, element_at, membership, equality, upcast, arithmetic, successor, to_natural, subtract, numeral}
-use Rattle.data_theory.specs.Equations.{one, two, trueᵗ, falseᵗ, ◌∧ᵗ◌, ◌∨ᵗ◌, equals, emptyᵗ, consᵗ, number, truth_of}
-use Rattle.data_rewriter.specs.Standing.{StandsFor, IsSymbolOf, IsSortOf}
-use Rattle.data_rewriter.specs.Views.{IsView, IsCons, HasParts}
+use Rattle.std.proofs.Common.{inl, inr, refl, ◌∙◌}
+use Rattle.std.specs.Prelude.{None}
+use Rattle.data_theory.specs.Terms.{equality}
+use Rattle.data_theory.specs.Equations.{falseᵗ, ◌∧ᵗ◌, equals}
 use Rattle.data_rewriter.proofs.Deciding.{plainly, told, denied}
 use Rattle.data_rewriter.proofs.EqualClauses.{list_decided, numeral_no_empty, numeral_no_cons, empty_no_cons}
-use Rattle.data_theory.specs.Terms.{function, application, named, boolean, list}
-use Rattle.data_theory.specs.Equations.{term_at, !ᵗ◌}
-use Rattle.data_theory.specs.declared.ids.FunId.{FunId}
-use Rattle.data_theory.specs.Whole.{whole_of}
-use Rattle.data_theory.specs.IdData.{data_meant}
+use Rattle.data_theory.specs.Terms.{list}
 use Rattle.data_rewriter.proofs.ListClauses.{part}
-use Rattle.data_rewriter.proofs.EqualClauses.{same_function, projects_a_constructor, recognises_a_constructor, equal_nums, numbers_right, same_numbers, places_equal, Unlike, Alike}
+use Rattle.data_rewriter.proofs.EqualClauses.{equal_nums, numbers_right, same_numbers}
 use Rattle.data_rewriter.proofs.equal_lines.list_line.Goals as goal
 
 pub returns-in_default-number_over : goal.returns-in_default-number_over

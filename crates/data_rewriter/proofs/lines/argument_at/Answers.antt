@@ -1,16 +1,7 @@
-use Rattle.std.proofs.Common.{◌≡◌, ◌≢◌, ◌<◌, ◌≤◌, get_or, ℕ, List, [], ◌∷◌, length, refl, sym, ap, ◌∙◌, subst, rules, arith, inl, inr}
-use Rattle.std.specs.Prelude.{None, Some}
-use Rattle.data_theory.specs.Terms.{Symbol, Term, Terms, application, none, more, equality, boolean, list, named, conjunction}
+use Rattle.std.proofs.Common.{◌<◌, ◌≤◌, get_or, length, sym, ap, ◌∙◌, subst, rules, arith}
+use Rattle.data_theory.specs.Terms.{Terms}
 use Rattle.data_theory.specs.Equations.{equals, trueᵗ}
-use Rattle.data_theory.specs.IdTerms.{symbol_under}
-use Rattle.data_theory.specs.IdData.{data_meant}
-use Rattle.data_theory.specs.declared.ids.TermId.{TermId}
-use Rattle.data_rewriter.specs.Standing.{IsTerm, StandsFor, IsSymbolOf, IsSortOf, term_at, listed_at, terms_of}
-use Rattle.data_rewriter.specs.Signs.{HasSign, LooksAt}
-use Rattle.data_rewriter.specs.Views.{IsView}
-use Rattle.data_rewriter.specs.FirstLines.{IsFirstLine}
-use Rattle.data_rewriter.proofs.Deciding.{told, denied}
-use Rattle.data_rewriter.proofs.Arities.{counted, not_one, not_two, not_three, too_many, count_listed, count_of}
+use Rattle.data_rewriter.specs.Standing.{StandsFor}
 use Rattle.data_theory.specs.Equations as equations
 use Rattle.data_rewriter.proofs.Standings.{arguments_are, at_place, past_places, all_arguments, at_slice}
 use Rattle.data_rewriter.proofs.lines.argument_at.Goals as goal

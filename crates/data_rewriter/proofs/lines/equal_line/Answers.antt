@@ -1,18 +1,11 @@
-use Rattle.std.proofs.Common.{◌≡◌, ◌≢◌, ◌<◌, ◌≤◌, ℕ, List, [], ◌∷◌, length, refl, sym, ap, ◌∙◌, subst, rules, arith, inl, inr}
-use Rattle.std.specs.Prelude.{None, Some}
-use Rattle.data_theory.specs.Terms.{Symbol, Term, Terms, application, none, more, equality, boolean, list, named, conjunction}
-use Rattle.data_theory.specs.Equations.{equals, trueᵗ}
-use Rattle.data_theory.specs.IdTerms.{symbol_under}
-use Rattle.data_theory.specs.IdData.{data_meant}
-use Rattle.data_theory.specs.declared.ids.TermId.{TermId}
-use Rattle.data_rewriter.specs.Standing.{IsTerm, StandsFor, IsSymbolOf, IsSortOf, term_at, listed_at, terms_of}
-use Rattle.data_rewriter.specs.Signs.{HasSign, LooksAt}
-use Rattle.data_rewriter.specs.Views.{IsView}
+use Rattle.std.proofs.Common.{sym, subst}
+use Rattle.data_theory.specs.Terms.{equality}
+use Rattle.data_theory.specs.Equations.{equals}
+use Rattle.data_rewriter.specs.Standing.{IsSymbolOf, IsSortOf}
+use Rattle.data_rewriter.specs.Signs.{LooksAt}
 use Rattle.data_rewriter.specs.FirstLines.{IsFirstLine}
 use Rattle.data_rewriter.proofs.Deciding.{told, denied}
-use Rattle.data_rewriter.proofs.Arities.{counted, not_one, not_two, not_three, too_many, count_listed, count_of}
 use Rattle.data_rewriter.proofs.EqualClauses.{same_decided}
-use Rattle.data_rewriter.specs.declared.signs.Equals.TheVariants.{Bool as BoolLook, List as ListLook, Struct as StructLook, Other as OtherLook}
 use Rattle.data_rewriter.proofs.lines.equal_line.Goals as goal
 
 pub returns-then-same : goal.returns-then-same

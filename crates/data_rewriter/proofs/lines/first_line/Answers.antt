@@ -1,16 +1,11 @@
-use Rattle.std.proofs.Common.{◌≡◌, ◌≢◌, ◌<◌, ◌≤◌, ℕ, List, [], ◌∷◌, length, refl, sym, ap, ◌∙◌, subst, rules, arith, inl, inr}
-use Rattle.std.specs.Prelude.{None, Some}
-use Rattle.data_theory.specs.Terms.{Symbol, Term, Terms, application, none, more, equality, boolean, list, named, conjunction}
-use Rattle.data_theory.specs.Equations.{equals, trueᵗ}
+use Rattle.std.proofs.Common.{List, sym, ap, ◌∙◌, subst}
+use Rattle.data_theory.specs.Terms.{application}
 use Rattle.data_theory.specs.IdTerms.{symbol_under}
 use Rattle.data_theory.specs.IdData.{data_meant}
 use Rattle.data_theory.specs.declared.ids.TermId.{TermId}
-use Rattle.data_rewriter.specs.Standing.{IsTerm, StandsFor, IsSymbolOf, IsSortOf, term_at, listed_at, terms_of}
-use Rattle.data_rewriter.specs.Signs.{sign_at, HasSign, LooksAt}
-use Rattle.data_rewriter.specs.Views.{IsView}
+use Rattle.data_rewriter.specs.Standing.{IsTerm, listed_at, terms_of}
+use Rattle.data_rewriter.specs.Signs.{sign_at}
 use Rattle.data_rewriter.specs.FirstLines.{LineAt, IsFirstLine}
-use Rattle.data_rewriter.proofs.Deciding.{told, denied}
-use Rattle.data_rewriter.proofs.Arities.{counted, not_one, not_two, not_three, too_many, count_listed, count_of}
 use Rattle.std.specs.List.{All}
 use Rattle.data_rewriter.proofs.Standings.{call_at}
 use Rattle.data_rewriter.proofs.Arities.{at_one, at_two, at_three, at_none, at_atom}

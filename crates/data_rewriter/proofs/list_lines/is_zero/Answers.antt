@@ -1,10 +1,5 @@
-use Rattle.std.proofs.Common.{◌≡◌, ℕ, ◌<◌, ◌∷◌, [], inl, inr, refl, sym, ap, ◌∙◌, subst, rules, arith}
-use Rattle.std.specs.Prelude.{None, Some, ℤ, ◌^◌, Bool}
-use Rattle.data_theory.specs.Terms.{Sort, Term, Terms, natural, positive, integer, cons, snoc, concatenation, size, rhead, rtail, element_at, membership, equality, upcast, arithmetic, successor, to_natural, subtract, numeral}
-use Rattle.data_theory.specs.Equations.{one, two, trueᵗ, falseᵗ, ◌∧ᵗ◌, ◌∨ᵗ◌, equals, emptyᵗ, consᵗ, number, truth_of}
-use Rattle.data_rewriter.specs.Standing.{StandsFor, IsSymbolOf, IsSortOf}
-use Rattle.data_rewriter.specs.Views.{IsView, IsCons, HasParts}
-use Rattle.data_rewriter.proofs.Deciding.{plainly, told, denied}
+use Rattle.std.proofs.Common.{◌≡◌, ◌∙◌, rules}
+use Rattle.data_theory.specs.Terms.{natural}
 use Rattle.data_rewriter.proofs.ListClauses.{zero_is, not_zero}
 use Rattle.data_rewriter.proofs.NumberSorts.{naturals_are}
 use Rattle.data_rewriter.proofs.Deciding.{falsum}

@@ -1,9 +1,7 @@
-use Rattle.std.proofs.Common.{◌≡◌, ℕ, ◌<◌, ◌∷◌, [], inl, inr, refl, sym, ap, ◌∙◌, subst, rules, arith}
-use Rattle.std.specs.Prelude.{None, Some, ℤ, ◌^◌, Bool}
-use Rattle.data_theory.specs.Terms.{Sort, Term, Terms, natural, positive, integer, cons, snoc, concatenation, size, rhead, rtail, element_at, membership, equality, upcast, arithmetic, successor, to_natural, subtract, numeral}
-use Rattle.data_theory.specs.Equations.{one, two, trueᵗ, falseᵗ, ◌∧ᵗ◌, ◌∨ᵗ◌, equals, emptyᵗ, consᵗ, number, truth_of}
-use Rattle.data_rewriter.specs.Standing.{StandsFor, IsSymbolOf, IsSortOf}
-use Rattle.data_rewriter.specs.Views.{IsView, IsCons, HasParts}
+use Rattle.std.proofs.Common.{◌∷◌, [], inl, inr, refl, ap}
+use Rattle.std.specs.Prelude.{None}
+use Rattle.data_theory.specs.Terms.{natural, positive, size, upcast, arithmetic, successor}
+use Rattle.data_theory.specs.Equations.{one, number}
 use Rattle.data_rewriter.proofs.Deciding.{plainly, told, denied}
 use Rattle.data_rewriter.proofs.ListClauses.{size_decided, part}
 use Rattle.data_rewriter.proofs.NumberSorts.{naturals_are}

@@ -1,8 +1,4 @@
-use Rattle.std.proofs.Common.{◌≡◌, ◌∙◌, sym, subst, ap, inl, inr, ⊎_elim, rules}
-use Rattle.data_theory.specs.IdTerms.{symbol_under}
-use Rattle.data_rewriter.specs.Signs.{HasSign}
 use Rattle.data_rewriter.proofs.Deciding.{told, denied, falsum}
-use Rattle.data_rewriter.proofs.Looking.{if_looks_first, and_looks_first, or_looks_first, implies_looks_first, not_looking}
 use Rattle.data_rewriter.proofs.machine.first_decides.Goals as goal
 
 pub returns-then-looks_first : goal.returns-then-looks_first

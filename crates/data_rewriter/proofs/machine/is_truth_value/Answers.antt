@@ -1,8 +1,5 @@
-use Rattle.std.proofs.Common.{◌≡◌, ◌∙◌, sym, subst, ap, inl, inr, ⊎_elim, rules}
-use Rattle.data_theory.specs.IdTerms.{symbol_under}
-use Rattle.data_rewriter.specs.Signs.{HasSign}
+use Rattle.std.proofs.Common.{inl, inr, ⊎_elim, rules}
 use Rattle.data_rewriter.proofs.Deciding.{told, denied}
-use Rattle.data_rewriter.proofs.Looking.{if_looks_first, and_looks_first, or_looks_first, implies_looks_first, not_looking}
 use Rattle.data_rewriter.proofs.machine.is_truth_value.Goals as goal
 
 pub returns-then-is_true : goal.returns-then-is_true
@@ -12,6 +9,7 @@ returns-then-is_true c = λ sig own all term.
 
 pub returns : goal.returns
 returns c = λ sig own all term.
-    let v = c.view_of-shown.ensures.shown sig all.signs.signs term in
-    ((λ b. inr ((c.is_false.ensures sig c.args.pool.now.trees _ v).0 b)),
-    (λ t. ⊎_elim (λ e. absurd (denied (c.is_true.ensures sig c.args.pool.now.trees _ v) c.if-is_true.false e)) (λ e. (c.is_false.ensures sig c.args.pool.now.trees _ v).1 e) t))
+    let v = c.view_of-shown.ensures.shown sig all.signs.signs term in (
+      (λ b. inr ((c.is_false.ensures sig c.args.pool.now.trees _ v).0 b)),
+      (λ t. ⊎_elim (λ e. absurd (denied (c.is_true.ensures sig c.args.pool.now.trees _ v) c.if-is_true.false e)) (λ e. (c.is_false.ensures sig c.args.pool.now.trees _ v).1 e) t),
+    )

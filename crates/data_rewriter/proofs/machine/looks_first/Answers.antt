@@ -1,4 +1,4 @@
-use Rattle.std.proofs.Common.{◌≡◌, ◌∙◌, sym, subst, ap, inl, inr, ⊎_elim, rules}
+use Rattle.std.proofs.Common.{◌∙◌, sym, subst, rules}
 use Rattle.data_theory.specs.IdTerms.{symbol_under}
 use Rattle.data_rewriter.specs.Signs.{HasSign}
 use Rattle.data_rewriter.proofs.Deciding.{falsum}

@@ -1,13 +1,10 @@
-use Rattle.std.proofs.Common.{◌≡◌, ℕ, List, [], ◌∷◌, sym, subst, ap, ◌∙◌, append-nil, refl}
+use Rattle.std.proofs.Common.{◌≡◌, List, [], ◌∷◌, sym, subst, ap, append-nil, refl}
 use Rattle.std.proofs.lemmas.List.Elements.{All-head, All-tail}
-use Rattle.std.specs.Prelude.{Option, Some, None, MatchOption}
+use Rattle.std.specs.Prelude.{Option, MatchOption}
 use Rattle.std.specs.List.{All}
-use Rattle.data_theory.specs.IdTrees.{Tree}
-use Rattle.data_theory.specs.declared.ids.TermId.{TermId}
 use Rattle.term_pool.specs.Pools.{PoolContents}
 use Rattle.data_rewriter.specs.declared.machine.Place.{Place}
-use Rattle.data_rewriter.specs.declared.machine.Hand.{Hand}
-use Rattle.data_rewriter.specs.declared.machine.Hand.TheVariants.{Visit, Root, Answer, Spent}
+use Rattle.data_rewriter.specs.declared.machine.Hand.TheVariants.{Visit, Root, Answer}
 use Rattle.data_rewriter.specs.declared.stack.Frame.{Frame}
 use Rattle.data_rewriter.specs.Frames.{Plain, plain}
 use Rattle.data_rewriter.specs.States.{IsFrameIn, AreWithin, AreIdsIn, Shows}
@@ -24,9 +21,10 @@ loop-init g c =
 pub returns-in_default-clause-says : goal.returns-in_default-clause-says
 returns-in_default-clause-says g c = λ sig own all s w.
     let bottom : c.loop.stack ≡ [] = subst (λ (r : Option Frame). MatchOption r (c.loop.stack ≡ []) (λ frame. c.loop.stack ≡ plain frame ∷ c.pop.new.self)) c.in_default.is c.pop.ensures in
-    let pairs = answer_is_stored c.args.tables.now c.args.pool.now.trees c.loop.pool.trees c.args.normal_forms.now c.loop.normal_forms c.args.term c.loop.stack c.loop.place.start c.loop.place.hand c.args.fuel.now c.loop.fuel c.loop.invariant c.in-Answer.normal c.in-Answer.is sig own all s w in
-    (says_done c.args.tables.now c.args.pool.now.trees c.loop.pool.trees c.args.normal_forms.now c.loop.normal_forms c.args.term c.loop.stack c.loop.place.start c.loop.place.hand c.args.fuel.now c.loop.fuel c.loop.invariant c.in-Answer.normal c.in-Answer.is bottom sig own all s w,
-    c.in_ok-keep-in-Answer.ensures.stored sig own c.loop.pool.trees (c.loop.invariant.stored sig own all s w) pairs.0 pairs.1)
+    let pairs = answer_is_stored c.args.tables.now c.args.pool.now.trees c.loop.pool.trees c.args.normal_forms.now c.loop.normal_forms c.args.term c.loop.stack c.loop.place.start c.loop.place.hand c.args.fuel.now c.loop.fuel c.loop.invariant c.in-Answer.normal c.in-Answer.is sig own all s w in (
+      says_done c.args.tables.now c.args.pool.now.trees c.loop.pool.trees c.args.normal_forms.now c.loop.normal_forms c.args.term c.loop.stack c.loop.place.start c.loop.place.hand c.args.fuel.now c.loop.fuel c.loop.invariant c.in-Answer.normal c.in-Answer.is bottom sig own all s w,
+      c.in_ok-keep-in-Answer.ensures.stored sig own c.loop.pool.trees (c.loop.invariant.stored sig own all s w) pairs.0 pairs.1,
+    )
 
 pub resume-requires-clause-frames : goal.resume-requires-clause-frames
 resume-requires-clause-frames g c =
@@ -39,7 +37,7 @@ returns-in-Spent-clause-says g c = λ sig own all s w.
 
 pub loop-preserved : goal.loop-preserved
 loop-preserved g c = elim c.match-place.branch [
-    in-Visit+in_ok-place-in-Visit w ↦
+  | in-Visit+in_ok-place-in-Visit w ↦
       runs_as c.args.tables.now c.args.pool.now.trees c.args.normal_forms.now c.args.term c.args.fuel.now c.loop.pool.trees c.match-place.pool.trees c.loop.normal_forms c.match-place.normal_forms w.visit.new.stack c.match-place.stack w.in_ok-place-in-Visit.place.start c.match-place.place.start w.in_ok-place-in-Visit.place.hand c.match-place.place.hand c.loop.fuel c.match-place.fuel
       (ap (λ (p : PoolContents). p.trees) w.pool-is) w.normal_forms-is w.stack-is (ap (λ (p : Place). p.start) w.place-is) (ap (λ (p : Place). p.hand) w.place-is) w.fuel-is
       (steps c.args.tables.now c.args.pool.now.trees c.loop.pool.trees c.args.normal_forms.now c.loop.normal_forms c.args.term c.loop.stack c.loop.place.start (Visit w.in-Visit.next) c.args.fuel.now c.loop.fuel (runs_at c.args.tables.now c.args.pool.now.trees c.loop.pool.trees c.args.normal_forms.now c.loop.normal_forms c.args.term c.loop.stack c.loop.place.start c.loop.place.hand (Visit w.in-Visit.next) c.args.fuel.now c.loop.fuel w.in-Visit.is c.loop.invariant)
@@ -57,7 +55,8 @@ loop-preserved g c = elim c.match-place.branch [
       (steps c.args.tables.now c.args.pool.now.trees c.loop.pool.trees c.args.normal_forms.now w.keep.new.normal_forms c.args.term c.loop.stack c.loop.place.start (Answer w.in-Answer.normal) c.args.fuel.now c.loop.fuel
       (keeps c.args.tables.now c.args.pool.now.trees c.loop.pool.trees c.args.normal_forms.now c.loop.normal_forms c.args.term c.loop.stack c.loop.place.start c.loop.place.hand c.args.fuel.now c.loop.fuel c.loop.invariant w.in-Answer.normal w.keep.new.normal_forms (Answer w.in-Answer.normal) w.in-Answer.is refl w.in_ok-keep-in-Answer.ensures.within w.in_ok-keep-in-Answer.ensures.stored)
       w.resume.new.pool.trees w.resume.new.stack w.in_ok-place-in-Answer.place.start w.in_ok-place-in-Answer.place.hand w.resume.new.fuel w.in_ok-place-in-Answer.ensures.kept w.in_ok-place-in-Answer.ensures.ids w.in_ok-place-in-Answer.ensures.spent
-      (λ sig own all st over. let next = w.in_ok-place-in-Answer.ensures.follows c.loop.place.start sig own all (subst (λ (x : List Plain). AreWithin sig c.loop.pool.trees x c.loop.place.start (Answer w.in-Answer.normal)) w.in-Some.ensures over) in (next.0, λ origin before s. next.1 origin before (subst (λ (x : List Plain). Shows sig own c.loop.pool.trees origin x c.loop.place.start (Answer w.in-Answer.normal) before c.loop.fuel) w.in-Some.ensures s)))) ]
+      (λ sig own all st over. let next = w.in_ok-place-in-Answer.ensures.follows c.loop.place.start sig own all (subst (λ (x : List Plain). AreWithin sig c.loop.pool.trees x c.loop.place.start (Answer w.in-Answer.normal)) w.in-Some.ensures over) in (next.0, λ origin before s. next.1 origin before (subst (λ (x : List Plain). Shows sig own c.loop.pool.trees origin x c.loop.place.start (Answer w.in-Answer.normal) before c.loop.fuel) w.in-Some.ensures s))))
+]
 
 pub at_root-requires-clause-known : goal.at_root-requires-clause-known
 at_root-requires-clause-known g c =

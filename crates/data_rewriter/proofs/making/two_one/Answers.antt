@@ -1,9 +1,5 @@
-use Rattle.std.proofs.Common.{◌≡◌, List, [], ◌∷◌, sym, subst, ap, ◌∙◌}
-use Rattle.std.specs.List.{All}
-use Rattle.data_theory.specs.declared.ids.TermId.{TermId}
-use Rattle.data_theory.specs.Terms.{Terms, apply, more, none}
-use Rattle.data_rewriter.specs.Standing.{IsTerm, StandsFor, listed_at, terms_of}
-use Rattle.data_rewriter.proofs.Standings.{called, called_one, called_two, stands_still_for}
+use Rattle.data_theory.specs.Terms.{apply, more, none}
+use Rattle.data_rewriter.proofs.Standings.{stands_still_for}
 use Rattle.data_rewriter.proofs.making.two_one.Goals as goal
 
 pub returns-clause-made : goal.returns-clause-made

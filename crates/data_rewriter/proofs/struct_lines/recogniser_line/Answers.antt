@@ -1,18 +1,14 @@
-use Rattle.std.proofs.Common.{◌≡◌, ℕ, ◌<◌, ◌∷◌, [], inl, inr, refl, sym, ap, ◌∙◌, subst, rules, arith}
-use Rattle.std.specs.Prelude.{None, Some, ℤ, ◌^◌, Bool}
-use Rattle.data_theory.specs.Terms.{Sort, Term, Terms, natural, positive, integer, cons, snoc, concatenation, size, rhead, rtail, element_at, membership, equality, upcast, arithmetic, successor, to_natural, subtract, numeral}
-use Rattle.data_theory.specs.Equations.{one, two, trueᵗ, falseᵗ, ◌∧ᵗ◌, ◌∨ᵗ◌, equals, emptyᵗ, consᵗ, number, truth_of}
-use Rattle.data_rewriter.specs.Standing.{StandsFor, IsSymbolOf, IsSortOf}
-use Rattle.data_rewriter.specs.Views.{IsView, IsCons, HasParts}
-use Rattle.data_rewriter.proofs.Deciding.{plainly, told, denied}
+use Rattle.std.proofs.Common.{◌≡◌, inl, inr, refl, sym, ap, ◌∙◌, subst, rules}
+use Rattle.std.specs.Prelude.{None}
+use Rattle.data_theory.specs.Terms.{Terms}
+use Rattle.data_theory.specs.Equations.{trueᵗ, falseᵗ}
+use Rattle.data_rewriter.specs.Standing.{IsSymbolOf}
+use Rattle.data_rewriter.proofs.Deciding.{plainly}
 use Rattle.data_rewriter.proofs.EqualClauses.{recogniser_decided, made_symbol, made_by}
-use Rattle.data_theory.specs.Terms.{function, application, named, boolean, list}
-use Rattle.data_theory.specs.Equations.{term_at, !ᵗ◌}
+use Rattle.data_theory.specs.Terms.{function, application}
 use Rattle.data_theory.specs.declared.ids.FunId.{FunId}
-use Rattle.data_theory.specs.Whole.{whole_of}
 use Rattle.data_theory.specs.IdData.{data_meant}
-use Rattle.data_rewriter.proofs.ListClauses.{part}
-use Rattle.data_rewriter.proofs.EqualClauses.{same_function, projects_a_constructor, recognises_a_constructor, equal_nums, numbers_right, same_numbers, places_equal, Unlike, Alike}
+use Rattle.data_rewriter.proofs.EqualClauses.{same_function, recognises_a_constructor}
 use Rattle.data_rewriter.proofs.struct_lines.recogniser_line.Goals as goal
 
 pub returns-in_default : goal.returns-in_default

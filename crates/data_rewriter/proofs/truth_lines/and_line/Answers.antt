@@ -1,6 +1,5 @@
-use Rattle.std.proofs.Common.{◌≡◌, inl, inr, refl, sym, subst}
+use Rattle.std.proofs.Common.{inl, inr, subst}
 use Rattle.std.specs.Prelude.{None}
-use Rattle.data_theory.specs.Terms.{Term}
 use Rattle.data_rewriter.specs.Standing.{StandsFor}
 use Rattle.data_rewriter.proofs.Deciding.{plainly, told, denied}
 use Rattle.data_rewriter.proofs.TruthClauses.{and_decided}

@@ -1,8 +1,6 @@
-use Rattle.std.proofs.Common.{◌≡◌, inl, inr, refl, sym, subst}
-use Rattle.std.specs.Prelude.{None}
-use Rattle.data_theory.specs.Terms.{Term, equality}
-use Rattle.data_rewriter.specs.Standing.{StandsFor}
-use Rattle.data_rewriter.proofs.Deciding.{plainly, told, denied}
+use Rattle.std.proofs.Common.{inl, refl}
+use Rattle.data_theory.specs.Terms.{equality}
+use Rattle.data_rewriter.proofs.Deciding.{plainly}
 use Rattle.data_rewriter.proofs.TruthClauses.{different_decided}
 use Rattle.data_rewriter.proofs.truth_lines.different_line.Goals as goal
 

@@ -1,7 +1,4 @@
-use Rattle.std.proofs.Common.{◌≡◌, inl, inr, refl, sym, subst}
-use Rattle.std.specs.Prelude.{None}
-use Rattle.data_theory.specs.Terms.{Term}
-use Rattle.data_rewriter.specs.Standing.{StandsFor}
+use Rattle.std.proofs.Common.{inl, inr, refl}
 use Rattle.data_rewriter.proofs.Deciding.{plainly, told, denied}
 use Rattle.data_rewriter.proofs.TruthClauses.{implies_decided}
 use Rattle.data_rewriter.proofs.truth_lines.implies_line.Goals as goal

@@ -2,11 +2,10 @@ use Rattle.std.proofs.Common.{◌≡◌, inl, inr, refl, sym, subst, ◌∙◌}
 use Rattle.std.specs.Prelude.{None}
 use Rattle.data_theory.specs.Terms.{Term}
 use Rattle.data_theory.specs.Equations.{trueᵗ, falseᵗ, !ᵗ◌}
-use Rattle.data_rewriter.specs.declared.views.View.{View}
 use Rattle.data_rewriter.specs.Views.{IsView}
 use Rattle.data_rewriter.proofs.ViewLemmas.{not_true_view, not_false_view, not_not_view}
 use Rattle.data_rewriter.specs.Standing.{StandsFor}
-use Rattle.data_rewriter.proofs.Deciding.{plainly, told, denied}
+use Rattle.data_rewriter.proofs.Deciding.{plainly}
 use Rattle.data_rewriter.proofs.TruthClauses.{not_decided, under_not}
 use Rattle.data_rewriter.proofs.truth_lines.not_line.Goals as goal
 

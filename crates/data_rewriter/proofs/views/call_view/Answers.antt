@@ -1,4 +1,4 @@
-use Rattle.std.proofs.Common.{◌≡◌, ◌<◌, ℕ, sym, subst, ◌∙◌, rules, arith, length}
+use Rattle.std.proofs.Common.{sym, subst, ◌∙◌, rules, arith}
 use Rattle.data_theory.specs.IdTerms.{symbol_under}
 use Rattle.data_rewriter.specs.Signs.{HasSign}
 use Rattle.data_rewriter.proofs.ViewLemmas.{crowded_true, crowded_false, crowded_empty, not_one, not_two}

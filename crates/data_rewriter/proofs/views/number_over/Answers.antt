@@ -1,6 +1,5 @@
 use Rattle.std.proofs.Common.{◌≡◌, sym, subst, ap, ◌∙◌, rules}
 use Rattle.data_theory.specs.declared.ids.SortId.{SortId}
-use Rattle.data_theory.specs.Terms.{Sort, numeral}
 use Rattle.data_rewriter.specs.Standing.{IsSortOf}
 use Rattle.data_rewriter.specs.Views.{IsView}
 use Rattle.data_rewriter.proofs.ViewLemmas.{same_sort}

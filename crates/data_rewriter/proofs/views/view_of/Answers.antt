@@ -1,4 +1,4 @@
-use Rattle.std.proofs.Common.{◌≡◌, ◌<◌, List, sym, subst, arith}
+use Rattle.std.proofs.Common.{◌<◌, List, sym, subst, arith}
 use Rattle.std.proofs.lemmas.List.Elements.{All-weaker}
 use Rattle.term_pool.specs.HeadTrees.{IsIn}
 use Rattle.std.specs.List.{All}

@@ -1,0 +1,39 @@
+-- What a rewriter keeps, and what its answers say.
+use Rattle.std.specs.Prelude.{◌≡◌, ◌≢◌, ◌≤◌, ◌+◌, ℕ, List}
+use Rattle.data_theory.specs.declared.ids.TermId.{TermId}
+use Rattle.data_theory.specs.Equations.{trueᵗ, falseᵗ}
+use Rattle.data_theory.specs.Provable.{Equation}
+use Rattle.data_theory.specs.Rewriting.{GoesTo, ChainOfMoreThan}
+use Rattle.data_theory.specs.Signature.{Sig}
+use Rattle.data_theory.specs.IdData.{data_meant}
+use Rattle.data_theory.specs.IdTrees.{Tree}
+use Rattle.number_rules.specs.declared.rules.NumberRules.{NumberRules}
+use Rattle.data_rewriter.specs.declared.rewriter.Rewriter.{Rewriter}
+use Rattle.data_rewriter.specs.declared.rewriter.Truth.{Truth}
+use Rattle.data_rewriter.specs.declared.rewriter.Truth.TheVariants.{Yes, No, Stuck, Spent}
+use Rattle.data_rewriter.specs.Standing.{IsTerm, term_at}
+use Rattle.data_rewriter.specs.States.{AreTablesOf, AreStored}
+
+-- the rules of numbers that a rewriter holds
+abbrev pub number_rules : {F : Type 0} → Rewriter F → NumberRules F
+number_rules r = r.rules
+
+-- A rewriter of these data fits a pool: what it keeps of the signature and of the written equations stands there, and each
+-- stored pair is a term of the data and the term that it goes to.
+pub record Fits {F : Type 0} (r : Rewriter F) (sig : Sig) (own : List Equation) (ts : List Tree) : Type 0 where
+  pub tables : AreTablesOf r.tables sig own ts
+  pub stored : AreStored sig own ts r.normal_forms
+
+-- how a term of sort Bool is decided, where the fuel falls from the first number to the second
+abbrev pub IsDecision : Sig → List Equation → List Tree → List Tree → TermId → ℕ → ℕ → Truth → Type 0
+IsDecision sig own old new t fuel fuel' Yes = (n : ℕ) × (fuel ≤ n + fuel') × GoesTo (data_meant sig) own (term_at sig old t) trueᵗ n
+IsDecision sig own old new t fuel fuel' No = (n : ℕ) × (fuel ≤ n + fuel') × GoesTo (data_meant sig) own (term_at sig old t) falseᵗ n
+IsDecision sig own old new t fuel fuel' (Stuck u) = IsTerm sig new u × ((n : ℕ) × (fuel ≤ n + fuel') × GoesTo (data_meant sig) own (term_at sig old t) (term_at sig new u) n) × (term_at sig new u ≢ trueᵗ) × (term_at sig new u ≢ falseᵗ)
+IsDecision sig own old new t fuel fuel' (Spent u) = (u ≡ t) × (fuel' ≡ 0) × ChainOfMoreThan (data_meant sig) own fuel (term_at sig old t)
+
+-- what a term is as a truth value
+abbrev pub IsTruthOf : Sig → List Tree → TermId → Truth → Type 0
+IsTruthOf sig ts t Yes = term_at sig ts t ≡ trueᵗ
+IsTruthOf sig ts t No = term_at sig ts t ≡ falseᵗ
+IsTruthOf sig ts t (Stuck u) = (u ≡ t) × (term_at sig ts t ≢ trueᵗ) × (term_at sig ts t ≢ falseᵗ)
+IsTruthOf sig ts t (Spent u) = ⊥
