@@ -1,6 +1,5 @@
 -- The closed terms of columns, as they are found.
 use Rattle.std.proofs.Common.{◌≡◌, ◌<◌, ◌≤◌, ◌+◌, ℕ, List, [], ◌∷◌, ◌++◌, map, take, length, get_or, refl, sym, ap, ◌∙◌, subst, arith, Some}
-use Rattle.std.specs.List.{All}
 use Rattle.std.specs.Prelude.{slice_get}
 use Rattle.std.proofs.lemmas.List.{map-append, length-append, take_more, take_all}
 use Rattle.std.proofs.lemmas.Option.{get_or_from_slice_get}

@@ -1,11 +1,11 @@
 -- The trees of frames, as they are made.
-use Rattle.std.proofs.Common.{◌≡◌, ◌≤◌, ◌<◌, ◌+◌, ◌-◌, ◌==◌, ℕ, zero, suc, refl, Bool, true, false, List, [], ◌∷◌, ◌++◌, map, length, get_or, take, drop, arith, sym, subst, ap, ap₂, ◌∙◌, cond, ⊎_elim, Option, Some, None}
+use Rattle.std.proofs.Common.{◌≡◌, ◌≤◌, ◌<◌, ◌+◌, ◌-◌, ◌==◌, ℕ, zero, suc, refl, true, false, List, [], ◌∷◌, ◌++◌, map, length, get_or, take, drop, arith, sym, subst, ap, ap₂, ◌∙◌, cond, ⊎_elim, Some, None}
 use Rattle.std.specs.Prelude.{Vec, unwrap_or}
 use Rattle.std.specs.Global.{Global}
 use Rattle.std.specs.List.{All}
 use Rattle.std.proofs.lemmas.Bool.Decides.{eqb_tells}
 use Rattle.std.proofs.lemmas.List.{append_assoc, append-nil, map-append, length-map, length-take-le, take_more, take_all}
-use Rattle.std.proofs.lemmas.List.Elements.{All-nil, All-head, All-tail, All-push, All-get_or}
+use Rattle.std.proofs.lemmas.List.Elements.{All-head, All-tail, All-push, All-get_or}
 use Rattle.data_theory.specs.declared.ids.FunId.{FunId}
 use Rattle.data_theory.specs.declared.ids.TermId.{TermId}
 use Rattle.data_theory.specs.declared.ids.VarId.{VarId}
@@ -15,15 +15,14 @@ use Rattle.term_pool.specs.Bindings.{listed, listed_terms}
 use Rattle.term_pool.specs.HeadTrees.{head_tree, tree_at, trees_at, IsIn, AreIn}
 use Rattle.term_pool.specs.Pools.{Extends}
 use Rattle.lps_core.specs.TreeConditions.{tree_parts, trees_without_true}
-use Rattle.lps_core.specs.TreeSummands.{bound_tree}
-use Rattle.lps_core.proofs.PoolTrees.{extends_itself, extends_on, tree_kept, trees_kept, all_in_kept, listed_kept, args_along}
+use Rattle.lps_core.proofs.PoolTrees.{extends_itself, extends_on, tree_kept, trees_kept, listed_kept, args_along}
 use Rattle.greibach.specs.PlainForms.{plain_call}
 use Rattle.regular_encoder.specs.FormColumns.{places_in}
 use Rattle.regular_encoder.specs.TreeEncoding.{number_tree}
 use Rattle.stack_encoder.specs.declared.layouts.Layout.{Layout}
 use Rattle.stack_encoder.specs.StackColumns.{value_at}
 use Rattle.stack_encoder.specs.StackEntries.{StackIds}
-use Rattle.stack_encoder.specs.TreeStack.{argument_tree, place_at, column_trees, frame_tree, pushed_trees, IsCallIn}
+use Rattle.stack_encoder.specs.TreeStack.{argument_tree, place_at, column_trees, frame_tree, pushed_trees}
 use Rattle.stack_encoder.specs.Frames.{frame_layout}
 use Rattle.stack_encoder.proofs.NeededColumns.{drop_last, drop_more_back}
 

@@ -1,20 +1,19 @@
 -- Fresh names, and a sort of stacks that has them.
-use Rattle.std.proofs.Common.{◌≡◌, ◌<◌, ◌+◌, ◌-◌, ◌⊎◌, ℕ, zero, suc, List, [], ◌∷◌, ◌++◌, map, length, get_or, refl, sym, ap, ap₂, ◌∙◌, subst, arith, ⊎_elim, Option, Some}
+use Rattle.std.proofs.Common.{◌≡◌, ◌<◌, ◌+◌, ◌-◌, ℕ, zero, suc, List, [], ◌∷◌, ◌++◌, map, length, refl, sym, ap, ap₂, ◌∙◌, subst, arith, ⊎_elim, Option, Some}
 use Rattle.std.specs.Prelude.{slice_get, Contains, IfSome}
 use Rattle.std.specs.List.{All}
-use Rattle.std.proofs.lemmas.List.Elements.{All-nil, All-push, All-weaker, All-contains, All-head, All-tail, All-cons, All-append, All-map, Contains-append_left, Contains-append_right}
+use Rattle.std.proofs.lemmas.List.Elements.{All-nil, All-push, All-weaker, All-contains, All-head, All-tail, All-cons, All-append, Contains-append_left, Contains-append_right}
 use Rattle.std.proofs.lemmas.List.{map-append, append_assoc, length-map, length-append}
 use Rattle.std.proofs.lemmas.Option.{slice_get_within, get_or_from_slice_get}
 use Rattle.data_theory.specs.declared.ids.NameId.{NameId}
 use Rattle.data_theory.specs.declared.ids.SortId.{SortId}
-use Rattle.data_theory.specs.declared.rows.Row.{Row}
-use Rattle.data_theory.specs.Environments.{Apart, AreDistinct}
+use Rattle.data_theory.specs.Environments.{AreDistinct}
 use Rattle.data_theory.specs.Functions.{Function, key_of, HasKey, declared_function}
 use Rattle.data_theory.specs.Keys.{Key}
 use Rattle.data_theory.specs.Places.{HaveOnePlace}
 use Rattle.data_theory.specs.SortNames.{IsName}
 use Rattle.data_theory.specs.Structs.{Con, IsConWithin, projections_of, struct_functions, numbers_from}
-use Rattle.data_theory.specs.Rows.{built_in, built_ins, row_text}
+use Rattle.data_theory.specs.Rows.{built_in, built_ins}
 use Rattle.data_theory.specs.Table.{bool_sort, pos_sort, sort_rows}
 use Rattle.data_theory.specs.Names.{place_in, with_text}
 use Rattle.data_theory.specs.Signature.{Sig, IsTaken, with_sort, IsNewStruct}

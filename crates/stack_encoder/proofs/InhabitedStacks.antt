@@ -1,5 +1,5 @@
 -- No sort is empty where the sort of the stack, its parameter and closed terms have come.
-use Rattle.std.proofs.Common.{◌≡◌, ◌<◌, ◌≤◌, ◌+◌, ℕ, List, [], ◌∷◌, ◌++◌, length, refl, sym, ap, ◌∙◌, subst, arith, ⊎_elim}
+use Rattle.std.proofs.Common.{◌≡◌, ◌<◌, ◌+◌, List, [], ◌∷◌, ◌++◌, length, refl, sym, ap, ◌∙◌, subst, arith, ⊎_elim}
 use Rattle.std.proofs.lemmas.Bool.Decides.{eqb_tells}
 use Rattle.std.proofs.lemmas.List.{length-append}
 use Rattle.data_theory.specs.declared.ids.NameId.{NameId}
@@ -26,7 +26,6 @@ use Rattle.stack_encoder.specs.AddedSort.{StackWords, DeclaresStack, constructor
 use Rattle.stack_encoder.specs.StackColumns.{AreClosedTerms, no_closed_term, one_more_closed_term}
 use Rattle.stack_encoder.specs.StackEntries.{StackIds, StackStands}
 use Rattle.stack_encoder.proofs.FreshWords.{words_stand}
-use Rattle.stack_encoder.proofs.ServingStacks.{declared_grown}
 use Rattle.stack_encoder.proofs.SortedStacks.{empty_sorted}
 
 pub closed_sorts : (g : Sig) (p : PoolContents) (ss : List SortId) (h : Sig) (q : PoolContents) (ts : List TermId) → AreClosedTerms g p ss h q ts → h.sorts ≡ g.sorts

@@ -1,16 +1,15 @@
 -- What an encoding over trees means.
-use Rattle.std.proofs.Common.{◌≡◌, ◌≤◌, ◌<◌, ◌+◌, ◌-◌, ◌==◌, ℕ, zero, suc, Bool, true, false, List, [], ◌∷◌, ◌++◌, map, take, length, get_or, refl, sym, ap, ap₂, ◌∙◌, subst, arith, cond, Option, Some, None, if◌then◌else◌, ⊎_elim}
+use Rattle.std.proofs.Common.{◌≡◌, ◌≤◌, ◌<◌, ◌+◌, ◌-◌, ◌==◌, ℕ, zero, suc, true, false, List, [], ◌∷◌, ◌++◌, map, take, length, get_or, refl, sym, ap, ap₂, ◌∙◌, subst, arith, cond, Some, if◌then◌else◌, ⊎_elim}
 use Rattle.std.specs.Prelude.{pos, option_map, slice_get}
 use Rattle.std.specs.List.{All}
-use Rattle.std.proofs.lemmas.List.{append-nil, map-append}
+use Rattle.std.proofs.lemmas.List.{map-append}
 use Rattle.std.proofs.lemmas.Option.{slice_get-get_or}
 use Rattle.std.proofs.lemmas.Bool.Decides.{eqb_tells}
 use Rattle.std.proofs.lemmas.List.Elements.{All-head, All-tail}
 use Rattle.data_theory.specs.declared.ids.VarId.{VarId}
 use Rattle.data_theory.specs.declared.ids.FunId.{FunId}
 use Rattle.data_theory.specs.declared.ids.TermId.{TermId}
-use Rattle.data_theory.specs.Terms.{positive, equality, negation, Symbol, function as named_function, Term, Terms, variable as var, numeral as num, unknown, application, none as no_terms, more as and_more, apply, put, put_all}
-use Rattle.data_theory.specs.Equations.{one, equals, !ᵗ◌}
+use Rattle.data_theory.specs.Terms.{positive, negation, function as named_function, Term, variable as var, numeral as num, application, none as no_terms, more as and_more, put}
 use Rattle.data_theory.specs.Environments.{Environment, term_in, bound, terms_of, AreDistinct}
 use Rattle.data_theory.specs.Functions.{Function}
 use Rattle.data_theory.specs.Rows.{built_in, built_ins}
@@ -21,28 +20,25 @@ use Rattle.data_theory.specs.IdSymbols.{declared_from, symbol_at}
 use Rattle.data_theory.specs.Signature.{Sig}
 use Rattle.data_theory.specs.Complete.{IsComplete}
 use Rattle.data_theory.specs.IdTables.{IsTable}
-use Rattle.data_theory.specs.IdTrees.{Tree, Trees, variable, numeral, function, none, more, trees_of, put_tree}
+use Rattle.data_theory.specs.IdTrees.{Tree, trees_of, put_tree}
 use Rattle.data_theory.specs.IdTerms.{sort_under, symbol_under, term_under, terms_under, IsTreeWithin}
-use Rattle.data_theory.proofs.IdTermLemmas.{putting_in_trees_puts_in_terms}
-use Rattle.term_pool.specs.HeadTrees.{tree_at, trees_at, IsIn, AreIn}
-use Rattle.process_terms.specs.PlainProcesses.{PlainAction}
-use Rattle.process_terms.specs.Labels.{Action, put_label}
-use Rattle.process_terms.specs.Meanings.{action_at, bound_at, term_at, label_of}
+use Rattle.term_pool.specs.HeadTrees.{tree_at, trees_at}
+use Rattle.process_terms.specs.Labels.{put_label}
+use Rattle.process_terms.specs.Meanings.{bound_at, term_at, label_of}
 use Rattle.process_terms.specs.SignatureEntries.{entries_of}
 use Rattle.process_terms.specs.Communication.{conjunction_of}
 use Rattle.bisim_laws.specs.LinearProcesses.{variables, reading, is_true}
-use Rattle.bisim_laws.specs.BaseStates.{GreibachCall, Columns, number_of, columns_of}
+use Rattle.bisim_laws.specs.BaseStates.{Columns, number_of, columns_of}
 use Rattle.bisim_laws.proofs.Firing.{bound_reads}
 use Rattle.lps_core.specs.Conditions.{parts, all_parts, without_true, joined}
 use Rattle.greibach.specs.PlainForms.{PlainFormSummand, call_of, form_summand_of}
 use Rattle.greibach.specs.Forms.{FormEquation}
-use Rattle.lps_core.specs.TreeSummands.{trees_of_label, IsActionIn, put_actions, bound_tree, numbers_of, meant_action, meant_summand}
+use Rattle.lps_core.specs.TreeSummands.{numbers_of, meant_summand}
 use Rattle.lps_core.specs.TreeConditions.{tree_parts, trees_without_true, conjunction_tree}
 use Rattle.lps_core.proofs.Staying.{term_is, terms_are}
 use Rattle.std.proofs.lemmas.List.{length-map}
 use Rattle.lps_core.proofs.MeantParts.{numbers_mean, positive_meant, parts_mean_parts, chains_mean_chains}
-use Rattle.stack_encoder.specs.StackEncoding.{StackSymbols, is_pushed, pc_of, rest_of, fields_of, pushed_on, to_fields, put_call, Way, way_down, way_out, way_up, ways, stack_parts, stack_summand}
-use Rattle.regular_encoder.specs.Encoding.{place_of}
+use Rattle.stack_encoder.specs.StackEncoding.{StackSymbols, is_pushed, rest_of, fields_of, pushed_on, to_fields, put_call, Way, way_down, way_out, way_up, ways, stack_parts, stack_summand}
 use Rattle.regular_encoder.specs.TreeEncoding.{number_tree}
 use Rattle.lps_core.proofs.MeantTrees.{Means, bound_means, put_means, puts_mean, label_means}
 use Rattle.stack_encoder.specs.StackEntries.{StackIds}

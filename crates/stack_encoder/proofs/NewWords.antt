@@ -1,5 +1,5 @@
 -- The names of the sort, as they are made.
-use Rattle.std.proofs.Common.{◌≡◌, ◌<◌, ◌≤◌, ◌+◌, ℕ, List, [], ◌∷◌, ◌++◌, map, take, length, get_or, refl, sym, ap, ap₂, ◌∙◌, subst, arith, Some}
+use Rattle.std.proofs.Common.{◌≡◌, ◌<◌, ◌≤◌, ◌+◌, ℕ, List, [], ◌∷◌, ◌++◌, map, take, length, get_or, refl, sym, ap, ap₂, ◌∙◌, subst, Some}
 use Rattle.std.specs.Prelude.{slice_get, codes}
 use Rattle.std.specs.List.{All}
 use Rattle.std.proofs.lemmas.List.{map-append, append_assoc, append-nil, take_more, take_all}
@@ -15,7 +15,7 @@ use Rattle.data_theory.specs.WholeSignatures.{IsSignature}
 use Rattle.lps_core.specs.Naming.{GrowsByNames}
 use Rattle.lps_core.proofs.NamedSums.{names_none, names_then}
 use Rattle.regular_encoder.specs.FormColumns.{IsKindIn}
-use Rattle.stack_encoder.specs.AddedSort.{AreFreshNames, no_name, one_more_name, text_of, column_bases, all_bases, StackWords, AreWords, in_order}
+use Rattle.stack_encoder.specs.AddedSort.{AreFreshNames, no_name, one_more_name, text_of, column_bases, AreWords}
 
 pub record IsNamingFields (g : Sig) (kinds : List (NameId × SortId)) (i : ℕ) (h : Sig) (fields : List (NameId × SortId)) : Type 0 where
   pub names : AreFreshNames g (column_bases g (take i kinds)) h (map (λ f. f.0) fields)

@@ -1,24 +1,20 @@
 -- Columns of calls and places, side by side.
-use Rattle.std.proofs.Common.{◌≡◌, ◌+◌, ℕ, zero, suc, List, [], ◌∷◌, ◌++◌, map, length, refl, sym, ap, ap₂, ◌∙◌, subst, arith, ◌⊎◌, ⊎_elim, cond, Option, Some, None}
+use Rattle.std.proofs.Common.{◌≡◌, ℕ, suc, List, [], ◌∷◌, ◌++◌, map, length, refl, sym, ap, ◌∙◌, subst, arith, ⊎_elim, cond, Option, Some, None}
 use Rattle.std.specs.Prelude.{Contains}
 use Rattle.std.proofs.lemmas.Bool.Decides.{eqb_tells}
 use Rattle.data_theory.specs.Terms.{Sort, Term}
-use Rattle.data_theory.specs.Declarations.{Data, Declares, HasSort, HaveSorts}
+use Rattle.data_theory.specs.Declarations.{Data, HasSort, HaveSorts}
 use Rattle.data_theory.specs.Environments.{Environment, term_in, bound, terms_of, IsOver, AreOver, AreDistinct}
-use Rattle.data_theory.proofs.EnvironmentLemmas.{contains_nothing, contains_first as number_first, contains_later as number_later, contains_cases as number_cases}
+use Rattle.data_theory.proofs.EnvironmentLemmas.{contains_nothing}
 use Rattle.process_terms.specs.Processes.{Bound}
-use Rattle.bisim_laws.specs.LinearProcesses.{variables, sorts, reading, AreDeclared}
+use Rattle.bisim_laws.specs.LinearProcesses.{variables, sorts, reading}
 use Rattle.bisim_laws.specs.BaseStates.{Columns, columns_of}
 use Rattle.bisim_laws.proofs.Firing.{contains_first, contains_later, contains_cases, contains_none, variable_among}
-use Rattle.lps_core.specs.Moving.{SameSorts, no_more, one_more}
 use Rattle.greibach.specs.Forms.{FormEquation}
 use Rattle.lps_core.proofs.Environments.{later_in}
 use Rattle.std.proofs.lemmas.List.{length-map}
-use Rattle.lps_core.proofs.SortedTerms.{one_sort}
-use Rattle.lps_core.proofs.Renewing.{same_long}
-use Rattle.regular_encoder.specs.Encoding.{place_of, IsPlace}
-use Rattle.regular_encoder.proofs.Encoded.{place_long, place_among}
-use Rattle.regular_encoder.proofs.Fitting.{same_sorts, bound_has_sort}
+use Rattle.regular_encoder.specs.Encoding.{IsPlace}
+use Rattle.regular_encoder.proofs.Fitting.{same_sorts}
 
 -- ---- lists side by side
 abbrev pub Beside : {A B : Type 0} (Q : A → B → Type 0) → List A → List B → Type 0

@@ -1,51 +1,42 @@
 -- What the added sort, its parameter and the columns give.
-use Rattle.std.proofs.Common.{◌≡◌, ◌<◌, ◌≤◌, ◌+◌, ◌-◌, ◌==◌, ℕ, zero, suc, true, false, List, [], ◌∷◌, ◌++◌, map, length, get_or, refl, sym, ap, ap₂, ◌∙◌, subst, arith, cond, ⊎_elim, Option, Some, None}
-use Rattle.std.specs.Prelude.{slice_get, codes, option_map}
+use Rattle.std.proofs.Common.{◌≡◌, ℕ, suc, List, [], ◌∷◌, ◌++◌, map, length, get_or, refl, sym, ap, ap₂, ◌∙◌, subst, arith, cond, ⊎_elim, Option, Some, None}
+use Rattle.std.specs.Prelude.{slice_get}
 use Rattle.std.specs.List.{All, AllZip, Contains}
 use Rattle.std.proofs.lemmas.Bool.Decides.{eqb_tells}
 use Rattle.std.proofs.lemmas.List.{length-map, length-append}
-use Rattle.std.proofs.lemmas.List.Elements.{All-nil, All-cons, All-head, All-tail, All-contains, Contains-append_left}
-use Rattle.std.proofs.lemmas.Option.{slice_get_within, slice_get-get_or, get_or_from_slice_get}
+use Rattle.std.proofs.lemmas.List.Elements.{All-nil, All-cons, All-head, All-tail, Contains-append_left}
+use Rattle.std.proofs.lemmas.Option.{slice_get_within}
 use Rattle.data_theory.specs.declared.ids.NameId.{NameId}
 use Rattle.data_theory.specs.declared.ids.SortId.{SortId}
 use Rattle.data_theory.specs.declared.ids.TermId.{TermId}
 use Rattle.data_theory.specs.declared.ids.VarId.{VarId}
 use Rattle.data_theory.specs.declared.signature.Variable.{Variable}
-use Rattle.data_theory.specs.Environments.{terms_of, AreDistinct}
 use Rattle.data_theory.specs.Names.{place_in, with_text, AreDifferent}
-use Rattle.data_theory.specs.Signature.{Sig, with_sort, with_taken, with_variable, with_struct_sort}
-use Rattle.data_theory.specs.Terms.{Sort, AreClosed}
-use Rattle.data_theory.specs.IdTerms.{IsGrown, sort_under, term_under}
-use Rattle.data_theory.specs.IdTreeSorts.{HasTreeSort, HaveTreeSorts}
-use Rattle.data_theory.specs.IdTrees.{Tree, trees_of}
+use Rattle.data_theory.specs.Signature.{Sig, with_sort, with_struct_sort}
+use Rattle.data_theory.specs.IdTerms.{IsGrown}
+use Rattle.data_theory.specs.IdTrees.{Tree}
 use Rattle.data_theory.specs.WholeSignatures.{IsSignature}
 use Rattle.data_theory.proofs.IdGrowthLemmas.{growth_after_growth_is_growth, with_a_text_it_is_grown, with_a_variable_it_is_grown}
 use Rattle.data_theory.proofs.NameLemmas.{place_is}
 use Rattle.data_theory.proofs.PlaceLemmas.{read_front}
 use Rattle.data_theory.proofs.StructGrowthLemmas.{with_a_struct_sort_it_is_grown}
-use Rattle.data_theory.proofs.EnvironmentLemmas.{contains_nothing, contains_cases as number_cases}
-use Rattle.bisim_laws.proofs.Firing.{contains_first, contains_later}
-use Rattle.term_pool.specs.HeadTrees.{tree_at, trees_at, IsIn, AreIn}
-use Rattle.term_pool.specs.Pools.{PoolContents, Extends}
+use Rattle.term_pool.specs.HeadTrees.{tree_at, IsIn}
+use Rattle.term_pool.specs.Pools.{PoolContents}
 use Rattle.term_pool.specs.Constants.{constant_of}
-use Rattle.process_terms.specs.Meanings.{term_at}
-use Rattle.process_terms.specs.SignatureEntries.{entries_of, BothGrow}
+use Rattle.process_terms.specs.SignatureEntries.{BothGrow}
 use Rattle.lps_core.specs.Fitting.{IsTermOf, AreTermsOf, IsVariable, sort_of_variable, HasTakenName}
-use Rattle.lps_core.specs.MadeTerms.{IsClosedTerm}
-use Rattle.lps_core.specs.Naming.{name_of, names_of, GrowsByNames}
+use Rattle.lps_core.specs.Naming.{name_of, GrowsByNames}
 use Rattle.lps_core.proofs.NamedSums.{variable_kept, name_kept, sort_kept, last_variable, name_taken, with_name_has}
-use Rattle.lps_core.proofs.Members.{all_at, map_contains}
 use Rattle.lps_core.proofs.PoolTrees.{tree_kept}
 use Rattle.lps_core.proofs.StayingFits.{term_fits, lists_are_closed}
-use Rattle.greibach.specs.FittingForms.{EquationFits, FormFits}
+use Rattle.greibach.specs.FittingForms.{FormFits}
 use Rattle.greibach.specs.PlainForms.{PlainEquation, PlainForm}
 use Rattle.regular_encoder.specs.FormColumns.{kind_of, AreKindsAt}
 use Rattle.regular_encoder.proofs.FirstTerms.{HasNoVariable, value_is_closed, closed_args, grow_then, grow_none, some_is, no_some}
 use Rattle.regular_encoder.proofs.ServingLayouts.{zip_at}
 use Rattle.stack_encoder.specs.StackEntries.{StackIds, StackStands, ids_behind}
-use Rattle.stack_encoder.specs.AddedSort.{StackWords, AddsStackSort, AddsParameter, DeclaresStack, constructors_declared}
+use Rattle.stack_encoder.specs.AddedSort.{StackWords, DeclaresStack, constructors_declared}
 use Rattle.stack_encoder.specs.StackColumns.{AreNumberedPlaces, numbered_place, in_need, sort_of_column, AreClosedTerms, no_closed_term, one_more_closed_term, value_at, or_else, default_at, HaveDefaults}
-use Rattle.stack_encoder.specs.StackedForms.{HasItsStack}
 use Rattle.stack_encoder.proofs.ClosedColumns.{column_sort}
 use Rattle.stack_encoder.proofs.FreshWords.{words_stand}
 use Rattle.stack_encoder.proofs.StandingStack.{declared_stack}

@@ -1,23 +1,19 @@
 -- The sorts of the trees of an encoding.
-use Rattle.std.proofs.Common.{◌≡◌, ◌<◌, ◌≤◌, ◌+◌, ◌-◌, ◌==◌, ℕ, zero, suc, true, false, List, [], ◌∷◌, ◌++◌, map, length, get_or, refl, sym, ap, ap₂, ◌∙◌, subst, arith, cond, ⊎_elim, Option, Some, None}
+use Rattle.std.proofs.Common.{◌≡◌, ◌<◌, ◌≤◌, ◌+◌, ℕ, zero, suc, false, List, [], ◌∷◌, ◌++◌, map, length, get_or, refl, sym, ap, ap₂, ◌∙◌, subst, arith, cond, ⊎_elim, Some, None}
 use Rattle.std.specs.Prelude.{slice_get, Contains}
-use Rattle.std.specs.List.{All, AllZip, AllByRecursion}
+use Rattle.std.specs.List.{AllZip, AllByRecursion}
 use Rattle.std.proofs.lemmas.Bool.Decides.{eqb_tells}
 use Rattle.std.proofs.lemmas.List.{length-map}
-use Rattle.std.proofs.lemmas.List.Elements.{All-head, All-tail}
-use Rattle.std.proofs.lemmas.Option.{slice_get_within, slice_get-get_or}
 use Rattle.data_theory.specs.declared.ids.FunId.{FunId}
 use Rattle.data_theory.specs.declared.ids.NameId.{NameId}
 use Rattle.data_theory.specs.declared.ids.SortId.{SortId}
-use Rattle.data_theory.specs.declared.ids.TermId.{TermId}
 use Rattle.data_theory.specs.declared.ids.VarId.{VarId}
 use Rattle.data_theory.specs.declared.rows.Row.TheVariants as rows
 use Rattle.data_theory.specs.declared.words.Word.TheVariants as words
 use Rattle.data_theory.specs.Functions.{Function, arguments_of}
 use Rattle.data_theory.specs.IdTables.{IsEntry, declared, built_in}
 use Rattle.data_theory.specs.IdTreeSorts.{HasTreeSort, HaveTreeSorts}
-use Rattle.data_theory.specs.IdTrees.{Tree, Trees, variable, function, none, more, trees_of, put_tree, apply_tree}
-use Rattle.data_theory.specs.Names.{place_in}
+use Rattle.data_theory.specs.IdTrees.{Tree, variable, function, none, more, trees_of, apply_tree}
 use Rattle.data_theory.specs.Rows.{built_in as built_in_function, built_ins, row_word}
 use Rattle.data_theory.specs.Signature.{Sig}
 use Rattle.data_theory.specs.Sorts.{SortInfo}
@@ -26,14 +22,13 @@ use Rattle.data_theory.specs.IdData.{constructors_of as constructors_in}
 use Rattle.data_theory.specs.WholeSignatures.{IsSignature}
 use Rattle.data_theory.proofs.IdSymbolLemmas.{holds_at}
 use Rattle.bisim_laws.proofs.Firing.{contains_first, contains_later}
-use Rattle.term_pool.specs.HeadTrees.{tree_at, trees_at}
-use Rattle.lps_core.specs.Fitting.{AreTermsOf, IsVariable, sort_of_variable}
+use Rattle.lps_core.specs.Fitting.{sort_of_variable}
 use Rattle.lps_core.specs.TreeConditions.{conjunction_tree, tree_parts, trees_without_true}
 use Rattle.lps_core.proofs.TreeParts.{two_unmerged}
 use Rattle.regular_encoder.specs.FormColumns.{kind_of, AreKindsAt}
 use Rattle.regular_encoder.specs.TreeEncoding.{number_tree, equal_function}
 use Rattle.regular_encoder.proofs.FirstTerms.{some_is}
-use Rattle.regular_encoder.proofs.SortedTrees.{read_at, equal_at, parts_sorted, without_sorted, chain_sorted, number_sorted, is_of}
+use Rattle.regular_encoder.proofs.SortedTrees.{read_at, equal_at, parts_sorted, without_sorted, chain_sorted, number_sorted}
 use Rattle.stack_encoder.specs.StackEntries.{StackIds, StackStands}
 use Rattle.stack_encoder.specs.StackColumns.{sort_of_column}
 use Rattle.stack_encoder.specs.TreeStack.{FrameLayout, argument_tree, column_trees, place_at, one_tree, not_function, frame_tree, first_parts, rest_tree, field_tree}

@@ -1,10 +1,9 @@
 -- The columns of a form as the theorem has them.
-use Rattle.std.proofs.Common.{◌≡◌, ◌<◌, ◌≤◌, ◌+◌, ◌-◌, ℕ, zero, suc, false, List, [], ◌∷◌, ◌++◌, map, length, get_or, refl, sym, ap, ap₂, ◌∙◌, subst, arith, ⊎_elim, Option, Some}
+use Rattle.std.proofs.Common.{◌≡◌, ◌<◌, ◌≤◌, ◌+◌, ℕ, zero, suc, false, List, [], ◌∷◌, map, length, get_or, refl, sym, ap, ap₂, ◌∙◌, subst, arith, ⊎_elim, Some}
 use Rattle.std.specs.Prelude.{slice_get, Contains}
-use Rattle.std.specs.List.{All, AllZip}
+use Rattle.std.specs.List.{All}
 use Rattle.std.proofs.lemmas.List.{length-map}
-use Rattle.std.proofs.lemmas.List.Elements.{All-head, All-tail, All-contains, length_all_zip}
-use Rattle.std.proofs.lemmas.Option.{slice_get_within}
+use Rattle.std.proofs.lemmas.List.Elements.{All-head, All-tail, All-contains}
 use Rattle.data_theory.specs.declared.ids.NameId.{NameId}
 use Rattle.data_theory.specs.declared.ids.SortId.{SortId}
 use Rattle.data_theory.specs.declared.ids.TermId.{TermId}
@@ -14,14 +13,14 @@ use Rattle.data_theory.specs.Signature.{Sig}
 use Rattle.data_theory.specs.IdTerms.{IsGrown, sort_under}
 use Rattle.data_theory.specs.IdTrees.{Tree}
 use Rattle.data_theory.specs.WholeSignatures.{IsSignature}
-use Rattle.data_theory.proofs.EnvironmentLemmas.{contains_nothing, contains_first as number_first, contains_later as number_later, contains_cases as number_cases}
+use Rattle.data_theory.proofs.EnvironmentLemmas.{contains_nothing, contains_cases as number_cases}
 use Rattle.process_terms.specs.Meanings.{bound_at, term_at}
 use Rattle.process_terms.specs.Processes.{Bound}
 use Rattle.process_terms.specs.SignatureEntries.{entries_of}
 use Rattle.bisim_laws.specs.LinearProcesses.{variables, sorts}
 use Rattle.bisim_laws.specs.BaseStates.{Columns}
 use Rattle.bisim_laws.proofs.Firing.{contains_first, contains_later}
-use Rattle.lps_core.specs.Fitting.{IsVariable, sort_of_variable}
+use Rattle.lps_core.specs.Fitting.{IsVariable}
 use Rattle.lps_core.specs.Moving.{SameSorts, no_more, one_more}
 use Rattle.lps_core.specs.Naming.{name_of, names_of}
 use Rattle.lps_core.specs.TreeSummands.{numbers_of}
@@ -30,7 +29,7 @@ use Rattle.lps_core.proofs.MeantTrees.{numbers_meant}
 use Rattle.lps_core.proofs.NamedSums.{variable_kept, sort_kept, name_numbers}
 use Rattle.greibach.specs.FittingForms.{FormSummandFits, EquationFits, FormFits}
 use Rattle.greibach.specs.Forms.{FormEquation, FormSummand}
-use Rattle.greibach.specs.PlainForms.{PlainFormSummand, PlainEquation, PlainForm, equation_of, form_summand_of, form_of}
+use Rattle.greibach.specs.PlainForms.{PlainEquation, PlainForm, equation_of, form_summand_of, form_of}
 use Rattle.regular_encoder.specs.Encoding.{IsPlace, place_of}
 use Rattle.regular_encoder.specs.FormColumns.{kind_of, AreKindsAt}
 use Rattle.regular_encoder.proofs.FirstTerms.{some_is}

@@ -1,15 +1,15 @@
 -- The encoding is a linear process, and well sorted.
-use Rattle.std.proofs.Common.{◌≡◌, ◌+◌, ◌<◌, ℕ, zero, suc, List, [], ◌∷◌, ◌++◌, map, length, refl, sym, ap, ap₂, ◌∙◌, subst, arith, ◌⊎◌, ⊎_elim, Option, Some, None}
+use Rattle.std.proofs.Common.{◌≡◌, ◌<◌, ℕ, suc, List, [], ◌∷◌, ◌++◌, map, length, refl, sym, ap, ◌∙◌, subst, arith, ⊎_elim, Some}
 use Rattle.std.specs.Prelude.{Contains, slice_get}
 use Rattle.std.specs.List.{AllByRecursion}
 use Rattle.std.proofs.lemmas.Option.{slice_get-get_or, slice_get_within}
 use Rattle.std.proofs.lemmas.List.Elements.{Contains-append_cases, Contains-append_left, Contains-append_right}
-use Rattle.data_theory.specs.Terms.{Sort, boolean, positive, function, Term, Terms, variable, numeral, unknown, application, none, more, put}
+use Rattle.data_theory.specs.Terms.{Sort, boolean, positive, Term, Terms, variable, numeral, unknown, application, none, more, put}
 use Rattle.data_theory.specs.Declarations.{Data, IsSort, Declares, argument_sorts, HasSort, HaveSorts}
-use Rattle.data_theory.specs.Environments.{Environment, term_in, bound, terms_of, IsOver, AreOver, AreDistinct}
+use Rattle.data_theory.specs.Environments.{Environment, term_in, bound, terms_of, IsOver, AreOver}
 use Rattle.data_theory.proofs.EnvironmentLemmas.{contains_nothing, contains_first as number_first, putting_in_keeps_sorts, closed_terms_fit, bound_are_the_parameters, unbound_stay}
 use Rattle.process_terms.specs.Processes.{Bound}
-use Rattle.bisim_laws.specs.LinearProcesses.{Summand, variables, sorts, reading, IsSummand, NextIsOver, no_next, next_over, SummandIsSorted, NextIsSorted, no_next_to_sort, next_sorted, AreDeclared}
+use Rattle.bisim_laws.specs.LinearProcesses.{variables, sorts, reading, IsSummand, NextIsOver, no_next, next_over, SummandIsSorted, NextIsSorted, no_next_to_sort, next_sorted}
 use Rattle.bisim_laws.specs.BaseStates.{GreibachCall, Columns, columns_of}
 use Rattle.bisim_laws.proofs.Firing.{contains_first, contains_later, contains_cases, contains_none}
 use Rattle.greibach.specs.Forms.{FormSummand, FormEquation, Form, CallIsOver, IsForm, IsFormSummand, FormIsSorted}
@@ -17,13 +17,13 @@ use Rattle.lps_core.proofs.Chains.{joined_sorted, joined_over}
 use Rattle.std.proofs.lemmas.List.{length-map}
 use Rattle.lps_core.proofs.OverVariables.{ArePutOver, put_over, puts_over, label_over}
 use Rattle.lps_core.proofs.SortedTerms.{HaveTheirSorts, puts_sorted, label_sorted}
-use Rattle.stack_encoder.specs.StackEncoding.{StackSymbols, stack_sort, FieldsStand, IsStack, is_pushed, pc_of, rest_of, fields_of, pushed_on, to_fields, put_call, Way, way_down, way_out, way_up, ways, stack_parts, stack_summand, stack_params, stacked, IsStackLayout, StackFits, StackIsLinear, StackIsSorted}
-use Rattle.stack_encoder.proofs.Rows.{Beside, beside_maps, bound_beside, columns_beside, columns_long, beside_over, over_beside, sorted_long, columns_sorted, place_sorted}
+use Rattle.stack_encoder.specs.StackEncoding.{StackSymbols, stack_sort, FieldsStand, is_pushed, rest_of, fields_of, pushed_on, to_fields, put_call, Way, way_down, way_out, way_up, ways, stack_parts, stack_summand, stack_params, IsStackLayout, StackFits, StackIsLinear, StackIsSorted}
+use Rattle.stack_encoder.proofs.Rows.{Beside, beside_maps, bound_beside, columns_beside, beside_over, over_beside, sorted_long, columns_sorted, place_sorted}
 use Rattle.regular_encoder.proofs.Encoded.{place_long, place_among}
 use Rattle.data_theory.proofs.WellSorted.{sort_within}
 use Rattle.regular_encoder.proofs.Fitting.{IsNumbered, number_above, bound_has_sort}
 use Rattle.stack_encoder.proofs.StackTerms.{one_sorted, push_sorted}
-use Rattle.stack_encoder.proofs.StackSummands.{one_way, two_ways, AmongAt, is_among}
+use Rattle.stack_encoder.proofs.StackSummands.{one_way, two_ways, is_among}
 use Rattle.regular_encoder.specs.Encoding.{place_of, IsPlace}
 
 -- ---- closed terms are over any variables

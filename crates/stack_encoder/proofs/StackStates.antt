@@ -1,28 +1,27 @@
 -- The encoding and the form answer each other.
-use Rattle.std.proofs.Common.{◌≡◌, ◌+◌, ◌<◌, ℕ, suc, List, [], ◌∷◌, ◌++◌, map, length, get_or, refl, sym, ap, ◌∙◌, subst, arith, ◌⊎◌, ⊎_elim, Option, Some, None}
+use Rattle.std.proofs.Common.{◌≡◌, ◌<◌, ℕ, List, [], ◌∷◌, ◌++◌, map, length, get_or, refl, sym, ap, ◌∙◌, subst, ⊎_elim, Option, Some, None}
 use Rattle.std.specs.Prelude.{Contains, slice_get}
 use Rattle.std.specs.List.{AllByRecursion}
 use Rattle.std.proofs.lemmas.Option.{slice_get-get_or, slice_get_within, get_or_from_slice_get}
 use Rattle.std.proofs.lemmas.List.Elements.{Contains-append_cases}
-use Rattle.data_theory.specs.Terms.{Sort, boolean, function, Term, variable, application, none, put}
+use Rattle.data_theory.specs.Terms.{Sort, boolean, Term, variable, put}
 use Rattle.data_theory.specs.Declarations.{Data, Declares, HasSort, HaveSorts}
-use Rattle.data_theory.specs.Equations.{one, !ᵗ◌}
+use Rattle.data_theory.specs.Equations.{ !ᵗ◌}
 use Rattle.data_theory.specs.Provable.{reflexive, symmetric, transitive}
-use Rattle.data_theory.specs.Environments.{Environment, term_in, bound, terms_of, IsOver, AreOver, Agree, AreDistinct}
+use Rattle.data_theory.specs.Environments.{Environment, term_in, bound, terms_of, IsOver, AreOver, Agree}
 use Rattle.data_theory.proofs.BooleanLemmas.{negation_true}
-use Rattle.data_theory.proofs.EnvironmentLemmas.{contains_nothing, contains_cases as number_cases, front_is_read, bound_are_the_parameters, putting_in_goes_through_lists}
+use Rattle.data_theory.proofs.EnvironmentLemmas.{contains_nothing, contains_cases as number_cases, front_is_read, bound_are_the_parameters}
 use Rattle.process_terms.specs.Theories.{Theory, Equal, IsTrue, IsFalse, IsConsistent, IsOfSort, AreOfSorts, AllTrue, none_left, true_and_more}
 use Rattle.process_terms.specs.Labels.{Label, put_label, AgreeInOrder}
 use Rattle.process_terms.specs.Processes.{Bound, Table, Process, call, seq_of, close}
 use Rattle.process_terms.specs.Steps.{Outcome, Step}
 use Rattle.process_terms.proofs.AgreeingLabels.{agree_sym}
-use Rattle.bisim_laws.specs.Sameness.{turned}
 use Rattle.bisim_laws.specs.Compositions.{LeftOver, nothing_left_over, pieces_left_over}
 use Rattle.bisim_laws.specs.Bisimulations.{Lands, both_end, both_go_on, Answer, Flipped, UpTo, up_to}
-use Rattle.bisim_laws.specs.LinearProcesses.{Summand, Linear, variables, sorts, state_of, IsLinear, IsWellSorted, AreBound, reading, put_next, outcome_of, Does, Fires}
-use Rattle.bisim_laws.specs.BaseStates.{Chain, one_piece, more_pieces, GreibachCall, IsCall, is_call, Columns, number_of, columns_of, pushed, HasItsArguments, StackState, stack_state}
+use Rattle.bisim_laws.specs.LinearProcesses.{Linear, variables, sorts, state_of, IsLinear, IsWellSorted, AreBound, reading, put_next, outcome_of, Does, Fires}
+use Rattle.bisim_laws.specs.BaseStates.{Chain, one_piece, more_pieces, GreibachCall, IsCall, is_call, Columns, columns_of, pushed, HasItsArguments, StackState, stack_state}
 use Rattle.bisim_laws.specs.Links.{Stack}
-use Rattle.bisim_laws.proofs.Firing.{contains_first, contains_later, reading_same, reading_agrees, bound_reads, reading_long, fired, fire}
+use Rattle.bisim_laws.proofs.Firing.{contains_first, contains_later, reading_same, reading_agrees, bound_reads, fired, fire}
 use Rattle.bisim_laws.proofs.SortedFiring.{firings_keep}
 use Rattle.bisim_laws.proofs.AlikeProcesses.{alike_refl}
 use Rattle.bisim_laws.proofs.ComposedLinks.{up_to_enough}
@@ -39,7 +38,7 @@ use Rattle.greibach.proofs.FormFiring.{form_fired, form_fire}
 use Rattle.stack_encoder.specs.StackEncoding.{StackSymbols, stack_sort, is_pushed, rest_of, fields_of, to_fields, put_call, Way, way_down, way_out, way_up, ways, stack_parts, stack_summand, stack_params, stacked, StackFits, StackIsBisimilar}
 use Rattle.stack_encoder.proofs.Rows.{Beside, beside_maps, bound_beside, columns_long, place_sorted}
 use Rattle.regular_encoder.proofs.Encoded.{place_long, place_among}
-use Rattle.stack_encoder.proofs.StackTerms.{one_sorted, push_on, push_parts, empty_rejected, push_accepted, pc_holds, pc_tells, fields_equal, rest_equal}
+use Rattle.stack_encoder.proofs.StackTerms.{one_sorted, push_parts, empty_rejected, push_accepted, pc_holds, pc_tells, fields_equal, rest_equal}
 use Rattle.stack_encoder.proofs.StackSummands.{one_way, two_ways, AmongAt, is_among, stands_among}
 use Rattle.stack_encoder.proofs.StackShape.{place_at, numbered_in, defaults_long, defaults_match, fields_match, read_long, sums_stay, parts_over, parts_sorted, CallsSorted, frames_sorted, stacked_linear, stacked_sorted}
 use Rattle.stack_encoder.proofs.Through.{EqualThrough, term_through, label_through, frames_equal, on_top}

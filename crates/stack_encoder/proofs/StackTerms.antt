@@ -1,19 +1,18 @@
 -- What is provable of a stack.
-use Rattle.std.proofs.Common.{◌≡◌, ◌≢◌, ◌+◌, ◌<◌, ℕ, zero, suc, List, [], ◌∷◌, ◌++◌, map, length, refl, sym, ap, ap₂, ◌∙◌, subst, arith, Option, Some, None}
-use Rattle.std.specs.Prelude.{Contains, slice_get, pos, ◌≤ℤ◌}
-use Rattle.std.proofs.lemmas.Int.{ints}
-use Rattle.data_theory.specs.Terms.{Sort, boolean, positive, named, equality, function, Term, Terms, variable, application, none, more, put, put_all}
-use Rattle.data_theory.specs.Declarations.{Data, DeclaredFunction, Role, constructor, projection, recogniser, mapping, function_at, argument_sorts, HasSort, HaveSorts, IsData}
-use Rattle.data_theory.specs.Equations.{one, equals, term_at, trueᵗ}
-use Rattle.data_theory.specs.Provable.{Equation, ProvablyEqual, PlacesEqual, ProvablyTrue, ProvablyFalse, reflexive, symmetric, transitive, congruent, reflected, no_places, place}
-use Rattle.data_theory.specs.Environments.{Environment, term_in, terms_of}
-use Rattle.data_theory.proofs.ConsistencyLemmas.{equal_numerals_are_the_same, constructors_are_injective, projections_compute, recognisers_accept, recognisers_reject}
+use Rattle.std.proofs.Common.{◌≡◌, ◌≢◌, ◌+◌, ◌<◌, ℕ, suc, List, [], ◌∷◌, ◌++◌, length, refl, sym, ap, ◌∙◌, subst, arith}
+use Rattle.std.specs.Prelude.{pos}
+use Rattle.data_theory.specs.Terms.{Sort, positive, equality, function, Term, Terms, application, none, more}
+use Rattle.data_theory.specs.Declarations.{Data, DeclaredFunction, Role, projection, mapping, function_at, HasSort, HaveSorts, IsData}
+use Rattle.data_theory.specs.Equations.{one, equals, term_at}
+use Rattle.data_theory.specs.Provable.{Equation, ProvablyEqual, reflexive, symmetric, transitive, congruent, reflected, no_places, place}
+use Rattle.data_theory.specs.Environments.{terms_of}
+use Rattle.data_theory.proofs.ConsistencyLemmas.{equal_numerals_are_the_same, projections_compute, recognisers_accept, recognisers_reject}
 use Rattle.data_theory.proofs.EqualityLemmas.{equals_of_equal}
 use Rattle.data_theory.proofs.WellSorted.{function_within}
 use Rattle.process_terms.specs.Theories.{Theory, Equal, IsTrue, IsFalse, IsConsistent, IsOfSort}
 use Rattle.process_terms.specs.Processes.{Bound}
 use Rattle.bisim_laws.specs.LinearProcesses.{sorts}
-use Rattle.bisim_laws.specs.BaseStates.{GreibachCall, Columns, number_of, columns_of, pushed}
+use Rattle.bisim_laws.specs.BaseStates.{number_of}
 use Rattle.stack_encoder.specs.StackEncoding.{StackSymbols, stack_sort, on_stack, FieldsStand, IsStack, is_pushed, pc_of, rest_of, fields_of}
 use Rattle.regular_encoder.proofs.Fitting.{IsNumbered}
 use Rattle.stack_encoder.proofs.Rows.{Beside}

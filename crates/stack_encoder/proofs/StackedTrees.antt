@@ -1,6 +1,6 @@
 -- The trees of encoded summands, as they are made.
 use Rattle.std.proofs.Common.{◌≡◌, ◌≤◌, ◌<◌, ◌+◌, ◌-◌, ℕ, zero, suc, refl, List, [], ◌∷◌, ◌++◌, map, length, get_or, take, arith, sym, subst, ap, ap₂, ◌∙◌, Option, Some, None}
-use Rattle.std.specs.Prelude.{option_map, IfSome, slice_get, Vec}
+use Rattle.std.specs.Prelude.{option_map, slice_get, Vec}
 use Rattle.std.specs.Vec.{vec_len}
 use Rattle.std.specs.Global.{Global}
 use Rattle.std.specs.List.{All, flat_map}
@@ -10,22 +10,22 @@ use Rattle.std.proofs.lemmas.List.Elements.{All-nil, All-head, All-tail, All-pus
 use Rattle.std.proofs.lemmas.Option.{slice_get-map, slice_get_read}
 use Rattle.data_theory.specs.declared.ids.TermId.{TermId}
 use Rattle.data_theory.specs.declared.ids.VarId.{VarId}
-use Rattle.data_theory.specs.IdTrees.{Tree, variable, put_tree}
+use Rattle.data_theory.specs.IdTrees.{Tree, put_tree}
 use Rattle.term_pool.specs.Bindings.{listed, listed_terms}
 use Rattle.term_pool.specs.HeadTrees.{tree_at, trees_at, IsIn, AreIn}
 use Rattle.term_pool.specs.Pools.{Extends}
 use Rattle.lps_core.specs.declared.linears.Summand.{Summand}
 use Rattle.lps_core.specs.PlainLinears.{PlainSummand, plain_summand}
 use Rattle.lps_core.specs.TreeConditions.{conjunction_tree, tree_parts, trees_without_true}
-use Rattle.lps_core.specs.TreeSummands.{TreeSummand, trees_of_label, trees_of_summand, put_actions, bound_tree, IsActionIn, IsSummandIn}
+use Rattle.lps_core.specs.TreeSummands.{TreeSummand, trees_of_label, trees_of_summand, put_actions, IsActionIn, IsSummandIn}
 use Rattle.lps_core.proofs.PoolTrees.{extends_itself, extends_on, tree_kept, trees_kept, all_in_kept, listed_kept, put_along, args_along, actions_in_kept, actions_kept, actions_along}
-use Rattle.lps_core.proofs.KeptSummands.{next_in_kept, next_trees_kept, summand_in_kept, summands_kept}
+use Rattle.lps_core.proofs.KeptSummands.{next_trees_kept, summand_in_kept, summands_kept}
 use Rattle.greibach.specs.declared.forms.GreibachEquation.{GreibachEquation}
 use Rattle.greibach.specs.declared.forms.GreibachSummand.{GreibachSummand}
 use Rattle.greibach.specs.PlainForms.{PlainFormSummand, PlainEquation, plain_call, plain_equation, plain_form_summand}
 use Rattle.regular_encoder.specs.WholeEncoding.{trees_of_summands}
 use Rattle.stack_encoder.specs.StackEntries.{StackIds}
-use Rattle.stack_encoder.specs.TreeStack.{FrameLayout, TreeWay, place_at, first_parts, fields_for, frame_tree, pushed_trees, rest_tree, tree_stacked, tree_ways, tree_way_down, tree_way_out, tree_way_up, IsCallIn, IsFormSummandIn}
+use Rattle.stack_encoder.specs.TreeStack.{FrameLayout, TreeWay, first_parts, fields_for, frame_tree, pushed_trees, rest_tree, tree_stacked, tree_ways, tree_way_down, tree_way_out, tree_way_up, IsCallIn, IsFormSummandIn}
 use Rattle.stack_encoder.specs.WholeStack.{summand_stacked, equation_stacked, trees_stacked_from, way_of, IsWayIn, IsEquationIn, AreEquationsFor}
 
 -- ---- pools that are extended

@@ -1,24 +1,22 @@
 -- The sort of the stack in a signature is one in the data.
-use Rattle.std.proofs.Common.{◌≡◌, ◌≢◌, ◌+◌, ◌<◌, ℕ, zero, suc, List, [], ◌∷◌, ◌++◌, map, length, refl, sym, ap, ap₂, ◌∙◌, subst, arith, inl, inr, Option, Some, None}
+use Rattle.std.proofs.Common.{◌≡◌, ◌+◌, ℕ, zero, suc, List, [], ◌∷◌, ◌++◌, map, length, refl, sym, ap, ap₂, ◌∙◌, subst, arith, Some, None}
 use Rattle.std.specs.Prelude.{slice_get, Contains}
-use Rattle.std.specs.List.{range_with_len, flat_map}
 use Rattle.std.proofs.lemmas.Option.{slice_get_within}
 use Rattle.regular_encoder.proofs.FirstTerms.{some_is}
 use Rattle.std.proofs.lemmas.List.{length-append, length-map}
 use Rattle.data_theory.specs.declared.ids.NameId.{NameId}
 use Rattle.data_theory.specs.declared.ids.SortId.{SortId}
 use Rattle.data_theory.specs.declared.ids.FunId.{FunId}
-use Rattle.data_theory.specs.Terms.{Sort, boolean, positive, named, Symbol, function}
+use Rattle.data_theory.specs.Terms.{Sort, boolean, positive, function}
 use Rattle.data_theory.specs.Declarations as theory
 use Rattle.data_theory.specs.Declarations.{Data, Role, constructor, projection, recogniser, function_at, sort_at}
-use Rattle.data_theory.specs.Sorts as kinds
 use Rattle.data_theory.specs.Sorts.{SortInfo, Kind, with_kind}
 use Rattle.data_theory.specs.Functions.{Function}
-use Rattle.data_theory.specs.Structs.{Con, numbers_of, numbers_from, projections_of, all_projections, constructors_of}
+use Rattle.data_theory.specs.Structs.{numbers_of, numbers_from, projections_of, all_projections, constructors_of}
 use Rattle.data_theory.specs.Table.{bool_sort, pos_sort}
-use Rattle.data_theory.specs.Signature.{Sig, with_sort, with_struct_sort}
+use Rattle.data_theory.specs.Signature.{Sig, with_sort}
 use Rattle.data_theory.specs.IdTables.{IsTable}
-use Rattle.data_theory.specs.IdRoles.{AreRoles, declared_number, HasRole, constructs, projects, recognises}
+use Rattle.data_theory.specs.IdRoles.{AreRoles, declared_number, constructs, projects, recognises}
 use Rattle.data_theory.specs.IdSorts.{construction_of, meaning_of}
 use Rattle.data_theory.specs.IdData.{constructors_of as constructors_in, role_meant, data_meant}
 use Rattle.data_theory.specs.IdTerms.{sort_under, symbol_under}
@@ -30,7 +28,7 @@ use Rattle.bisim_laws.specs.LinearProcesses.{sorts}
 use Rattle.bisim_laws.proofs.Firing.{contains_first, contains_later}
 use Rattle.stack_encoder.specs.StackEncoding.{StackSymbols, stack_sort, on_stack, FieldsStand, IsStack}
 use Rattle.stack_encoder.specs.TreeStack.{MeansSymbols, StandingFunctionsAreSymbols}
-use Rattle.stack_encoder.specs.StackEntries.{StackIds, symbols_meant, StackStands, StandingStackIsAStack, named_field, push_declared, empty_declared, ids_behind, DeclaredStackStands}
+use Rattle.stack_encoder.specs.StackEntries.{StackIds, symbols_meant, StackStands, StandingStackIsAStack, named_field, push_declared, empty_declared, DeclaredStackStands}
 
 head_same : {A : Type 0} {x y : A} {xs ys : List A} → x ∷ xs ≡ y ∷ ys → x ≡ y
 head_same e = cc

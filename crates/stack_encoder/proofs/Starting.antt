@@ -1,24 +1,22 @@
 -- Where the encoding starts, over each theory that goes on from a signature.
-use Rattle.std.proofs.Common.{◌≡◌, ◌≢◌, ◌+◌, ◌<◌, ℕ, suc, List, [], ◌∷◌, ◌++◌, map, length, get_or, refl, sym, ap, ap₂, ◌∙◌, subst, arith, Some}
-use Rattle.std.specs.Prelude.{Contains, slice_get}
+use Rattle.std.proofs.Common.{◌≡◌, ◌≢◌, ◌+◌, ℕ, suc, List, [], ◌∷◌, map, length, get_or, refl, sym, ap, ap₂, ◌∙◌, subst, Some}
+use Rattle.std.specs.Prelude.{slice_get}
 use Rattle.std.proofs.lemmas.List.{get_or_append_left, length-append}
-use Rattle.data_theory.specs.Terms.{Sort, boolean, Term, Terms, none, more}
-use Rattle.data_theory.specs.Declarations.{Data, DeclaredFunction, structured, by_declarations, mapping, function_at, sort_at, HasSort, HaveSorts}
+use Rattle.data_theory.specs.Terms.{boolean, Term}
+use Rattle.data_theory.specs.Declarations.{Data, DeclaredFunction, by_declarations, mapping, function_at, HasSort, HaveSorts}
 use Rattle.data_theory.specs.Environments.{Environment, terms_of}
 use Rattle.data_theory.specs.EqualityLaws.{Grows}
 use Rattle.data_theory.specs.Provable.{reflexive}
-use Rattle.data_theory.proofs.GrowthLemmas.{growth_keeps_sorts}
 use Rattle.data_theory.proofs.WellSorted.{sort_within}
-use Rattle.process_terms.specs.Labels.{Label}
-use Rattle.process_terms.specs.Theories.{Theory, IsOfSort, AreOfSorts}
-use Rattle.process_terms.specs.Processes.{Bound, call}
+use Rattle.process_terms.specs.Theories.{IsOfSort}
+use Rattle.process_terms.specs.Processes.{Bound}
 use Rattle.bisim_laws.specs.Bisimulations.{up_to}
-use Rattle.bisim_laws.specs.LinearProcesses.{variables, sorts, LabelIsSorted, no_action_to_sort, action_sorted}
-use Rattle.bisim_laws.specs.BaseStates.{one_piece, is_call, GreibachCall, Columns, StackState, stack_state, columns_of, pushed}
+use Rattle.bisim_laws.specs.LinearProcesses.{sorts}
+use Rattle.bisim_laws.specs.BaseStates.{one_piece, is_call, GreibachCall, Columns, stack_state, columns_of, pushed}
 use Rattle.bisim_laws.proofs.AlikeProcesses.{alike_refl}
-use Rattle.greibach.specs.Forms.{FormSummand, FormEquation, Form, form_table, FormIsSorted}
+use Rattle.greibach.specs.Forms.{FormSummand, FormEquation, Form}
 use Rattle.std.proofs.lemmas.List.{length-map}
-use Rattle.stack_encoder.specs.StackEncoding.{StackSymbols, stack_sort, on_stack, FieldsStand, IsStack, to_fields, ways, stack_summand, equation_summands, stack_from, stacked, StackFits, first_stack, StackIsGood, StackIsGoodOver, summands_made, made_of, made_of_form, OneOrTwoSummands}
+use Rattle.stack_encoder.specs.StackEncoding.{StackSymbols, stack_sort, FieldsStand, IsStack, to_fields, ways, stack_summand, equation_summands, stack_from, StackFits, first_stack, StackIsGood, StackIsGoodOver, summands_made, made_of, made_of_form, OneOrTwoSummands}
 use Rattle.stack_encoder.proofs.Rows.{columns_sorted, sorted_long}
 use Rattle.regular_encoder.proofs.Encoded.{place_long}
 use Rattle.stack_encoder.proofs.StackTerms.{within_by, push_sorted, empty_sorted}

@@ -1,5 +1,5 @@
 -- The whole answer: what it means, and that it fits.
-use Rattle.std.proofs.Common.{◌≡◌, ◌<◌, ◌≤◌, ◌+◌, ◌-◌, ℕ, zero, suc, List, [], ◌∷◌, ◌++◌, map, length, get_or, refl, sym, ap, ap₂, ◌∙◌, subst, arith, ⊎_elim, Option, Some, None}
+use Rattle.std.proofs.Common.{◌≡◌, ◌<◌, ◌≤◌, ◌+◌, ◌-◌, ℕ, suc, List, [], ◌∷◌, ◌++◌, map, length, get_or, refl, sym, ap, ap₂, ◌∙◌, subst, arith, ⊎_elim, Option, Some, None}
 use Rattle.std.specs.Prelude.{slice_get, option_map, Contains, IfSome}
 use Rattle.std.specs.List.{All, AllZip, AllByRecursion, flat_map}
 use Rattle.std.proofs.lemmas.List.{length-map, length-append, map-append}
@@ -11,54 +11,53 @@ use Rattle.data_theory.specs.declared.ids.NameId.{NameId}
 use Rattle.data_theory.specs.declared.ids.SortId.{SortId}
 use Rattle.data_theory.specs.declared.ids.TermId.{TermId}
 use Rattle.data_theory.specs.declared.ids.VarId.{VarId}
-use Rattle.data_theory.specs.Declarations.{Data, Declares, HaveSorts}
+use Rattle.data_theory.specs.Declarations.{Declares, HaveSorts}
 use Rattle.data_theory.specs.Environments.{terms_of}
 use Rattle.data_theory.specs.Signature.{Sig}
 use Rattle.data_theory.specs.Table.{bool_sort}
-use Rattle.data_theory.specs.Terms.{Sort, Term, AreClosed, application, function as named_function}
+use Rattle.data_theory.specs.Terms.{application, function as named_function}
 use Rattle.data_theory.specs.IdData.{data_meant}
-use Rattle.data_theory.specs.IdTerms.{IsGrown, IsTreeWithin, sort_under, term_under, variable_sorts}
+use Rattle.data_theory.specs.IdTerms.{IsGrown, sort_under, term_under, variable_sorts}
 use Rattle.data_theory.specs.IdTreeSorts.{HasTreeSort, HaveTreeSorts}
 use Rattle.data_theory.specs.IdTrees.{Tree, variable, function, none, trees_of, put_tree}
 use Rattle.data_theory.specs.WholeSignatures.{IsSignature}
 use Rattle.data_theory.proofs.IdDataLemmas.{meant_data_are_data}
 use Rattle.data_theory.proofs.IdTermLemmas.{sorted_trees_are_within}
-use Rattle.term_pool.specs.HeadTrees.{tree_at, trees_at, IsIn, AreIn}
+use Rattle.term_pool.specs.HeadTrees.{tree_at, trees_at, AreIn}
 use Rattle.term_pool.specs.Pools.{PoolContents, Extends}
 use Rattle.term_pool.proofs.DeclaredConstants.{grown_itself}
 use Rattle.term_pool.proofs.KeptSorts.{keeps_put}
 use Rattle.process_terms.specs.Meanings.{Entries, bound_at, term_at}
-use Rattle.process_terms.specs.Processes.{Bound, call}
+use Rattle.process_terms.specs.Processes.{call}
 use Rattle.process_terms.specs.SignatureEntries.{entries_of, BothGrow}
-use Rattle.bisim_laws.specs.LinearProcesses.{Summand, Linear, variables, sorts, state_of, IsLinear, AreDeclared}
-use Rattle.bisim_laws.specs.BaseStates.{Columns, number_of, columns_of, pushed}
+use Rattle.bisim_laws.specs.LinearProcesses.{Linear, sorts, state_of, IsLinear}
+use Rattle.bisim_laws.specs.BaseStates.{Columns, number_of, columns_of}
 use Rattle.bisim_laws.specs.Links.{Stack}
 use Rattle.bisim_laws.proofs.Firing.{contains_first, contains_later, contains_cases, contains_none}
-use Rattle.lps_core.specs.Fitting.{IsTermOf, AreTermsOf, IsActionOf, IsVariable, sort_of_variable, HasTakenName, SummandFits, Fits}
+use Rattle.lps_core.specs.Fitting.{AreTermsOf, IsActionOf, IsVariable, sort_of_variable, HasTakenName, SummandFits, Fits}
 use Rattle.lps_core.specs.GoingOn.{IsGoodOver}
-use Rattle.lps_core.specs.PlainLinears.{PlainSummand, PlainLinear, linear_of, initial_of, linear_state, summand_of}
-use Rattle.lps_core.specs.TreeSummands.{TreeSummand, trees_of_summand, bound_tree, meant_summand, numbers_of, IsActionIn, IsSummandIn}
+use Rattle.lps_core.specs.PlainLinears.{PlainSummand, PlainLinear, linear_of, initial_of}
+use Rattle.lps_core.specs.TreeSummands.{TreeSummand, trees_of_summand, meant_summand, IsActionIn, IsSummandIn}
 use Rattle.lps_core.proofs.Members.{all_at, all_from, contains_map, map_contains}
 use Rattle.lps_core.proofs.MeantTrees.{numbers_meant, summands_read}
 use Rattle.lps_core.proofs.NamedLinears.{label_fits, trees_keep, first_functions}
 use Rattle.lps_core.proofs.NamedSums.{sorts_kept}
-use Rattle.lps_core.proofs.PoolTrees.{extends_itself, extends_on, all_in_kept, trees_kept}
+use Rattle.lps_core.proofs.PoolTrees.{extends_itself, extends_on, trees_kept}
 use Rattle.lps_core.proofs.Staying.{terms_are, terms_sorted, variables_declared}
-use Rattle.lps_core.proofs.StayingFits.{terms_fit}
 use Rattle.greibach.specs.FittingForms.{CallFits, FormSummandFits, EquationFits, FormFits}
-use Rattle.greibach.specs.Forms.{FormEquation, FormSummand, Form, form_table, IsForm, FormIsSorted}
-use Rattle.greibach.specs.PlainForms.{PlainFormSummand, PlainEquation, PlainForm, call_of, equation_of, form_summand_of, form_of}
-use Rattle.greibach.proofs.StayingForms.{forms_are_sorted, forms_stay}
+use Rattle.greibach.specs.Forms.{form_table}
+use Rattle.greibach.specs.PlainForms.{PlainFormSummand, PlainEquation, PlainForm, equation_of, form_summand_of, form_of}
+use Rattle.greibach.proofs.StayingForms.{forms_are_sorted}
 use Rattle.regular_encoder.specs.FormColumns.{kind_of, column_kinds, AreKindsAt}
-use Rattle.regular_encoder.proofs.FirstTerms.{HasNoVariable, args_closed, grow_then, grow_none}
+use Rattle.regular_encoder.proofs.FirstTerms.{args_closed}
 use Rattle.regular_encoder.proofs.FormsInPlace.{form_fits_still, terms_long}
 use Rattle.regular_encoder.proofs.SortedTrees.{bound_sorted, is_of, sort_meant}
 use Rattle.stack_encoder.specs.StackEncoding.{StackSymbols, stack_sort, StackFits, stack_from, equation_summands, stack_summand, ways, to_fields, stacked, stack_params, first_stack}
-use Rattle.stack_encoder.specs.StackEntries.{StackIds, StackStands, symbols_meant}
+use Rattle.stack_encoder.specs.StackEntries.{StackIds, symbols_meant}
 use Rattle.stack_encoder.specs.StackedForms.{HasItsStack, StackingIsGood, first_tree, layout_over, one_or_two, due_for, summands_due}
 use Rattle.stack_encoder.specs.StackColumns.{AreNumberedPlaces, LeadsToPlaces, SummandLeadsToPlaces, EquationLeadsToPlaces}
-use Rattle.stack_encoder.specs.TreeStack.{FrameLayout, TreeWay, tree_way_up, tree_way_down, tree_way_out, place_at, column_trees, fields_for, field_tree, first_parts, frame_tree, pushed_trees, rest_tree, tree_stacked, tree_ways, MeansSymbols, MeansFrames, IsCallIn, IsFormSummandIn}
-use Rattle.stack_encoder.specs.WholeStack.{summand_stacked, equation_stacked, trees_stacked_from, IsEquationIn, AreEquationsFor}
+use Rattle.stack_encoder.specs.TreeStack.{FrameLayout, TreeWay, tree_way_up, tree_way_down, tree_way_out, place_at, column_trees, fields_for, field_tree, frame_tree, pushed_trees, rest_tree, tree_stacked, tree_ways, MeansSymbols, MeansFrames, IsCallIn, IsFormSummandIn}
+use Rattle.stack_encoder.specs.WholeStack.{summand_stacked, equation_stacked, trees_stacked_from, AreEquationsFor}
 use Rattle.stack_encoder.proofs.MeantStack.{stacked_trees_mean, frame_means}
 use Rattle.stack_encoder.proofs.ServingStacks.{HasStack, ClosedOf, column_sorts, declared_grown, new_variable, has_stack, closed_on, zip_turn, defaults_stand, closed_lists}
 use Rattle.stack_encoder.proofs.SortedStacks.{condition_sorted, rest_sorted, more_sorted, last_sorted, empty_sorted, frame_sorted, columns_sorted, sorts_of_kinds, beside_places, fields_sorted}

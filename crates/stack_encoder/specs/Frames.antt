@@ -1,6 +1,5 @@
 -- What the code's ids and layouts are.
-use Rattle.std.specs.Prelude.{List, map, Vec, ℕ}
-use Rattle.std.specs.Global.{Global}
+use Rattle.std.specs.Prelude.{List}
 use Rattle.data_theory.specs.IdTrees.{Tree}
 use Rattle.term_pool.specs.HeadTrees.{trees_at}
 use Rattle.regular_encoder.specs.FormColumns.{places_in}

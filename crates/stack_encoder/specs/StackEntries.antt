@@ -1,6 +1,5 @@
 -- The sort of the stack in a signature.
-use Rattle.std.specs.Prelude.{◌≡◌, ◌≢◌, ◌+◌, ◌<◌, ℕ, List, [], ◌∷◌, ◌++◌, map, length, take, Option, Some, None, slice_get}
-use Rattle.std.specs.List.{All}
+use Rattle.std.specs.Prelude.{◌≡◌, ◌≢◌, ◌+◌, ℕ, List, [], ◌∷◌, ◌++◌, map, length, take, Option, Some, None, slice_get}
 use Rattle.data_theory.specs.declared.ids.NameId.{NameId}
 use Rattle.data_theory.specs.declared.ids.SortId.{SortId}
 use Rattle.data_theory.specs.declared.ids.FunId.{FunId}
@@ -13,8 +12,7 @@ use Rattle.data_theory.specs.IdTables.{IsTable}
 use Rattle.data_theory.specs.IdRoles.{AreRoles, declared_number}
 use Rattle.data_theory.specs.IdSorts.{constructions}
 use Rattle.data_theory.specs.IdData.{data_meant}
-use Rattle.data_theory.specs.IdTerms.{sort_under, symbol_under}
-use Rattle.data_theory.specs.Terms.{function}
+use Rattle.data_theory.specs.IdTerms.{sort_under}
 use Rattle.process_terms.specs.Processes.{Bound}
 use Rattle.bisim_laws.specs.LinearProcesses.{sorts}
 use Rattle.stack_encoder.specs.StackEncoding.{StackSymbols, IsStack}

@@ -1,18 +1,17 @@
 -- The encoding over the trees of a pool, and what it means.
-use Rattle.std.specs.Prelude.{◌≡◌, ◌≤◌, ◌==◌, ◌-◌, ℕ, suc, List, [], ◌∷◌, ◌++◌, map, option_map, length, cond, get_or, Option, Some, None, pos}
+use Rattle.std.specs.Prelude.{◌≡◌, ◌≤◌, ◌==◌, ◌-◌, ℕ, suc, List, [], ◌∷◌, ◌++◌, map, length, cond, get_or, Option, Some, None}
 use Rattle.std.specs.List.{All}
 use Rattle.data_theory.specs.declared.ids.VarId.{VarId}
 use Rattle.data_theory.specs.declared.ids.SortId.{SortId}
 use Rattle.data_theory.specs.IdRoles.{AreRoles}
 use Rattle.data_theory.specs.declared.ids.FunId.{FunId}
 use Rattle.data_theory.specs.declared.ids.TermId.{TermId}
-use Rattle.data_theory.specs.Table.{pos_sort}
 use Rattle.data_theory.specs.Terms as terms
 use Rattle.data_theory.specs.Environments.{AreDistinct}
 use Rattle.data_theory.specs.Signature.{Sig}
 use Rattle.data_theory.specs.Complete.{IsComplete}
 use Rattle.data_theory.specs.IdTables.{IsTable}
-use Rattle.data_theory.specs.IdTrees.{Tree, variable, numeral, function, none, more, trees_of, put_tree}
+use Rattle.data_theory.specs.IdTrees.{Tree, variable, function, none, more, trees_of, put_tree}
 use Rattle.data_theory.specs.IdTerms.{symbol_under, term_under, IsTreeWithin}
 use Rattle.term_pool.specs.HeadTrees.{tree_at, trees_at, IsIn, AreIn}
 use Rattle.process_terms.specs.SignatureEntries.{entries_of}

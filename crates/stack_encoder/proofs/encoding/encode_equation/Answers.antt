@@ -1,17 +1,17 @@
-use Rattle.std.proofs.Common.{◌≡◌, ◌+◌, ◌-◌, ◌++◌, map, ap, ap₂, sym, ◌∙◌, subst, refl, arith}
+use Rattle.std.proofs.Common.{◌≡◌, ◌-◌, ◌++◌, map, ap, ap₂, sym, ◌∙◌, subst, refl, arith}
 use Rattle.std.proofs.lemmas.List.{length-map}
 use Rattle.regular_encoder.specs.WholeEncoding.{trees_of_summands}
 use Rattle.std.specs.List.{All}
 use Rattle.data_theory.specs.declared.ids.VarId.{VarId}
 use Rattle.term_pool.specs.Bindings.{listed}
-use Rattle.greibach.specs.PlainForms.{plain_equation, plain_form_summand}
+use Rattle.greibach.specs.PlainForms.{plain_form_summand}
 use Rattle.lps_core.specs.TreeSummands.{bound_tree}
 use Rattle.lps_core.proofs.PoolTrees.{extends_itself, extends_on}
 use Rattle.stack_encoder.specs.Frames.{frame_layout, plain_symbols}
 use Rattle.stack_encoder.specs.TreeStack.{field_tree, fields_for, place_at, IsFormSummandIn}
 use Rattle.stack_encoder.specs.WholeStack.{summand_stacked}
 use Rattle.stack_encoder.proofs.FrameTrees.{place_read, layout_along}
-use Rattle.stack_encoder.proofs.StackedTrees.{IsStacking, stacking_none, stacking_more, item_in, summand_in}
+use Rattle.stack_encoder.proofs.StackedTrees.{stacking_none, stacking_more, item_in, summand_in}
 use Rattle.stack_encoder.proofs.encoding.encode_equation.Goals as goal
 
 pub loop-summand-init : goal.loop-summand-init

@@ -1,4 +1,4 @@
-use Rattle.std.proofs.Common.{◌≡◌, ◌+◌, ◌∙◌, length}
+use Rattle.std.proofs.Common.{◌+◌, ◌∙◌, length}
 use Rattle.greibach.specs.PlainForms.{plain_equation}
 use Rattle.stack_encoder.specs.Frames.{frame_layout, plain_symbols}
 use Rattle.stack_encoder.proofs.FrameTrees.{layout_along}

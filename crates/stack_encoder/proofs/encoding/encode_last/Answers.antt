@@ -1,4 +1,4 @@
-use Rattle.std.proofs.Common.{◌≡◌, ◌∙◌, ap, ap₂, sym, ◌++◌, ◌∷◌, []}
+use Rattle.std.proofs.Common.{◌∙◌, ap, ◌++◌, ◌∷◌, []}
 use Rattle.std.proofs.lemmas.List.{append_assoc}
 use Rattle.greibach.specs.PlainForms.{plain_form_summand}
 use Rattle.regular_encoder.specs.WholeEncoding.{trees_of_summands}

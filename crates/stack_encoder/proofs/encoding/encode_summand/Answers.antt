@@ -1,5 +1,5 @@
-use Rattle.std.proofs.Common.{◌≡◌, OnOk, ap, sym, subst, ◌∙◌, ◌++◌, map, length, [], ◌∷◌}
-use Rattle.greibach.specs.PlainForms.{plain_call, plain_form_summand}
+use Rattle.std.proofs.Common.{◌≡◌, OnOk, ap, subst, ◌∙◌, ◌++◌}
+use Rattle.greibach.specs.PlainForms.{plain_form_summand}
 use Rattle.regular_encoder.specs.WholeEncoding.{trees_of_summands}
 use Rattle.term_pool.specs.Bindings.{listed}
 use Rattle.stack_encoder.specs.Frames.{frame_layout, plain_symbols}

@@ -1,4 +1,4 @@
-use Rattle.std.proofs.Common.{◌≡◌, IfOk, refl, ap, ◌∙◌, map, Some, [], ◌∷◌}
+use Rattle.std.proofs.Common.{ap, ◌∙◌, map, Some, []}
 use Rattle.std.proofs.lemmas.Result.{IfOk-weaker}
 use Rattle.lps_core.specs.PlainLinears.{plain_summand}
 use Rattle.lps_core.specs.TreeSummands.{trees_of_summand}

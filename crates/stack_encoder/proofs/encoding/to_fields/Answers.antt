@@ -1,4 +1,4 @@
-use Rattle.std.proofs.Common.{◌≡◌, ◌+◌, ◌≤◌, length, get_or, arith, subst, sym, ap, ◌∙◌}
+use Rattle.std.proofs.Common.{◌+◌, ◌≤◌, length, get_or, arith, subst, sym, ap, ◌∙◌}
 use Rattle.data_theory.specs.IdTrees.{variable}
 use Rattle.stack_encoder.specs.Frames.{plain_symbols}
 use Rattle.stack_encoder.specs.TreeStack.{field_tree, one_tree}

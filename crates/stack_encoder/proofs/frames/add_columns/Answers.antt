@@ -1,5 +1,5 @@
-use Rattle.std.proofs.Common.{◌≡◌, ◌+◌, ◌≤◌, length, arith, sym, subst}
-use Rattle.stack_encoder.proofs.FrameTrees.{IsFillingFrame, frame_none, frame_more, frame_all}
+use Rattle.std.proofs.Common.{◌+◌, ◌≤◌, length, arith, sym, subst}
+use Rattle.stack_encoder.proofs.FrameTrees.{IsFillingFrame, frame_more, frame_all}
 use Rattle.stack_encoder.proofs.frames.add_columns.Goals as goal
 
 pub loop-column-preserved : goal.loop-column-preserved

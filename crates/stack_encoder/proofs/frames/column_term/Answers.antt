@@ -1,4 +1,4 @@
-use Rattle.std.proofs.Common.{◌≡◌, ap, sym, subst, ◌∙◌}
+use Rattle.std.proofs.Common.{ap, sym, subst, ◌∙◌}
 use Rattle.std.specs.Prelude.{unwrap_or}
 use Rattle.term_pool.specs.HeadTrees.{tree_at, IsIn}
 use Rattle.stack_encoder.proofs.FrameTrees.{column_is, column_in}

@@ -1,4 +1,4 @@
-use Rattle.std.proofs.Common.{◌≡◌, ◌∙◌, ◌∷◌, ◌++◌, [], IfOk, ap, sym, subst}
+use Rattle.std.proofs.Common.{◌≡◌, ◌∙◌, ◌∷◌, ◌++◌, [], IfOk, ap, subst}
 use Rattle.term_pool.specs.HeadTrees.{tree_at}
 use Rattle.stack_encoder.specs.Frames.{plain_symbols}
 use Rattle.stack_encoder.proofs.FrameTrees.{frame_made}

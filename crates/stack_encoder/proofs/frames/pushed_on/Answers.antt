@@ -1,10 +1,10 @@
-use Rattle.std.proofs.Common.{◌≡◌, ◌≤◌, length, map, arith, subst, sym, ◌∙◌, refl}
+use Rattle.std.proofs.Common.{◌≤◌, length, arith, ◌∙◌, refl}
 use Rattle.greibach.specs.PlainForms.{plain_call}
 use Rattle.lps_core.proofs.PoolTrees.{extends_on, all_in_kept}
 use Rattle.term_pool.specs.Bindings.{listed_terms}
 use Rattle.stack_encoder.specs.Frames.{frame_layout, plain_symbols}
 use Rattle.stack_encoder.specs.TreeStack.{IsCallIn}
-use Rattle.stack_encoder.proofs.FrameTrees.{pushing_none, pushing_more, pushing_all, call_at, layout_along}
+use Rattle.stack_encoder.proofs.FrameTrees.{pushing_none, pushing_more, pushing_all, call_at}
 use Rattle.stack_encoder.proofs.StackedTrees.{call_in_kept}
 use Rattle.stack_encoder.proofs.frames.pushed_on.Goals as goal
 

@@ -1,4 +1,4 @@
-use Rattle.std.proofs.Common.{◌≡◌, ◌≤◌, length, map, arith, refl}
+use Rattle.std.proofs.Common.{◌≤◌, length, arith, refl}
 use Rattle.std.proofs.lemmas.List.{length-map}
 use Rattle.greibach.specs.PlainForms.{plain_call}
 use Rattle.regular_encoder.specs.FormColumns.{places_in}

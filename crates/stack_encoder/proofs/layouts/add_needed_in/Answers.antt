@@ -1,4 +1,4 @@
-use Rattle.std.proofs.Common.{◌≡◌, ◌≤◌, length, map, arith, sym, subst}
+use Rattle.std.proofs.Common.{◌≤◌, length, map, arith, sym, subst}
 use Rattle.std.specs.List.{All}
 use Rattle.greibach.specs.PlainForms.{plain_call}
 use Rattle.regular_encoder.specs.FormColumns.{places_in}

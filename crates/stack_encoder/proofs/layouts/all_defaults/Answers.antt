@@ -1,4 +1,4 @@
-use Rattle.std.proofs.Common.{◌≡◌, ◌∷◌, ◌+◌, length, arith, sym, subst, ap, ◌∙◌, Some, []}
+use Rattle.std.proofs.Common.{◌≡◌, ◌∷◌, length, arith, sym, subst, ap, ◌∙◌, []}
 use Rattle.std.specs.Prelude.{slice_get}
 use Rattle.std.proofs.lemmas.List.{length-append}
 use Rattle.stack_encoder.specs.StackColumns.{default_at}

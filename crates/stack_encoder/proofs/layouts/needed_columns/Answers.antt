@@ -1,4 +1,4 @@
-use Rattle.std.proofs.Common.{◌≡◌, ◌≤◌, [], length, map, arith, sym, subst, ap, ap₂, ◌∙◌, ◌++◌}
+use Rattle.std.proofs.Common.{◌≤◌, [], length, map, arith, sym, subst, ap, ap₂, ◌∙◌, ◌++◌}
 use Rattle.std.specs.List.{All, flat_map}
 use Rattle.std.proofs.lemmas.List.{append-nil, take_all}
 use Rattle.greibach.specs.PlainForms.{plain_equation, plain_form_summand}

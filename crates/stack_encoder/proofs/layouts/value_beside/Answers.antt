@@ -1,4 +1,4 @@
-use Rattle.std.proofs.Common.{◌≡◌, ◌≤◌, length, arith}
+use Rattle.std.proofs.Common.{◌≤◌, length, arith}
 use Rattle.stack_encoder.proofs.FrameTrees.{value_found, value_nowhere}
 use Rattle.stack_encoder.proofs.layouts.value_beside.Goals as goal
 

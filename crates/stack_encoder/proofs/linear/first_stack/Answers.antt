@@ -1,10 +1,9 @@
-use Rattle.std.proofs.Common.{◌≡◌, ap, ap₂, ◌∙◌, [], ◌∷◌}
+use Rattle.std.proofs.Common.{ap, ap₂, ◌∙◌, [], ◌∷◌}
 use Rattle.term_pool.specs.HeadTrees.{tree_at, trees_at}
 use Rattle.lps_core.proofs.PoolTrees.{trees_kept}
 use Rattle.stack_encoder.specs.Frames.{frame_layout, plain_symbols}
 use Rattle.stack_encoder.specs.TreeStack.{FrameLayout, frame_tree}
 use Rattle.stack_encoder.proofs.FrameTrees.{layout_along}
-use Rattle.stack_encoder.proofs.WholeStacks.{stacked_long}
 use Rattle.stack_encoder.proofs.linear.first_stack.Goals as goal
 
 pub returns-clause-terms : goal.returns-clause-terms

@@ -1,4 +1,4 @@
-use Rattle.std.proofs.Common.{◌≡◌, map, sym, ap, length}
+use Rattle.std.proofs.Common.{map, ap}
 use Rattle.data_theory.proofs.IdGrowthLemmas.{growth_after_growth_is_growth}
 use Rattle.term_pool.proofs.DeclaredConstants.{grown_itself, constants_stay}
 use Rattle.greibach.specs.PlainForms.{plain_equation, plain_form}

@@ -1,4 +1,4 @@
-use Rattle.std.proofs.Common.{◌≡◌, ◌≤◌, ◌<◌, ◌+◌, ◌-◌, arith, length, refl}
+use Rattle.std.proofs.Common.{◌≡◌, ◌<◌, arith, length, refl}
 use Rattle.data_theory.proofs.IdGrowthLemmas.{growth_after_growth_is_growth}
 use Rattle.stack_encoder.specs.Frames.{plain_symbols}
 use Rattle.stack_encoder.proofs.FreshWords.{stack_sort_there, counted, stack_declared}

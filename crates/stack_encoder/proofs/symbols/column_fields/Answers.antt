@@ -1,6 +1,6 @@
-use Rattle.std.proofs.Common.{◌≡◌, ◌<◌, ◌≤◌, ◌+◌, length, arith, sym, subst, ◌∙◌}
+use Rattle.std.proofs.Common.{◌≤◌, ◌+◌, length, arith, sym, subst}
 use Rattle.lps_core.proofs.Members.{all_at}
-use Rattle.lps_core.proofs.NamedSums.{names_none, names_then}
+use Rattle.lps_core.proofs.NamedSums.{names_then}
 use Rattle.regular_encoder.specs.FormColumns.{IsKindIn}
 use Rattle.stack_encoder.proofs.NewWords.{IsNamingFields, naming_none, naming_next, naming_all, text_within}
 use Rattle.stack_encoder.proofs.symbols.column_fields.Goals as goal

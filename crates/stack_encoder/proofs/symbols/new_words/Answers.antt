@@ -1,5 +1,4 @@
 use Rattle.std.proofs.Common.{◌<◌, length}
-use Rattle.std.specs.List.{All}
 use Rattle.std.proofs.lemmas.List.Elements.{All-weaker}
 use Rattle.data_theory.specs.declared.ids.NameId.{NameId}
 use Rattle.data_theory.specs.declared.ids.SortId.{SortId}
