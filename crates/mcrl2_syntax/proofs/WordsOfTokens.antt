@@ -1,5 +1,5 @@
 -- What tokens spell is made of their words.
-use Rattle.std.proofs.Common.{◌≡◌, ℕ, suc, Bool, true, false, List, [], ◌∷◌, ◌++◌, Option, All, map, length, nat_eq, if◌then◌else◌, ◌-◌, take, drop, sym, subst}
+use Rattle.std.proofs.Common.{◌≡◌, ℕ, suc, Bool, true, false, List, [], ◌∷◌, Option, All, map, length, nat_eq, if◌then◌else◌, ◌-◌, take, drop, sym, subst}
 use Rattle.std.specs.List.{AllByRecursion}
 use Rattle.std.proofs.lemmas.List.Elements.{All-head, All-tail}
 use Rattle.mcrl2_lexer.specs.declared.kind.Kind.{Kind}
@@ -12,9 +12,8 @@ use Rattle.mcrl2_syntax.specs.declared.declaration.SectionWord.{SectionWord}
 use Rattle.mcrl2_syntax.specs.Words.{PlainWord}
 use Rattle.mcrl2_syntax.specs.SortTrees.{PlainSort}
 use Rattle.mcrl2_syntax.specs.DataTrees.{PlainData, Operand, datas_of, operands_of}
-use Rattle.mcrl2_syntax.specs.ProcessParts.{PlainAction, PlainAssignment, PlainNameSet, PlainRenaming, PlainCommRule, PlainVarGroup, PlainLabel}
 use Rattle.mcrl2_syntax.specs.ProcessTrees.{PlainProcess, processes_of}
-use Rattle.mcrl2_syntax.specs.Declarations.{PlainField, PlainConstructor, PlainDecl, PlainSection, PlainSpec}
+use Rattle.mcrl2_syntax.specs.Declarations.{PlainField, PlainDecl, PlainSection, PlainSpec}
 use Rattle.mcrl2_syntax.specs.InfixSigns.{to_left, to_right, to_sum, to_product, to_and, to_or, joined_by, grouped}
 use Rattle.mcrl2_syntax.specs.SpelledWords.{token_word, SpellsName, a_name, SpellsList, last_item, more_items, SpellsBraces, no_items, some_items}
 use Rattle.mcrl2_syntax.specs.SpelledSorts.{SpellsSort, spells_bool, spells_pos, spells_nat, spells_int, spells_list, spells_named_sort, spells_brackets_sort}
