@@ -1,0 +1,15 @@
+pub mod Pieces
+pub mod PrintedExpressions
+pub mod DataLayout
+pub mod PlainExpressions
+pub mod WrittenTerms
+pub mod ReadableNames
+pub mod DataLaws
+pub mod FittingNames
+pub mod PrintedProcesses
+pub mod SummandLayout
+pub mod CopiedTokens
+pub mod NamedSummands
+pub mod CopyLaws
+pub mod EmptyLists
+pub mod TermTexts

@@ -1,0 +1,55 @@
+//! Laws of printed text. The functions do nothing: each contract is a law.
+
+ghost use Rattle.lps_printer.specs.CopiedTokens.{CopiesLex};
+ghost use Rattle.lps_printer.specs.CopyLaws.{CopiesSpellTheSame};
+ghost use Rattle.lps_printer.specs.DataLaws.{ExpressionsSpellBack, TermsReadBack};
+ghost use Rattle.lps_printer.specs.EmptyLists.{FilledTermsAreWritable};
+ghost use Rattle.lps_printer.specs.FittingNames.{NamesThatFitRead};
+ghost use Rattle.lps_printer.specs.NamedSummands.{SummandsSpellBack};
+ghost use Rattle.lps_printer.specs.Pieces.{PiecesLex};
+ghost use Rattle.lps_printer.specs.TermTexts.{TermTextsReadBack};
+
+/// Pieces that stand apart lex back.
+pub fn pieces_lex()
+    ensures { PiecesLex }
+{}
+
+/// The bytes of a printed expression spell a tree of it.
+pub fn expressions_spell_back()
+    ensures { ExpressionsSpellBack }
+{}
+
+/// Printed terms read back.
+pub fn terms_read_back()
+    ensures { TermsReadBack }
+{}
+
+/// Names without duplicates lead to their functions.
+pub fn names_that_fit_read()
+    ensures { NamesThatFitRead }
+{}
+
+/// Copied tokens lex back.
+pub fn copies_lex()
+    ensures { CopiesLex }
+{}
+
+/// Copied tokens spell the same expression.
+pub fn copies_spell_the_same()
+    ensures { CopiesSpellTheSame }
+{}
+
+/// With constants in the place of empty lists a term can be written.
+pub fn filled_terms_are_writable()
+    ensures { FilledTermsAreWritable }
+{}
+
+/// The bytes of a printed term read back as the term.
+pub fn term_texts_read_back()
+    ensures { TermTextsReadBack }
+{}
+
+/// The bytes of printed summands spell a tree of them.
+pub fn summands_spell_back()
+    ensures { SummandsSpellBack }
+{}

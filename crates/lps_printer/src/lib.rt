@@ -1,0 +1,7 @@
+//! The text of a linear process.
+//!
+//! The definitions stand in `specs/`, and in plain words in `docs/definitions/printing.md`. The functions of `laws` have empty
+//! bodies: the contract of each is a law of these definitions, so that the crates above can cite it.
+#![tactic(auto)]
+
+pub mod laws;
