@@ -19,3 +19,8 @@ pub mod EmptyLists
 pub mod SmallNumerals
 pub mod TermTexts
 pub mod SmallNames
+pub mod Lookups
+pub mod PrintedTrees
+pub mod LinearBack
+pub mod SummandTexts
+pub mod PrintedSystems

@@ -6,7 +6,8 @@ use Rattle.data_theory.specs.Terms.{positive, natural, integer, subtract, Symbol
 use Rattle.lps_printer.specs.Pieces.{bytes_of}
 use Rattle.lps_printer.specs.DataLayout.{print}
 use Rattle.lps_printer.specs.WrittenTerms.{Names, written}
-use Rattle.lps_printer.specs.PrintedProcesses.{act, goes, nat_sort, list_sort, named_sort}
+use Rattle.sort_table.specs.BareSorts.{naturals, lists_of, a_name}
+use Rattle.lps_printer.specs.PrintedProcesses.{act, goes}
 use Rattle.lps_printer.specs.SummandLayout.{print_summand}
 use Rattle.lps_printer.specs.PrintedExpressions as exp_
 
@@ -57,7 +58,7 @@ once_declared : shown (one (function 2) (one (upcast positive integer) (variable
 once_declared = refl
 
 summand : bytes_of (print_summand (record {
-  sums = record { name = codes "d"; sort = list_sort nat_sort } ∷ record { name = codes "e"; sort = named_sort (codes "D") } ∷ [];
+  sums = record { name = codes "d"; sort = lists_of naturals } ∷ record { name = codes "e"; sort = a_name (codes "D") } ∷ [];
   condition = Some (exp_.named (codes "b"));
   first = act (codes "a") (exp_.more (exp_.numeral 1) exp_.none);
   others = act (codes "c") exp_.none ∷ [];

@@ -15,7 +15,8 @@ use Rattle.mcrl2_syntax.specs.SpelledProcesses.{chosen, SpellsAtom, atom_action,
 use Rattle.lps_printer.specs.Pieces.{Piece, Says, says_more}
 use Rattle.lps_printer.specs.PrintedExpressions.{Expression, Expressions, bare, bare_all, none, more}
 use Rattle.lps_printer.specs.DataLayout.{piece, space, IsSpellable, AreSpellable}
-use Rattle.lps_printer.specs.PrintedProcesses.{SortExpression, bool_sort, pos_sort, nat_sort, int_sort, list_sort, named_sort, bare_sort, Action, tau_, act, bare_action, Assignment, bare_assignment, Variables, bare_variables, Process, Processes, bare_process, bare_processes, Next, ends, goes_bare, goes, Variable, one_variable, with_next, with_condition, with_sums, Summand, summand_process, all_summands, choice_process}
+use Rattle.sort_table.specs.BareSorts.{SortExpression, truth_values, positives, naturals, integers, lists_of, a_name, bare_sort}
+use Rattle.lps_printer.specs.PrintedProcesses.{Action, tau_, act, bare_action, Assignment, bare_assignment, Variables, bare_variables, Process, Processes, bare_process, bare_processes, Next, ends, goes_bare, goes, Variable, one_variable, with_next, with_condition, with_sums, Summand, summand_process, all_summands, choice_process}
 use Rattle.lps_printer.specs.PrintedProcesses as proc_
 use Rattle.lps_printer.specs.SummandLayout.{print_sort, print_action, print_bars, print_assignment, print_assignments, print_next, print_variable, print_variables, print_body, print_when, print_sum, print_summand, print_summands}
 use Rattle.lps_printer.proofs.Spelling.{printed_reads, printed_items}
@@ -35,18 +36,18 @@ abbrev ActionRead : List ℕ → Action → List Piece → List Token → Type 0
 ActionRead text = Read PlainAction Action (SpellsAction text) bare_action text
 
 close_sort : (text : List ℕ) (s : SortExpression) (rest : List Piece) (t u : Token) (ts us : List Token) (tree : PlainSort) → t.kind ≡ kind_.ListWord → u.kind ≡ kind_.LeftParen → SpellsSort text tree ts us → bare_sort tree ≡ s
-    → Says text (piece [] kind_.RightParen (codes ")") ∷ rest) us → SortRead text (list_sort s) rest (t ∷ u ∷ ts)
-close_sort text s rest t u ts us tree k l spells is (says_more {ts = vs} m slice says) = record { tree = _; after = vs; spells = spells_list k l spells m; says = says; is = ap (λ (x : SortExpression). list_sort x) is }
+    → Says text (piece [] kind_.RightParen (codes ")") ∷ rest) us → SortRead text (lists_of s) rest (t ∷ u ∷ ts)
+close_sort text s rest t u ts us tree k l spells is (says_more {ts = vs} m slice says) = record { tree = _; after = vs; spells = spells_list k l spells m; says = says; is = ap (λ (x : SortExpression). lists_of x) is }
 
 read_sort : (text : List ℕ) (s : SortExpression) (gap : List ℕ) (rest : List Piece) (ts : List Token) → Says text (print_sort s gap rest) ts → SortRead text s rest ts
-read_sort text bool_sort gap rest ts (says_more {ts = us} k slice says) = record { tree = _; after = us; spells = spells_bool k; says = says; is = refl }
-read_sort text pos_sort gap rest ts (says_more {ts = us} k slice says) = record { tree = _; after = us; spells = spells_pos k; says = says; is = refl }
-read_sort text nat_sort gap rest ts (says_more {ts = us} k slice says) = record { tree = _; after = us; spells = spells_nat k; says = says; is = refl }
-read_sort text int_sort gap rest ts (says_more {ts = us} k slice says) = record { tree = _; after = us; spells = spells_int k; says = says; is = refl }
-read_sort text (list_sort s) gap rest ts (says_more {t = t} k slice (says_more {t = u} {ts = us} l other says)) =
+read_sort text truth_values gap rest ts (says_more {ts = us} k slice says) = record { tree = _; after = us; spells = spells_bool k; says = says; is = refl }
+read_sort text positives gap rest ts (says_more {ts = us} k slice says) = record { tree = _; after = us; spells = spells_pos k; says = says; is = refl }
+read_sort text naturals gap rest ts (says_more {ts = us} k slice says) = record { tree = _; after = us; spells = spells_nat k; says = says; is = refl }
+read_sort text integers gap rest ts (says_more {ts = us} k slice says) = record { tree = _; after = us; spells = spells_int k; says = says; is = refl }
+read_sort text (lists_of s) gap rest ts (says_more {t = t} k slice (says_more {t = u} {ts = us} l other says)) =
     let r = read_sort text s [] (piece [] kind_.RightParen (codes ")") ∷ rest) us says in
     close_sort text s rest t u us r.after r.tree k l r.spells r.is r.says
-read_sort text (named_sort x) gap rest ts (says_more {ts = us} k slice says) = record { tree = _; after = us; spells = spells_named_sort k; says = says; is = ap (λ (y : List ℕ). named_sort y) slice }
+read_sort text (a_name x) gap rest ts (says_more {ts = us} k slice says) = record { tree = _; after = us; spells = spells_named_sort k; says = says; is = ap (λ (y : List ℕ). a_name y) slice }
 
 abbrev pub IsSpelledAction : Action → Type 0
 IsSpelledAction tau_ = Unit {0}

@@ -10,7 +10,8 @@ use Rattle.mcrl2_lexer.specs.Tokens.{IsToken, sign}
 use Rattle.lps_printer.specs.Pieces.{Piece, bytes_of, cannot_go_on, is_none, is_quiet, StandApart}
 use Rattle.lps_printer.specs.PrintedExpressions.{Expression, none, more}
 use Rattle.lps_printer.specs.DataLayout.{piece, space, print, print_more, IsIdentifier, IsSpellable}
-use Rattle.lps_printer.specs.PrintedProcesses.{SortExpression, bool_sort, pos_sort, nat_sort, int_sort, list_sort, named_sort, Action, tau_, act, Assignment, Next, ends, goes_bare, goes, Variable, Summand}
+use Rattle.sort_table.specs.BareSorts.{SortExpression, truth_values, positives, naturals, integers, lists_of, a_name}
+use Rattle.lps_printer.specs.PrintedProcesses.{Action, tau_, act, Assignment, Next, ends, goes_bare, goes, Variable, Summand}
 use Rattle.lps_printer.specs.SummandLayout.{print_sort, print_action, print_bars, print_assignment, print_assignments, print_next, print_variable, print_variables, print_body, print_when, print_sum, print_summand, print_summands}
 use Rattle.lps_printer.specs.NamedSummands.{IsNamed, IsNamedAction, AreNamedActions, IsNamedAssignment, AreNamedAssignments, IsNamedNext, IsNamedVariable, AreNamedVariables, IsNamedCondition, IsNamedSummand, AreNamedSummands}
 use Rattle.lps_printer.proofs.Fronts.{quiet}
@@ -42,21 +43,21 @@ printed_spaced : {rest : List Piece} {end : List ℕ} (e : Expression) → IsSpe
 printed_spaced {rest = rest} {end = end} e ok h = record { apart = apart e ok space refl rest end h; quiet_ = ap is_quiet (spaced e ok rest end) }
 
 sort_apart : (s : SortExpression) → IsNamed s → (gap : List ℕ) → IsGap gap → (rest : List Piece) (end : List ℕ) → Ends rest end → StandApart (print_sort s gap rest) end
-sort_apart bool_sort ok gap g rest end h = word kind_.BoolWord (codes "Bool") g refl refl refl (λ e. cc) h
-sort_apart pos_sort ok gap g rest end h = word kind_.PosWord (codes "Pos") g refl refl refl (λ e. cc) h
-sort_apart nat_sort ok gap g rest end h = word kind_.NatWord (codes "Nat") g refl refl refl (λ e. cc) h
-sort_apart int_sort ok gap g rest end h = word kind_.IntWord (codes "Int") g refl refl refl (λ e. cc) h
-sort_apart (list_sort s) ok gap g rest end h =
+sort_apart truth_values ok gap g rest end h = word kind_.BoolWord (codes "Bool") g refl refl refl (λ e. cc) h
+sort_apart positives ok gap g rest end h = word kind_.PosWord (codes "Pos") g refl refl refl (λ e. cc) h
+sort_apart naturals ok gap g rest end h = word kind_.NatWord (codes "Nat") g refl refl refl (λ e. cc) h
+sort_apart integers ok gap g rest end h = word kind_.IntWord (codes "Int") g refl refl refl (λ e. cc) h
+sort_apart (lists_of s) ok gap g rest end h =
     word kind_.ListWord (codes "List") g refl refl refl (λ e. cc) (paren_tight (print_sort s [] (piece [] kind_.RightParen (codes ")") ∷ rest)) end (sort_apart s ok [] refl (piece [] kind_.RightParen (codes ")") ∷ rest) end (close_paren h)))
-sort_apart (named_sort x) ok gap g rest end h = in_front (name_piece g ok) h
+sort_apart (a_name x) ok gap g rest end h = in_front (name_piece g ok) h
 
 sort_quiet : (s : SortExpression) (rest : List Piece) (end : List ℕ) → is_quiet (first (print_sort s space rest) end) ≡ true
-sort_quiet bool_sort rest end = refl
-sort_quiet pos_sort rest end = refl
-sort_quiet nat_sort rest end = refl
-sort_quiet int_sort rest end = refl
-sort_quiet (list_sort s) rest end = refl
-sort_quiet (named_sort x) rest end = refl
+sort_quiet truth_values rest end = refl
+sort_quiet positives rest end = refl
+sort_quiet naturals rest end = refl
+sort_quiet integers rest end = refl
+sort_quiet (lists_of s) rest end = refl
+sort_quiet (a_name x) rest end = refl
 
 -- ---- actions, which a bar may follow
 

@@ -13,3 +13,7 @@ pub mod NamedSummands
 pub mod CopyLaws
 pub mod EmptyLists
 pub mod TermTexts
+pub mod WrittenProcesses
+pub mod LinearBack
+pub mod SummandTexts
+pub mod PrintedSystems

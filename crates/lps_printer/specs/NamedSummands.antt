@@ -7,16 +7,17 @@ use Rattle.mcrl2_syntax.specs.SpelledProcesses.{SpellsProcess}
 use Rattle.lps_printer.specs.Pieces.{bytes_of}
 use Rattle.lps_printer.specs.PrintedExpressions.{Expression}
 use Rattle.lps_printer.specs.DataLayout.{IsIdentifier, IsSpellable, AreSpellable}
-use Rattle.lps_printer.specs.PrintedProcesses.{SortExpression, bool_sort, pos_sort, nat_sort, int_sort, list_sort, named_sort, Action, tau_, act, Assignment, Next, ends, goes_bare, goes, Variable, Summand, Process, bare_process, choice_process}
+use Rattle.sort_table.specs.BareSorts.{SortExpression, truth_values, positives, naturals, integers, lists_of, a_name}
+use Rattle.lps_printer.specs.PrintedProcesses.{Action, tau_, act, Assignment, Next, ends, goes_bare, goes, Variable, Summand, Process, bare_process, choice_process}
 use Rattle.lps_printer.specs.SummandLayout.{print_summand, print_summands}
 
 abbrev pub IsNamed : SortExpression → Type 0
-IsNamed bool_sort = Unit {0}
-IsNamed pos_sort = Unit {0}
-IsNamed nat_sort = Unit {0}
-IsNamed int_sort = Unit {0}
-IsNamed (list_sort s) = IsNamed s
-IsNamed (named_sort x) = IsIdentifier x
+IsNamed truth_values = Unit {0}
+IsNamed positives = Unit {0}
+IsNamed naturals = Unit {0}
+IsNamed integers = Unit {0}
+IsNamed (lists_of s) = IsNamed s
+IsNamed (a_name x) = IsIdentifier x
 
 abbrev pub IsNamedAction : Action → Type 0
 IsNamedAction tau_ = Unit {0}

@@ -1,7 +1,6 @@
 -- Process terms without spans and brackets, as far as a linear process needs them.
 use Rattle.std.specs.Prelude.{ℕ, List, [], ◌∷◌, Option, Some, None, map}
-use Rattle.mcrl2_syntax.specs.SortTrees as sort_tree
-use Rattle.mcrl2_syntax.specs.SortTrees.{PlainSort}
+use Rattle.sort_table.specs.BareSorts.{SortExpression, bare_sort}
 use Rattle.mcrl2_syntax.specs.Words.{PlainWord}
 use Rattle.mcrl2_syntax.specs.DataTrees.{datas_of}
 use Rattle.mcrl2_syntax.specs.ProcessParts as part_
@@ -10,23 +9,6 @@ use Rattle.mcrl2_syntax.specs.ProcessTrees as tree_
 use Rattle.mcrl2_syntax.specs.ProcessTrees.{PlainProcess, PlainProcesses, no_processes, more_processes}
 use Rattle.lps_printer.specs.PrintedExpressions as exp_
 use Rattle.lps_printer.specs.PrintedExpressions.{Expression, Expressions, bare, bare_all}
-
-pub data SortExpression : Type 0 where
-  bool_sort : SortExpression
-  pos_sort : SortExpression
-  nat_sort : SortExpression
-  int_sort : SortExpression
-  list_sort : SortExpression → SortExpression
-  named_sort : List ℕ → SortExpression
-
-abbrev pub bare_sort : PlainSort → SortExpression
-bare_sort (sort_tree.bool_sort span) = bool_sort
-bare_sort (sort_tree.pos_sort span) = pos_sort
-bare_sort (sort_tree.nat_sort span) = nat_sort
-bare_sort (sort_tree.int_sort span) = int_sort
-bare_sort (sort_tree.list_sort span s) = list_sort (bare_sort s)
-bare_sort (sort_tree.named_sort w) = named_sort w.bytes
-bare_sort (sort_tree.brackets_sort span s) = bare_sort s
 
 pub data Action : Type 0 where
   tau_ : Action

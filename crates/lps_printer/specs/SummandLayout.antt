@@ -4,15 +4,16 @@ use Rattle.mcrl2_lexer.specs.declared.kind.Kind.TheVariants as kind_
 use Rattle.lps_printer.specs.Pieces.{Piece}
 use Rattle.lps_printer.specs.PrintedExpressions.{Expression, none, more}
 use Rattle.lps_printer.specs.DataLayout.{piece, space, print, print_more}
-use Rattle.lps_printer.specs.PrintedProcesses.{SortExpression, bool_sort, pos_sort, nat_sort, int_sort, list_sort, named_sort, Action, tau_, act, Assignment, Next, ends, goes_bare, goes, Variable, Summand}
+use Rattle.sort_table.specs.BareSorts.{SortExpression, truth_values, positives, naturals, integers, lists_of, a_name}
+use Rattle.lps_printer.specs.PrintedProcesses.{Action, tau_, act, Assignment, Next, ends, goes_bare, goes, Variable, Summand}
 
 abbrev pub print_sort : SortExpression → List ℕ → List Piece → List Piece
-print_sort bool_sort gap rest = piece gap kind_.BoolWord (codes "Bool") ∷ rest
-print_sort pos_sort gap rest = piece gap kind_.PosWord (codes "Pos") ∷ rest
-print_sort nat_sort gap rest = piece gap kind_.NatWord (codes "Nat") ∷ rest
-print_sort int_sort gap rest = piece gap kind_.IntWord (codes "Int") ∷ rest
-print_sort (list_sort s) gap rest = piece gap kind_.ListWord (codes "List") ∷ piece [] kind_.LeftParen (codes "(") ∷ print_sort s [] (piece [] kind_.RightParen (codes ")") ∷ rest)
-print_sort (named_sort x) gap rest = piece gap kind_.Identifier x ∷ rest
+print_sort truth_values gap rest = piece gap kind_.BoolWord (codes "Bool") ∷ rest
+print_sort positives gap rest = piece gap kind_.PosWord (codes "Pos") ∷ rest
+print_sort naturals gap rest = piece gap kind_.NatWord (codes "Nat") ∷ rest
+print_sort integers gap rest = piece gap kind_.IntWord (codes "Int") ∷ rest
+print_sort (lists_of s) gap rest = piece gap kind_.ListWord (codes "List") ∷ piece [] kind_.LeftParen (codes "(") ∷ print_sort s [] (piece [] kind_.RightParen (codes ")") ∷ rest)
+print_sort (a_name x) gap rest = piece gap kind_.Identifier x ∷ rest
 
 abbrev pub print_action : Action → List ℕ → List Piece → List Piece
 print_action tau_ gap rest = piece gap kind_.Tau (codes "tau") ∷ rest

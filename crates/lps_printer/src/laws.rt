@@ -5,8 +5,11 @@ ghost use Rattle.lps_printer.specs.CopyLaws.{CopiesSpellTheSame};
 ghost use Rattle.lps_printer.specs.DataLaws.{ExpressionsSpellBack, TermsReadBack};
 ghost use Rattle.lps_printer.specs.EmptyLists.{FilledTermsAreWritable};
 ghost use Rattle.lps_printer.specs.FittingNames.{NamesThatFitRead};
+ghost use Rattle.lps_printer.specs.LinearBack.{LinearProcessesElaborateBack};
 ghost use Rattle.lps_printer.specs.NamedSummands.{SummandsSpellBack};
 ghost use Rattle.lps_printer.specs.Pieces.{PiecesLex};
+ghost use Rattle.lps_printer.specs.PrintedSystems.{PrintedSystemsAreLinear};
+ghost use Rattle.lps_printer.specs.SummandTexts.{SummandTextsElaborate};
 ghost use Rattle.lps_printer.specs.TermTexts.{TermTextsReadBack};
 
 /// Pieces that stand apart lex back.
@@ -52,4 +55,19 @@ pub fn term_texts_read_back()
 /// The bytes of printed summands spell a tree of them.
 pub fn summands_spell_back()
     ensures { SummandsSpellBack }
+{}
+
+/// What is printed for a linear process elaborates to its definition and its state.
+pub fn linear_processes_elaborate_back()
+    ensures { LinearProcessesElaborateBack }
+{}
+
+/// The bytes of printed summands elaborate to the definition.
+pub fn summand_texts_elaborate()
+    ensures { SummandTextsElaborate }
+{}
+
+/// A well-typed text with the printed process of a linear process has that process, and is a linear text.
+pub fn printed_systems_are_linear()
+    ensures { PrintedSystemsAreLinear }
 {}
