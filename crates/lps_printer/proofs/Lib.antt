@@ -24,3 +24,4 @@ pub mod PrintedTrees
 pub mod LinearBack
 pub mod SummandTexts
 pub mod PrintedSystems
+pub mod FilledLinears

@@ -17,3 +17,4 @@ pub mod WrittenProcesses
 pub mod LinearBack
 pub mod SummandTexts
 pub mod PrintedSystems
+pub mod FilledLinears

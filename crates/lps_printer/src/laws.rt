@@ -4,6 +4,7 @@ ghost use Rattle.lps_printer.specs.CopiedTokens.{CopiesLex};
 ghost use Rattle.lps_printer.specs.CopyLaws.{CopiesSpellTheSame};
 ghost use Rattle.lps_printer.specs.DataLaws.{ExpressionsSpellBack, TermsReadBack};
 ghost use Rattle.lps_printer.specs.EmptyLists.{FilledTermsAreWritable};
+ghost use Rattle.lps_printer.specs.FilledLinears.{FilledLinearsAreEqual};
 ghost use Rattle.lps_printer.specs.FittingNames.{NamesThatFitRead};
 ghost use Rattle.lps_printer.specs.LinearBack.{LinearProcessesElaborateBack};
 ghost use Rattle.lps_printer.specs.NamedSummands.{SummandsSpellBack};
@@ -45,6 +46,11 @@ pub fn copies_spell_the_same()
 /// With constants in the place of empty lists a term can be written.
 pub fn filled_terms_are_writable()
     ensures { FilledTermsAreWritable }
+{}
+
+/// With constants in the place of empty lists a linear process is provably equal to itself, where each has its equation.
+pub fn filled_linears_are_equal()
+    ensures { FilledLinearsAreEqual }
 {}
 
 /// The bytes of a printed term read back as the term.
