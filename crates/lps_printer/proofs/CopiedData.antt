@@ -162,7 +162,7 @@ mutual
         is = ap₂ (λ (e : typed.Expression) (xs : List (InfixSign × typed.Expression)). (sign, e) ∷ xs) c.is t.is;
       }
 
-none_alike : {text other : List ℕ} {us : List Token} → Alike text other [] us → us ≡ []
+pub none_alike : {text other : List ℕ} {us : List Token} → Alike text other [] us → us ≡ []
 none_alike alike_none = refl
 
 pub copies_spell_the_same : CopiesSpellTheSame

@@ -25,3 +25,4 @@ pub mod LinearBack
 pub mod SummandTexts
 pub mod PrintedSystems
 pub mod FilledLinears
+pub mod CopiedDeclarations

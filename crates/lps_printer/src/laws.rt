@@ -1,7 +1,7 @@
 //! Laws of printed text. The functions do nothing: each contract is a law.
 
 ghost use Rattle.lps_printer.specs.CopiedTokens.{CopiesLex};
-ghost use Rattle.lps_printer.specs.CopyLaws.{CopiesSpellTheSame};
+ghost use Rattle.lps_printer.specs.CopyLaws.{CopiesSpellTheSame, DeclarationCopiesSpellTheSame};
 ghost use Rattle.lps_printer.specs.DataLaws.{ExpressionsSpellBack, TermsReadBack};
 ghost use Rattle.lps_printer.specs.EmptyLists.{FilledTermsAreWritable};
 ghost use Rattle.lps_printer.specs.FilledLinears.{FilledLinearsAreEqual};
@@ -41,6 +41,11 @@ pub fn copies_lex()
 /// Copied tokens spell the same expression.
 pub fn copies_spell_the_same()
     ensures { CopiesSpellTheSame }
+{}
+
+/// Copied tokens spell the same declaration of sorts, functions, variables, equations or actions.
+pub fn declaration_copies_spell_the_same()
+    ensures { DeclarationCopiesSpellTheSame }
 {}
 
 /// With constants in the place of empty lists a term can be written.
