@@ -26,3 +26,4 @@ pub mod SummandTexts
 pub mod PrintedSystems
 pub mod FilledLinears
 pub mod CopiedDeclarations
+pub mod DefinitionTexts

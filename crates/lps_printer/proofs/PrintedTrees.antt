@@ -23,7 +23,7 @@ listed_are : (ds : List PlainData) → map bare_data ds ≡ plain_list (printed.
 listed_are [] = refl
 listed_are (d ∷ ds) = ap₂ (λ (e : Expression) (es : List Expression). e ∷ es) (sym (plain_bare d)) (listed_are ds)
 
-action_is : (a : PlainAction) → bare_action a ≡ plain_action (printed_.bare_action a)
+pub action_is : (a : PlainAction) → bare_action a ≡ plain_action (printed_.bare_action a)
 action_is (tau_action span) = refl
 action_is (named_action span f ds) = ap (λ (es : List Expression). bare.act f.bytes es) (listed_are ds)
 
@@ -48,7 +48,7 @@ names_are : (s : SortExpression) (ws : List PlainWord) → map (with_sort s) ws 
 names_are s [] = refl
 names_are s (w ∷ ws) = ap (λ (xs : Variables). (w.bytes, s) ∷ xs) (names_are s ws)
 
-groups_are : (gs : List PlainVarGroup) → bare_variables gs ≡ flat_map plain_group (map printed_.bare_variables gs)
+pub groups_are : (gs : List PlainVarGroup) → bare_variables gs ≡ flat_map plain_group (map printed_.bare_variables gs)
 groups_are [] = refl
 groups_are (g ∷ gs) = ap₂ (λ (xs ys : Variables). xs ++ ys) (names_are (bare_sort g.sort) g.names) (groups_are gs)
 

@@ -22,17 +22,17 @@ use Rattle.lps_printer.specs.SummandLayout.{print_sort, print_action, print_bars
 use Rattle.lps_printer.proofs.Spelling.{printed_reads, printed_items}
 
 -- what a front of the tokens spells, in front of those of the pieces behind it
-record Read (Plain Bare : Type 0) (Spells : Plain → List Token → List Token → Type 0) (to : Plain → Bare) (text : List ℕ) (is_ : Bare) (rest : List Piece) (ts : List Token) : Type 0 where
-  tree : Plain
-  after : List Token
-  spells : Spells tree ts after
-  says : Says text rest after
-  is : to tree ≡ is_
+pub record Read (Plain Bare : Type 0) (Spells : Plain → List Token → List Token → Type 0) (to : Plain → Bare) (text : List ℕ) (is_ : Bare) (rest : List Piece) (ts : List Token) : Type 0 where
+  pub tree : Plain
+  pub after : List Token
+  pub spells : Spells tree ts after
+  pub says : Says text rest after
+  pub is : to tree ≡ is_
 
 abbrev SortRead : List ℕ → SortExpression → List Piece → List Token → Type 0
 SortRead text = Read PlainSort SortExpression (SpellsSort text) bare_sort text
 
-abbrev ActionRead : List ℕ → Action → List Piece → List Token → Type 0
+abbrev pub ActionRead : List ℕ → Action → List Piece → List Token → Type 0
 ActionRead text = Read PlainAction Action (SpellsAction text) bare_action text
 
 close_sort : (text : List ℕ) (s : SortExpression) (rest : List Piece) (t u : Token) (ts us : List Token) (tree : PlainSort) → t.kind ≡ kind_.ListWord → u.kind ≡ kind_.LeftParen → SpellsSort text tree ts us → bare_sort tree ≡ s
@@ -58,7 +58,7 @@ close_action : (text : List ℕ) (x : List ℕ) (e : Expression) (es : Expressio
 close_action text x e es rest t u ts us trees k slice o spells is (says_more {ts = vs} l s says) =
     record { tree = _; after = vs; spells = action_applied k o spells l; says = says; is = ap₂ (λ (y : List ℕ) (z : Expressions). act y z) slice is }
 
-read_action : (text : List ℕ) (a : Action) → IsSpelledAction a → (gap : List ℕ) (rest : List Piece) (ts : List Token) → Says text (print_action a gap rest) ts → ActionRead text a rest ts
+pub read_action : (text : List ℕ) (a : Action) → IsSpelledAction a → (gap : List ℕ) (rest : List Piece) (ts : List Token) → Says text (print_action a gap rest) ts → ActionRead text a rest ts
 read_action text tau_ ok gap rest ts (says_more {ts = us} k slice says) = record { tree = _; after = us; spells = action_tau k; says = says; is = refl }
 read_action text (act x none) ok gap rest ts (says_more {ts = us} k slice says) = record { tree = _; after = us; spells = action_name k; says = says; is = ap (λ (y : List ℕ). act y none) slice }
 read_action text (act x (more e es)) ok gap rest ts (says_more {t = t} k slice (says_more {t = u} {ts = us} l other says)) =
@@ -238,11 +238,11 @@ abbrev VariablesRead : List ℕ → Variable → List Piece → List Token → T
 VariablesRead text v = Read PlainVarGroup Variables (SpellsVarGroup text) bare_variables text (one_variable v)
 
 pub record GroupsRead (text : List ℕ) (vs : List Variable) (rest : List Piece) (ts : List Token) : Type 0 where
-  trees : List PlainVarGroup
-  after : List Token
-  spells : SpellsVars text trees ts after
-  says : Says text rest after
-  is : map bare_variables trees ≡ map one_variable vs
+  pub trees : List PlainVarGroup
+  pub after : List Token
+  pub spells : SpellsVars text trees ts after
+  pub says : Says text rest after
+  pub is : map bare_variables trees ≡ map one_variable vs
 
 read_variable : (text : List ℕ) (v : Variable) (gap : List ℕ) (rest : List Piece) (ts : List Token) → Says text (print_variable v gap rest) ts → VariablesRead text v rest ts
 read_variable text v gap rest ts (says_more k slice (says_more {ts = us} l other says)) =
@@ -256,7 +256,7 @@ one_group text v w ws rest ts us tree spells is read (says_more {ts = xs} k slic
     let r = read xs says in
     record { trees = tree ∷ r.trees; after = r.after; spells = more_items spells k r.spells; says = r.says; is = ap₂ (λ (x : Variables) (xs : List Variables). x ∷ xs) is r.is }
 
-read_groups : (text : List ℕ) (v : Variable) (vs : List Variable) (gap : List ℕ) (rest : List Piece) (ts : List Token) → Says text (print_variable v gap (print_variables vs rest)) ts → GroupsRead text (v ∷ vs) rest ts
+pub read_groups : (text : List ℕ) (v : Variable) (vs : List Variable) (gap : List ℕ) (rest : List Piece) (ts : List Token) → Says text (print_variable v gap (print_variables vs rest)) ts → GroupsRead text (v ∷ vs) rest ts
 read_groups text v [] gap rest ts says =
     let r = read_variable text v gap rest ts says in
     record { trees = r.tree ∷ []; after = r.after; spells = last_item r.spells; says = r.says; is = ap (λ (x : Variables). x ∷ []) r.is }

@@ -32,7 +32,7 @@ named_sort n h integer = tt
 named_sort n h (list s) = named_sort n h s
 named_sort n h (declared_sort d) = h d
 
-named_variables : (n : TextNames) {ss : List Summand} → AreNamed n ss → (xs : List Bound) → AreNamedVariables (map (variable_written n) xs)
+pub named_variables : (n : TextNames) {ss : List Summand} → AreNamed n ss → (xs : List Bound) → AreNamedVariables (map (variable_written n) xs)
 named_variables n h [] = tt
 named_variables n h (x ∷ xs) = ((h.terms.variable x.var, named_sort n h.sorts x.sort), named_variables n h xs)
 
@@ -87,7 +87,7 @@ named_summand g vs n h params s k sorted = record {
   next = named_next g vs n h params s.next sorted.next;
 }
 
-named_summands : (v : FullVocabulary) (n : TextNames) {rs : List Summand} → AreNamed n rs → (scope : Scope) (params : List Bound) (ss : List Summand) → AllByRecursion HasNamedActions ss → AllByRecursion (SummandReads v n scope params) ss → AreNamedSummands (map (summand_written n params) ss)
+pub named_summands : (v : FullVocabulary) (n : TextNames) {rs : List Summand} → AreNamed n rs → (scope : Scope) (params : List Bound) (ss : List Summand) → AllByRecursion HasNamedActions ss → AllByRecursion (SummandReads v n scope params) ss → AreNamedSummands (map (summand_written n params) ss)
 named_summands v n h scope params [] k r = tt
 named_summands v n h scope params (s ∷ ss) k r = (named_summand v.declared.tables r.0.variable_sorts n h params s k.0 r.0.sorted, named_summands v n h scope params ss k.1 r.1)
 

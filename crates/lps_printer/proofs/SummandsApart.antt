@@ -18,7 +18,7 @@ use Rattle.lps_printer.proofs.Fronts.{quiet}
 use Rattle.lps_printer.proofs.Apart.{first, Ends, IsGap, plain_piece, name_piece, identifier_token, word_token, in_front, after_paren, close_paren, apart, more_apart, spaced}
 
 -- a word of the language in front of others
-word : {gap : List ℕ} {rest : List Piece} {end : List ℕ} (k : Kind) (x : List ℕ) → IsGap gap → is_name x ≡ true → word_kind x ≡ k → is_left_out k ≡ false → k ≢ kind_.Numeral → Ends rest end → StandApart (piece gap k x ∷ rest) end
+pub word : {gap : List ℕ} {rest : List Piece} {end : List ℕ} (k : Kind) (x : List ℕ) → IsGap gap → is_name x ≡ true → word_kind x ≡ k → is_left_out k ≡ false → k ≢ kind_.Numeral → Ends rest end → StandApart (piece gap k x ∷ rest) end
 word k x g n e l o h = in_front (plain_piece g (subst (λ (j : Kind). IsToken x j) e (word_token x n)) l o) h
 
 -- a sign in front of others
@@ -27,7 +27,7 @@ signed k x g e l o h = in_front (plain_piece g (sign e) l o) h
 
 -- the same, as what others may stand in front of
 
-signed_spaced : {rest : List Piece} {end : List ℕ} (k : Kind) (x : List ℕ) → sign_kind x ≡ Some k → is_left_out k ≡ false → k ≢ kind_.Numeral → Ends rest end → Ends (piece space k x ∷ rest) end
+pub signed_spaced : {rest : List Piece} {end : List ℕ} (k : Kind) (x : List ℕ) → sign_kind x ≡ Some k → is_left_out k ≡ false → k ≢ kind_.Numeral → Ends rest end → Ends (piece space k x ∷ rest) end
 signed_spaced k x e l o h = record { apart = signed k x refl e l o h; quiet_ = refl }
 
 named_spaced : {rest : List Piece} {end : List ℕ} (x : List ℕ) → IsIdentifier x → Ends rest end → Ends (piece space kind_.Identifier x ∷ rest) end
@@ -36,7 +36,7 @@ named_spaced x ok h = record { apart = in_front (name_piece refl ok) h; quiet_ =
 signed_tight : {rest : List Piece} {end : List ℕ} (k : Kind) (b : ℕ) → is_quiet b ≡ true → sign_kind (b ∷ []) ≡ Some k → is_left_out k ≡ false → k ≢ kind_.Numeral → Ends rest end → Ends (piece [] k (b ∷ []) ∷ rest) end
 signed_tight k b q e l o h = record { apart = signed k (b ∷ []) refl e l o h; quiet_ = q }
 
-paren_tight : (rest : List Piece) (end : List ℕ) → StandApart rest end → Ends (piece [] kind_.LeftParen (codes "(") ∷ rest) end
+pub paren_tight : (rest : List Piece) (end : List ℕ) → StandApart rest end → Ends (piece [] kind_.LeftParen (codes "(") ∷ rest) end
 paren_tight rest end s = record { apart = after_paren rest end refl s; quiet_ = refl }
 
 printed_spaced : {rest : List Piece} {end : List ℕ} (e : Expression) → IsSpellable e → Ends rest end → Ends (print e space rest) end
@@ -61,9 +61,9 @@ sort_quiet (a_name x) rest end = refl
 
 -- ---- actions, which a bar may follow
 
-record EndsAction (rest : List Piece) (end : List ℕ) : Type 0 where
-  apart : StandApart rest end
-  behind : (is_quiet (first rest end) ≡ true) ⊎ (first rest end ≡ 124)
+pub record EndsAction (rest : List Piece) (end : List ℕ) : Type 0 where
+  pub apart : StandApart rest end
+  pub behind : (is_quiet (first rest end) ≡ true) ⊎ (first rest end ≡ 124)
 
 name_bar : (x : List ℕ) → IsIdentifier x → cannot_go_on x 124 ≡ true
 name_bar [] h = absurd cc
@@ -76,7 +76,7 @@ either_end bytes next k t b (inr e) = subst (λ (n : ℕ). cannot_go_on bytes n 
 close_action : {rest : List Piece} {end : List ℕ} → EndsAction rest end → Ends (piece [] kind_.RightParen (codes ")") ∷ rest) end
 close_action {rest = rest} {end = end} h = record { apart = (plain_piece refl (sign refl) refl (λ e. cc), either_end (codes ")") (first rest end) kind_.RightParen (sign refl) refl h.behind, h.apart); quiet_ = refl }
 
-action_apart : (a : Action) → IsNamedAction a → (gap : List ℕ) → IsGap gap → (rest : List Piece) (end : List ℕ) → EndsAction rest end → StandApart (print_action a gap rest) end
+pub action_apart : (a : Action) → IsNamedAction a → (gap : List ℕ) → IsGap gap → (rest : List Piece) (end : List ℕ) → EndsAction rest end → StandApart (print_action a gap rest) end
 action_apart tau_ ok gap g rest end h = (plain_piece g (word_token (codes "tau") refl) refl (λ e. cc), either_end (codes "tau") (first rest end) kind_.Tau (word_token (codes "tau") refl) refl h.behind, h.apart)
 action_apart (act x none) ok gap g rest end h = (name_piece g ok.0, either_end x (first rest end) kind_.Identifier (identifier_token x ok.0) (name_bar x ok.0) h.behind, h.apart)
 action_apart (act x (more e es)) ok gap g rest end h =
@@ -122,12 +122,12 @@ next_apart (goes x (a ∷ as_)) ok rest end h =
     = assignment_apart a ok.1.0 [] refl (print_assignments as_ (piece [] kind_.RightParen (codes ")") ∷ rest)) end (assignments_apart as_ ok.1.1 (piece [] kind_.RightParen (codes ")") ∷ rest) end (close_paren h)) in
     signed_spaced kind_.Dot (codes ".") refl refl (λ e. cc) (named_spaced x ok.0 (paren_tight (print_assignment a [] (print_assignments as_ (piece [] kind_.RightParen (codes ")") ∷ rest))) end inner))
 
-variable_apart : (v : Variable) → IsNamedVariable v → (gap : List ℕ) → IsGap gap → (rest : List Piece) (end : List ℕ) → Ends rest end → StandApart (print_variable v gap rest) end
+pub variable_apart : (v : Variable) → IsNamedVariable v → (gap : List ℕ) → IsGap gap → (rest : List Piece) (end : List ℕ) → Ends rest end → StandApart (print_variable v gap rest) end
 variable_apart v ok gap g rest end h =
     let sort_ : Ends (print_sort v.sort space rest) end = record { apart = sort_apart v.sort ok.1 space refl rest end h; quiet_ = sort_quiet v.sort rest end } in
     in_front (name_piece g ok.0) (signed_tight kind_.Colon 58 refl refl refl (λ e. cc) sort_)
 
-variables_apart : (vs : List Variable) → AreNamedVariables vs → (rest : List Piece) (end : List ℕ) → Ends rest end → Ends (print_variables vs rest) end
+pub variables_apart : (vs : List Variable) → AreNamedVariables vs → (rest : List Piece) (end : List ℕ) → Ends rest end → Ends (print_variables vs rest) end
 variables_apart [] ok rest end h = h
 variables_apart (v ∷ vs) ok rest end h =
     let inner : Ends (print_variable v space (print_variables vs rest)) end = record { apart = variable_apart v ok.0 space refl (print_variables vs rest) end (variables_apart vs ok.1 rest end h); quiet_ = refl } in
@@ -161,7 +161,7 @@ sum_apart (v ∷ vs) s ov ok gap g rest end h =
     let head : Ends (print_variable v space (print_variables vs (piece space kind_.Dot (codes ".") ∷ print_when s.condition s.first s.others s.next space rest))) end = record { apart = variable_apart v ov.0 space refl (print_variables vs (piece space kind_.Dot (codes ".") ∷ print_when s.condition s.first s.others s.next space rest)) end (variables_apart vs ov.1 (piece space kind_.Dot (codes ".") ∷ print_when s.condition s.first s.others s.next space rest) end dot); quiet_ = refl } in
     word kind_.Sum (codes "sum") g refl refl refl (λ e. cc) head
 
-sum_spaced : (vs : List Variable) (s : Summand) (rest : List Piece) (end : List ℕ) → is_quiet (first (print_sum vs s.condition s.first s.others s.next space rest) end) ≡ true
+pub sum_spaced : (vs : List Variable) (s : Summand) (rest : List Piece) (end : List ℕ) → is_quiet (first (print_sum vs s.condition s.first s.others s.next space rest) end) ≡ true
 sum_spaced [] s rest end = when_spaced s.condition s rest end
 sum_spaced (v ∷ vs) s rest end = refl
 

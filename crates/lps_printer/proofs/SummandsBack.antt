@@ -12,7 +12,7 @@ use Rattle.lps_printer.proofs.SpellBack.{nothing_left}
 use Rattle.lps_printer.proofs.ProcessSpelling.{IsSpelledAction, AreSpelledActions, AreSpelledValues, IsSpelledNext, IsSpelledCondition, IsSpelledSummand, AreSpelledSummands, read_choice}
 use Rattle.lps_printer.proofs.SummandsApart.{summand_apart, summands_apart}
 
-of_action : (a : Action) → IsNamedAction a → IsSpelledAction a
+pub of_action : (a : Action) → IsNamedAction a → IsSpelledAction a
 of_action tau_ h = tt
 of_action (act x es) h = h.1
 
@@ -33,10 +33,10 @@ of_condition : (c : Option Expression) → IsNamedCondition c → IsSpelledCondi
 of_condition None h = tt
 of_condition (Some c) h = h
 
-of_summand : (s : Summand) → IsNamedSummand s → IsSpelledSummand s
+pub of_summand : (s : Summand) → IsNamedSummand s → IsSpelledSummand s
 of_summand s h = record { condition = of_condition s.condition h.condition; first = of_action s.first h.first; others = of_actions s.others h.others; next = of_next s.next h.next }
 
-of_summands : (ss : List Summand) → AreNamedSummands ss → AreSpelledSummands ss
+pub of_summands : (ss : List Summand) → AreNamedSummands ss → AreSpelledSummands ss
 of_summands [] h = tt
 of_summands (s ∷ ss) h = (of_summand s h.0, of_summands ss h.1)
 

@@ -18,3 +18,4 @@ pub mod LinearBack
 pub mod SummandTexts
 pub mod PrintedSystems
 pub mod FilledLinears
+pub mod DefinitionTexts

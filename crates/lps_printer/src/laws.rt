@@ -3,6 +3,7 @@
 ghost use Rattle.lps_printer.specs.CopiedTokens.{CopiesLex};
 ghost use Rattle.lps_printer.specs.CopyLaws.{CopiesSpellTheSame, DeclarationCopiesSpellTheSame};
 ghost use Rattle.lps_printer.specs.DataLaws.{ExpressionsSpellBack, TermsReadBack};
+ghost use Rattle.lps_printer.specs.DefinitionTexts.{DefinitionsSpellBack, LinearTextsSpellBack, StartsSpellBack};
 ghost use Rattle.lps_printer.specs.EmptyLists.{FilledTermsAreWritable};
 ghost use Rattle.lps_printer.specs.FilledLinears.{FilledLinearsAreEqual};
 ghost use Rattle.lps_printer.specs.FittingNames.{NamesThatFitRead};
@@ -81,4 +82,11 @@ pub fn summand_texts_elaborate()
 /// A well-typed text with the printed process of a linear process has that process, and is a linear text.
 pub fn printed_systems_are_linear()
     ensures { PrintedSystemsAreLinear }
+{}
+
+/// The bytes of a printed definition, of a printed start, and of both of a linear process spell these.
+pub fn definitions_spell_back()
+    ensures definitions { DefinitionsSpellBack }
+    ensures starts { StartsSpellBack }
+    ensures linear { LinearTextsSpellBack }
 {}
