@@ -29,3 +29,4 @@ pub mod CopiedDeclarations
 pub mod DefinitionTexts
 pub mod InsideDeclarations
 pub mod TextSections
+pub mod WholeTexts

@@ -20,3 +20,4 @@ pub mod PrintedSystems
 pub mod FilledLinears
 pub mod DefinitionTexts
 pub mod TextSections
+pub mod WholeTexts
