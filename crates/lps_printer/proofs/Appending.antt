@@ -10,6 +10,7 @@ use Rattle.mcrl2_syntax.specs.declared.data_tree.InfixSign.{InfixSign}
 use Rattle.mcrl2_syntax.specs.declared.data_tree.InfixSign.TheVariants.{Implies, Or, And, Equal, NotEqual, Less, LessEqual, Greater, GreaterEqual, In, Prepend, Append, Concat, Add, Subtract, Div, Mod, Multiply, At}
 use Rattle.mcrl2_syntax.specs.SpelledDeclarations.{section_word, IsInside, CutsOff}
 use Rattle.sort_table.specs.BareData.{infix_text}
+use Rattle.lps_printer.specs.TextSections.{inside_kind, all_inside}
 use Rattle.lps_printer.specs.Pieces.{Piece, bytes_of, Says, says_none, says_more}
 use Rattle.lps_printer.specs.PrintedExpressions.{Expression, Expressions, named, true_, false_, listed, applied, prefix, binary, none, more}
 use Rattle.lps_printer.specs.PrintedExpressions as form
@@ -58,22 +59,6 @@ mutual
 
 -- ---- kinds
 
-abbrev pub inside_kind : Kind → Bool
-inside_kind kind_.Semicolon = false
-inside_kind kind_.Sort = false
-inside_kind kind_.Cons = false
-inside_kind kind_.Map = false
-inside_kind kind_.Var = false
-inside_kind kind_.Eqn = false
-inside_kind kind_.Act = false
-inside_kind kind_.Proc = false
-inside_kind kind_.Init = false
-inside_kind _ = true
-
-abbrev pub all_inside : List Piece → Bool
-all_inside [] = true
-all_inside (p ∷ ps) = inside_kind p.kind && all_inside ps
-
 inside_infix : (s : InfixSign) → inside_kind (infix_kind s) ≡ true
 inside_infix Implies = refl
 inside_infix Or = refl
@@ -117,7 +102,7 @@ mutual
       ∙ ap (λ (b : Bool). b && all_inside (operand (right_needs s f) (λ g r. print f g r) space rest)) (inside_infix s)
       ∙ operand_inside (right_needs s f) f (λ g r. print_inside f g r) space rest
 
-  more_inside : (es : Expressions) (rest : List Piece) → all_inside (print_more es rest) ≡ all_inside rest
+  pub more_inside : (es : Expressions) (rest : List Piece) → all_inside (print_more es rest) ≡ all_inside rest
   more_inside none rest = refl
   more_inside (more e es) rest = print_inside e space (print_more es rest) ∙ more_inside es rest
 

@@ -53,10 +53,10 @@ parameters_end (v ∷ vs) ok rest h =
     let behind : List Piece = piece [] kind_.RightParen (codes ")") ∷ rest in
     paren_tight (print_variable v [] (print_variables vs behind)) (10 ∷ []) (variable_apart v ok.0 [] refl (print_variables vs behind) (10 ∷ []) (variables_apart vs ok.1 behind (10 ∷ []) (close_paren h)))
 
-definition_apart : (x : List ℕ) (vs : List Variable) (ss : List Summand) → IsIdentifier x → AreNamedVariables vs → AreNamedSummands ss → StandApart (print_definition x vs ss []) (10 ∷ [])
+pub definition_apart : (x : List ℕ) (vs : List Variable) (ss : List Summand) → IsIdentifier x → AreNamedVariables vs → AreNamedSummands ss → StandApart (print_definition x vs ss []) (10 ∷ [])
 definition_apart x vs ss i v s = in_front (name_piece refl i) (parameters_end vs v (piece space kind_.Equals (codes "=") ∷ print_choice ss []) (signed_spaced kind_.Equals (codes "=") refl refl (λ e. cc) (choice_ends ss s)))
 
-start_apart : (a : Action) → IsNamedAction a → StandApart (print_start a []) (10 ∷ [])
+pub start_apart : (a : Action) → IsNamedAction a → StandApart (print_start a []) (10 ∷ [])
 start_apart a ok = action_apart a ok space refl [] (10 ∷ []) (record { apart = refl; behind = inl refl })
 
 -- ---- it spells the definition
@@ -75,12 +75,12 @@ read_all text (s ∷ ss) ok ts says =
     let r = read_choice text s ss ok.0 ok.1 space [] ts says in
     record { tree = chosen (r.head ∷ r.tail); spells = spells_process (subst (λ (us : List Token). SpellsChoices text (r.head ∷ r.tail) ts us) (nothing_left r.says) r.spells); is = r.whole }
 
-record DefinitionRead (text x : List ℕ) (vs : List Variable) (ss : List Summand) (ts : List Token) : Type 0 where
-  declaration : PlainDecl
-  spells : SpellsDecl text sections.Proc declaration ts
-  tree : PlainProcess
-  body : printed_.bare_process tree ≡ choice_of_all ss
-  is : bare_declaration declaration ≡ process x (flat_map plain_group (map one_variable vs)) (bare_process tree)
+pub record DefinitionRead (text x : List ℕ) (vs : List Variable) (ss : List Summand) (ts : List Token) : Type 0 where
+  pub declaration : PlainDecl
+  pub spells : SpellsDecl text sections.Proc declaration ts
+  pub tree : PlainProcess
+  pub body : printed_.bare_process tree ≡ choice_of_all ss
+  pub is : bare_declaration declaration ≡ process x (flat_map plain_group (map one_variable vs)) (bare_process tree)
 
 defined : (x y : Name) (xs ys : Variables) (p : bare.Process) → x ≡ y → xs ≡ ys → process x xs p ≡ process y ys p
 defined x y xs ys p h k = ap₂ (λ (n : Name) (vs : Variables). process n vs p) h k
@@ -97,7 +97,7 @@ behind_parameters text x v vs ss ok t u ts us groups k slice l spells is (says_m
       is = defined _ _ _ _ (bare_process b.tree) slice (groups_are groups ∙ ap (flat_map plain_group) is);
     }
 
-read_definition : (text x : List ℕ) (vs : List Variable) (ss : List Summand) → AreSpelledSummands ss → (ts : List Token) → Says text (print_definition x vs ss []) ts → DefinitionRead text x vs ss ts
+pub read_definition : (text x : List ℕ) (vs : List Variable) (ss : List Summand) → AreSpelledSummands ss → (ts : List Token) → Says text (print_definition x vs ss []) ts → DefinitionRead text x vs ss ts
 read_definition text x [] ss ok ts (says_more k slice (says_more {ts = us} l other says)) =
     let b = read_all text ss ok us says in
     record { declaration = _; spells = decl_proc k l b.spells; tree = b.tree; body = b.is; is = defined _ _ [] [] (bare_process b.tree) slice refl }
@@ -126,11 +126,11 @@ starts_spell_back a ok =
     }
 
 -- ---- of a linear process
-parameters_are : (n : TextNames) (xs : List Bound) → flat_map plain_group (map one_variable (map (variable_written n) xs)) ≡ parameters_written n xs
+pub parameters_are : (n : TextNames) (xs : List Bound) → flat_map plain_group (map one_variable (map (variable_written n) xs)) ≡ parameters_written n xs
 parameters_are n [] = refl
 parameters_are n (x ∷ xs) = ap (λ (vs : Variables). (n.terms.variable x.var, sort_written n x.sort) ∷ vs) (parameters_are n xs)
 
-body_is : (n : TextNames) (xs : List Bound) (ss : List _) → choice_of_all (map (summand_written n xs) ss) ≡ summands_written n xs ss
+pub body_is : (n : TextNames) (xs : List Bound) (ss : List _) → choice_of_all (map (summand_written n xs) ss) ≡ summands_written n xs ss
 body_is n xs [] = refl
 body_is n xs (s ∷ ss) = refl
 

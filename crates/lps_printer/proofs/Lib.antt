@@ -27,3 +27,6 @@ pub mod PrintedSystems
 pub mod FilledLinears
 pub mod CopiedDeclarations
 pub mod DefinitionTexts
+pub mod InsideDeclarations
+pub mod TextSections
+pub mod WholeTexts

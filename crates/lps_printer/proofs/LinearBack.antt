@@ -253,6 +253,7 @@ tree_back v n l initial h body e =
 pub linear_processes_elaborate_back : LinearProcessesElaborateBack
 linear_processes_elaborate_back v n l initial h = record {
   definition = λ body e. record { scope = scope_behind n [] l.params; bounds = l.params; binds = parameters_back v n [] l.params h.params; params = refl; body = tree_back v n l initial h body e };
+  written = record { scope = scope_behind n [] l.params; bounds = l.params; binds = parameters_back v n [] l.params h.params; params = refl; body = summands_back v n l.params h.process h.distinct l.summands h.summands };
   start = start_back v n l initial h;
   state = ap (call (linear_table l) 0) (all_stay v.declared.tables initial (sorts l.params) h.of_sorts);
 }

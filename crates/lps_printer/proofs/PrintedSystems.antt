@@ -21,7 +21,7 @@ printed_systems_are_linear ss v th n l initial voc typed same eqs p h vs lin sor
         data_of = same;
         equations = eqs;
         table = linear_table l;
-        definitions = subst (λ (ws : List Written). EachPair (ElaboratesDefinition v) ws (linear_table l)) (sym p.definition) (b.definition p.tree p.summands, tt);
+        definitions = subst (λ (ws : List Written). EachPair (ElaboratesDefinition v) ws (linear_table l)) (sym p.definition) (b.written, tt);
         initial_term = start_written n initial;
         one_init = p.start;
         start = written_call 0 initial;

@@ -137,7 +137,7 @@ body_apart : (s : Summand) → IsNamedSummand s → (gap : List ℕ) → IsGap g
 body_apart s ok gap g rest end h = action_apart s.first ok.first gap g (print_bars s.others (print_next s.next rest)) end (bars_apart s.others ok.others (print_next s.next rest) end (next_apart s.next ok.next rest end h))
 
 -- behind a space it begins with the space
-action_spaced : (a : Action) (rest : List Piece) (end : List ℕ) → is_quiet (first (print_action a space rest) end) ≡ true
+pub action_spaced : (a : Action) (rest : List Piece) (end : List ℕ) → is_quiet (first (print_action a space rest) end) ≡ true
 action_spaced tau_ rest end = refl
 action_spaced (act x none) rest end = refl
 action_spaced (act x (more e es)) rest end = refl

@@ -19,3 +19,5 @@ pub mod SummandTexts
 pub mod PrintedSystems
 pub mod FilledLinears
 pub mod DefinitionTexts
+pub mod TextSections
+pub mod WholeTexts

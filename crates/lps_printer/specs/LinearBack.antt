@@ -18,7 +18,7 @@ use Rattle.sort_table.specs.Vocabularies.{sort_in}
 use Rattle.std.specs.List.{AllByRecursion}
 use Rattle.sort_checker.specs.Scopes.{numbers_of}
 use Rattle.sort_checker.specs.Elaborations.{Elaborates, ElaboratesDefinition}
-use Rattle.lps_printer.specs.WrittenProcesses.{TextNames, sort_written, body_written, start_written, parameters_written, bound_named, scope_behind}
+use Rattle.lps_printer.specs.WrittenProcesses.{TextNames, sort_written, body_written, start_written, parameters_written, bound_named, scope_behind, plain_process}
 
 -- R of each and each later one
 abbrev pub EachTwo : {A : Type 0} → (A → A → Type 0) → List A → Type 0
@@ -64,10 +64,11 @@ pub record LinearReads (v : FullVocabulary) (n : TextNames) (l : Linear) (initia
   pub of_sorts : HaveSorts v.declared.tables [] (terms_of initial) (sorts l.params)
   pub writable : AreWritable n.terms true (terms_of initial)
 
--- each tree of the printed summands elaborates to the definition, and what is printed behind `init` to the state
+-- the printed body, and each tree of it, elaborates to the definition, and what is printed behind `init` to the state
 pub record ElaboratesBack (v : FullVocabulary) (n : TextNames) (l : Linear) (initial : List Term) : Type 0 where
   pub definition : (body : PlainProcess) → printed_.bare_process body ≡ body_written n l
       → ElaboratesDefinition v (record { name = n.process; parameters = parameters_written n l.params; body = bare_process body }) (record { params = variables l.params; body = choice_of (map summand_body l.summands) })
+  pub written : ElaboratesDefinition v (record { name = n.process; parameters = parameters_written n l.params; body = plain_process (body_written n l) }) (record { params = variables l.params; body = choice_of (map summand_body l.summands) })
   pub start : Elaborates v [] (start_written n initial) (written_call 0 initial)
   pub state : close (linear_table l) [] (written_call 0 initial) ≡ state_of l initial
 

@@ -2,25 +2,20 @@
 use Rattle.std.specs.Prelude.{◌≡◌, List, [], ◌∷◌}
 use Rattle.std.specs.List.{flat_map}
 use Rattle.data_theory.specs.Terms.{Sort, Term}
-use Rattle.mcrl2_syntax.specs.ProcessTrees.{PlainProcess}
 use Rattle.process_terms.specs.Theories.{Theory}
 use Rattle.bisim_laws.specs.LinearProcesses.{Linear, state_of, IsLinear, IsWellSorted, IsLinearText}
-use Rattle.sort_table.specs.BareProcesses.{bare_process}
 use Rattle.sort_table.specs.BareDeclarations.{Section, declarations_in}
 use Rattle.sort_table.specs.Vocabularies.{EachPair}
 use Rattle.sort_checker.specs.FullVocabularies.{FullVocabulary, IsFullVocabularyOf, processes_in}
 use Rattle.sort_checker.specs.Elaborations.{ElaboratesEquation}
 use Rattle.sort_checker.specs.Refusals.{IsWellTyped}
 use Rattle.sort_checker.specs.Systems.{equations_in, initial_by, IsSystem}
-use Rattle.lps_printer.specs.PrintedProcesses as printed_
-use Rattle.lps_printer.specs.WrittenProcesses.{TextNames, body_written, start_written, parameters_written}
+use Rattle.lps_printer.specs.WrittenProcesses.{TextNames, body_written, start_written, parameters_written, plain_process}
 use Rattle.lps_printer.specs.LinearBack.{LinearReads}
 
--- `proc P(x: S, ..) = ..;` with a tree of the summands, and `init P(..);`, and no other process
+-- `proc P(x: S, ..) = ..;` with the printed summands, and `init P(..);`, and no other process
 pub record PrintsLinear (ss : List Section) (n : TextNames) (l : Linear) (initial : List Term) : Type 0 where
-  pub tree : PlainProcess
-  pub summands : printed_.bare_process tree ≡ body_written n l
-  pub definition : processes_in (declarations_in ss) ≡ record { name = n.process; parameters = parameters_written n l.params; body = bare_process tree } ∷ []
+  pub definition : processes_in (declarations_in ss) ≡ record { name = n.process; parameters = parameters_written n l.params; body = plain_process (body_written n l) } ∷ []
   pub start : flat_map initial_by (declarations_in ss) ≡ start_written n initial ∷ []
 
 -- of a well-typed text whose equations are those of the theory

@@ -13,6 +13,8 @@ ghost use Rattle.lps_printer.specs.Pieces.{PiecesLex};
 ghost use Rattle.lps_printer.specs.PrintedSystems.{PrintedSystemsAreLinear};
 ghost use Rattle.lps_printer.specs.SummandTexts.{SummandTextsElaborate};
 ghost use Rattle.lps_printer.specs.TermTexts.{TermTextsReadBack};
+ghost use Rattle.lps_printer.specs.TextSections.{SectionTextsSpellBack};
+ghost use Rattle.lps_printer.specs.WholeTexts.{WholeTextsSpellBack};
 
 /// Pieces that stand apart lex back.
 pub fn pieces_lex()
@@ -89,4 +91,14 @@ pub fn definitions_spell_back()
     ensures definitions { DefinitionsSpellBack }
     ensures starts { StartsSpellBack }
     ensures linear { LinearTextsSpellBack }
+{}
+
+/// The bytes of sections spell a specification with just these sections.
+pub fn section_texts_spell_back()
+    ensures { SectionTextsSpellBack }
+{}
+
+/// The text of a linear process spells the sections in front, and the process and its start behind.
+pub fn whole_texts_spell_back()
+    ensures { WholeTextsSpellBack }
 {}
