@@ -15,7 +15,7 @@ use Rattle.data_theory.specs.WholeSignatures.{IsSignature}
 use Rattle.data_theory.proofs.PlaceLemmas.{read_contained, read_front, read_behind}
 use Rattle.sort_table.specs.Expressions.{Name}
 use Rattle.sort_table.specs.NamedLists.{first_named}
-use Rattle.sort_table.specs.BareSorts.{SortExpression, a_name}
+use Rattle.sort_table.specs.BareSorts.{a_name}
 use Rattle.sort_table.specs.BareDeclarations.{Constructor, Declaration, sorts, alias, struct, constructors, mappings, variables, equation, actions, process, initial}
 use Rattle.sort_table.specs.SortMeanings.{Kind}
 use Rattle.sort_table.specs.DeclarationTrees.{declaration_of, declarations_under}

@@ -21,13 +21,12 @@ use Rattle.sort_table.specs.BareSorts.{SortExpression}
 use Rattle.sort_table.specs.SortMeanings.{UnderNames}
 use Rattle.sort_table.specs.TextFunctions as text
 use Rattle.sort_table.specs.TextFunctions.{TextRole, TextFunction, Named}
-use Rattle.sort_table.specs.Vocabularies.{EachPair}
-use Rattle.sort_table.specs.NamedSorts.{AddsLists, no_lists, one_list, HaveSortNames, sort_names_of, sort_count}
+use Rattle.sort_table.specs.NamedSorts.{HaveSortNames, sort_names_of, sort_count}
 use Rattle.sort_table.specs.EnteredFunctions.{HasSortOf, HaveSortsOf, IsNameId, IsKnownName, HasTextRole, of_cons, of_map, IsEntered, AreEntered, Keeps}
 use Rattle.sort_table.specs.FunctionStates.{StandsFrom, StartsWith, CanEnter, AddsFunctions, IsPlain, plain_cons, plain_map}
 use Rattle.sort_table.specs.NamedFunctions.{functions_named, SomeCanEnter}
 use Rattle.sort_table.proofs.Growing.{pairs_with}
-use Rattle.sort_table.proofs.KeptFunctions.{keeps_all, keeps_then, lists_keep, has_sort_kept, have_sorts_kept, entered_kept, pairs_pushed}
+use Rattle.sort_table.proofs.KeptFunctions.{keeps_all, keeps_then, has_sort_kept, have_sorts_kept, entered_kept, pairs_pushed}
 use Rattle.sort_table.proofs.NewFunctions.{not_there, each_place, pair_at}
 
 -- ---- names that are taken

@@ -6,7 +6,7 @@ use Rattle.std.proofs.lemmas.List.{map-append}
 use Rattle.sort_table.specs.Expressions.{Name}
 use Rattle.sort_table.specs.BareSorts.{SortExpression, truth_values, a_name}
 use Rattle.sort_table.specs.BareDeclarations.{Field, Constructor, struct}
-use Rattle.sort_table.specs.TextFunctions.{TextRole, struct_constructor, projection, recogniser, Named, declared, where_named, fields_of, projections_from, functions_by}
+use Rattle.sort_table.specs.TextFunctions.{struct_constructor, projection, recogniser, Named, declared, where_named, fields_of, projections_from, functions_by}
 use Rattle.sort_table.specs.ConstructorMarks.{is_declared_role, marks_of, mark_where, field_marks, own_marks, projection_marks, recogniser_marks, struct_marks}
 
 marks_both : (fs gs : List Named) → marks_of (fs ++ gs) ≡ marks_of fs ++ marks_of gs

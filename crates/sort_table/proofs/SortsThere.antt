@@ -1,5 +1,5 @@
 -- A list sort that a signature has stands over one element.
-use Rattle.std.proofs.Common.{◌≡◌, ◌<◌, ℕ, length, take, refl, ap, sym, ◌∙◌, subst, arith}
+use Rattle.std.proofs.Common.{◌≡◌, ◌<◌, length, take, refl, ap, sym, ◌∙◌, subst, arith}
 use Rattle.std.specs.Prelude.{Option, Some, None, slice_get, option_map}
 use Rattle.std.proofs.lemmas.Option.{none-some, same_Some}
 use Rattle.data_theory.specs.declared.ids.SortId.{SortId}

@@ -1,5 +1,5 @@
 -- Texts are taken one after the other.
-use Rattle.std.proofs.Common.{◌≡◌, ◌<◌, ◌+◌, ◌⊎◌, inl, inr, ℕ, zero, suc, Bool, true, false, cond, List, [], ◌∷◌, ◌++◌, length, map, take, get_or, refl, ap, sym, ◌∙◌, subst, arith}
+use Rattle.std.proofs.Common.{◌≡◌, ◌<◌, ◌+◌, ◌⊎◌, inl, inr, ℕ, zero, suc, Bool, true, false, cond, List, [], ◌∷◌, ◌++◌, length, take, get_or, refl, ap, sym, ◌∙◌, subst, arith}
 use Rattle.std.specs.Prelude.{Some, slice_get, ◌==◌}
 use Rattle.std.specs.List.{Contains, list_any}
 use Rattle.std.proofs.lemmas.Option.{same_Some}
@@ -8,7 +8,7 @@ use denote.Ref.{Bor}
 use Rattle.data_theory.specs.declared.ids.NameId.{NameId}
 use Rattle.data_theory.specs.Names.{with_text, place_in}
 use Rattle.data_theory.specs.Taken.{with_name}
-use Rattle.data_theory.specs.Signature.{Sig, IsTaken, with_taken}
+use Rattle.data_theory.specs.Signature.{Sig, with_taken}
 use Rattle.data_theory.proofs.NameLemmas.{among_texts, place_reads}
 use Rattle.data_theory.proofs.SignatureLemmas.{name_among}
 use Rattle.sort_table.specs.Expressions.{Name}

@@ -1,14 +1,12 @@
 -- The worked text has both vocabularies.
-use Rattle.std.proofs.Common.{◌≡◌, ◌<◌, ◌-◌, ℕ, zero, suc, Bool, true, false, cond, List, [], ◌∷◌, refl, ap, sym, ◌∙◌, subst, arith}
-use Rattle.std.specs.Prelude.{Some, codes, bytes_eq, option_map, option_and_then}
+use Rattle.std.proofs.Common.{◌≡◌, ◌<◌, ◌-◌, ℕ, zero, suc, [], ◌∷◌, refl, ap, ◌∙◌, arith}
+use Rattle.std.specs.Prelude.{Some, codes}
 use Rattle.std.specs.List.{Contains}
-use Rattle.std.proofs.lemmas.Slice.Eq.{bytes_eq-Decides}
-use Rattle.data_theory.specs.Terms.{Sort, named}
+use Rattle.data_theory.specs.Terms.{named}
 use Rattle.data_theory.specs.Declarations as theory
 use Rattle.data_theory.specs.Declarations.{Construction, sort_at, function_at}
 use Rattle.sort_table.specs.Expressions.{Name}
-use Rattle.sort_table.specs.NamedLists.{first_named}
-use Rattle.sort_table.specs.BareSorts.{SortExpression, lists_of, a_name}
+use Rattle.sort_table.specs.BareSorts.{lists_of, a_name}
 use Rattle.sort_table.specs.SortMeanings.{actions_in, UnderNames, under_names, StandsFor, for_lists, for_plain, for_struct, for_alias}
 use Rattle.sort_table.specs.TextFunctions as text
 use Rattle.sort_table.specs.TextFunctions.{functions_in}

@@ -1,5 +1,5 @@
 -- Which list sorts come into a signature.
-use Rattle.std.proofs.Common.{◌≡◌, ◌<◌, ◌⊎◌, inl, inr, ℕ, zero, suc, List, [], ◌∷◌, ◌++◌, length, refl, ap, sym, ◌∙◌, subst, arith}
+use Rattle.std.proofs.Common.{◌≡◌, ◌<◌, ◌⊎◌, inl, inr, ℕ, zero, suc, List, [], ◌∷◌, ◌++◌, length, refl, ap, sym, ◌∙◌, subst}
 use Rattle.std.proofs.Common.{Result, Ok, Err}
 use Rattle.std.specs.Result.{OnOk, IfOk}
 use Rattle.std.specs.Prelude.{Some, slice_get, option_map}
@@ -7,7 +7,7 @@ use Rattle.std.proofs.lemmas.Option.{none-some, same_Some, slice_get_within}
 use Rattle.data_theory.specs.declared.ids.NameId.{NameId}
 use Rattle.data_theory.specs.declared.ids.SortId.{SortId}
 use Rattle.data_theory.specs.Terms.{list}
-use Rattle.data_theory.specs.Sorts.{SortInfo, Kind, lists_over, without_constructors, list_sort, abstract_sort, IsListOver, IsAnyListOver}
+use Rattle.data_theory.specs.Sorts.{SortInfo, lists_over, without_constructors, list_sort, abstract_sort, IsListOver, IsAnyListOver}
 use Rattle.data_theory.specs.IdTerms.{sort_under}
 use Rattle.data_theory.specs.WholeSignatures.{IsSignature}
 use Rattle.data_theory.specs.Signature.{Sig, with_sort, with_list}

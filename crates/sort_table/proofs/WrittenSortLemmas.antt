@@ -1,5 +1,5 @@
 -- The sort expressions of a text get their sorts one after the other.
-use Rattle.std.proofs.Common.{◌≡◌, ◌<◌, ◌+◌, inl, inr, ℕ, zero, suc, List, [], ◌∷◌, ◌++◌, length, map, take, get_or, refl, ap, sym, ◌∙◌, subst, arith}
+use Rattle.std.proofs.Common.{◌≡◌, ◌<◌, ◌+◌, inl, inr, ℕ, zero, suc, List, [], ◌∷◌, ◌++◌, length, take, get_or, refl, ap, sym, ◌∙◌, subst, arith}
 use Rattle.std.specs.Prelude.{Some}
 use Rattle.std.specs.List.{Contains}
 use Rattle.std.proofs.lemmas.Option.{slice_get_within}
@@ -8,7 +8,6 @@ use denote.Ref.{Bor}
 use Rattle.mcrl2_syntax.specs.declared.sort_tree.SortTree.{SortTree}
 use Rattle.mcrl2_syntax.specs.SortTrees.{plain_sort}
 use Rattle.data_theory.specs.declared.ids.SortId.{SortId}
-use Rattle.data_theory.specs.IdTerms.{sort_under}
 use Rattle.data_theory.specs.WholeSignatures.{IsSignature}
 use Rattle.data_theory.specs.Signature.{Sig}
 use Rattle.sort_table.specs.BareSorts.{SortExpression, bare_sort}

@@ -1,4 +1,4 @@
-use Rattle.std.proofs.Common.{◌≡◌, ◌∙◌, ◌+◌, ◌++◌, List, map, drop, ap, sym}
+use Rattle.std.proofs.Common.{◌∙◌, ◌+◌, ◌++◌, List, map, drop, ap, sym}
 use Rattle.std.specs.List.{flat_map}
 use Rattle.mcrl2_syntax.specs.declared.declaration.Decl.{Decl}
 use Rattle.mcrl2_syntax.specs.declared.declaration.Section.{Section}

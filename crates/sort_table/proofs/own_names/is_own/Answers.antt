@@ -1,9 +1,6 @@
-use Rattle.std.proofs.Common.{◌≡◌, ◌∙◌, true, false, ap, sym}
-use Rattle.std.specs.Prelude.{Some, None, is_some, slice_get}
-use Rattle.std.proofs.lemmas.Option.{none-some, same_Some}
-use Rattle.sort_table.specs.NamedLists.{first_named}
-use Rattle.sort_table.specs.SortMeanings.{alone, equal_to}
-use Rattle.sort_table.specs.SortIndexes.{kind_of, entry_of, first_place}
+use Rattle.std.proofs.Common.{◌∙◌, ap, sym}
+use Rattle.std.specs.Prelude.{Some}
+use Rattle.sort_table.specs.SortIndexes.{kind_of}
 use Rattle.sort_table.specs.IndexedKinds.{kinds_of_index}
 use Rattle.sort_table.specs.DeclaredNames.{is_own_kind}
 use Rattle.sort_table.proofs.AliasPlaces.{place_within}

@@ -1,9 +1,9 @@
-use Rattle.std.proofs.Common.{◌≡◌, ◌∙◌, ◌++◌, ℕ, List, length, map, take, ap, sym, arith}
+use Rattle.std.proofs.Common.{◌≡◌, ◌∙◌, ◌++◌, ℕ, List, length, map, take, ap, arith}
 use Rattle.std.proofs.Math.Seq.{take-length}
 use Rattle.mcrl2_syntax.specs.Words.{PlainWord, word_of}
 use Rattle.mcrl2_syntax.specs.declared.word.Word.{Word}
 use Rattle.mcrl2_syntax.specs.SortTrees.{plain_sort}
-use Rattle.sort_table.specs.BareSorts.{SortExpression, bare_sort}
+use Rattle.sort_table.specs.BareSorts.{bare_sort}
 use Rattle.sort_table.specs.LentTrees.{expressions_of}
 use Rattle.sort_table.proofs.SortTreeSteps.{group_sorts}
 use Rattle.sort_table.proofs.sort_trees.add_group.Goals as goal

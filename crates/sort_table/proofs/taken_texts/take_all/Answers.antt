@@ -1,7 +1,7 @@
 use Rattle.std.proofs.Common.{◌∙◌, [], ◌∷◌, get_or, take, ap, sym, subst}
 use Rattle.std.specs.Str.{IsUtf8}
 use denote.Ref.{Bor}
-use Rattle.data_theory.specs.Signature.{Sig, with_taken}
+use Rattle.data_theory.specs.Signature.{with_taken}
 use Rattle.sort_table.specs.Expressions.{Name}
 use Rattle.sort_table.specs.LentTexts.{texts_of}
 use Rattle.sort_table.specs.TakenTexts.{TakesTexts}

@@ -1,6 +1,6 @@
 use Rattle.std.proofs.Common.{◌≡◌, ◌∙◌, suc, ap, sym, subst, arith}
 use Rattle.data_theory.specs.IdTerms.{sort_under}
-use Rattle.sort_table.specs.BareSorts.{SortExpression, lists_of, a_name}
+use Rattle.sort_table.specs.BareSorts.{lists_of, a_name}
 use Rattle.sort_table.specs.NamedLists.{first_named}
 use Rattle.sort_table.specs.Vocabularies.{sort_in}
 use Rattle.sort_table.specs.NamedSorts.{sort_names_of}

@@ -1,4 +1,4 @@
-use Rattle.std.proofs.Common.{◌≡◌, List, [], map, sym, subst, arith}
+use Rattle.std.proofs.Common.{◌≡◌, [], map, sym, subst, arith}
 use Rattle.std.proofs.lemmas.Grind.{common_steps}
 use Rattle.std.proofs.lemmas.Result.{on_ok_weaker}
 use Rattle.mcrl2_syntax.specs.declared.declaration.Decl.{Decl}
