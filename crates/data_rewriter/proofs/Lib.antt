@@ -22,3 +22,4 @@ pub mod Looking
 pub mod FixedFunctions
 pub mod WrittenRules
 pub mod TruthAnswers
+pub mod PlaceEqualities

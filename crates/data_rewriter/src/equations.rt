@@ -167,7 +167,7 @@ pub fn first_equation<F: Fn(NumOp, Num, Num) -> Option<Num>>(
             let found = first_written(alloc, tables, pool, root, from)?;
             return Ok(found);
         };
-        let found = make_line(tables, pool, line)?;
+        let found = make_line(alloc, tables, pool, line)?;
         return Ok(Some(found));
     }
     let found = first_written(alloc, tables, pool, root, from)?;

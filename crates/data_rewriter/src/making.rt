@@ -1,6 +1,6 @@
 //! Right sides, made in a pool.
 
-ghost use Rattle.std.specs.Prelude.{◌≡◌, ◌<◌, ℕ, List, [], ◌∷◌, IfOk, IsTrue, length};
+ghost use Rattle.std.specs.Prelude.{◌≡◌, ◌<◌, ◌≤◌, ◌⊎◌, ◌↔◌, ℕ, List, [], ◌∷◌, IfOk, IsTrue, length};
 ghost use Rattle.std.specs.List.{All};
 ghost use Rattle.data_theory.specs.Signature.{Sig};
 ghost use Rattle.data_theory.specs.IdTables.{IsTable};
@@ -15,14 +15,15 @@ ghost use Rattle.term_pool.specs.Pools.{Extends};
 ghost use Rattle.data_theory.specs.Declarations.{function_at};
 ghost use Rattle.data_theory.specs.IdData.{data_meant};
 ghost use Rattle.data_rewriter.specs.FirstLines.{RightIs, IsRightIn, IsLineIn, IsFirstAt, IsConditionMade};
-ghost use Rattle.data_rewriter.specs.Signatures.{AreSignTables};
+ghost use Rattle.data_rewriter.specs.Signatures.{AreSignTables, AreEqualities, equal_from};
 ghost use Rattle.data_rewriter.specs.States.{IsFoundIn};
-ghost use Rattle.data_rewriter.specs.Standing.{IsTerm, StandsFor, IsSymbolOf, IsSortOf, listed_at, terms_of};
+ghost use Rattle.data_rewriter.specs.Standing.{IsTerm, StandsFor, IsSymbolOf, IsSortOf, listed_at, terms_of, term_at};
 
 use crate::equations::Found;
 use crate::rights::{Line, Right};
 use crate::tables::Tables;
 use data_theory::{FunId, NoMemory, Num, SortId, TermId};
+use std::alloc::Global;
 use term_pool::{Head, Pool};
 
 /// A function over arguments.
@@ -233,7 +234,12 @@ fn above_zero(pool: &mut Pool, x: TermId) -> Result<TermId, NoMemory>
 }
 
 /// The right side of a built-in equation.
-pub fn make(tables: &Tables, pool: &mut Pool, right: Right) -> Result<TermId, NoMemory>
+pub fn make(
+    alloc: Global,
+    tables: &Tables,
+    pool: &mut Pool,
+    right: Right,
+) -> Result<TermId, NoMemory>
     requires { IsRightIn pool.old.trees right }
     ensures kept { Extends pool.old.trees pool.new.trees }
     ensures inside { IfOk result (λ id. IsIn pool.new.trees id) }
@@ -260,12 +266,71 @@ pub fn make(tables: &Tables, pool: &mut Pool, right: Right) -> Result<TermId, No
         Right::Either(f, x, y, g, z, w) => two_twos(pool, OR, (f, x, y), (g, z, w)),
         Right::Longer(size, x) => longer(pool, size, x),
         Right::Later(fun, x, y) => later(pool, fun, x, y),
-        Right::Places(fun, x, y) => places(tables, pool, fun, x, y),
+        Right::Places(fun, x, y) => places(alloc, tables, pool, fun, x, y),
     }
+}
+
+/// The greatest number that none of three passes.
+fn least(a: usize, b: usize, c: usize) -> usize
+    ensures below { (result ≤ a) × (result ≤ b) × (result ≤ c) }
+    ensures one { (a ≤ result) ⊎ ((b ≤ result) ⊎ (c ≤ result)) }
+{
+    if a <= b && a <= c {
+        return a;
+    }
+    if b <= c {
+        return b;
+    }
+    c
+}
+
+/// Whether three numbers are this one.
+fn are_all(number: usize, a: usize, b: usize, c: usize) -> bool
+    ensures { IsTrue result ↔ ((a ≡ number) × (b ≡ number) × (c ≡ number)) }
+{
+    a == number && b == number && c == number
+}
+
+/// The equalities of two lists of arguments, joined to the right; `true` for none.
+fn all_equal(
+    pool: &mut Pool,
+    equals: &[FunId],
+    xs: &[TermId],
+    ys: &[TermId],
+) -> Result<TermId, NoMemory>
+    requires left { AreIn pool.old.trees xs.now }
+    requires right { AreIn pool.old.trees ys.now }
+    ensures kept { Extends pool.old.trees pool.new.trees }
+    ensures inside { IfOk result (λ id. IsIn pool.new.trees id) }
+    ensures made { IfOk result (λ id. (sig : Sig) → IsSignature sig → (ss : List Sort) → AreEqualities sig equals.now ss → All (IsTerm sig pool.old.trees) xs.now → All (IsTerm sig pool.old.trees) ys.now → StandsFor sig pool.new.trees id (equal_from 0 ss (listed_at sig pool.old.trees xs.now) (listed_at sig pool.old.trees ys.now))) }
+{
+    let count = least(equals.len(), xs.len(), ys.len());
+    let mut all = truth(pool, true)?;
+    for back in 0..count {
+        let next = count - back;
+        let here = two(pool, equals[next - 1], xs[next - 1], ys[next - 1])?;
+        if are_all(next, equals.len(), xs.len(), ys.len()) {
+            all = here;
+            continue;
+        }
+        all = two(pool, AND, here, all)?;
+    }
+    Ok(all)
+}
+
+/// The arguments of an application.
+fn arguments_of(alloc: Global, pool: &Pool, term: TermId) -> Result<Vec<TermId>, NoMemory>
+    requires { IsIn pool.now.trees term }
+    ensures inside { IfOk result (λ args. AreIn pool.now.trees args.items) }
+    ensures are { IfOk result (λ args. (sig : Sig) (f : Symbol) (us : Terms) → IsTerm sig pool.now.trees term → term_at sig pool.now.trees term ≡ terms.application f us → All (IsTerm sig pool.now.trees) args.items × (us ≡ terms_of (listed_at sig pool.now.trees args.items))) }
+{
+    let args = pool.node(term).args.as_slice().to_vec(alloc)?;
+    Ok(args)
 }
 
 /// The equalities of the arguments of two applications of a constructor.
 fn places(
+    alloc: Global,
     tables: &Tables,
     pool: &mut Pool,
     fun: FunId,
@@ -278,18 +343,26 @@ fn places(
     ensures inside { IfOk result (λ id. IsIn pool.new.trees id) }
     ensures made { IfOk result (λ id. (sig : Sig) → AreSignTables tables.now sig → (c : ℕ) (us vs : Terms) → IsSymbolOf sig fun (terms.function c) → StandsFor sig pool.old.trees x (terms.application (terms.function c) us) → StandsFor sig pool.old.trees y (terms.application (terms.function c) vs) → StandsFor sig pool.new.trees id (all_equal (function_at (data_meant sig) c).arguments us vs)) }
 {
-    Err(NoMemory)
+    let xs = arguments_of(alloc, pool, x)?;
+    let ys = arguments_of(alloc, pool, y)?;
+    let made = all_equal(pool, tables.equalities(fun), xs.as_slice(), ys.as_slice())?;
+    Ok(made)
 }
 
 /// A built-in equation that matches, with its right side and its condition.
-pub fn make_line(tables: &Tables, pool: &mut Pool, line: Line) -> Result<Found, NoMemory>
+pub fn make_line(
+    alloc: Global,
+    tables: &Tables,
+    pool: &mut Pool,
+    line: Line,
+) -> Result<Found, NoMemory>
     requires { IsLineIn pool.old.trees line }
     ensures kept { Extends pool.old.trees pool.new.trees }
     ensures number { IfOk result (λ found. found.number ≡ line.number) }
     ensures inside { IfOk result (IsFoundIn pool.new.trees) }
     ensures made { IfOk result (λ found. (sig : Sig) → AreSignTables tables.now sig → (t : Term) (h : IsFirstAt sig pool.old.trees t line) → StandsFor sig pool.new.trees found.right h.right × IsConditionMade sig pool.new.trees found.cond h.condition) }
 {
-    let right = make(tables, pool, line.right)?;
+    let right = make(alloc, tables, pool, line.right)?;
     let Some(index) = line.above_zero else {
         return Ok(Found {
             number: line.number,

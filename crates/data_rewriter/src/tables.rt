@@ -3,6 +3,7 @@
 ghost use Rattle.std.specs.Prelude.{◌≡◌, ◌<◌, length, slice_get, Some, get_or};
 ghost use Rattle.data_rewriter.specs.Signs.{sign_at};
 ghost use Rattle.data_rewriter.specs.Rules.{numbers_at};
+ghost use Rattle.data_rewriter.specs.Signatures.{places_at};
 
 use crate::signs::Sign;
 use data_theory::{FunId, TermId};
@@ -47,6 +48,17 @@ impl Tables {
     {
         if fun.0 < self.by_head.len() {
             self.by_head[fun.0].as_slice()
+        } else {
+            &[]
+        }
+    }
+
+    /// The equalities of the sorts of a constructor's arguments.
+    pub fn equalities(&self, fun: FunId) -> &[FunId]
+        ensures { result.now ≡ places_at self.now fun }
+    {
+        if fun.0 < self.places.len() {
+            self.places[fun.0].as_slice()
         } else {
             &[]
         }
