@@ -284,7 +284,7 @@ waiting_there : (g : Sig) (us : List Tree) (t : PlainPlaces) (xs : List VarId) (
 waiting_there g us t xs [] h = All-nil (IsPlaceIn t)
 waiting_there g us t xs (w ∷ ws) h = let k = All-head (CallOfPlace g us t.places xs) w ws h in All-cons (IsPlaceIn t) w.0 _ (slice_get_within t.places w.0 k.place k.stands) (waiting_there g us t xs ws (All-tail (CallOfPlace g us t.places xs) w ws h))
 
-meets_only : {A : Type 0} (P : A → Type 0) {ks ps ls : List A} → Meets ks ps ls → All P ks → All P ps → All P ls
+pub meets_only : {A : Type 0} (P : A → Type 0) {ks ps ls : List A} → Meets ks ps ls → All P ks → All P ps → All P ls
 meets_only P none_met h k = h
 meets_only P (met_before {ps = ps} {p = p} i m) h k = meets_only P m h (All-tail P p ps k)
 meets_only P (met_now {ks = ks} {ps = ps} {p = p} n m) h k = meets_only P m (All-push P ks p h (All-head P p ps k)) (All-tail P p ps k)

@@ -33,3 +33,5 @@ pub mod FittingHeads
 pub mod HeadArms
 pub mod AssembledForms
 pub mod LabelMade
+pub mod StartedEquations
+pub mod MadeForms

@@ -342,7 +342,7 @@ pub starts_at : (g : Sig) (ds : List PlainDefinition) (t : PlainPlaces) (reached
 starts_at g ds t reached (call_of x ids) own h entries m =
     let q = entries 0 x h.1 in
     let first : (e : PlainEntry) → slice_get t.entries 0 ≡ Some e → t.start ≡ e.place = subst (λ o. MatchOption o ((e : PlainEntry) → slice_get t.entries 0 ≡ Some e → t.start ≡ e.place) (λ n. t.start ≡ n)) h.0 m in
-    (q.0, q.1, first q.0 q.1, q.2.definition, q.2.stands, q.2.params)
+    (q.2.definition, q.2.stands, q.2.place, ap (slice_get t.places) (first q.0 q.1) ∙ q.2.at, q.2.all ∙ q.2.params)
 starts_at g ds t reached (term_of p) own h entries m =
     let same : t.start ≡ h.0 = subst (λ o. MatchOption o ((e : PlainEntry) → slice_get t.entries 0 ≡ Some e → t.start ≡ e.place) (λ n. t.start ≡ n)) h.1 m in
     subst (IsThere t.places []) (sym same) h.2

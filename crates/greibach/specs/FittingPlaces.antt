@@ -64,9 +64,9 @@ pub record PlacesFit (g : Sig) (ts : List Tree) (t : PlainPlaces) : Type 0 where
   pub places : All (PlaceFits g ts definitions reached t.places) t.places
   pub entries : (k : ℕ) (x : ProcId) → slice_get reached k ≡ Some x → (e : PlainEntry) × (slice_get t.entries k ≡ Some e) × EntryFits g definitions t.places x e
 
--- where a component starts: at all of the first definition, which is the called one, or at its own term
+-- where a component starts: at all of the called definition, with its parameters, or at its own term
 abbrev pub StartsAt : List PlainDefinition → PlainComponent → PlainPlaces → Type 0
-StartsAt ds (call_of x ids) t = (e : PlainEntry) × (slice_get t.entries 0 ≡ Some e) × (t.start ≡ e.place) × (d : PlainDefinition) × (slice_get ds x.0 ≡ Some d) × (e.params ≡ d.params)
+StartsAt ds (call_of x ids) t = (d : PlainDefinition) × (slice_get ds x.0 ≡ Some d) × (p : PlainPlace) × (slice_get t.places t.start ≡ Some p) × (p.params ≡ d.params)
 StartsAt ds (term_of p) t = IsThere t.places [] t.start
 
 -- the same over a signature and a pool that have grown since

@@ -1,5 +1,5 @@
 -- What stands around a place under way, and the summands that are made, over a pool and a signature.
-use Rattle.std.specs.Prelude.{◌≡◌, ◌<◌, ℕ, List, [], ◌∷◌, ◌++◌, map, length, Some, slice_get}
+use Rattle.std.specs.Prelude.{◌≡◌, ◌<◌, ◌≤◌, ℕ, List, [], ◌∷◌, ◌++◌, map, length, Some, slice_get}
 use Rattle.std.specs.List.{All, Contains}
 use Rattle.data_theory.specs.declared.ids.VarId.{VarId}
 use Rattle.data_theory.specs.declared.ids.TermId.{TermId}
@@ -138,3 +138,28 @@ pub record EquationStands (g : Sig) (ts : List Tree) (ps : List PlainPlace) (met
 -- each equation is that of the place with its number
 abbrev pub AreEquations : Sig → List Tree → List PlainPlace → List ℕ → List PlainEquation → Type 0
 AreEquations g ts ps met qs = (k : ℕ) (q : PlainEquation) → slice_get qs k ≡ Some q → (n : ℕ) × (slice_get met k ≡ Some n) × EquationStands g ts ps met n q
+
+-- other variables of the same sorts, whose names differ
+pub record ParametersStand (g h : Sig) (vars params : List VarId) : Type 0 where
+  pub variables : All (IsVariable h) params
+  pub sorts : map (sort_of_variable h) params ≡ map (sort_of_variable g) vars
+  pub distinct : AreDistinct (numbers_of params)
+  pub named : AreDistinct (map (λ m. m.0) (names_of h params))
+  pub names : HasTakenNames h
+
+-- the equation of a place was made, and nothing waits any more
+pub record EquationMade (g : Sig) (ts : List Tree) (ps : List PlainPlace) (n : ℕ) (u v : PlainUnfolding) (q : PlainEquation) : Type 0 where
+  pub names : HasTakenNames g
+  pub met : BeginsWith u.met v.met
+  pub met_there : All (λ (m : ℕ). m < length ps) v.met
+  pub waiting : v.waiting ≡ []
+  pub summands : v.summands ≡ []
+  pub equation : EquationStands g ts ps v.met n q
+
+-- each place that was met has its equation, and the first one is where the component starts
+pub record FormMade (g : Sig) (ts : List Tree) (t : PlainPlaces) (qs : List PlainEquation) : Type 0 where
+  pub names : HasTakenNames g
+  pub met : List ℕ
+  pub starts : slice_get met 0 ≡ Some t.start
+  pub all : length met ≤ length qs
+  pub equations : AreEquations g ts t.places met qs

@@ -7,6 +7,7 @@ mod forms;
 mod heads;
 pub mod laws;
 mod lists;
+mod normal_forms;
 mod numbers;
 mod places;
 mod reading;
@@ -14,3 +15,4 @@ mod renewing;
 mod variables;
 
 pub use forms::{Greibach, GreibachEquation, GreibachSummand};
+pub use normal_forms::normal_form;

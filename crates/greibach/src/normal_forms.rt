@@ -1,0 +1,181 @@
+//! The Greibach form of a component.
+
+ghost use Rattle.std.specs.Prelude.{◌≡◌, ◌<◌, [], map, length, IfOk, OnOk};
+ghost use Rattle.std.specs.List.{All};
+ghost use Rattle.data_theory.specs.WholeSignatures.{IsSignature};
+ghost use Rattle.data_theory.specs.IdTrees.{variable};
+ghost use Rattle.term_pool.specs.HeadTrees.{trees_at, AreIn};
+ghost use Rattle.term_pool.specs.Pools.{Extends};
+ghost use Rattle.process_terms.specs.PlainProcesses.{plain_component, plain_definition, plain_model};
+ghost use Rattle.lps_core.specs.Fitting.{IsVariable};
+ghost use Rattle.lps_core.specs.Naming.{GrowsByNames};
+ghost use Rattle.proc_unfold.specs.FittingModels.{ComponentFits, ModelFits};
+ghost use Rattle.greibach.specs.FittingForms.{FormFits};
+ghost use Rattle.greibach.specs.ComponentForms.{arguments_of};
+ghost use Rattle.greibach.specs.PlainForms.{plain_equation, plain_form};
+ghost use Rattle.greibach.specs.PlacesInCode.{plain_places};
+ghost use Rattle.greibach.specs.FittingPlaces.{PlacesFitSince};
+ghost use Rattle.greibach.specs.Surroundings.{plain_unfolding, EquationMade, FormMade, HasTakenNames, ParametersStand};
+
+use crate::environments::bound_to;
+use crate::forms::{Greibach, GreibachEquation};
+use crate::heads::{Around, Unfolding, add};
+use crate::numbers::number;
+use crate::places::Places;
+use crate::reading::{Source, read_places};
+use crate::renewing::renewed;
+use data_theory::{NoMemory, Signature, TermId, VarId};
+use guard_check::Guarded;
+use indexmap::IndexSet;
+use lps_core::{name_all, signature_stands, variable_term};
+use process_terms::Component;
+use std::alloc::Global;
+use term_pool::Pool;
+
+/// How many levels the stack has room for: each operator that isn't a `.` is one, and each call in head position.
+const MAX_DEPTH: usize = 5_000;
+
+/// Other variables of the same sorts with the same names. One that has the name of an earlier one gets a fresh name.
+fn parameters(alloc: Global, sig: &mut Signature, vars: &[VarId]) -> Result<Vec<VarId>, NoMemory>
+    requires stands { IsSignature sig.old }
+    requires names { HasTakenNames sig.old }
+    requires variables { All (IsVariable sig.old) vars.now }
+    ensures grown { GrowsByNames sig.old sig.new }
+    ensures params { IfOk result (λ params. ParametersStand sig.old sig.new vars.now params.items) }
+{
+    let others = renewed(alloc, sig, vars)?;
+    let names = IndexSet::new(alloc);
+    name_all(alloc, sig, &names, others.as_slice())
+}
+
+/// The terms of variables.
+fn variable_terms(alloc: Global, pool: &mut Pool, vars: &[VarId]) -> Result<Vec<TermId>, NoMemory>
+    ensures kept { Extends pool.old.trees pool.new.trees }
+    ensures constants { pool.new.constants ≡ pool.old.constants }
+    ensures within { IfOk result (λ terms. AreIn pool.new.trees terms.items) }
+    ensures trees { IfOk result (λ terms. trees_at pool.new.trees terms.items ≡ map variable vars.now) }
+{
+    let mut terms = Vec::new(alloc);
+    for var in vars {
+        terms.push(variable_term(pool, *var)?)?;
+    }
+    Ok(terms)
+}
+
+/// The equation of a place.
+fn equation(
+    alloc: Global,
+    places: &Places<'_>,
+    sig: &mut Signature,
+    pool: &mut Pool,
+    place: usize,
+    unfolding: &mut Unfolding,
+) -> Result<GreibachEquation, NoMemory>
+    requires stands { IsSignature sig.old }
+    requires names { HasTakenNames sig.old }
+    requires table { PlacesFitSince sig.old pool.old.trees (plain_places places.now) }
+    requires place { place < length places.now.places.items }
+    requires met { All (λ n. n < length places.now.places.items) unfolding.old.met.keys }
+    requires waiting { unfolding.old.waiting.items ≡ [] }
+    requires summands { unfolding.old.summands.items ≡ [] }
+    ensures grown { GrowsByNames sig.old sig.new }
+    ensures kept { Extends pool.old.trees pool.new.trees }
+    ensures constants { pool.new.constants ≡ pool.old.constants }
+    ensures made { IfOk result (λ made. EquationMade sig.new pool.new.trees (plain_places places.now).places place (plain_unfolding unfolding.old) (plain_unfolding unfolding.new) (plain_equation made)) }
+{
+    let vars = places.places[place].params.as_slice();
+    let params = parameters(alloc, sig, vars)?;
+    let terms = variable_terms(alloc, pool, params.as_slice())?;
+    let by = bound_to(alloc, vars, terms.as_slice())?;
+    let around = Around {
+        params: params.as_slice(),
+        sums: &[],
+        by: by.as_slice(),
+        parts: &[],
+        room: MAX_DEPTH,
+    };
+    add(alloc, places, sig, pool, around, place, unfolding)?;
+    let mut summands = Vec::new(alloc);
+    std::mem::swap(&mut summands, &mut unfolding.summands);
+    Ok(GreibachEquation { params, summands })
+}
+
+/// The equations of the places that are met from the component's start on.
+fn equations(
+    alloc: Global,
+    places: &Places<'_>,
+    sig: &mut Signature,
+    pool: &mut Pool,
+) -> Result<Vec<GreibachEquation>, NoMemory>
+    requires stands { IsSignature sig.old }
+    requires names { HasTakenNames sig.old }
+    requires table { PlacesFitSince sig.old pool.old.trees (plain_places places.now) }
+    requires start { places.now.start < length places.now.places.items }
+    ensures grown { GrowsByNames sig.old sig.new }
+    ensures kept { Extends pool.old.trees pool.new.trees }
+    ensures constants { pool.new.constants ≡ pool.old.constants }
+    ensures made { IfOk result (λ made. FormMade sig.new pool.new.trees (plain_places places.now) (map plain_equation made.items)) }
+{
+    let mut unfolding = Unfolding {
+        met: IndexSet::new(alloc),
+        waiting: Vec::new(alloc),
+        summands: Vec::new(alloc),
+    };
+    number(places.start, &mut unfolding.met)?;
+    let mut equations = Vec::new(alloc);
+    while equations.len() < unfolding.met.len() {
+        let place = unfolding.met[equations.len()];
+        let made = equation(alloc, places, sig, pool, place, &mut unfolding)?;
+        equations.push(made)?;
+    }
+    Ok(equations)
+}
+
+/// The arguments with which a component starts.
+fn first_arguments(alloc: Global, start: &Component) -> Result<Vec<TermId>, NoMemory>
+    ensures { IfOk result (λ args. args.items ≡ arguments_of (plain_component start.now)) }
+{
+    match start {
+        Component::Call(_, args) => Ok(args.to_vec(alloc)?),
+        Component::Term(_) => Ok(Vec::new(alloc)),
+    }
+}
+
+/// The Greibach normal form of a component (book, guarded recursion).
+///
+/// Equation 1 is where the component starts: the called definition, or the term as an equation without parameters. What follows a
+/// label in its body goes on as equations: a call at its beginning is kept, and the rest has an equation of its own, whose
+/// parameters are the variables that occur free in it. A call in head position is replaced by the summands of its definition. The
+/// equations are numbered in the order in which they are met.
+///
+/// # Errors
+///
+/// `NoMemory` where there is none for the form, or where operators and calls in head position nest deeper than the stack has room for.
+pub fn normal_form(
+    alloc: Global,
+    guarded: &Guarded<'_>,
+    sig: &mut Signature,
+    pool: &mut Pool,
+    start: &Component,
+) -> Result<Greibach, NoMemory>
+    requires stands { IsSignature sig.old }
+    requires names { HasTakenNames sig.old }
+    requires model { ModelFits sig.old pool.old.trees (plain_model guarded.now.model.now) }
+    requires component { ComponentFits sig.old pool.old.trees (plain_model guarded.now.model.now).definitions (plain_component start.now) }
+    ensures grown { GrowsByNames sig.old sig.new }
+    ensures kept { Extends pool.old.trees pool.new.trees }
+    ensures constants { pool.new.constants ≡ pool.old.constants }
+    ensures names { OnOk result (HasTakenNames sig.new) }
+    ensures fits { IfOk result (λ form. FormFits sig.new pool.new.trees (plain_form form)) }
+{
+    let source = Source {
+        model: guarded.model,
+        sig,
+        pool,
+        alloc,
+    };
+    let places = read_places(source, start)?;
+    let equations = equations(alloc, &places, sig, pool)?;
+    let init = first_arguments(alloc, start)?;
+    Ok(Greibach { equations, init })
+}
