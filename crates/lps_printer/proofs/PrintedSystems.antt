@@ -13,10 +13,9 @@ use Rattle.lps_printer.proofs.LinearBack.{linear_processes_elaborate_back}
 use Rattle.bisim_laws.proofs.Firing.{table_written}
 
 pub printed_systems_are_linear : PrintedSystemsAreLinear
-printed_systems_are_linear ss v th n l initial voc typed same eqs p h vs lin sorted =
+printed_systems_are_linear ss v th n l initial typed same eqs p h vs lin sorted =
     let b = linear_processes_elaborate_back v n l initial h in (
       record {
-        vocabulary = voc;
         well_typed = typed;
         data_of = same;
         equations = eqs;

@@ -6,7 +6,7 @@ use Rattle.process_terms.specs.Theories.{Theory}
 use Rattle.bisim_laws.specs.LinearProcesses.{Linear, state_of, IsLinear, IsWellSorted, IsLinearText}
 use Rattle.sort_table.specs.BareDeclarations.{Section, declarations_in}
 use Rattle.sort_table.specs.Vocabularies.{EachPair}
-use Rattle.sort_checker.specs.FullVocabularies.{FullVocabulary, IsFullVocabularyOf, processes_in}
+use Rattle.sort_checker.specs.FullVocabularies.{FullVocabulary, processes_in}
 use Rattle.sort_checker.specs.Elaborations.{ElaboratesEquation}
 use Rattle.sort_checker.specs.Refusals.{IsWellTyped}
 use Rattle.sort_checker.specs.Systems.{equations_in, initial_by, IsSystem}
@@ -22,6 +22,6 @@ pub record PrintsLinear (ss : List Section) (n : TextNames) (l : Linear) (initia
 abbrev pub PrintedSystemsAreLinear : Type 0
 PrintedSystemsAreLinear =
     (ss : List Section) (v : FullVocabulary) (th : Theory) (n : TextNames) (l : Linear) (initial : List Term)
-    → IsFullVocabularyOf (declarations_in ss) v → IsWellTyped v ss → th.declared ≡ v.declared.tables → EachPair (ElaboratesEquation v) (equations_in ss) th.equations
+    → IsWellTyped v ss → th.declared ≡ v.declared.tables → EachPair (ElaboratesEquation v) (equations_in ss) th.equations
     → PrintsLinear ss n l initial → LinearReads v n l initial → (vs : List Sort) → IsLinear l → IsWellSorted th.declared vs l
     → IsSystem ss v th (state_of l initial) × IsLinearText th (state_of l initial)
