@@ -1,5 +1,10 @@
 pub mod Options
 pub mod SortTests
+pub mod RowNumbers
+pub mod FoundRowLemmas
+pub mod WithinLemmas
+pub mod StepsWithin
+pub mod ScopeLemmas
 pub mod NamedParts
 pub mod TypingSorts
 pub mod MeaningSorts
@@ -20,4 +25,8 @@ pub mod SignatureSorts
 pub mod NodeTells
 pub mod StepLemmas
 pub mod FindingLemmas
+pub mod TableLemmas
+pub mod WordsWithin
+pub mod Contexts
+pub mod SameVocabulary
 pub mod MakingLemmas

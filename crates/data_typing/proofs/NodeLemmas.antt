@@ -3,9 +3,7 @@ use Rattle.std.proofs.Common.{◌≡◌, ◌≢◌, ◌<◌, ◌≤◌, ◌+◌,
 use Rattle.data_typing.specs.declared.flat_sorts.FlatSort.{FlatSort}
 use Rattle.data_typing.specs.declared.flat_sorts.SortPlace.{SortPlace}
 use Rattle.data_theory.specs.Terms.{Sort}
-use Rattle.sort_table.specs.Expressions.{Name, Expression}
-use Rattle.data_typing.specs.Typings.{over, Place, Meaning, Inferred, typing}
-use Rattle.data_typing.proofs.SortsFirst.{sorts_go_before_terms}
+use Rattle.data_typing.specs.Typings.{over, Place}
 use Rattle.data_typing.specs.Plans.{first_sort}
 use Rattle.data_typing.specs.Sortings.{Sorting, no_sorting, all_same, all_check, all_check_over, each_checks, is_at, fits_in, Profile, result_where, first_exact_sort, AnyProfile, first_told}
 use Rattle.data_typing.specs.FlatSorts.{flat_sort, place_of}
@@ -13,8 +11,8 @@ use Rattle.data_typing.specs.declared.nodes.Overload as code
 use Rattle.data_typing.specs.declared.nodes.Kind.{Kind}
 use Rattle.data_typing.specs.declared.nodes.Kind.TheVariants as kinds
 use Rattle.data_typing.specs.declared.nodes.Node.{Node}
-use Rattle.data_typing.specs.Nodes.{profile_of, kind_sorting, checks_by, sorting_at, sortings_at, node_sorting, values_at, values_behind, sortings, AreBelow, AreNodesFrom, AreNodes, AreKnown, Stands}
-use Rattle.std.specs.Prelude.{Option, Some, None, IfOk, Result, option_map, is_some}
+use Rattle.data_typing.specs.Nodes.{profile_of, kind_sorting, checks_by, sorting_at, sortings_at, node_sorting, values_at, values_behind, sortings, AreBelow, AreNodesFrom, AreNodes, AreKnown}
+use Rattle.std.specs.Prelude.{Option, Some, None, IfOk, Result, option_map}
 use Rattle.std.specs.Option.{option_or}
 use Rattle.std.proofs.Common.{subst, length-append}
 use Rattle.std.proofs.lemmas.List.{drop_more, drop_all, get_or_append_left}
@@ -263,15 +261,6 @@ nodes_behind ns n are h = nodes_from_behind 0 (length ns) ns n (omega arith) are
 pub no_nodes : AreNodes []
 unfolding AreNodes
 no_nodes = tt
-
--- ---- what a node that stands for an expression tells
-pub inferred_stands : (ns : List Node) (k : ℕ) (o : Option FlatSort) → option_map flat_sort o ≡ (sorting_at (sortings ns) k).infers
-    → (m : Name → Meaning) (e : Expression) → Stands ns k m e → option_map flat_sort o ≡ option_map (λ (i : Inferred). i.sort) (typing m e).infers
-inferred_stands ns k o q m e h = q ∙ ap (λ (t : Sorting). t.infers) h ∙ (sorts_go_before_terms m e).infers
-
-pub checked_stands : (ns : List Node) (k : ℕ) (s : Sort) (b : Bool) → b ≡ (sorting_at (sortings ns) k).checks s
-    → (m : Name → Meaning) (e : Expression) → Stands ns k m e → b ≡ is_some ((typing m e).checks s)
-checked_stands ns k s b q m e h = q ∙ ap (λ (t : Sorting). t.checks s) h ∙ (sorts_go_before_terms m e).checks s
 
 -- ---- plans
 none_sorted : (all : List Sorting) (c : AnyProfile) (ps : List Place) → first_sort all c ps [] ≡ None

@@ -1,6 +1,6 @@
 -- What words mean, in code and over the vocabulary of a signature.
 use Rattle.std.proofs.Common.{◌≡◌, ◌<◌, ◌≤◌, ◌+◌, ◌==◌, ◌||◌, ℕ, suc, Bool, true, false, cond, List, [], ◌∷◌, ◌++◌, length, map, take, drop, get_or, refl, sym, subst, ap, ◌∙◌, arith, eqb-true, eq-eqb, length-append, append-nil}
-use Rattle.std.specs.Prelude.{Option, Some, None, option_map, option_to_list, slice_get, bytes_eq, Vec}
+use Rattle.std.specs.Prelude.{Option, Some, None, is_some, option_map, option_to_list, slice_get, bytes_eq, Vec}
 use Rattle.std.specs.Global.{Global}
 use Rattle.std.specs.List.{All, Contains, filter, list_any}
 use Rattle.std.proofs.lemmas.Option.{slice_get-get_or, get_or_from_slice_get}
@@ -30,7 +30,7 @@ use Rattle.data_typing.specs.declared.flat_sorts.SortPlace.{SortPlace}
 use Rattle.data_typing.specs.declared.nodes.Overload as code
 use Rattle.data_typing.specs.declared.nodes.AnyOverload as code_any
 use Rattle.data_typing.specs.declared.nodes.Kind.TheVariants as kinds
-use Rattle.data_typing.specs.declared.words.Bound as code_bound
+use Rattle.data_typing.specs.declared.scope.Bound as code_bound
 use Rattle.data_typing.specs.Typings.{Place, over, Signature, Scheme, scheme_at, Typing, functions, bound, word_typing}
 use Rattle.data_typing.specs.BuiltIns.{hangs, row_places, is_over_any, is_settled, word_scheme, row_scheme, row_signature, built_ins, scheme_named}
 use Rattle.data_typing.specs.Meanings.{Bound, Scope, bound_row, declared_signature, signatures_named, meaning_or}
@@ -133,6 +133,18 @@ pub any_goes_on : (rows : List Row) (i : ℕ) (row : Row) (o : Option code_any.A
 any_goes_on rows i row o l is k e =
     e ∙ ap (λ ss. slice_get ss 0) (one_row rows i row l is)
     ∙ first_left (option_map scheme_of o) (map row_scheme (filter is_over_any (row ∷ []))) (map row_scheme (filter is_over_any (drop (i + 1) rows))) k
+
+pub over_any_found : (rows : List Row) (i : ℕ) (d : Row) (o : Option code_any.AnyOverload) → i < length rows
+    → option_to_list (option_map scheme_of o) ≡ map row_scheme (filter is_over_any (get_or rows i d ∷ []))
+    → slice_get (map row_scheme (filter is_over_any rows)) 0 ≡ slice_get (map row_scheme (filter is_over_any (drop i rows))) 0
+    → is_some o ≡ true → option_map scheme_of o ≡ slice_get (map row_scheme (filter is_over_any rows)) 0
+over_any_found rows i d o l k e some =
+    by o some (any_goes_on rows i (get_or rows i d) o l (get_or_default rows i d (get_or rows i d) l) k e)
+  where
+    by : (o : Option code_any.AnyOverload) → is_some o ≡ true → slice_get (map row_scheme (filter is_over_any rows)) 0 ≡ slice_get (option_to_list (option_map scheme_of o) ++ map row_scheme (filter is_over_any (drop (i + 1) rows))) 0
+        → option_map scheme_of o ≡ slice_get (map row_scheme (filter is_over_any rows)) 0
+    by None h q = cc
+    by (Some a) h q = sym q
 
 -- ---- names
 both_tell : (b c : Bool) → (b ≡ true → c ≡ true) → (c ≡ true → b ≡ true) → b ≡ c

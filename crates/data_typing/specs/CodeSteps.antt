@@ -1,7 +1,10 @@
 -- What steps in code mean.
-use Rattle.std.specs.Prelude.{◌≡◌, ◌++◌, ◌+◌, ◌<◌, ℕ, zero, suc, List, [], ◌∷◌, map, length, get_or, Option, Some, None, option_map, pos}
+use Rattle.std.specs.Prelude.{◌≡◌, ◌++◌, ◌+◌, ◌<◌, ℕ, zero, suc, List, [], ◌∷◌, map, length, get_or, Option, Some, None, Vec, option_map, pos}
 use Rattle.std.specs.List.{AllByRecursion}
+use Rattle.std.specs.Global.{Global}
 use Rattle.data_theory.specs.declared.ids.FunId.{FunId}
+use Rattle.data_theory.specs.declared.words.NumberWord.{NumberWord}
+use Rattle.data_theory.specs.declared.words.Word.TheVariants.{Number}
 use Rattle.data_theory.specs.Terms.{Sort, Symbol, empty, cons, Term, variable}
 use Rattle.data_theory.specs.Terms as terms
 use Rattle.data_typing.specs.declared.flat_sorts.FlatSort.{FlatSort}
@@ -18,6 +21,9 @@ use Rattle.data_typing.specs.Typings.{Inferred, Typing, call_by_sort, call_infer
 use Rattle.data_typing.specs.FlatSorts.{flat_sort}
 use Rattle.data_typing.specs.Nodes.{values_at, values_behind}
 use Rattle.data_typing.specs.NodeTypings.{signature_of, scheme_of, node_typings, typing_at}
+use Rattle.data_typing.specs.declared.plans.CallPlan.{CallPlan}
+use Rattle.data_typing.specs.declared.plans.CallPlan.TheVariants as plans
+use Rattle.data_typing.specs.Within.{IsFlatWithin, IsBuiltIn, IsOverloadWithin}
 use Rattle.data_typing.specs.Making.{Wish, as_inferred, at_sort, HaveTerms, Item, leaf, over, Make}
 
 abbrev pub wish_of : Wanted → Wish
@@ -123,3 +129,37 @@ Comes y ns limit (Some e) o = (t : Term) × (o ≡ Some t) × Expands y ns limit
 abbrev pub AreSteps : (FunId → Symbol) → Option (List Step) → Option Term → Type 0
 AreSteps y None o = o ≡ None
 AreSteps y (Some hs) o = (t : Term) × (o ≡ Some t) × Make (items_of y hs) [] (t ∷ [])
+
+-- ---- over so many declared sorts and so many functions
+abbrev pub IsStepWithin : ℕ → ℕ → Step → Type 0
+IsStepWithin n c (steps.Variable v) = Unit {0}
+IsStepWithin n c (steps.Numeral k) = Unit {0}
+IsStepWithin n c (steps.Apply f k) = IsOverloadWithin n c f
+
+abbrev pub IsWantedWithin : ℕ → Wanted → Type 0
+IsWantedWithin n wanted.Inferred = Unit {0}
+IsWantedWithin n (wanted.At s) = IsFlatWithin n s
+
+-- steps and tasks are over so many, where the nodes are
+pub record IsExpansionWithin (n c : ℕ) (e : code_expansion.Expansion) : Type 0 where
+  pub steps : AllByRecursion (IsStepWithin n c) e.steps.items
+  pub tasks : AllByRecursion (λ (k : code.Task). IsWantedWithin n k.wanted) e.tasks.items
+
+abbrev pub IsSomeExpansionWithin : ℕ → ℕ → Option code_expansion.Expansion → Type 0
+IsSomeExpansionWithin n c None = Unit {0}
+IsSomeExpansionWithin n c (Some e) = IsExpansionWithin n c e
+
+abbrev pub AreSomeStepsWithin : ℕ → ℕ → Option (Vec Step Global) → Type 0
+AreSomeStepsWithin n c None = Unit {0}
+AreSomeStepsWithin n c (Some v) = AllByRecursion (IsStepWithin n c) v.items
+
+abbrev pub IsPlanWithin : ℕ → CallPlan → Type 0
+IsPlanWithin n (plans.Exact k) = Unit {0}
+IsPlanWithin n (plans.Fitting k) = Unit {0}
+IsPlanWithin n (plans.Over s) = IsFlatWithin n s
+
+-- the upcast of a word is a row of the table, and both sorts are of numbers
+pub record IsUpcastRow (w : NumberWord) (from to : FlatSort) : Type 0 where
+  pub row : IsBuiltIn (Number w) (flat_sort from ∷ []) (flat_sort to)
+  pub from_number : IsFlatWithin 0 from
+  pub to_number : IsFlatWithin 0 to

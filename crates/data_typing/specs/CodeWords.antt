@@ -10,7 +10,7 @@ use Rattle.data_theory.specs.IdTerms.{sort_under, symbol_under}
 use Rattle.sort_table.specs.Expressions.{Name}
 use Rattle.sort_table.specs.SignatureVocabularies.{vocabulary_of}
 use Rattle.data_typing.specs.declared.flat_sorts.FlatSort.{FlatSort}
-use Rattle.data_typing.specs.declared.words.Bound as code
+use Rattle.data_typing.specs.declared.scope.Bound as code
 use Rattle.data_typing.specs.Typings.{Signature, Typing, Meaning}
 use Rattle.data_typing.specs.Meanings.{Bound, Scope, meaning}
 use Rattle.data_typing.specs.FlatSorts.{flat_sort}

@@ -7,12 +7,17 @@ pub mod Sortings
 pub mod FlatSorts
 pub mod Nodes
 pub mod NodeTypings
+pub mod Scopes
 pub mod CodeWords
 pub mod Readings
+pub mod Within
+pub mod Contexts
+pub mod ContextLaws
 pub mod Plans
 pub mod CodePlans
 pub mod Making
 pub mod CodeSteps
 pub mod WordPlaces
+pub mod FoundRows
 pub mod NamedSorts
 pub mod CodeParts

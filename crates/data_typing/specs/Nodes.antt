@@ -8,9 +8,8 @@ use Rattle.data_typing.specs.declared.nodes.AnyOverload as code_any
 use Rattle.data_typing.specs.declared.nodes.Kind.{Kind}
 use Rattle.data_typing.specs.declared.nodes.Kind.TheVariants as kinds
 use Rattle.data_typing.specs.declared.nodes.Node.{Node}
-use Rattle.sort_table.specs.Expressions.{Name, Expression}
-use Rattle.data_typing.specs.Typings.{elements, read_off, Meaning, least_sort}
-use Rattle.data_typing.specs.Sortings.{Sorting, Profile, AnyProfile, first_exact_sort, may_check, each_checks_at, no_sorting, rigid_sorting, call_sorting, list_sorting, sorting_of}
+use Rattle.data_typing.specs.Typings.{elements, read_off, least_sort}
+use Rattle.data_typing.specs.Sortings.{Sorting, Profile, AnyProfile, first_exact_sort, may_check, each_checks_at, no_sorting, rigid_sorting, call_sorting, list_sorting}
 use Rattle.data_typing.specs.FlatSorts.{flat_sort, place_of}
 
 abbrev pub profile_of : code.Overload → Profile
@@ -70,7 +69,3 @@ pub record AreKnown (ns : List Node) (known : List (Option FlatSort)) : Type 0 w
   pub nodes : AreNodes ns
   pub within : length known ≤ length ns
   pub told : (k : ℕ) → k < length known → option_map flat_sort (get_or known k None) ≡ (sorting_at (sortings ns) k).infers
-
--- the node with this number stands for an expression, by what its words mean
-abbrev pub Stands : List Node → ℕ → (Name → Meaning) → Expression → Type 0
-Stands ns k m e = sorting_at (sortings ns) k ≡ sorting_of m e

@@ -1,9 +1,10 @@
 //! The built-in functions of a signature, by their words and sorts.
 
-ghost use Rattle.std.specs.Prelude.{◌≡◌, ◌<◌, length, map, slice_get, Some, IsTrue, IfSome};
+ghost use Rattle.std.specs.Prelude.{◌≡◌, ◌<◌, length, map, slice_get, Some, IsTrue, IsSome, IfSome};
 ghost use Rattle.data_theory.specs.IdSymbols.{word_symbol};
 ghost use Rattle.data_theory.specs.IdTerms.{sort_under, symbol_under};
 ghost use Rattle.data_typing.specs.WordPlaces as places;
+ghost use Rattle.data_typing.specs.FoundRows.{IsFoundRow};
 
 use data_theory::{FunId, ListWord, NumberWord, Signature, SortId, Word};
 
@@ -77,7 +78,8 @@ fn word_place(word: Word) -> usize
 /// Whether a function is that of a word, with this result.
 fn is_of_word(sig: &Signature, fun: FunId, word: Word, to: SortId) -> bool
     requires { fun.0 < length sig.now.functions }
-    ensures { IsTrue result → IfSome (slice_get sig.now.functions fun.0) (λ f. (f.word ≡ Some word) × (f.result ≡ to)) }
+    ensures is { IsTrue result → IfSome (slice_get sig.now.functions fun.0) (λ f. (f.word ≡ Some word) × (f.result ≡ to)) }
+    ensures tells { IfSome (slice_get sig.now.functions fun.0) (λ f. f.word ≡ Some word → f.result ≡ to → IsTrue result) }
 {
     match sig.word_of(fun) {
         Some(found) => word_place(found) == word_place(word) && sig.sort_of(fun).0 == to.0,
@@ -89,6 +91,7 @@ fn is_of_word(sig: &Signature, fun: FunId, word: Word, to: SortId) -> bool
 pub fn built_in_function(sig: &Signature, word: Word, sorts: &[SortId], to: SortId) -> Option<FunId>
     ensures means { IfSome result (λ fun. symbol_under sig.now fun ≡ word_symbol word (map (sort_under sig.now) sorts.now) (sort_under sig.now to)) }
     ensures within { IfSome result (λ fun. fun.0 < length sig.now.functions) }
+    ensures there { IsFoundRow sig.now word sorts.now to → IsSome result }
 {
     let fun = sig.fun(word.text(), sorts)?;
     if is_of_word(sig, fun, word, to) {

@@ -4,6 +4,7 @@ ghost use Rattle.data_typing.specs.TypingLaws.{CheckedTermsHaveTheSort, Inferred
 ghost use Rattle.data_typing.specs.Plans.{CallsGoByPlan};
 ghost use Rattle.data_typing.specs.Sortings.{SortsGoBeforeTerms};
 ghost use Rattle.data_typing.specs.WorkedTypings.{TheseAreTyped};
+ghost use Rattle.data_typing.specs.ContextLaws.{ListSortsComeBehind, ListSortsKeepTheVocabulary, ReadingsStay, ScopesStay, TablesStay, WishesStay};
 
 /// Worked expressions have the typings that the language says.
 pub fn these_are_typed()
@@ -44,4 +45,18 @@ pub fn sorts_go_before_terms()
 /// A call is elaborated as its plan says, and the plan is found by sorts alone.
 pub fn calls_go_by_plan()
     ensures { CallsGoByPlan }
+{}
+
+/// List sorts come behind what was there, and change nothing in the vocabulary.
+pub fn list_sorts_keep_the_vocabulary()
+    ensures behind { ListSortsComeBehind }
+    ensures vocabulary { ListSortsKeepTheVocabulary }
+{}
+
+/// What holds of a signature for typing stays where variables and list sorts are added.
+pub fn contexts_stay()
+    ensures tables { TablesStay }
+    ensures scopes { ScopesStay }
+    ensures wishes { WishesStay }
+    ensures readings { ReadingsStay }
 {}

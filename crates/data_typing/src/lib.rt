@@ -5,6 +5,7 @@
 #![tactic(auto)]
 
 pub mod elaborating;
+pub mod expressions;
 pub mod finding;
 pub mod flat_sorts;
 pub mod functions;
@@ -13,6 +14,7 @@ pub mod making;
 pub mod nodes;
 pub mod plans;
 pub mod reading;
+pub mod scope;
 pub mod sort_tables;
 pub mod steps;
 pub mod words;

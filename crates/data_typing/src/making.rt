@@ -1,7 +1,7 @@
 //! Terms of a pool by their steps.
 
 ghost use Rattle.std.specs.Prelude.{◌≡◌, ◌<◌, ◌≤◌, ◌++◌, ◌∷◌, [], length, map, IfOk, OnOk, pos};
-ghost use Rattle.std.specs.List.{All};
+ghost use Rattle.std.specs.List.{All, AllByRecursion};
 ghost use Rattle.data_theory.specs.declared.ids.FunId.{FunId};
 ghost use Rattle.data_theory.specs.Terms as terms;
 ghost use Rattle.data_theory.specs.Terms.{Symbol};
@@ -11,7 +11,8 @@ ghost use Rattle.term_pool.specs.Pools.{Extends};
 ghost use Rattle.data_typing.specs.Typings.{least_sort};
 ghost use Rattle.data_typing.specs.NamedSorts.{AreNamedSorts};
 ghost use Rattle.data_typing.specs.Making.{Joins, Turns, Make};
-ghost use Rattle.data_typing.specs.CodeSteps.{item_of, items_of};
+ghost use Rattle.sort_table.specs.NamedSorts.{AddsLists};
+ghost use Rattle.data_typing.specs.CodeSteps.{item_of, items_of, IsStepWithin};
 ghost use Rattle.data_typing.specs.CodeParts.{part_item, part_items, needed, term_at, IsPartWithin, MakeOne};
 
 use crate::finding::function_number;
@@ -38,9 +39,11 @@ fn part_of(
 ) -> Result<Part, NoMemory>
     requires named { AreNamedSorts sig.old named.now }
     requires count { count ≤ length sig.old.functions }
+    requires there { IsStepWithin (length named.now) count step.now }
     ensures means { IfOk result (λ part. (y : FunId → Symbol) → ((k : FunId) → k.0 < count → y k ≡ symbol_under sig.old k) → part_item sig.new part ≡ item_of y step.now) }
     ensures within { IfOk result (λ part. IsPartWithin sig.new part) }
     ensures grown { IsGrown sig.old sig.new }
+    ensures added { AddsLists sig.old sig.new }
 {
     match step {
         Step::Variable(var) => {
@@ -66,8 +69,10 @@ pub fn parts_of(
     steps: &[Step],
 ) -> Result<Vec<Part>, NoMemory>
     requires named { AreNamedSorts sig.old named.now }
+    requires there { AllByRecursion (IsStepWithin (length named.now) (length sig.old.functions)) steps.now }
     ensures mean { IfOk result (λ parts. part_items sig.new parts.items ≡ items_of (symbol_under sig.old) steps.now) }
     ensures grown { IsGrown sig.old sig.new }
+    ensures added { AddsLists sig.old sig.new }
 {
     let count = sig.fun_count();
     let _ = sig.next_sort();

@@ -49,11 +49,18 @@ pub struct Node {
 
 ghost use Rattle.std.specs.Prelude.{◌≡◌, ◌<◌, ◌≤◌, ◌+◌, length, map, IfOk, is_some, option_map};
 ghost use Rattle.data_typing.specs.FlatSorts.{flat_sort, place_of};
-ghost use Rattle.data_typing.specs.Nodes.{profile_of, any_profile_of, checks_by, kind_sorting, node_sorting, sorting_at, sortings_at, sortings, AreBelow, AreNodes, AreKnown, Stands};
+ghost use Rattle.data_typing.specs.Nodes.{profile_of, any_profile_of, checks_by, kind_sorting, node_sorting, sorting_at, sortings_at, sortings, AreBelow, AreNodes, AreKnown};
 ghost use Rattle.data_typing.specs.Sortings.{is_at, fits_in, all_same, all_check, all_check_over, each_checks, checks_by_result, may_check, first_exact_sort, first_fitting_sort, first_candidate_sort, result_over, result_by, call_sort, widest_sort, list_sorting};
 ghost use Rattle.std.specs.Prelude.{cond, false, ◌++◌, ◌∷◌, []};
-ghost use Rattle.sort_table.specs.Expressions.{Name, Expression};
-ghost use Rattle.data_typing.specs.Typings.{Meaning, Inferred, typing, least_sort};
+ghost use Rattle.data_typing.specs.Typings.{Inferred, Typing, least_sort};
+
+/// An expression that was read, with the sorts that its parts infer.
+#[derive(Drop)]
+pub struct Reading {
+    pub(crate) nodes: Vec<Node>,
+    pub(crate) known: Vec<Option<FlatSort>>,
+    pub(crate) at: usize,
+}
 
 /// Whether a part infers exactly this sort.
 fn is_exactly(nodes: &[Node], known: &[Option<FlatSort>], at: usize, sort: FlatSort) -> bool
@@ -504,35 +511,33 @@ pub fn add(nodes: &mut Vec<Node>, node: Node) -> Result<usize, NoMemory>
     Ok(at)
 }
 
-/// The sort that an expression infers.
-pub fn inferred_sort(nodes: &[Node], known: &[Option<FlatSort>], at: usize) -> Option<FlatSort>
-    requires known { AreKnown nodes.now known.now }
-    requires there { at < length known.now }
-    ensures { (m : Name → Meaning) (e : Expression) → Stands nodes.now at m e → option_map flat_sort result ≡ option_map (λ (i : Inferred). i.sort) (typing m e).infers }
-{
-    let _ = nodes;
-    known[at]
-}
-
-/// Whether an expression checks at a sort.
-pub fn checks_at(
-    nodes: &[Node],
-    known: &[Option<FlatSort>],
-    at: usize,
-    sort: FlatSort,
-) -> Result<bool, NoMemory>
-    requires known { AreKnown nodes.now known.now }
-    requires there { at < length known.now }
-    ensures { IfOk result (λ b. (m : Name → Meaning) (e : Expression) → Stands nodes.now at m e → b ≡ is_some ((typing m e).checks (flat_sort sort))) }
-{
-    let checks = checks(nodes, known, at, sort)?;
-    Ok(checks)
-}
-
 /// No nodes.
 pub fn no_nodes(alloc: Global) -> Vec<Node>
     ensures nodes { AreNodes result.items }
     ensures none { result.items ≡ [] }
 {
     Vec::new(alloc)
+}
+
+impl Reading {
+    ghost use Rattle.data_theory.specs.Signature.{Sig};
+    ghost use Rattle.data_typing.specs.Contexts.{IsRead, IsReadingOf};
+
+    /// The sort that the expression infers.
+    pub fn sort(&self) -> Option<FlatSort>
+        requires { IsRead self.now }
+        ensures { (g : Sig) (t : Typing) → IsReadingOf g self.now t → option_map flat_sort result ≡ option_map (λ (i : Inferred). i.sort) t.infers }
+    {
+        let known = self.known.as_slice();
+        known[self.at]
+    }
+
+    /// Whether the expression checks at a sort.
+    pub fn checks(&self, sort: FlatSort) -> Result<bool, NoMemory>
+        requires { IsRead self.now }
+        ensures { IfOk result (λ b. (g : Sig) (t : Typing) → IsReadingOf g self.now t → b ≡ is_some (t.checks (flat_sort sort))) }
+    {
+        let checks = checks(self.nodes.as_slice(), self.known.as_slice(), self.at, sort)?;
+        Ok(checks)
+    }
 }

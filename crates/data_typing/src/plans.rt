@@ -151,7 +151,8 @@ pub fn plan_call(
 ) -> Result<Option<CallPlan>, NoMemory>
     requires known { AreKnown nodes.now known.now }
     requires there { AreBelow (length known.now) arguments.now }
-    ensures { IfOk result (λ o. (fs : List typings.Signature) (c : Option typings.Scheme) (ts : List typings.Typing) → TellAll (sortings_at (sortings nodes.now) arguments.now) ts → map profile fs ≡ map profile_of signatures.now → option_map any_profile c ≡ option_map any_profile_of any.now → typings.call_infers fs c ts ≡ option_and_then (planned fs c ts) (option_map plan_of o)) }
+    ensures plan { IfOk result (λ o. option_map plan_of o ≡ call_plan (map profile_of signatures.now) (option_map any_profile_of any.now) (sortings_at (sortings nodes.now) arguments.now)) }
+    ensures infers { IfOk result (λ o. (fs : List typings.Signature) (c : Option typings.Scheme) (ts : List typings.Typing) → TellAll (sortings_at (sortings nodes.now) arguments.now) ts → map profile fs ≡ map profile_of signatures.now → option_map any_profile c ≡ option_map any_profile_of any.now → typings.call_infers fs c ts ≡ option_and_then (planned fs c ts) (option_map plan_of o)) }
 {
     let plan = plan_of_call(nodes, known, arguments, signatures, any)?;
     Ok(plan)

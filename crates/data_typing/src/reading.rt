@@ -1,6 +1,6 @@
 //! Expressions as nodes.
 
-ghost use Rattle.std.specs.Prelude.{◌≡◌, ◌<◌, ◌^◌, length, map, List, IfOk, OnOk};
+ghost use Rattle.std.specs.Prelude.{◌≡◌, ◌<◌, ◌^◌, ℕ, length, map, List, IfOk, OnOk};
 ghost use Rattle.std.specs.List.{All};
 ghost use Rattle.std.specs.Str.{IsUtf8};
 ghost use Rattle.data_theory.specs.declared.ids.FunId.{FunId};
@@ -14,12 +14,15 @@ ghost use Rattle.sort_table.specs.BareData as bare;
 ghost use Rattle.data_typing.specs.Typings.{Meaning};
 ghost use Rattle.data_typing.specs.Nodes.{AreNodes, AreBelow};
 ghost use Rattle.data_typing.specs.NodeTypings.{Stands, EachStands, GoOn};
+ghost use Rattle.sort_table.specs.NamedSorts.{sort_count};
+ghost use Rattle.data_typing.specs.Within.{IsFlatWithin, AreNodesWithin};
 ghost use Rattle.data_typing.specs.CodeWords.{AreFlat, meaning_in};
 ghost use Rattle.data_typing.specs.Readings.{expressions_of, joined, bare_trees, IsReadable, AreReadable, AreReadableOperands};
 
 use crate::flat_sorts::FlatSort;
 use crate::nodes::{Kind, Node, add};
-use crate::words::{Bound, word_kind};
+use crate::scope::Scope;
+use crate::words::word_kind;
 use data_theory::{NoMemory, Signature};
 use mcrl2_lexer::numeral_value;
 use mcrl2_syntax::{DataTree, InfixSign, PrefixSign};
@@ -80,16 +83,18 @@ fn add_word(
     alloc: Global,
     sig: &Signature,
     flats: &[FlatSort],
-    scope: &[Bound],
+    scope: &Scope,
     nodes: &mut Vec<Node>,
     text: &str,
     arguments: Vec<usize>,
 ) -> Result<usize, NoMemory>
     requires flats { AreFlat sig.now flats.now }
     requires names { All (λ b. b.name.0 < length sig.now.texts) scope.now }
+    requires sorts { All (λ b. IsFlatWithin (sort_count sig.now) b.sort) scope.now }
     requires nodes { AreNodes nodes.old.items }
     requires below { AreBelow (length nodes.old.items) arguments.items }
     ensures grown { OnOk result (GoOn nodes.old.items nodes.new.items) }
+    ensures sound { OnOk result (AreNodesWithin (sort_count sig.now) (length sig.now.functions) nodes.old.items → AreNodesWithin (sort_count sig.now) (length sig.now.functions) nodes.new.items) }
     ensures within { IfOk result (λ at. at < length nodes.new.items) }
     ensures stands { IfOk result (λ at. (es : List Expression) → EachStands (symbol_under sig.now) (meaning_in sig.now scope.now) nodes.old.items arguments.items es → Stands (symbol_under sig.now) (meaning_in sig.now scope.now) nodes.new.items at (word text.now (expressions_of es))) }
 {
@@ -104,6 +109,7 @@ fn add_list(nodes: &mut Vec<Node>, elements: Vec<usize>) -> Result<usize, NoMemo
     requires nodes { AreNodes nodes.old.items }
     requires below { AreBelow (length nodes.old.items) elements.items }
     ensures grown { OnOk result (GoOn nodes.old.items nodes.new.items) }
+    ensures sound { OnOk result ((n c : ℕ) → AreNodesWithin n c nodes.old.items → AreNodesWithin n c nodes.new.items) }
     ensures stands { IfOk result (λ at. (y : FunId → Symbol) (m : Name → Meaning) (es : List Expression) → EachStands y m nodes.old.items elements.items es → Stands y m nodes.new.items at (listed (expressions_of es))) }
 {
     let node = Node {
@@ -120,6 +126,7 @@ fn add_numeral(alloc: Global, nodes: &mut Vec<Node>, digits: &[u8]) -> Result<us
     requires digits { AreDigits digits.now }
     requires small { decimal digits.now < 2 ^ 128 }
     ensures grown { OnOk result (GoOn nodes.old.items nodes.new.items) }
+    ensures sound { OnOk result ((n c : ℕ) → AreNodesWithin n c nodes.old.items → AreNodesWithin n c nodes.new.items) }
     ensures stands { IfOk result (λ at. (y : FunId → Symbol) (m : Name → Meaning) → Stands y m nodes.new.items at (numeral (decimal digits.now))) }
 {
     let Some(value) = numeral_value(digits) else {
@@ -138,16 +145,18 @@ fn join(
     alloc: Global,
     sig: &Signature,
     flats: &[FlatSort],
-    scope: &[Bound],
+    scope: &Scope,
     nodes: &mut Vec<Node>,
     text: &str,
     operands: &[usize],
 ) -> Result<usize, NoMemory>
     requires flats { AreFlat sig.now flats.now }
     requires names { All (λ b. b.name.0 < length sig.now.texts) scope.now }
+    requires sorts { All (λ b. IsFlatWithin (sort_count sig.now) b.sort) scope.now }
     requires nodes { AreNodes nodes.old.items }
     requires below { AreBelow (length nodes.old.items) operands.now }
     ensures grown { OnOk result (GoOn nodes.old.items nodes.new.items) }
+    ensures sound { OnOk result (AreNodesWithin (sort_count sig.now) (length sig.now.functions) nodes.old.items → AreNodesWithin (sort_count sig.now) (length sig.now.functions) nodes.new.items) }
     ensures stands { IfOk result (λ at. (es : List Expression) → EachStands (symbol_under sig.now) (meaning_in sig.now scope.now) nodes.old.items operands.now es → Stands (symbol_under sig.now) (meaning_in sig.now scope.now) nodes.new.items at (joined text.now es)) }
 {
     if operands.is_empty() {
@@ -168,15 +177,17 @@ pub fn read(
     alloc: Global,
     sig: &Signature,
     flats: &[FlatSort],
-    scope: &[Bound],
+    scope: &Scope,
     nodes: &mut Vec<Node>,
     tree: &DataTree,
 ) -> Result<usize, NoMemory>
     requires flats { AreFlat sig.now flats.now }
     requires names { All (λ b. b.name.0 < length sig.now.texts) scope.now }
+    requires sorts { All (λ b. IsFlatWithin (sort_count sig.now) b.sort) scope.now }
     requires nodes { AreNodes nodes.old.items }
     requires tree { IsReadable (plain_data tree.now) }
     ensures grown { OnOk result (GoOn nodes.old.items nodes.new.items) }
+    ensures sound { OnOk result (AreNodesWithin (sort_count sig.now) (length sig.now.functions) nodes.old.items → AreNodesWithin (sort_count sig.now) (length sig.now.functions) nodes.new.items) }
     ensures stands { IfOk result (λ at. Stands (symbol_under sig.now) (meaning_in sig.now scope.now) nodes.new.items at (bare.bare_data (plain_data tree.now))) }
 {
     match tree {
@@ -240,15 +251,17 @@ fn read_all(
     alloc: Global,
     sig: &Signature,
     flats: &[FlatSort],
-    scope: &[Bound],
+    scope: &Scope,
     nodes: &mut Vec<Node>,
     trees: &[DataTree],
 ) -> Result<Vec<usize>, NoMemory>
     requires flats { AreFlat sig.now flats.now }
     requires names { All (λ b. b.name.0 < length sig.now.texts) scope.now }
+    requires sorts { All (λ b. IsFlatWithin (sort_count sig.now) b.sort) scope.now }
     requires nodes { AreNodes nodes.old.items }
     requires trees { AreReadable (datas_of (map plain_data trees.now)) }
     ensures grown { OnOk result (GoOn nodes.old.items nodes.new.items) }
+    ensures sound { OnOk result (AreNodesWithin (sort_count sig.now) (length sig.now.functions) nodes.old.items → AreNodesWithin (sort_count sig.now) (length sig.now.functions) nodes.new.items) }
     ensures stand { IfOk result (λ parts. EachStands (symbol_under sig.now) (meaning_in sig.now scope.now) nodes.new.items parts.items (bare_trees trees.now)) }
 {
     let mut parts: Vec<usize> = Vec::new(alloc);
@@ -265,17 +278,19 @@ fn read_chain(
     alloc: Global,
     sig: &Signature,
     flats: &[FlatSort],
-    scope: &[Bound],
+    scope: &Scope,
     nodes: &mut Vec<Node>,
     first: usize,
     operands: &[(InfixSign, DataTree)],
 ) -> Result<usize, NoMemory>
     requires flats { AreFlat sig.now flats.now }
     requires names { All (λ b. b.name.0 < length sig.now.texts) scope.now }
+    requires sorts { All (λ b. IsFlatWithin (sort_count sig.now) b.sort) scope.now }
     requires nodes { AreNodes nodes.old.items }
     requires first { first < length nodes.old.items }
     requires trees { AreReadableOperands (operands_of (plain_operands operands.now)) }
     ensures grown { OnOk result (GoOn nodes.old.items nodes.new.items) }
+    ensures sound { OnOk result (AreNodesWithin (sort_count sig.now) (length sig.now.functions) nodes.old.items → AreNodesWithin (sort_count sig.now) (length sig.now.functions) nodes.new.items) }
     ensures stands { IfOk result (λ at. (e : Expression) → Stands (symbol_under sig.now) (meaning_in sig.now scope.now) nodes.old.items first e → Stands (symbol_under sig.now) (meaning_in sig.now scope.now) nodes.new.items at (bare.to_the_left e (operands_of (plain_operands operands.now)))) }
 {
     let mut at = first;

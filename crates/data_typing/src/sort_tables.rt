@@ -1,25 +1,32 @@
 //! The sorts of a signature without their table.
 
-ghost use Rattle.std.specs.Prelude.{◌≡◌, ◌<◌, ◌≤◌, ◌+◌, map, length, IfOk, slice_get, Some, []};
+ghost use Rattle.std.specs.Prelude.{◌≡◌, ◌<◌, ◌++◌, map, length, IfOk, OnOk};
 ghost use Rattle.data_theory.specs.Sorts.{kind_of};
-ghost use Rattle.data_theory.specs.IdSorts.{construction_of, meant_by, meaning_of, meanings_behind};
+ghost use Rattle.data_theory.specs.IdSorts.{construction_of, meant_by, meaning_of};
 ghost use Rattle.data_theory.specs.Sorts.{lists_over};
 ghost use Rattle.data_typing.specs.FlatSorts.{flat_sort, lists};
 ghost use Rattle.data_theory.specs.Terms.{list};
+ghost use Rattle.data_theory.specs.Signature.{Sig};
 ghost use Rattle.data_theory.specs.IdTerms.{sort_under, IsGrown};
+ghost use Rattle.sort_table.specs.NamedSorts.{AddsLists, sort_count};
+ghost use Rattle.data_typing.specs.CodeWords.{AreFlat};
+ghost use Rattle.data_typing.specs.NamedSorts.{AreNamedSorts, AreFrontOf};
+ghost use Rattle.data_typing.specs.Contexts.{AreTablesOf, IsFlatOver};
 
 use crate::flat_sorts::{Base, FlatSort, SortPlace};
 use data_theory::{NoMemory, Signature, SortId, SortKind};
 use std::alloc::Global;
 
-/// How many declared sorts a sort is.
-fn declared_by(kind: &SortKind) -> usize
-    ensures count { result ≡ length (construction_of (kind_of kind.now)) }
-    ensures few { result ≤ 1 }
+/// Puts the number of a sort behind others, where it is a declared one.
+fn push_declared(named: &mut Vec<SortId>, kind: &SortKind, sort: SortId) -> Result<(), NoMemory>
+    ensures { OnOk result (named.new.items ≡ named.old.items ++ map (λ k. sort) (construction_of (kind_of kind.now))) }
 {
     match kind {
-        SortKind::Abstract | SortKind::Cons(_) | SortKind::Struct(_) => 1,
-        _ => 0,
+        SortKind::Abstract | SortKind::Cons(_) | SortKind::Struct(_) => {
+            named.push(sort)?;
+            Ok(())
+        }
+        _ => Ok(()),
     }
 }
 
@@ -53,19 +60,67 @@ fn flat_of(kind: &SortKind, flats: &[FlatSort], declared: usize) -> Result<FlatS
     Ok(FlatSort { depth: 0, base })
 }
 
-/// What the sorts of a signature mean, by their numbers.
-pub fn flat_sorts(alloc: Global, sig: &Signature) -> Result<Vec<FlatSort>, NoMemory>
-    ensures { IfOk result (λ v. map flat_sort v.items ≡ meanings_behind [] 0 sig.now.sorts) }
+/// The sorts of a signature as typing takes them: each without its table, by its number, and the numbers of the declared ones.
+#[derive(Drop)]
+pub struct SortTables {
+    pub flats: Vec<FlatSort>,
+    pub named: Vec<SortId>,
+}
+
+impl SortTables {
+    /// The sort with a number.
+    pub fn flat(&self, sort: SortId) -> FlatSort
+        ensures means { (g : Sig) → AreTablesOf g self.now → sort.0 < length g.sorts → flat_sort result ≡ sort_under g sort }
+        ensures within { (g : Sig) → AreTablesOf g self.now → sort.0 < length g.sorts → IsFlatOver g result }
+    {
+        if sort.0 < self.flats.len() {
+            self.flats[sort.0]
+        } else {
+            FlatSort {
+                depth: 0,
+                base: Base::Bool,
+            }
+        }
+    }
+}
+
+/// What the sorts of a signature are, by their numbers, and the numbers of the declared ones, behind those that are there.
+fn add_sorts(
+    sig: &Signature,
+    flats: &mut Vec<FlatSort>,
+    named: &mut Vec<SortId>,
+) -> Result<(), NoMemory>
+    requires { AreFrontOf sig.now (length flats.old.items) flats.old.items named.old.items }
+    ensures flats { OnOk result (AreFlat sig.now flats.new.items) }
+    ensures named { OnOk result (AreNamedSorts sig.now named.new.items) }
+    ensures all_named { OnOk result (length named.new.items ≡ sort_count sig.now) }
 {
-    let mut flats: Vec<FlatSort> = Vec::new(alloc);
-    let mut declared = 0;
-    for i in 0..sig.next_sort().0 {
+    for i in flats.len()..sig.next_sort().0 {
         let kind = sig.kind(SortId(i));
-        let flat = flat_of(kind, flats.as_slice(), declared)?;
-        declared += declared_by(kind);
+        let flat = flat_of(kind, flats.as_slice(), named.len())?;
+        push_declared(named, kind, SortId(i))?;
         flats.push(flat)?;
     }
-    Ok(flats)
+    Ok(())
+}
+
+/// The tables of a signature's sorts.
+pub fn sort_tables(alloc: Global, sig: &Signature) -> Result<SortTables, NoMemory>
+    ensures { IfOk result (AreTablesOf sig.now) }
+{
+    let mut flats: Vec<FlatSort> = Vec::new(alloc);
+    let mut named: Vec<SortId> = Vec::new(alloc);
+    add_sorts(sig, &mut flats, &mut named)?;
+    Ok(SortTables { flats, named })
+}
+
+/// Goes on with tables where list sorts were added.
+pub fn go_on(sig: &Signature, tables: &mut SortTables) -> Result<(), NoMemory>
+    requires { (g : Sig) × AreTablesOf g tables.old × AddsLists g sig.now }
+    ensures { OnOk result (AreTablesOf sig.now tables.new) }
+{
+    add_sorts(sig, &mut tables.flats, &mut tables.named)?;
+    Ok(())
 }
 
 /// The lists, so deep, over a sort of a signature. Those that aren't there are added.
@@ -74,6 +129,7 @@ pub fn lists_over_sort(sig: &mut Signature, base: SortId, depth: usize) -> Resul
     ensures meant { IfOk result (λ s. sort_under sig.new s ≡ lists depth (sort_under sig.old base)) }
     ensures within { IfOk result (λ s. s.0 < length sig.new.sorts) }
     ensures grown { IsGrown sig.old sig.new }
+    ensures added { AddsLists sig.old sig.new }
 {
     let mut sort = base;
     for _step in 0..depth {
@@ -88,6 +144,7 @@ fn list_over_sort(sig: &mut Signature, element: SortId) -> Result<SortId, NoMemo
     ensures meant { IfOk result (λ s. sort_under sig.new s ≡ list (sort_under sig.old element)) }
     ensures within { IfOk result (λ s. s.0 < length sig.new.sorts) }
     ensures grown { IsGrown sig.old sig.new }
+    ensures added { AddsLists sig.old sig.new }
 {
     match sig.list_of(element) {
         Some(list) => {

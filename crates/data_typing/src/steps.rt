@@ -1,6 +1,6 @@
 //! The steps by which the term of an expression is made.
 
-ghost use Rattle.std.specs.Prelude.{◌≡◌, ◌<◌, ◌+◌, ◌∷◌, [], length, map, get_or, Option, Some, None, Vec, IfOk, option_map, option_and_then};
+ghost use Rattle.std.specs.Prelude.{◌≡◌, ◌<◌, ◌+◌, ◌∷◌, [], ℕ, length, map, get_or, Option, Some, None, Vec, IfOk, IfSome, option_map, option_and_then};
 ghost use Rattle.std.specs.Global.{Global};
 ghost use Rattle.data_typing.specs.declared.steps.Step.{Step};
 ghost use Rattle.data_typing.specs.Plans.{planned};
@@ -15,7 +15,9 @@ ghost use Rattle.data_typing.specs.Typings.{Inferred};
 ghost use Rattle.data_typing.specs.Nodes.{AreBelow, AreKnown};
 ghost use Rattle.data_typing.specs.NodeTypings.{signature_of, scheme_of, node_typings, typing_at};
 ghost use Rattle.data_typing.specs.Making.{wished};
-ghost use Rattle.data_typing.specs.CodeSteps.{kind_by_sort, kind_infers, term_in, wish_of, typings_at, items_of, list_items, task_inferred, task_at, tasks_at, weights, task_weight, parts_limit, Comes, AreSteps};
+ghost use Rattle.data_typing.specs.CodeSteps.{kind_by_sort, kind_infers, term_in, wish_of, typings_at, items_of, list_items, task_inferred, task_at, tasks_at, weights, task_weight, parts_limit, Comes, AreSteps, IsStepWithin, IsPlanWithin, IsWantedWithin, IsSomeExpansionWithin, AreSomeStepsWithin, IsUpcastRow};
+ghost use Rattle.data_typing.specs.Within.{IsFlatWithin, IsOverloadWithin, IsAnyWithin, IsSomeAnyWithin, IsKindWithin, AreNodesWithin};
+ghost use Rattle.std.specs.List.{AllByRecursion};
 
 use crate::flat_sorts::{Base, FlatSort, SortPlace};
 use crate::nodes::{
@@ -58,7 +60,8 @@ pub struct Expansion {
 
 /// A function, once more.
 fn copy_overload(alloc: Global, overload: &Overload) -> Result<Overload, NoMemory>
-    ensures { IfOk result (λ f. (y : FunId → Symbol) → signature_of y f ≡ signature_of y overload.now) }
+    ensures means { IfOk result (λ f. (y : FunId → Symbol) → signature_of y f ≡ signature_of y overload.now) }
+    ensures within { IfOk result (λ f. (n c : ℕ) → IsOverloadWithin n c overload.now → IsOverloadWithin n c f) }
 {
     let arguments = overload.arguments.as_slice().to_vec(alloc)?;
     Ok(Overload {
@@ -86,7 +89,8 @@ fn sorts_over(
 
 /// A function over any sort, at a sort.
 fn overload_at(alloc: Global, any: &AnyOverload, sort: FlatSort) -> Result<Overload, NoMemory>
-    ensures { IfOk result (λ overload. (y : FunId → Symbol) → signature_of y overload ≡ typings.scheme_at (scheme_of any.now) (flat_sort sort)) }
+    ensures within { IfOk result (λ overload. (n c : ℕ) → IsAnyWithin n any.now → IsFlatWithin n sort → IsOverloadWithin n c overload) }
+    ensures means { IfOk result (λ overload. (y : FunId → Symbol) → signature_of y overload ≡ typings.scheme_at (scheme_of any.now) (flat_sort sort)) }
 {
     let arguments = sorts_over(alloc, any.arguments.as_slice(), sort)?;
     let result = sort.over(any.result)?;
@@ -99,7 +103,8 @@ fn overload_at(alloc: Global, any: &AnyOverload, sort: FlatSort) -> Result<Overl
 
 /// The list sort over a sort.
 fn list_over(element: FlatSort) -> Result<FlatSort, NoMemory>
-    ensures { IfOk result (λ list. flat_sort list ≡ typings.over (flat_sort element) typings.elements) }
+    ensures within { IfOk result (λ list. (n : ℕ) → IsFlatWithin n element → IsFlatWithin n list) }
+    ensures means { IfOk result (λ list. flat_sort list ≡ typings.over (flat_sort element) typings.elements) }
 {
     let list = element.over(SortPlace::Elements)?;
     Ok(list)
@@ -107,7 +112,8 @@ fn list_over(element: FlatSort) -> Result<FlatSort, NoMemory>
 
 /// The function `|>` over a sort.
 fn cons_overload(alloc: Global, element: FlatSort) -> Result<Overload, NoMemory>
-    ensures { IfOk result (λ overload. (y : FunId → Symbol) → (signature_of y overload).symbol ≡ cons (flat_sort element)) }
+    ensures within { IfOk result (λ overload. (n c : ℕ) → IsFlatWithin n element → IsOverloadWithin n c overload) }
+    ensures means { IfOk result (λ overload. (y : FunId → Symbol) → (signature_of y overload).symbol ≡ cons (flat_sort element)) }
 {
     let list = list_over(element)?;
     let arguments = Vec::from_array(alloc, [element, list])?;
@@ -120,7 +126,8 @@ fn cons_overload(alloc: Global, element: FlatSort) -> Result<Overload, NoMemory>
 
 /// The function `[]` over a sort. It is found by its list sort.
 fn empty_overload(alloc: Global, element: FlatSort) -> Result<Overload, NoMemory>
-    ensures { IfOk result (λ overload. (y : FunId → Symbol) → (signature_of y overload).symbol ≡ empty (flat_sort element)) }
+    ensures within { IfOk result (λ overload. (n c : ℕ) → IsFlatWithin n element → IsOverloadWithin n c overload) }
+    ensures means { IfOk result (λ overload. (y : FunId → Symbol) → (signature_of y overload).symbol ≡ empty (flat_sort element)) }
 {
     let list = list_over(element)?;
     let arguments = Vec::from_array(alloc, [list])?;
@@ -133,7 +140,8 @@ fn empty_overload(alloc: Global, element: FlatSort) -> Result<Overload, NoMemory
 
 /// The word of the upcast from a sort to another one, where there is one.
 fn upcast_word(from: FlatSort, to: FlatSort) -> Option<NumberWord>
-    ensures { option_map (λ w. word_symbol (Number w) (flat_sort from ∷ []) (flat_sort to)) result ≡ typings.upcast_to (flat_sort from) (flat_sort to) }
+    ensures row { IfSome result (λ w. IsUpcastRow w from to) }
+    ensures means { option_map (λ w. word_symbol (Number w) (flat_sort from ∷ []) (flat_sort to)) result ≡ typings.upcast_to (flat_sort from) (flat_sort to) }
 {
     if from.depth > 0 || to.depth > 0 {
         return None;
@@ -152,7 +160,8 @@ fn upcast_overload(
     from: FlatSort,
     to: FlatSort,
 ) -> Result<Option<Overload>, NoMemory>
-    ensures { IfOk result (λ o. (y : FunId → Symbol) → option_map (λ overload. (signature_of y overload).symbol) o ≡ typings.upcast_to (flat_sort from) (flat_sort to)) }
+    ensures within { IfOk result (λ o. IfSome o (λ overload. (n c : ℕ) → IsOverloadWithin n c overload)) }
+    ensures means { IfOk result (λ o. (y : FunId → Symbol) → option_map (λ overload. (signature_of y overload).symbol) o ≡ typings.upcast_to (flat_sort from) (flat_sort to)) }
 {
     match upcast_word(from, to) {
         Some(word) => {
@@ -218,7 +227,8 @@ fn argument_tasks(
 
 /// A list in brackets over so many elements.
 fn list_steps(alloc: Global, element: FlatSort, count: usize) -> Result<Vec<Step>, NoMemory>
-    ensures { IfOk result (λ steps. (y : FunId → Symbol) → items_of y steps.items ≡ list_items (flat_sort element) count) }
+    ensures within { IfOk result (λ steps. (n c : ℕ) → IsFlatWithin n element → AllByRecursion (IsStepWithin n c) steps.items) }
+    ensures items { IfOk result (λ steps. (y : FunId → Symbol) → items_of y steps.items ≡ list_items (flat_sort element) count) }
 {
     let mut steps: Vec<Step> = Vec::new(alloc);
     for _k in 0..count {
@@ -240,7 +250,8 @@ fn exact_expansion(
 ) -> Result<Option<Expansion>, NoMemory>
     requires known { AreKnown nodes.now known.now }
     requires there { AreBelow (length known.now) arguments.now }
-    ensures { IfOk result (λ o. (y : FunId → Symbol) → Comes y nodes.now (parts_limit nodes.now arguments.now) o (term_in (typings.applied typings.exactly (typings_at y nodes.now arguments.now) (signature_of y overload.now)))) }
+    ensures within { IfOk result (λ o. (n c : ℕ) → IsOverloadWithin n c overload.now → IsSomeExpansionWithin n c o) }
+    ensures comes { IfOk result (λ o. (y : FunId → Symbol) → Comes y nodes.now (parts_limit nodes.now arguments.now) o (term_in (typings.applied typings.exactly (typings_at y nodes.now arguments.now) (signature_of y overload.now)))) }
 {
     if !are_exactly(nodes, known, arguments, &overload.arguments) {
         return Ok(None);
@@ -261,7 +272,8 @@ fn checked_expansion(
 ) -> Result<Option<Expansion>, NoMemory>
     requires known { AreKnown nodes.now known.now }
     requires there { AreBelow (length known.now) arguments.now }
-    ensures { IfOk result (λ o. (y : FunId → Symbol) → Comes y nodes.now (parts_limit nodes.now arguments.now) o (term_in (typings.applied typings.checked (typings_at y nodes.now arguments.now) (signature_of y overload.now)))) }
+    ensures within { IfOk result (λ o. (n c : ℕ) → IsOverloadWithin n c overload.now → IsSomeExpansionWithin n c o) }
+    ensures comes { IfOk result (λ o. (y : FunId → Symbol) → Comes y nodes.now (parts_limit nodes.now arguments.now) o (term_in (typings.applied typings.checked (typings_at y nodes.now arguments.now) (signature_of y overload.now)))) }
 {
     if !all_check_sorts(nodes, known, arguments, &overload.arguments)? {
         return Ok(None);
@@ -283,7 +295,8 @@ fn any_expansion(
 ) -> Result<Option<Expansion>, NoMemory>
     requires known { AreKnown nodes.now known.now }
     requires there { AreBelow (length known.now) arguments.now }
-    ensures { IfOk result (λ o. (y : FunId → Symbol) → Comes y nodes.now (parts_limit nodes.now arguments.now) o (term_in (typings.applied typings.checked (typings_at y nodes.now arguments.now) (typings.scheme_at (scheme_of any.now) (flat_sort sort))))) }
+    ensures within { IfOk result (λ o. (n c : ℕ) → IsAnyWithin n any.now → IsFlatWithin n sort → IsSomeExpansionWithin n c o) }
+    ensures comes { IfOk result (λ o. (y : FunId → Symbol) → Comes y nodes.now (parts_limit nodes.now arguments.now) o (term_in (typings.applied typings.checked (typings_at y nodes.now arguments.now) (typings.scheme_at (scheme_of any.now) (flat_sort sort))))) }
 {
     let overload = overload_at(alloc, any, sort)?;
     let expansion = checked_expansion(alloc, nodes, known, arguments, &overload)?;
@@ -300,7 +313,8 @@ fn list_expansion(
 ) -> Result<Option<Expansion>, NoMemory>
     requires known { AreKnown nodes.now known.now }
     requires there { AreBelow (length known.now) arguments.now }
-    ensures { IfOk result (λ o. (y : FunId → Symbol) → Comes y nodes.now (parts_limit nodes.now arguments.now) o (typings.list_of (typings_at y nodes.now arguments.now) (flat_sort element))) }
+    ensures within { IfOk result (λ o. (n c : ℕ) → IsFlatWithin n element → IsSomeExpansionWithin n c o) }
+    ensures comes { IfOk result (λ o. (y : FunId → Symbol) → Comes y nodes.now (parts_limit nodes.now arguments.now) o (typings.list_of (typings_at y nodes.now arguments.now) (flat_sort element))) }
 {
     if !each_checks_at(nodes, known, known.len(), arguments, element)? {
         return Ok(None);
@@ -322,7 +336,8 @@ fn planned_expansion(
 ) -> Result<Option<Expansion>, NoMemory>
     requires known { AreKnown nodes.now known.now }
     requires there { AreBelow (length known.now) arguments.now }
-    ensures { IfOk result (λ o. (y : FunId → Symbol) → Comes y nodes.now (parts_limit nodes.now arguments.now) o (term_in (planned (map (signature_of y) signatures.now) (option_map scheme_of any.now) (typings_at y nodes.now arguments.now) (plan_of plan)))) }
+    ensures within { IfOk result (λ o. (n c : ℕ) → AllByRecursion (IsOverloadWithin n c) signatures.now → IsSomeAnyWithin n any.now → IsPlanWithin n plan → IsSomeExpansionWithin n c o) }
+    ensures comes { IfOk result (λ o. (y : FunId → Symbol) → Comes y nodes.now (parts_limit nodes.now arguments.now) o (term_in (planned (map (signature_of y) signatures.now) (option_map scheme_of any.now) (typings_at y nodes.now arguments.now) (plan_of plan)))) }
 {
     match plan {
         CallPlan::Exact(k) => match signatures.get(k) {
@@ -351,7 +366,8 @@ fn call_expansion(
 ) -> Result<Option<Expansion>, NoMemory>
     requires known { AreKnown nodes.now known.now }
     requires there { AreBelow (length known.now) arguments.now }
-    ensures { IfOk result (λ o. (y : FunId → Symbol) → Comes y nodes.now (parts_limit nodes.now arguments.now) o (term_in (typings.call_infers (map (signature_of y) signatures.now) (option_map scheme_of any.now) (typings_at y nodes.now arguments.now)))) }
+    ensures within { IfOk result (λ o. (n c : ℕ) → AreNodesWithin n c nodes.now → AllByRecursion (IsOverloadWithin n c) signatures.now → IsSomeAnyWithin n any.now → IsSomeExpansionWithin n c o) }
+    ensures comes { IfOk result (λ o. (y : FunId → Symbol) → Comes y nodes.now (parts_limit nodes.now arguments.now) o (term_in (typings.call_infers (map (signature_of y) signatures.now) (option_map scheme_of any.now) (typings_at y nodes.now arguments.now)))) }
 {
     match plan_call(nodes, known, arguments, signatures, any)? {
         Some(plan) => planned_expansion(alloc, nodes, known, arguments, signatures, any, plan),
@@ -370,7 +386,8 @@ fn any_by_result(
 ) -> Result<Option<Expansion>, NoMemory>
     requires known { AreKnown nodes.now known.now }
     requires there { AreBelow (length known.now) arguments.now }
-    ensures { IfOk result (λ o. (y : FunId → Symbol) → Comes y nodes.now (parts_limit nodes.now arguments.now) o (typings.by_result (typings_at y nodes.now arguments.now) (scheme_of any.now) (flat_sort sort))) }
+    ensures within { IfOk result (λ o. (n c : ℕ) → IsAnyWithin n any.now → IsFlatWithin n sort → IsSomeExpansionWithin n c o) }
+    ensures comes { IfOk result (λ o. (y : FunId → Symbol) → Comes y nodes.now (parts_limit nodes.now arguments.now) o (typings.by_result (typings_at y nodes.now arguments.now) (scheme_of any.now) (flat_sort sort))) }
 {
     if !any.by_result {
         return Ok(None);
@@ -393,7 +410,8 @@ fn call_by_sort(
 ) -> Result<Option<Expansion>, NoMemory>
     requires known { AreKnown nodes.now known.now }
     requires there { AreBelow (length known.now) arguments.now }
-    ensures { IfOk result (λ o. (y : FunId → Symbol) → Comes y nodes.now (parts_limit nodes.now arguments.now) o (typings.call_by_sort (map (signature_of y) signatures.now) (option_map scheme_of any.now) (typings_at y nodes.now arguments.now) (flat_sort sort))) }
+    ensures within { IfOk result (λ o. (n c : ℕ) → IsSomeAnyWithin n any.now → IsFlatWithin n sort → IsSomeExpansionWithin n c o) }
+    ensures comes { IfOk result (λ o. (y : FunId → Symbol) → Comes y nodes.now (parts_limit nodes.now arguments.now) o (typings.call_by_sort (map (signature_of y) signatures.now) (option_map scheme_of any.now) (typings_at y nodes.now arguments.now) (flat_sort sort))) }
 {
     if first_exact(nodes, known, arguments, signatures).is_some() {
         return Ok(None);
@@ -414,7 +432,8 @@ fn expansion_by_sort(
 ) -> Result<Option<Expansion>, NoMemory>
     requires known { AreKnown nodes.now known.now }
     requires there { AreBelow (length known.now) node.now.arguments.items }
-    ensures { IfOk result (λ o. (y : FunId → Symbol) → Comes y nodes.now (parts_limit nodes.now node.now.arguments.items) o (kind_by_sort y node.now.kind (typings_at y nodes.now node.now.arguments.items) (flat_sort sort))) }
+    ensures within { IfOk result (λ o. (n c : ℕ) → IsKindWithin n c node.now.kind → IsFlatWithin n sort → IsSomeExpansionWithin n c o) }
+    ensures comes { IfOk result (λ o. (y : FunId → Symbol) → Comes y nodes.now (parts_limit nodes.now node.now.arguments.items) o (kind_by_sort y node.now.kind (typings_at y nodes.now node.now.arguments.items) (flat_sort sort))) }
 {
     let arguments = node.arguments.as_slice();
     match &node.kind {
@@ -450,7 +469,8 @@ fn inferred_expansion(
 ) -> Result<Option<Expansion>, NoMemory>
     requires known { AreKnown nodes.now known.now }
     requires there { AreBelow (length known.now) node.now.arguments.items }
-    ensures { IfOk result (λ o. (y : FunId → Symbol) → Comes y nodes.now (parts_limit nodes.now node.now.arguments.items) o (term_in (kind_infers y node.now.kind (typings_at y nodes.now node.now.arguments.items)))) }
+    ensures within { IfOk result (λ o. (n c : ℕ) → AreNodesWithin n c nodes.now → IsKindWithin n c node.now.kind → IsSomeExpansionWithin n c o) }
+    ensures comes { IfOk result (λ o. (y : FunId → Symbol) → Comes y nodes.now (parts_limit nodes.now node.now.arguments.items) o (term_in (kind_infers y node.now.kind (typings_at y nodes.now node.now.arguments.items)))) }
 {
     let arguments = node.arguments.as_slice();
     match &node.kind {
@@ -482,7 +502,8 @@ fn embedded_expansion(
 ) -> Result<Option<Expansion>, NoMemory>
     requires known { AreKnown nodes.now known.now }
     requires there { at < length known.now }
-    ensures { IfOk result (λ o. (y : FunId → Symbol) → Comes y nodes.now (get_or (weights nodes.now) at 0 + 1) o (option_and_then (typings.embedded (flat_sort sort)) (typing_at (node_typings y nodes.now) at).infers)) }
+    ensures within { IfOk result (λ o. (n c : ℕ) → IsFlatWithin n sort → IsSomeExpansionWithin n c o) }
+    ensures comes { IfOk result (λ o. (y : FunId → Symbol) → Comes y nodes.now (get_or (weights nodes.now) at 0 + 1) o (option_and_then (typings.embedded (flat_sort sort)) (typing_at (node_typings y nodes.now) at).infers)) }
 {
     let _ = nodes;
     let Some(inferred) = known[at] else {
@@ -518,7 +539,8 @@ fn expansion_of(
     requires known { AreKnown nodes.now known.now }
     requires all { length known.now ≡ length nodes.now }
     requires there { task.at < length nodes.now }
-    ensures { IfOk result (λ o. (y : FunId → Symbol) → Comes y nodes.now (task_weight (weights nodes.now) task) o (wished (wish_of task.wanted) (typing_at (node_typings y nodes.now) task.at))) }
+    ensures within { IfOk result (λ o. (n c : ℕ) → AreNodesWithin n c nodes.now → IsWantedWithin n task.wanted → IsSomeExpansionWithin n c o) }
+    ensures comes { IfOk result (λ o. (y : FunId → Symbol) → Comes y nodes.now (task_weight (weights nodes.now) task) o (wished (wish_of task.wanted) (typing_at (node_typings y nodes.now) task.at))) }
 {
     let node = &nodes[task.at];
     match task.wanted {
@@ -542,7 +564,8 @@ pub fn steps_of(
     requires known { AreKnown nodes.now known.now }
     requires all { length known.now ≡ length nodes.now }
     requires there { task.at < length nodes.now }
-    ensures { IfOk result (λ o. (y : FunId → Symbol) → AreSteps y (option_map (λ (v : Vec Step Global). v.items) o) (wished (wish_of task.wanted) (typing_at (node_typings y nodes.now) task.at))) }
+    ensures within { IfOk result (λ o. (n c : ℕ) → AreNodesWithin n c nodes.now → IsWantedWithin n task.wanted → AreSomeStepsWithin n c o) }
+    ensures steps { IfOk result (λ o. (y : FunId → Symbol) → AreSteps y (option_map (λ (v : Vec Step Global). v.items) o) (wished (wish_of task.wanted) (typing_at (node_typings y nodes.now) task.at))) }
 {
     let Some(first) = expansion_of(alloc, nodes, known, task)? else {
         return Ok(None);

@@ -1,33 +1,28 @@
 //! What words mean, in code.
 
-ghost use Rattle.std.specs.Prelude.{◌≡◌, ◌<◌, ◌++◌, ◌∷◌, length, map, List, [], None, IfOk, OnOk, option_map, option_to_list, slice_get};
-ghost use Rattle.std.specs.List.{All, filter, list_any};
+ghost use Rattle.std.specs.Prelude.{◌≡◌, ◌<◌, ◌++◌, ◌∷◌, length, map, List, [], IfOk, IfSome, OnOk, option_map, option_to_list, slice_get};
+ghost use Rattle.std.specs.List.{All, AllByRecursion, Contains, filter, list_any};
 ghost use Rattle.data_theory.specs.declared.ids.FunId.{FunId};
 ghost use Rattle.data_theory.specs.Terms.{Symbol, boolean};
 ghost use Rattle.data_theory.specs.Rows.{row_result};
+ghost use Rattle.data_theory.specs.Table.{language_table};
 ghost use Rattle.data_theory.specs.IdSorts.{meant_by};
 ghost use Rattle.data_theory.specs.IdTerms.{symbol_under};
+ghost use Rattle.sort_table.specs.Duplicates.{any_sort, lists_of_any};
+ghost use Rattle.sort_table.specs.NamedSorts.{sort_count};
+ghost use Rattle.data_typing.specs.Within.{IsFlatWithin, IsPlaceWithin, IsAnyWithin, IsSomeAnyWithin, IsOverloadWithin, IsKindWithin};
 ghost use Rattle.data_typing.specs.BuiltIns as built_in;
 ghost use Rattle.data_typing.specs.BuiltIns.{hangs, row_places, row_scheme, row_signature};
 ghost use Rattle.data_typing.specs.FlatSorts.{flat_sort, place_of};
 ghost use Rattle.data_typing.specs.Typings.{Typing, over, scheme_at, word_typing};
 ghost use Rattle.data_typing.specs.NodeTypings.{signature_of, scheme_of, kind_typing};
-ghost use Rattle.data_typing.specs.CodeWords.{found_behind, meaning_in, fun_signature, IsAlone, AreFlat};
+ghost use Rattle.data_typing.specs.CodeWords.{meaning_in, fun_signature, IsAlone, AreFlat};
 
 use crate::flat_sorts::{Base, FlatSort, SortPlace};
 use crate::nodes::{AnyOverload, Callee, Kind, Overload};
-use data_theory::{
-    FunId, ListWord, NameId, NoMemory, Row, Signature, SortId, VarId, Word, rows_of,
-};
+use crate::scope::Scope;
+use data_theory::{FunId, ListWord, NoMemory, Row, Signature, SortId, Word, rows_of};
 use std::alloc::Global;
-
-/// A variable in scope.
-#[derive(Clone, Copy)]
-pub struct Bound {
-    pub name: NameId,
-    pub var: VarId,
-    pub sort: FlatSort,
-}
 
 /// A sort that is no list.
 fn plain(base: Base) -> FlatSort
@@ -38,7 +33,8 @@ fn plain(base: Base) -> FlatSort
 
 /// The place of a sort of the table of built-in functions, where 4 stands for any sort S and 5 for the lists over it.
 fn place_numbered(sort: SortId) -> SortPlace
-    ensures { place_of result ≡ built_in.place_numbered sort }
+    ensures means { place_of result ≡ built_in.place_numbered sort }
+    ensures within { IsPlaceWithin 0 result }
 {
     match sort.0 {
         0 => SortPlace::Settled(plain(Base::Bool)),
@@ -81,7 +77,8 @@ fn may_go_by_result(word: Word) -> bool
 
 /// The places of a row's arguments.
 fn places_of(alloc: Global, row: Row) -> Result<Vec<SortPlace>, NoMemory>
-    ensures { IfOk result (λ places. map place_of places.items ≡ row_places row) }
+    ensures mean { IfOk result (λ places. map place_of places.items ≡ row_places row) }
+    ensures within { IfOk result (λ places. AllByRecursion (IsPlaceWithin 0) places.items) }
 {
     let places = match row {
         Row::Constant(_, _) => Vec::new(alloc),
@@ -117,6 +114,8 @@ fn result_of(row: Row) -> SortId
 
 /// The function of a row over any sort S.
 fn any_overload(alloc: Global, row: Row) -> Result<AnyOverload, NoMemory>
+    requires { Contains (language_table any_sort lists_of_any) row }
+    ensures within { IfOk result (IsAnyWithin 0) }
     ensures means { IfOk result (λ any. scheme_of any ≡ row_scheme row) }
     ensures places { IfOk result (λ any. map place_of any.arguments.items ≡ row_places row) }
 {
@@ -154,7 +153,9 @@ fn settled_arguments(alloc: Global, places: &[SortPlace]) -> Result<Vec<FlatSort
 
 /// A function that doesn't hang on S.
 fn settled_overload(alloc: Global, any: &AnyOverload) -> Result<Overload, NoMemory>
-    ensures { IfOk result (λ overload. (y : FunId → Symbol) → signature_of y overload ≡ scheme_at (scheme_of any.now) boolean) }
+    requires { IsAnyWithin 0 any.now }
+    ensures within { IfOk result (IsOverloadWithin 0 0) }
+    ensures means { IfOk result (λ overload. (y : FunId → Symbol) → signature_of y overload ≡ scheme_at (scheme_of any.now) boolean) }
 {
     let boolean = FlatSort {
         depth: 0,
@@ -171,7 +172,9 @@ fn settled_overload(alloc: Global, any: &AnyOverload) -> Result<Overload, NoMemo
 
 /// The function of a row, where it is one of fixed sorts.
 fn settled_row(alloc: Global, row: Row) -> Result<Option<Overload>, NoMemory>
-    ensures { IfOk result (λ o. (y : FunId → Symbol) → option_to_list (option_map (signature_of y) o) ≡ map row_signature (filter built_in.is_settled (row ∷ []))) }
+    requires { Contains (language_table any_sort lists_of_any) row }
+    ensures within { IfOk result (λ o. IfSome o (IsOverloadWithin 0 0)) }
+    ensures means { IfOk result (λ o. (y : FunId → Symbol) → option_to_list (option_map (signature_of y) o) ≡ map row_signature (filter built_in.is_settled (row ∷ []))) }
 {
     if row.is_list_constant() {
         return Ok(None);
@@ -186,7 +189,9 @@ fn settled_row(alloc: Global, row: Row) -> Result<Option<Overload>, NoMemory>
 
 /// The function of a row, where it is one over any sort.
 fn any_row(alloc: Global, row: Row) -> Result<Option<AnyOverload>, NoMemory>
-    ensures { IfOk result (λ o. option_to_list (option_map scheme_of o) ≡ map row_scheme (filter built_in.is_over_any (row ∷ []))) }
+    requires { Contains (language_table any_sort lists_of_any) row }
+    ensures within { IfOk result (IsSomeAnyWithin 0) }
+    ensures means { IfOk result (λ o. option_to_list (option_map scheme_of o) ≡ map row_scheme (filter built_in.is_over_any (row ∷ []))) }
 {
     if row.is_list_constant() {
         return Ok(None);
@@ -213,7 +218,9 @@ fn push_some(overloads: &mut Vec<Overload>, overload: Option<Overload>) -> Resul
 
 /// The built-in functions of fixed sorts among rows.
 fn settled_overloads(alloc: Global, rows: &[Row]) -> Result<Vec<Overload>, NoMemory>
-    ensures { IfOk result (λ overloads. (y : FunId → Symbol) → map (signature_of y) overloads.items ≡ map row_signature (filter built_in.is_settled rows.now)) }
+    requires { All (Contains (language_table any_sort lists_of_any)) rows.now }
+    ensures within { IfOk result (λ overloads. AllByRecursion (IsOverloadWithin 0 0) overloads.items) }
+    ensures mean { IfOk result (λ overloads. (y : FunId → Symbol) → map (signature_of y) overloads.items ≡ map row_signature (filter built_in.is_settled rows.now)) }
 {
     let mut overloads: Vec<Overload> = Vec::new(alloc);
     for row in rows {
@@ -225,7 +232,9 @@ fn settled_overloads(alloc: Global, rows: &[Row]) -> Result<Vec<Overload>, NoMem
 
 /// The first built-in function over any sort among rows.
 fn first_over_any(alloc: Global, rows: &[Row]) -> Result<Option<AnyOverload>, NoMemory>
-    ensures { IfOk result (λ any. option_map scheme_of any ≡ slice_get (map row_scheme (filter built_in.is_over_any rows.now)) 0) }
+    requires { All (Contains (language_table any_sort lists_of_any)) rows.now }
+    ensures within { IfOk result (IsSomeAnyWithin 0) }
+    ensures means { IfOk result (λ any. option_map scheme_of any ≡ slice_get (map row_scheme (filter built_in.is_over_any rows.now)) 0) }
 {
     for row in rows {
         let any = any_row(alloc, *row)?;
@@ -272,7 +281,8 @@ fn declared_overload(
 ) -> Result<Overload, NoMemory>
     requires flats { AreFlat sig.now flats.now }
     requires within { fun.0 < length sig.now.functions }
-    ensures { IfOk result (λ overload. signature_of (symbol_under sig.now) overload ≡ fun_signature sig.now fun) }
+    ensures within { IfOk result (IsOverloadWithin (sort_count sig.now) (length sig.now.functions)) }
+    ensures means { IfOk result (λ overload. signature_of (symbol_under sig.now) overload ≡ fun_signature sig.now fun) }
 {
     let arguments = flat_arguments(alloc, flats, sig.args_of(fun))?;
     let result = flat_at(flats, sig.sort_of(fun));
@@ -293,7 +303,9 @@ fn declared_overloads(
 ) -> Result<Vec<Overload>, NoMemory>
     requires flats { AreFlat sig.now flats.now }
     requires within { All (λ fun. fun.0 < length sig.now.functions) funs.now }
-    ensures { IfOk result (λ all. map (signature_of (symbol_under sig.now)) all.items ≡ map (signature_of (symbol_under sig.now)) overloads.items ++ map (fun_signature sig.now) funs.now) }
+    requires built_in { AllByRecursion (IsOverloadWithin 0 0) overloads.items }
+    ensures within { IfOk result (λ all. AllByRecursion (IsOverloadWithin (sort_count sig.now) (length sig.now.functions)) all.items) }
+    ensures mean { IfOk result (λ all. map (signature_of (symbol_under sig.now)) all.items ≡ map (signature_of (symbol_under sig.now)) overloads.items ++ map (fun_signature sig.now) funs.now) }
 {
     let mut all = overloads;
     for fun in funs {
@@ -303,31 +315,20 @@ fn declared_overloads(
     Ok(all)
 }
 
-/// The innermost variable of a name. The innermost one stands last.
-fn bound_named(scope: &[Bound], name: NameId) -> Option<Bound>
-    ensures { result ≡ found_behind name None scope.now }
-{
-    let mut found = None;
-    for bound in scope {
-        if bound.name.0 == name.0 {
-            found = Some(*bound);
-        }
-    }
-    found
-}
-
 /// What a word means, with no arguments or with some.
 pub fn word_kind(
     alloc: Global,
     sig: &Signature,
     flats: &[FlatSort],
-    scope: &[Bound],
+    scope: &Scope,
     text: &str,
     alone: bool,
 ) -> Result<Kind, NoMemory>
     requires flats { AreFlat sig.now flats.now }
     requires names { All (λ b. b.name.0 < length sig.now.texts) scope.now }
-    ensures { IfOk result (λ kind. (ts : List Typing) → IsAlone alone ts → kind_typing (symbol_under sig.now) kind ts ≡ word_typing (meaning_in sig.now scope.now text.now) ts) }
+    requires sorts { All (λ b. IsFlatWithin (sort_count sig.now) b.sort) scope.now }
+    ensures within { IfOk result (IsKindWithin (sort_count sig.now) (length sig.now.functions)) }
+    ensures means { IfOk result (λ kind. (ts : List Typing) → IsAlone alone ts → kind_typing (symbol_under sig.now) kind ts ≡ word_typing (meaning_in sig.now scope.now text.now) ts) }
 {
     let rows = rows_of(alloc, text, SortId(4), SortId(5))?;
     let any = first_over_any(alloc, rows.as_slice())?;
@@ -335,7 +336,8 @@ pub fn word_kind(
     let Some(name) = sig.names().find(text) else {
         return Ok(Kind::Call(overloads, any));
     };
-    match bound_named(scope, name) {
+    let variable = scope.find(name);
+    match variable {
         Some(bound) => {
             if alone {
                 Ok(Kind::Variable(bound.var, bound.sort))

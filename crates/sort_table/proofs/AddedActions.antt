@@ -1,5 +1,5 @@
 -- The actions of declarations come into a signature.
-use Rattle.std.proofs.Common.{◌≡◌, ◌<◌, ◌+◌, inl, inr, ℕ, zero, suc, Bool, cond, List, [], ◌∷◌, ◌++◌, length, take, drop, get_or, refl, ap, sym, ◌∙◌, subst, arith}
+use Rattle.std.proofs.Common.{◌≡◌, ◌<◌, ◌+◌, append_assoc, ℕ, zero, suc, Bool, cond, List, [], ◌∷◌, ◌++◌, length, take, drop, get_or, refl, ap, sym, ◌∙◌, subst, arith}
 use Rattle.std.specs.Prelude.{Some, slice_get}
 use Rattle.std.specs.List.{Contains, AllByRecursion}
 use Rattle.std.proofs.lemmas.List.{append-nil}
@@ -21,14 +21,12 @@ use Rattle.sort_table.specs.BareDeclarations.{Declaration, sorts, alias, struct,
 use Rattle.sort_table.specs.NamedLists.{first_named}
 use Rattle.sort_table.specs.SortMeanings.{Kind, actions_by, actions_in}
 use Rattle.sort_table.specs.DeclarationTrees.{declaration_of, declarations_under}
-use Rattle.sort_table.specs.NamedSorts.{AddsLists, no_lists, one_list, AreIdsOf, ReadsSorts}
+use Rattle.sort_table.specs.NamedSorts.{AreIdsOf, ReadsSorts}
 use Rattle.sort_table.specs.EnteredFunctions.{HasSortOf, HaveSortsOf, IsNameId, IsKnownName, IsReadable, Keeps}
-use Rattle.sort_table.specs.EnteredActions.{no_actions, IsActionAs, AddsActions, EntersAct, was_there, is_new, actions_named, IsReadyAction}
-use Rattle.sort_table.proofs.Growing.{pairs_with, contains_behind, contains_after, in_either}
-use Rattle.sort_table.proofs.KeptFunctions.{keeps_all, keeps_then, lists_keep, has_sort_kept, name_kept, known_kept, named_kept, all_with}
-use Rattle.sort_table.proofs.EnteringFunctions.{same_declared}
+use Rattle.sort_table.specs.EnteredActions.{no_actions, IsActionAs, ComeNext, no_actions_left, one_there, one_next, AddsActions, EntersAct, was_there, is_new, actions_named, IsReadyAction}
+use Rattle.sort_table.proofs.Growing.{pairs_with}
+use Rattle.sort_table.proofs.KeptFunctions.{keeps_all, keeps_then, has_sort_kept, name_kept, known_kept, all_with}
 use Rattle.sort_table.proofs.TextNames.{all_back}
-use Rattle.sort_table.proofs.AddedStructs.{sorts_with_lists}
 use Rattle.sort_table.proofs.AddedDeclarations.{split_declarations, more_declarations}
 
 -- ---- what doesn't hang on the actions
@@ -47,65 +45,37 @@ known_later g h keeps n is = record { is_text = is.is_text; is_taken = (known_ke
 as_kept : (g h : Sig) → Keeps (no_actions g) (no_actions h) → (a : Name) (es : List SortExpression) (k : Key) → IsActionAs g a es k → IsActionAs h a es k
 as_kept g h keeps a es k is = record { name = name_kept (no_actions g) (no_actions h) keeps a k.name is.name; sorts = have_sorts_later g h keeps es k.sorts is.sorts }
 
-nothing_in : {A : Type 0} (x : A) → Contains [] x → ⊥
-nothing_in x (k, l, e) = omega (arith, l)
+-- the same in a later signature
+come_later : (g h : Sig) → Keeps (no_actions g) (no_actions h) → (front : List Key) (new : List (Name × List SortExpression)) (ks : List Key) → ComeNext g front new ks → ComeNext h front new ks
+come_later g h keeps _ _ _ (no_actions_left front) = no_actions_left front
+come_later g h keeps _ _ _ (one_there front a es k new ks c is rest) = one_there front a es k new ks c (as_kept g h keeps a es k is) (come_later g h keeps front new ks rest)
+come_later g h keeps _ _ _ (one_next front a es k new ks is rest) = one_next front a es k new ks (as_kept g h keeps a es k is) (come_later g h keeps (front ++ k ∷ []) new ks rest)
+
+-- behind one another
+come_then : (g : Sig) (front : List Key) (new more : List (Name × List SortExpression)) (ks ls : List Key) → ComeNext g front new ks → ComeNext g (front ++ ks) more ls → ComeNext g front (new ++ more) (ks ++ ls)
+come_then g _ _ more _ ls (no_actions_left front) b = subst (λ xs. ComeNext g xs more ls) (append-nil front) b
+come_then g _ _ more _ ls (one_there front a es k new ks c is rest) b = one_there front a es k (new ++ more) (ks ++ ls) c is (come_then g front new more ks ls rest b)
+come_then g _ _ more _ ls (one_next front a es k new ks is rest) b =
+    one_next front a es k (new ++ more) (ks ++ ls) is (come_then g (front ++ k ∷ []) new more ks ls rest (subst (λ xs. ComeNext g xs more ls) (sym (append_assoc front (k ∷ []) ks)) b))
 
 pub no_acts : (g : Sig) → AddsActions [] g g
 no_acts g = record {
   keeps = keeps_all (no_actions g);
   declared = refl;
-  sorts = λ s t at. at;
-  old = λ k c. c;
-  added = λ a es c. absurd (nothing_in (a, es) c);
-  only = λ k c. inl c;
+  sorts = refl;
+  added = [];
+  behind = sym (append-nil g.actions);
+  in_order = no_actions_left g.actions;
 }
 
 pub acts_then : (g h k : Sig) (new more : List (Name × List SortExpression)) → AddsActions new g h → AddsActions more h k → AddsActions (new ++ more) g k
 acts_then g h k new more a b = record {
   keeps = keeps_then (no_actions g) (no_actions h) (no_actions k) a.keeps b.keeps;
   declared = b.declared ∙ a.declared;
-  sorts = λ s t at. b.sorts s t (a.sorts s t at);
-  old = λ x c. b.old x (a.old x c);
-  added = λ n es c. elim (in_either new more (n, es) c) [
-    | inl first ↦ (let x = a.added n es first in (x.0, b.old x.0 x.1, as_kept h k b.keeps n es x.0 x.2))
-    | inr later ↦ b.added n es later
-  ];
-  only = λ x c. elim (b.only x c) [
-    | inl before ↦ elim (a.only x before) [
-      | inl old ↦ inl old
-      | inr (n, es, among, is) ↦ inr (n, es, contains_behind new more (n, es) among, as_kept h k b.keeps n es x is)
-    ]
-    | inr (n, es, among, is) ↦ inr (n, es, contains_after new more (n, es) among, is)
-  ];
-}
-
--- ---- list sorts
-same_acts : (g h : Sig) → AddsLists g h → h.actions ≡ g.actions
-same_acts g _ no_lists = refl
-same_acts g _ (one_list h e l absent a) = same_acts g h a
-
-but_actions : (g h : Sig) → Keeps g h → Keeps (no_actions g) (no_actions h)
-but_actions g h k = record {
-  texts = k.texts;
-  taken = k.taken;
-  variables = k.variables;
-  actions = refl;
-  names = k.names;
-  count = k.count;
-  sorts = k.sorts;
-  functions = k.functions;
-  free = k.free;
-  constructs = k.constructs;
-}
-
-pub lists_add_no_acts : (g h : Sig) → IsSignature g → AddsLists g h → AddsActions [] g h
-lists_add_no_acts g h stands lists = record {
-  keeps = but_actions g h (lists_keep g h stands lists);
-  declared = same_declared g h lists;
-  sorts = sorts_with_lists g h lists;
-  old = λ k c. subst (λ ks. Contains ks k) (sym (same_acts g h lists)) c;
-  added = λ a es c. absurd (nothing_in (a, es) c);
-  only = λ k c. inl (subst (λ ks. Contains ks k) (same_acts g h lists) c);
+  sorts = b.sorts ∙ a.sorts;
+  added = a.added ++ b.added;
+  behind = b.behind ∙ (ap (λ ks. ks ++ b.added) a.behind ∙ append_assoc g.actions a.added b.added);
+  in_order = come_then k g.actions new more a.added b.added (come_later h k b.keeps g.actions new a.added a.in_order) (subst (λ ks. ComeNext k ks more b.added) a.behind b.in_order);
 }
 
 -- ---- one action
@@ -128,41 +98,22 @@ pub act_adds : (g h : Sig) (n : Name) (es : List SortExpression) (ss : List Sort
 act_adds g _ n es ss have (was_there i at among) = record {
   keeps = keeps_all (no_actions g);
   declared = refl;
-  sorts = λ s t at. at;
-  old = λ k c. c;
-  added = λ a fs c. (let one = only_pair (n, es) (a, fs) c in (key i ss, among, record { name = subst (λ m. IsNameId g m i) (ap (λ (p : Name × List SortExpression). p.0) one) at; sorts = subst (λ xs. HaveSortsOf g xs ss) (ap (λ (p : Name × List SortExpression). p.1) one) have }));
-  only = λ k c. inl c;
+  sorts = refl;
+  added = [];
+  behind = sym (append-nil g.actions);
+  in_order = one_there g.actions n es (key i ss) [] [] among (record { name = at; sorts = have }) (no_actions_left g.actions);
 }
-  where
-    only_pair : (x y : Name × List SortExpression) → Contains (x ∷ []) y → x ≡ y
-    only_pair x y (zero, l, e) = e
-    only_pair x y (suc k, l, e) = absurd (omega (arith, l))
 act_adds g _ n es ss have (is_new i at) = record {
   keeps = keeps_all (no_actions g);
   declared = refl;
-  sorts = λ s t here. here;
-  old = λ k c. contains_behind g.actions (key i ss ∷ []) k c;
-  added = λ a fs c. (let one = only_pair (n, es) (a, fs) c in (
-    key i ss,
-    contains_after g.actions (key i ss ∷ []) (key i ss) (zero, omega arith, refl),
-    record { name = subst (λ m. IsNameId g m i) (ap (λ (p : Name × List SortExpression). p.0) one) at; sorts = subst (λ xs. HaveSortsOf (record g { actions = g.actions ++ key i ss ∷ [] }) xs ss) (ap (λ (p : Name × List SortExpression). p.1) one) have_still },
-  ));
-  only = λ k c. elim (in_either g.actions (key i ss ∷ []) k c) [
-    | inl old ↦ inl old
-    | inr new ↦ inr (n, es, (zero, omega arith, refl), subst (IsActionAs (record g { actions = g.actions ++ key i ss ∷ [] }) n es) (only_key (key i ss) k new) (record { name = at; sorts = have_still }))
-  ];
+  sorts = refl;
+  added = key i ss ∷ [];
+  behind = refl;
+  in_order = one_next g.actions n es (key i ss) [] [] (record { name = at; sorts = have_still }) (no_actions_left (g.actions ++ key i ss ∷ []));
 }
   where
     have_still : HaveSortsOf (record g { actions = g.actions ++ key i ss ∷ [] }) es ss
     have_still = pairs_with (HasSortOf g) (HasSortOf (record g { actions = g.actions ++ key i ss ∷ [] })) (to_these g (g.actions ++ key i ss ∷ [])) es ss have
-
-    only_pair : (x y : Name × List SortExpression) → Contains (x ∷ []) y → x ≡ y
-    only_pair x y (zero, l, e) = e
-    only_pair x y (suc k, l, e) = absurd (omega (arith, l))
-
-    only_key : (x y : Key) → Contains (x ∷ []) y → x ≡ y
-    only_key x y (zero, l, e) = e
-    only_key x y (suc k, l, e) = absurd (omega (arith, l))
 
 -- ---- actions of the names in a list
 pub more_acts : (es : List SortExpression) (ws : List Word) (i : ℕ) (w : Word) → i < length ws → w ≡ get_or ws i w → actions_named es (take (i + 1) ws) ≡ actions_named es (take i ws) ++ (w.bytes.items, es) ∷ []
@@ -178,7 +129,7 @@ next_acts old g h ws ss i w l same enters es have adds =
 
 -- ---- declarations
 readable_later : (g h : Sig) → Keeps (no_actions g) (no_actions h) → (e : SortExpression) → IsReadable g e → IsReadable h e
-readable_later g h keeps e is = λ n leaf. named_kept (no_actions g) (no_actions h) keeps n (is n leaf)
+readable_later g h keeps e is = (is.0, from_these h [] e is.0 (has_sort_kept (no_actions g) (no_actions h) keeps e is.0 (to_these g [] e is.0 is.1)))
 
 pub ready_act_kept : (g h : Sig) → Keeps (no_actions g) (no_actions h) → (d : Declaration) → IsReadyAction g d → IsReadyAction h d
 ready_act_kept g h keeps (actions as_ es) is = (all_with (IsKnownName g) (IsKnownName h) (known_later g h keeps) as_ is.0, all_with (IsReadable g) (IsReadable h) (readable_later g h keeps) es is.1)

@@ -9,6 +9,7 @@ use denote.Ref.{Bor}
 use Rattle.mcrl2_syntax.specs.declared.declaration.Decl.{Decl}
 use Rattle.data_theory.specs.declared.ids.NameId.{NameId}
 use Rattle.data_theory.specs.declared.ids.SortId.{SortId}
+use Rattle.data_theory.specs.Sorts.{IsListOver}
 use Rattle.data_theory.specs.Signature.{Sig}
 use Rattle.data_theory.specs.WholeSignatures.{IsSignature}
 use Rattle.data_theory.proofs.PlaceLemmas.{read_contained, read_front, read_behind}
@@ -21,9 +22,9 @@ use Rattle.sort_table.specs.DeclarationTrees.{declaration_of, declarations_under
 use Rattle.sort_table.specs.TextFunctions.{Named, functions_by, functions_in}
 use Rattle.sort_table.specs.NamedSorts.{AreIdsOf, ReadsSorts}
 use Rattle.sort_table.specs.EnteredFunctions.{HasSortOf, IsReadable, IsKnownName, IsReadyConstructor, Keeps}
-use Rattle.sort_table.specs.FunctionStates.{AddsFunctions, AddsStruct, KeepsSorts, IsStructured, IsReadyDeclaration, structs_in, struct_name, AreBare, StructsDiffer, AddsDeclarations, CanEnter}
+use Rattle.sort_table.specs.FunctionStates.{AddsFunctions, AddsStruct, IsStructured, IsReadyDeclaration, structs_in, struct_name, AreBare, StructsDiffer, AddsDeclarations, CanEnter}
 use Rattle.sort_table.proofs.Growing.{contains_behind, contains_after, in_either}
-use Rattle.sort_table.proofs.KeptFunctions.{has_sort_kept, known_kept, named_kept, ready_constructor_kept, all_with}
+use Rattle.sort_table.proofs.KeptFunctions.{has_sort_kept, known_kept, named_kept, readable_kept, ready_constructor_kept, all_with}
 use Rattle.sort_table.proofs.Searches.{split_map}
 use Rattle.sort_table.proofs.TextNames.{all_back}
 use Rattle.sort_table.proofs.AddedStructs.{one_sort}
@@ -37,13 +38,10 @@ reads_kept ks ids g h keeps is = record {
 }
 
 module _ (g h : Sig) (keeps : Keeps g h) where
-  readable_kept : (e : SortExpression) → IsReadable g e → IsReadable h e
-  readable_kept e is = λ n leaf. named_kept g h keeps n (is n leaf)
-
   pub ready_kept : (d : Declaration) → IsReadyDeclaration g d → IsReadyDeclaration h d
   ready_kept (struct n cs) is = (named_kept g h keeps n is.0, all_with (IsReadyConstructor g) (IsReadyConstructor h) (ready_constructor_kept g h keeps) cs is.1)
-  ready_kept (constructors fs es to) is = (all_with (IsKnownName g) (IsKnownName h) (known_kept g h keeps) fs is.0, all_with (IsReadable g) (IsReadable h) readable_kept es is.1, readable_kept to is.2)
-  ready_kept (mappings fs es to) is = (all_with (IsKnownName g) (IsKnownName h) (known_kept g h keeps) fs is.0, all_with (IsReadable g) (IsReadable h) readable_kept es is.1, readable_kept to is.2)
+  ready_kept (constructors fs es to) is = (all_with (IsKnownName g) (IsKnownName h) (known_kept g h keeps) fs is.0, all_with (IsReadable g) (IsReadable h) (readable_kept g h keeps) es is.1, readable_kept g h keeps to is.2)
+  ready_kept (mappings fs es to) is = (all_with (IsKnownName g) (IsKnownName h) (known_kept g h keeps) fs is.0, all_with (IsReadable g) (IsReadable h) (readable_kept g h keeps) es is.1, readable_kept g h keeps to is.2)
   ready_kept (sorts ns) is = tt
   ready_kept (alias n e) is = tt
   ready_kept (variables vs) is = tt
@@ -58,20 +56,22 @@ sort_before g h keeps n s l has = record { within = l; meant = sym (ap (first_na
 
 -- ---- one declaration
 pub nothing_added : (g : Sig) → AddsDeclarations [] g g
-nothing_added g = record { adds = adds_none g; made = λ n c. (let low = c.1 in absurd (omega (arith, low))); sorts = λ s t at. inl at }
+nothing_added g = record { adds = adds_none g; made = λ n c. (let low = c.1 in absurd (omega (arith, low))); sorts = λ s t at. inl at; lists = λ e l over. over }
 
 pub no_functions : (d : Declaration) (g : Sig) → functions_by d ≡ [] → struct_name d ≡ [] → AddsDeclarations (d ∷ []) g g
 no_functions d g none plain = record {
   adds = subst (λ fs. AddsFunctions fs g g) (sym (append-nil (functions_by d) ∙ none)) (adds_none g);
   made = λ n c. (let c2 = subst (λ ns. Contains ns n) (append-nil (struct_name d) ∙ plain) c in let low = c2.1 in absurd (omega (arith, low)));
   sorts = λ s t at. inl at;
+  lists = λ e l over. over;
 }
 
-pub functions_alone : (d : Declaration) (g h : Sig) (fs : List Named) → functions_by d ≡ fs → struct_name d ≡ [] → AddsFunctions fs g h → KeepsSorts g h → AddsDeclarations (d ∷ []) g h
+pub functions_alone : (d : Declaration) (g h : Sig) (fs : List Named) → functions_by d ≡ fs → struct_name d ≡ [] → AddsFunctions fs g h → h.sorts ≡ g.sorts → AddsDeclarations (d ∷ []) g h
 functions_alone d g h fs are plain adds same = record {
   adds = subst (λ xs. AddsFunctions xs g h) (sym (append-nil (functions_by d) ∙ are)) adds;
   made = λ n c. (let c2 = subst (λ ns. Contains ns n) (append-nil (struct_name d) ∙ plain) c in let low = c2.1 in absurd (omega (arith, low)));
-  sorts = λ s t at. inl (same s t at);
+  sorts = λ s t at. inl (ap (λ ss. slice_get ss s.0) same ∙ at);
+  lists = λ e l over. subst (λ ss. IsListOver ss e l) same over;
 }
 
 only_one : (n m : Name) → Contains (n ∷ []) m → n ≡ m
@@ -86,6 +86,7 @@ struct_alone n cs g h added = record {
     | inl same ↦ inl same
     | inr its ↦ inr (n, (zero, omega arith, refl), its)
   ];
+  lists = added.lists;
 }
 
 -- ---- one after the other
@@ -109,6 +110,7 @@ declarations_then g h k ds es stands a b = record {
     ]
     | inr (n, c, has) ↦ inr (n, subst (λ ns. Contains ns n) (sym (structs_both ds es)) (contains_behind (structs_in ds) (structs_in es) n c), has_sort_kept h k b.adds.keeps (a_name n) s has)
   ];
+  lists = λ e l over. a.lists e l (b.lists e l over);
 }
   where
     still_structured : (s : SortId) → IsStructured h s → IsStructured k s

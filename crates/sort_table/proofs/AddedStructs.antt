@@ -6,27 +6,25 @@ use Rattle.std.proofs.lemmas.Option.{same_Some, slice_get_within}
 use Rattle.std.proofs.lemmas.Bool.{cases_eq}
 use Rattle.data_theory.specs.declared.ids.NameId.{NameId}
 use Rattle.data_theory.specs.declared.ids.SortId.{SortId}
-use Rattle.data_theory.specs.Sorts.{structured, list_sort, IsBare}
+use Rattle.data_theory.specs.declared.ids.FunId.{FunId}
+use Rattle.data_theory.specs.Sorts.{SortInfo, lists_over, structured, with_kind, IsListOver, IsBare}
 use Rattle.data_theory.specs.Functions.{AreNew}
 use Rattle.data_theory.specs.Structs.{Con, IsConWithin, struct_functions, numbers_from}
 use Rattle.data_theory.specs.Signature.{Sig, IsTaken, with_struct}
 use Rattle.data_theory.specs.IdTerms.{sort_under}
 use Rattle.data_theory.specs.WholeSignatures.{IsSignature}
-use Rattle.data_theory.proofs.PlaceLemmas.{read_front}
-use Rattle.data_theory.proofs.ListSortLemmas.{kind_elsewhere, kind_there}
+use Rattle.data_theory.proofs.ListSortLemmas.{kind_elsewhere, kind_here, kind_there}
 use Rattle.data_theory.proofs.IdSortLemmas.{different_sorts_mean_different_sorts}
 use Rattle.sort_table.specs.Expressions.{Name}
 use Rattle.sort_table.specs.BareSorts.{SortExpression, truth_values, a_name}
 use Rattle.sort_table.specs.BareDeclarations.{Field, Constructor, struct}
 use Rattle.sort_table.specs.TextFunctions.{TextRole, struct_constructor, projection, recogniser, Named, declared, where_named, fields_of, projections_from, functions_by}
 use Rattle.sort_table.specs.Vocabularies.{EachPair}
-use Rattle.sort_table.specs.NamedSorts.{AddsLists, no_lists, one_list}
 use Rattle.sort_table.specs.EnteredFunctions.{Keeps, HasSortOf, IsOptionalId, IsFieldOf, IsConOf, IsKnownOption, IsReadyField, IsReadyConstructor}
-use Rattle.sort_table.specs.FunctionStates.{KeepsSorts, HasBareSort, CanEnter, AddsStruct}
+use Rattle.sort_table.specs.FunctionStates.{HasBareSort, CanEnter, AddsStruct}
 use Rattle.sort_table.proofs.TextNames.{all_both}
-use Rattle.sort_table.proofs.KeptFunctions.{lists_keep, lists_stand, has_sort_kept, ready_constructor_kept, all_with}
+use Rattle.sort_table.proofs.KeptFunctions.{has_sort_kept}
 use Rattle.sort_table.proofs.NewFunctions.{each_place, pair_at, are_new}
-use Rattle.sort_table.proofs.EnteringFunctions.{adds_after_lists}
 use Rattle.sort_table.proofs.EnteringStructs.{struct_entries, struct_adds, keeps_with_struct}
 
 -- ---- names
@@ -88,13 +86,15 @@ cons_within g cs ds are = each_place (IsConWithin (length g.texts) (length g.sor
         }
 
 -- ---- sorts
-pub bare_with_lists : (g h : Sig) → AddsLists g h → (s : SortId) → IsBare g.sorts s → IsBare h.sorts s
-bare_with_lists g _ no_lists s bare = bare
-bare_with_lists g _ (one_list h e l absent a) s bare = let b = bare_with_lists g h a s bare in (b.0, read_front h.sorts (list_sort e ∷ []) s.0 b.0 b.1, b.2)
-
-pub sorts_with_lists : (g h : Sig) → AddsLists g h → KeepsSorts g h
-sorts_with_lists g _ no_lists s t at = at
-sorts_with_lists g _ (one_list h e l absent a) s t at = read_front h.sorts (list_sort e ∷ []) s.0 t (sorts_with_lists g h a s t at)
+-- a bare sort becomes a struct: the list sorts are the same
+pub lists_with_struct : (ss : List SortInfo) (sort : SortId) (fs : List FunId) (e l : SortId) → IsListOver (with_kind ss sort.0 (structured fs)) e l → IsListOver ss e l
+lists_with_struct ss sort fs e l (t, at, kind) = elim (cases_eq l.0 sort.0) [
+  | inl same ↦
+      let struct_kind : t.kind ≡ structured fs = kind_here ss sort.0 (structured fs) t (subst (λ k. slice_get (with_kind ss sort.0 (structured fs)) k ≡ Some t) same at) in
+      let both : structured fs ≡ lists_over e = sym struct_kind ∙ kind in
+      cc
+  | inr other ↦ (t, sym (kind_elsewhere ss sort.0 (structured fs) l.0 other) ∙ at, kind)
+]
 
 -- ---- one name has one sort
 pub one_sort : (g : Sig) → IsSignature g → (e : SortExpression) (s t : SortId) → HasSortOf g e s → HasSortOf g e t → s ≡ t
@@ -109,38 +109,27 @@ struct_new g stands sort n cs ds is_sort are can =
     let next = can.next in
     are_new can.under g stands next.names can.all can.done next.differ next.entered next.front (functions_by (struct n cs)) (struct_functions sort (length g.functions) ds) next.places (struct_entries g stands sort n is_sort cs ds (length g.functions) are)
 
-pub struct_added : (old g h : Sig) (sort : SortId) (n : Name) (cs : List Constructor) (ds : List Con) → IsSignature old → AddsLists old g → IsBare old.sorts sort → HasSortOf old (a_name n) sort → AllByRecursion (IsReadyConstructor old) cs → EachPair (IsConOf g) cs ds
-    → h ≡ with_struct g sort ds → AddsStruct n cs old h
-struct_added old g h sort n cs ds stands lists bare has ready are is = subst (AddsStruct n cs old) (sym is) added
+pub struct_added : (g h : Sig) (sort : SortId) (n : Name) (cs : List Constructor) (ds : List Con) → IsSignature g → IsBare g.sorts sort → HasSortOf g (a_name n) sort → AllByRecursion (IsReadyConstructor g) cs → EachPair (IsConOf g) cs ds
+    → h ≡ with_struct g sort ds → AddsStruct n cs g h
+struct_added g h sort n cs ds stands bare has ready are is = subst (AddsStruct n cs g) (sym is) added
   where
-    keeps : Keeps old g
-    keeps = lists_keep old g stands lists
-
-    now : IsSignature g
-    now = lists_stand old g stands lists
-
-    bare_now : IsBare g.sorts sort
-    bare_now = bare_with_lists old g lists sort bare
-
-    has_now : HasSortOf g (a_name n) sort
-    has_now = has_sort_kept old g keeps (a_name n) sort has
-
     taken : (f : Named) → Contains (functions_by (struct n cs)) f → IsTaken g f.0
-    taken = struct_taken g n cs (all_with (IsReadyConstructor old) (IsReadyConstructor g) (ready_constructor_kept old g keeps) cs ready)
+    taken = struct_taken g n cs ready
 
     still : Keeps g (with_struct g sort ds)
-    still = keeps_with_struct g sort n cs ds now bare_now has_now are taken
+    still = keeps_with_struct g sort n cs ds stands bare has are taken
 
-    added : AddsStruct n cs old (with_struct g sort ds)
+    added : AddsStruct n cs g (with_struct g sort ds)
     added = record {
-      adds = adds_after_lists old g (with_struct g sort ds) (functions_by (struct n cs)) stands lists (struct_adds g sort n cs ds now bare_now has_now are taken);
+      adds = struct_adds g sort n cs ds stands bare has are taken;
       made = (
         sort,
-        has_sort_kept g (with_struct g sort ds) still (a_name n) sort has_now,
-        (record bare_now.0 { kind = structured (numbers_from (length g.functions) (length ds)) }, numbers_from (length g.functions) (length ds), kind_there g.sorts sort.0 (structured (numbers_from (length g.functions) (length ds))) bare_now.0 bare_now.1, refl),
+        has_sort_kept g (with_struct g sort ds) still (a_name n) sort has,
+        (record bare.0 { kind = structured (numbers_from (length g.functions) (length ds)) }, numbers_from (length g.functions) (length ds), kind_there g.sorts sort.0 (structured (numbers_from (length g.functions) (length ds))) bare.0 bare.1, refl),
       );
       sorts = λ s t at. elim (cases_eq s.0 sort.0) [
-        | inl e ↦ inr (subst (HasSortOf (with_struct g sort ds) (a_name n)) (ap (λ (k : ℕ). record { 0 = k }) (sym e)) (has_sort_kept g (with_struct g sort ds) still (a_name n) sort has_now))
-        | inr other ↦ inl (kind_elsewhere g.sorts sort.0 (structured (numbers_from (length g.functions) (length ds))) s.0 other ∙ sorts_with_lists old g lists s t at)
+        | inl e ↦ inr (subst (HasSortOf (with_struct g sort ds) (a_name n)) (ap (λ (k : ℕ). record { 0 = k }) (sym e)) (has_sort_kept g (with_struct g sort ds) still (a_name n) sort has))
+        | inr other ↦ inl (kind_elsewhere g.sorts sort.0 (structured (numbers_from (length g.functions) (length ds))) s.0 other ∙ at)
       ];
+      lists = λ e l over. lists_with_struct g.sorts sort (numbers_from (length g.functions) (length ds)) e l over;
     }

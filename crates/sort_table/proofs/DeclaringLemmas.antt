@@ -1,5 +1,5 @@
 -- One sort or alias more in a signature.
-use Rattle.std.proofs.Common.{◌≡◌, ◌<◌, ◌+◌, ⊎_elim, ℕ, true, List, [], ◌∷◌, ◌++◌, length, map, get_or, refl, ap, sym, ◌∙◌, subst, arith}
+use Rattle.std.proofs.Common.{◌≡◌, ◌<◌, ◌+◌, inl, inr, ⊎_elim, ℕ, true, List, [], ◌∷◌, ◌++◌, length, map, get_or, refl, ap, sym, ◌∙◌, subst, arith}
 use Rattle.std.proofs.Common.{Result, Ok, Err}
 use Rattle.std.specs.Result.{OnOk}
 use Rattle.std.specs.Prelude.{Some, None, is_some, slice_get}
@@ -31,7 +31,10 @@ use Rattle.sort_table.specs.NamedSorts as adding
 use Rattle.sort_table.specs.NamedSorts.{sort_names_of, sort_count, AreIdsOf, AreSoundKinds, HaveSortNames, ReadsSorts, IsNamed, IsOwnKind, NamesSorts, no_names, own_name, alias_name, AddsLists, AddsSorts}
 use Rattle.sort_table.specs.DeclaringSorts.{IsFirst, IsDeclaring, GoesOn, OwnIsNamed, AliasIsNamed, IsReady, AreLevels}
 use Rattle.sort_table.proofs.AliasPlaces.{entry_at, edge_is, declared_place}
+use Rattle.sort_table.specs.WrittenLists.{NewListsOf}
 use Rattle.sort_table.proofs.AliasCycles.{less_or_same}
+use Rattle.sort_table.proofs.KeptFunctions.{lists_stand}
+use Rattle.sort_table.proofs.WrittenListLemmas.{lists_with_sort}
 use Rattle.sort_table.proofs.Growing.{first_behind, stands_after}
 use Rattle.sort_table.proofs.ListForms.{entry_found}
 use Rattle.sort_table.proofs.StandingNames.{in_list, alias_stands, used_is_declared, declared_names_stand}
@@ -46,10 +49,21 @@ adds_then g h _ a (adding.one_alias k n s l m absent b) = adding.one_alias k n s
 adds_then g h _ a (adding.one_list_sort k e l absent b) = adding.one_list_sort k e l absent (adds_then g h k a b)
 
 pub goes_nowhere : (ks : List (Name × Kind)) (ids : List NameId) (g : Sig) → IsDeclaring ks ids g → GoesOn ks ids g g
-goes_nowhere ks ids g is = record { state = is; adds = adding.no_sorts; keeps = λ n h. h }
+goes_nowhere ks ids g is = record { state = is; adds = adding.no_sorts; keeps = λ n h. h; lists = λ x l over. inl over }
 
 pub goes_further : (ks : List (Name × Kind)) (ids : List NameId) (g h k : Sig) → GoesOn ks ids g h → GoesOn ks ids h k → GoesOn ks ids g k
-goes_further ks ids g h k a b = record { state = b.state; adds = adds_then g h k a.adds b.adds; keeps = λ n is. b.keeps n (a.keeps n is) }
+goes_further ks ids g h k a b = record {
+  state = b.state;
+  adds = adds_then g h k a.adds b.adds;
+  keeps = λ n is. b.keeps n (a.keeps n is);
+  lists = λ x l over. elim (b.lists x l over) [
+    | inl before ↦ elim (a.lists x l before) [
+      | inl old ↦ inl old
+      | inr its ↦ inr (record { name = its.name; expression = its.expression; declared = its.declared; before = its.before; stands = its.stands; within = its.within; part = its.part; since = adds_then its.before h k its.since b.adds })
+    ]
+    | inr its ↦ inr its
+  ];
+}
 
 keeps_names : (g h : Sig) (more : List (Name × Sort)) → sort_names_of h ≡ sort_names_of g ++ more → (n : Name) → IsNamed g n → IsNamed h n
 keeps_names g h more e n is = (is.0, ap (first_named n) e ∙ first_behind n (sort_names_of g) more is.0 is.1)
@@ -75,6 +89,7 @@ module _ (ks : List (Name × Kind)) (ids : List NameId) (g : Sig) (place : ℕ) 
     state = record { ids_are = is.ids_are; names = own_state k first own };
     adds = adding.one_sort g i within absent adding.no_sorts;
     keeps = keeps_names g (with_sort g i) ((n, named (sort_count g)) ∷ []) own_names;
+    lists = λ x l over. inl (lists_with_sort g i x l over);
   }
 
   pub own_now : IsNamed (with_sort g i) n
@@ -110,7 +125,7 @@ list_added g h e l stands within absent is over =
 
 -- ---- an alias
 module _ (ks : List (Name × Kind)) (ids : List NameId) (g h : Sig) (n : Name) (e : SortExpression) (i : NameId) (s : SortId) (stands : IsSignature g) (is : IsDeclaring ks ids g) (text : slice_get g.texts i.0 ≡ Some n)
-    (within : i.0 < length g.texts) (absent : ¬ (IsName g.sort_names i)) (lists : AddsLists g h) (names : sort_names_of h ≡ sort_names_of g) (has : sort_in (sort_names_of h) e ≡ Some (sort_under h s)) (below : s.0 < length h.sorts) where
+    (within : i.0 < length g.texts) (absent : ¬ (IsName g.sort_names i)) (lists : AddsLists g h) (names : sort_names_of h ≡ sort_names_of g) (has : sort_in (sort_names_of h) e ≡ Some (sort_under h s)) (below : s.0 < length h.sorts) (new : NewListsOf e g h) where
   text_later : slice_get h.texts i.0 ≡ Some n
   text_later = ap (λ (ts : List (List ℕ)). slice_get ts i.0) (same_texts g h lists) ∙ text
 
@@ -123,6 +138,9 @@ module _ (ks : List (Name × Kind)) (ids : List NameId) (g h : Sig) (n : Name) (
   state_later : NamesSorts ks (sort_names_of h) (sort_count h)
   state_later = subst (λ (ns : List (Name × Sort)). NamesSorts ks ns (sort_count h)) (sym names) (subst (λ (c : ℕ). NamesSorts ks (sort_names_of g) c) (sym (same_count g h lists)) is.names)
 
+  added_alias : AddsSorts h (with_alias h i s)
+  added_alias = adding.one_alias h i s (subst (λ (ts : List (List ℕ)). i.0 < length ts) (sym (same_texts g h lists)) within) below (subst (λ es. ¬ (IsName es i)) (sym (same_ids g h lists)) absent) adding.no_sorts
+
   pub alias_goes_on : first_named n ks ≡ Some (equal_to e) → GoesOn ks ids g (with_alias h i s)
   alias_goes_on first = record {
     state = record {
@@ -132,6 +150,11 @@ module _ (ks : List (Name × Kind)) (ids : List NameId) (g h : Sig) (n : Name) (
     adds = adding.one_alias h i s (subst (λ (ts : List (List ℕ)). i.0 < length ts) (sym (same_texts g h lists)) within) below
         (subst (λ es. ¬ (IsName es i)) (sym (same_ids g h lists)) absent) (lists_are_sorts g h lists);
     keeps = λ m old. keeps_names h (with_alias h i s) ((n, sort_under h s) ∷ []) alias_names m (old.0, ap (first_named m) names ∙ old.1);
+    lists = λ x l over. elim (new x l over) [
+      | inl old ↦ inl old
+      | inr part ↦
+          inr (record { name = n; expression = e; declared = first; before = h; stands = lists_stand g h stands lists; within = slice_get_within h.sorts l.0 over.0 over.1; part = part; since = added_alias })
+    ];
   }
 
   pub alias_now : IsNamed (with_alias h i s) n

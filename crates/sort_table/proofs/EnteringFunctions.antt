@@ -79,21 +79,6 @@ module _ (g : Sig) (n : NameId) (args : List SortId) (to : SortId) (stands : IsS
   function_entered done f plain name have has entered =
       pairs_pushed (IsEntered h) done g.declared f last (pairs_with (IsEntered g) (IsEntered h) (entered_kept g h (keeps_with_function g n args to stands taken)) done g.declared entered) (one_entered f plain name have has)
 
--- ---- list sorts
-pub same_declared : (g h : Sig) → AddsLists g h → h.declared ≡ g.declared
-same_declared g _ no_lists = refl
-same_declared g _ (one_list h e l absent a) = same_declared g h a
-
-pub entered_with_lists : (g h : Sig) → IsSignature g → AddsLists g h → (done : List Named) → AreEntered done g → AreEntered done h
-entered_with_lists g h stands lists done entered =
-    subst (EachPair (IsEntered h) done) (sym (same_declared g h lists)) (pairs_with (IsEntered g) (IsEntered h) (entered_kept g h (lists_keep g h stands lists)) done g.declared entered)
-
-pub lists_add_none : (g h : Sig) → IsSignature g → AddsLists g h → AddsFunctions [] g h
-lists_add_none g h stands lists = record {
-  keeps = lists_keep g h stands lists;
-  entered = λ done entered. subst (λ (fs : List Named). AreEntered fs h) (sym (append-nil done)) (entered_with_lists g h stands lists done entered);
-}
-
 -- ---- one after the other
 pub adds_then : (g h k : Sig) (new more : List Named) → AddsFunctions new g h → AddsFunctions more h k → AddsFunctions (new ++ more) g k
 adds_then g h k new more a b = record {
@@ -191,20 +176,13 @@ next_adds old g h ws args copy to i w n stands l same is known name made es e r 
     (adds_one g h n copy to f stands is known plain name (subst (HaveSortsOf g es) (sym made) (have_sorts_kept old g adds.keeps es args have)) (has_sort_kept old g adds.keeps e to has)))
 
 -- ---- behind list sorts
-pub enters_after_lists : (g h : Sig) (new : List Named) → IsSignature g → AddsLists g h → CanEnter g new → CanEnter h new
-enters_after_lists g h new stands lists can = enters_on g h [] new can (lists_add_none g h stands lists)
-
-pub some_can_enter : (g h : Sig) (es : List SortExpression) (e : SortExpression) (r : TextRole) (ws : List Word) (args : List SortId) (to : SortId) → IsSignature g → AddsLists g h → IsPlain r → HaveSortsOf h es args → HasSortOf h e to
-    → CanEnter g (functions_named es e r ws) → SomeCanEnter h ws args to
-some_can_enter g h es e r ws args to stands lists plain have has can = record {
+pub some_can_enter : (g : Sig) (es : List SortExpression) (e : SortExpression) (r : TextRole) (ws : List Word) (args : List SortId) (to : SortId) → IsPlain r → HaveSortsOf g es args → HasSortOf g e to → CanEnter g (functions_named es e r ws) → SomeCanEnter g ws args to
+some_can_enter g es e r ws args to plain have has can = record {
   expressions = es;
   result = e;
   role = r;
   plain = plain;
   arguments_are = have;
   result_is = has;
-  can = enters_after_lists g h (functions_named es e r ws) stands lists can;
+  can = can;
 }
-
-pub adds_after_lists : (g h k : Sig) (new : List Named) → IsSignature g → AddsLists g h → AddsFunctions new h k → AddsFunctions new g k
-adds_after_lists g h k new stands lists adds = adds_then g h k [] new (lists_add_none g h stands lists) adds

@@ -1,6 +1,6 @@
 -- The first empty sort of a text, read off a signature.
-use Rattle.std.proofs.Common.{◌≡◌, ◌<◌, ◌⊎◌, inl, inr, ℕ, zero, suc, Bool, true, false, List, [], ◌∷◌, ◌++◌, ◌+◌, length, map, get_or, refl, ap, sym, ◌∙◌, subst, arith}
-use Rattle.std.specs.Prelude.{Some, slice_get, pos, bytes_eq}
+use Rattle.std.proofs.Common.{◌≡◌, ◌<◌, ◌⊎◌, inl, inr, ℕ, zero, suc, Bool, true, false, cond, List, [], ◌∷◌, ◌++◌, ◌+◌, length, map, get_or, refl, ap, sym, ◌∙◌, subst, arith}
+use Rattle.std.specs.Prelude.{Option, Some, None, slice_get, pos, bytes_eq}
 use Rattle.std.specs.List.{AllByRecursion}
 use Rattle.std.proofs.lemmas.Option.{none-some, same_Some, slice_get_within, slice_get_read, get_or_from_slice_get}
 use Rattle.std.proofs.lemmas.List.Elements.{All-contains}
@@ -22,11 +22,11 @@ use Rattle.sort_table.specs.Expressions.{Name}
 use Rattle.sort_table.specs.NamedLists.{first_named}
 use Rattle.sort_table.specs.BareSorts.{a_name}
 use Rattle.sort_table.specs.BareDeclarations.{Declaration}
-use Rattle.sort_table.specs.SortMeanings.{Kind, alone, a_struct, kinds_in, under_names}
+use Rattle.sort_table.specs.SortMeanings.{Kind, alone, a_struct, equal_to, kinds_in, UnderNames, under_names}
 use Rattle.sort_table.specs.Vocabularies.{IsOwn, declared_alone, declared_as_struct, IsVocabularyOf}
 use Rattle.sort_table.specs.SignatureVocabularies.{text_under, vocabulary_of}
 use Rattle.sort_table.specs.EmptySorts.{IsEmpty, IsEmptySort, NoEmptySort, IsFirstEmptySort}
-use Rattle.sort_table.specs.DeclaredNames.{AreNamesOf}
+use Rattle.sort_table.specs.DeclaredNames.{is_own_kind, own_among, AreNamesOf}
 use Rattle.sort_table.proofs.Choices.{chosen}
 use Rattle.sort_table.proofs.Growing.{near_or_far}
 use Rattle.sort_table.proofs.OneSort.{what_stands_for_a_sort_has_it}
@@ -79,6 +79,83 @@ module _ (g : Sig) (P : Name → Type 0) where
       let here : slice_get g.texts i.0 ≡ Some r.0 = cc in
       let there : AreBeside g ids ks = cc in
       ((λ p. free 0 i refl (subst P (sym (read_text g i r here)) p)), none_of_them ids ks there (λ j m a. free (suc j) m a))
+
+-- ---- names that are no aliases
+before_all : (P : Name → Type 0) (ks : List (Name × Kind)) (r : Name × Kind) (name : Name) → ¬ (P r.0) → HasFirst P ks name → HasFirst P (r ∷ ks) name
+before_all P ks r name never first = record { front = r ∷ first.front; kind = first.kind; behind = first.behind; names = ap (λ xs. r ∷ xs) first.names; earlier = (never, first.earlier) }
+
+module _ (kind : Name → Option Kind) (P : Name → Type 0) (own : (n : Name) → P n → is_own_kind (kind n) ≡ true) where
+  never_alias : (n : Name) → is_own_kind (kind n) ≡ false → ¬ (P n)
+  never_alias n alias p = let both : true ≡ false = sym (own n p) ∙ alias in cc
+
+  -- the first of those is the first of all
+  first_of_all : (ks : List (Name × Kind)) (name : Name) → HasFirst P (own_among kind ks) name → HasFirst P ks name
+  first_of_all [] name first = first
+  first_of_all (r ∷ ks) name first = by_test (first_of_all ks name) (is_own_kind (kind r.0)) refl first
+    where
+      by_front : (HasFirst P (own_among kind ks) name → HasFirst P ks name) → (front : List (Name × Kind)) (k : Kind) (behind : List (Name × Kind)) → r ∷ own_among kind ks ≡ front ++ ((name, k) ∷ behind) → AllByRecursion (λ (e : Name × Kind). ¬ (P e.0)) front → HasFirst P (r ∷ ks) name
+      by_front later [] k behind same earlier = let here : r ≡ (name, k) = cc in record { front = []; kind = k; behind = ks; names = ap (λ x. x ∷ ks) here; earlier = tt }
+      by_front later (x ∷ front) k behind same earlier =
+          let here : x ≡ r = cc in
+          let there : own_among kind ks ≡ front ++ ((name, k) ∷ behind) = cc in
+          before_all P ks r name (subst (λ (y : Name × Kind). ¬ (P y.0)) here earlier.0) (later (record { front = front; kind = k; behind = behind; names = there; earlier = earlier.1 }))
+
+      by_test : (HasFirst P (own_among kind ks) name → HasFirst P ks name) → (b : Bool) → is_own_kind (kind r.0) ≡ b → HasFirst P (cond b (r ∷ own_among kind ks) (own_among kind ks)) name → HasFirst P (r ∷ ks) name
+      by_test later true test first = by_front later first.front first.kind first.behind first.names first.earlier
+      by_test later false test first = before_all P ks r name (never_alias r.0 test) (later first)
+
+  -- where none of those is, none of all is
+  none_of_all : (ks : List (Name × Kind)) → AllByRecursion (λ (e : Name × Kind). ¬ (P e.0)) (own_among kind ks) → AllByRecursion (λ (e : Name × Kind). ¬ (P e.0)) ks
+  none_of_all [] never = tt
+  none_of_all (r ∷ ks) never = by_test (none_of_all ks) (is_own_kind (kind r.0)) refl never
+    where
+      by_test : (AllByRecursion (λ (e : Name × Kind). ¬ (P e.0)) (own_among kind ks) → AllByRecursion (λ (e : Name × Kind). ¬ (P e.0)) ks) → (b : Bool) → is_own_kind (kind r.0) ≡ b → AllByRecursion (λ (e : Name × Kind). ¬ (P e.0)) (cond b (r ∷ own_among kind ks) (own_among kind ks)) → AllByRecursion (λ (e : Name × Kind). ¬ (P e.0)) (r ∷ ks)
+      by_test later true test all = (all.0, later all.1)
+      by_test later false test all = (never_alias r.0 test, later all)
+
+-- an own name is found among those
+found_among : (kind : Name → Option Kind) (ks : List (Name × Kind)) (n : Name) → is_own_kind (kind n) ≡ true → first_named n (own_among kind ks) ≡ first_named n ks
+found_among kind [] n own = refl
+found_among kind (r ∷ ks) n own = by_test (found_among kind ks n own) (is_own_kind (kind r.0)) refl
+  where
+    by_name : first_named n (own_among kind ks) ≡ first_named n ks → (b : Bool) → bytes_eq r.0 n ≡ b → is_own_kind (kind r.0) ≡ false → first_named n (own_among kind ks) ≡ cond b (Some r.1) (first_named n ks)
+    by_name later true same alias = let both : true ≡ false = sym own ∙ (ap (λ m. is_own_kind (kind m)) (sym ((bytes_eq-Decides r.0 n).0 same)) ∙ alias) in cc
+    by_name later false other alias = later
+
+    by_test : first_named n (own_among kind ks) ≡ first_named n ks → (b : Bool) → is_own_kind (kind r.0) ≡ b → first_named n (cond b (r ∷ own_among kind ks) (own_among kind ks)) ≡ cond (bytes_eq r.0 n) (Some r.1) (first_named n ks)
+    by_test later true test = ap (cond (bytes_eq r.0 n) (Some r.1)) later
+    by_test later false test = by_name later (bytes_eq r.0 n) refl test
+
+-- a name beside one of those is no alias
+own_beside : (g : Sig) (kind : Name → Option Kind) (ks : List (Name × Kind)) (ids : List NameId) → AreBeside g ids (own_among kind ks) → (k : ℕ) (n : NameId) → slice_get ids k ≡ Some n → is_own_kind (kind (text_under g n)) ≡ true
+own_beside g kind [] [] so k n at = absurd (none-some n at)
+own_beside g kind [] (i ∷ ids) so k n at = cc
+own_beside g kind (r ∷ ks) ids so k n at = by_test (own_beside g kind ks) (is_own_kind (kind r.0)) refl so
+  where
+    by_place : ((is : List NameId) → AreBeside g is (own_among kind ks) → (j : ℕ) (m : NameId) → slice_get is j ≡ Some m → is_own_kind (kind (text_under g m)) ≡ true) → (is : List NameId) (j : ℕ) → is_own_kind (kind r.0) ≡ true → AreBeside g is (r ∷ own_among kind ks) → slice_get is j ≡ Some n → is_own_kind (kind (text_under g n)) ≡ true
+    by_place later [] j own same there = cc
+    by_place later (i ∷ is) zero own same there =
+        let here : slice_get g.texts i.0 ≡ Some r.0 = cc in
+        let one : i ≡ n = cc in
+        ap (λ m. is_own_kind (kind m)) (ap (text_under g) (sym one) ∙ read_text g i r here) ∙ own
+    by_place later (i ∷ is) (suc j) own same there = let rest : AreBeside g is (own_among kind ks) = cc in later is rest j n there
+
+    by_test : ((is : List NameId) → AreBeside g is (own_among kind ks) → (j : ℕ) (m : NameId) → slice_get is j ≡ Some m → is_own_kind (kind (text_under g m)) ≡ true) → (b : Bool) → is_own_kind (kind r.0) ≡ b → AreBeside g ids (cond b (r ∷ own_among kind ks) (own_among kind ks)) → is_own_kind (kind (text_under g n)) ≡ true
+    by_test later true test same = by_place later ids k test same at
+    by_test later false test same = later ids same k n at
+
+own_is_kind : (u : UnderNames) (n : Name) → IsOwn u n → is_own_kind (u.sort n) ≡ true
+own_is_kind u n (declared_alone h) = ap is_own_kind h
+own_is_kind u n (declared_as_struct h) = ap is_own_kind h
+
+kind_is_own : (u : UnderNames) (n : Name) → is_own_kind (u.sort n) ≡ true → IsOwn u n
+kind_is_own u n own = by_kind (u.sort n) refl own
+  where
+    by_kind : (o : Option Kind) → u.sort n ≡ o → is_own_kind o ≡ true → IsOwn u n
+    by_kind (Some alone) same own = declared_alone same
+    by_kind (Some a_struct) same own = declared_as_struct same
+    by_kind (Some (equal_to e)) same own = let no_way : false ≡ true = own in cc
+    by_kind None same own = let no_way : false ≡ true = own in cc
 
 pub text_within : (g : Sig) (ids : List NameId) (ks : List (Name × Kind)) → AreBeside g ids ks → (k : ℕ) (n : NameId) → slice_get ids k ≡ Some n → n.0 < length g.texts
 text_within g [] ks so k n at = cc
@@ -150,8 +227,8 @@ module _ (g : Sig) (stands : IsSignature g) where
           | inr never ↦ none-some (named there.0) (sym (name_absent g stands n within never) ∙ has)
         ]
 
-    no_value_is_empty : (n : NameId) → n.0 < length g.texts → (s : SortId) → IsSortName g.sort_names n s → ¬ (HasValue g s) → IsEmptySort ds (text_under g n)
-    no_value_is_empty n within s its never =
+    no_value_is_empty : (n : NameId) → n.0 < length g.texts → IsOwn (under_names ds) (text_under g n) → (s : SortId) → IsSortName g.sort_names n s → ¬ (HasValue g s) → IsEmptySort ds (text_under g n)
+    no_value_is_empty n within own s its never =
         let low = within_sorts n s its in
         let d = declared_where_empty s low never in
         let name : first_named (text_under g n) (vocabulary_of g).sort_names ≡ Some (named d.0) = name_found g stands n within s its ∙ ap Some d.1 in
@@ -159,6 +236,7 @@ module _ (g : Sig) (stands : IsSignature g) where
           vocabulary = vocabulary_of g;
           number = d.0;
           declared = is;
+          own = own;
           named_so = name;
           within = (own_of (under_names ds) (vocabulary_of g) is.sorts (text_under g n) d.0 name).has.1;
           empty = empty_where_no_value s d.0 low d.1 never;
@@ -167,20 +245,25 @@ module _ (g : Sig) (stands : IsSignature g) where
     -- ---- the answers
     pub found_empty : (ids : List NameId) → AreNamesOf g ids ds → (k : ℕ) (n : NameId) (s : SortId) → slice_get ids k ≡ Some n → ((j : ℕ) (i : NameId) → j < k → slice_get ids j ≡ Some i → IsInhabitedName g i) → IsSortName g.sort_names n s → ¬ (HasValue g s) → IsFirstEmptySort ds (text_under g n)
     found_empty ids so k n s at full its never =
-        let first = first_of_them g (IsEmptySort ds) ids (kinds_in ds) so k n at (λ j i l a. inhabited_is_not_empty i (text_within g ids (kinds_in ds) so j i a) (full j i l a)) in
+        let u = under_names ds in
+        let own = own_among u.sort (kinds_in ds) in
+        let first = first_of_all u.sort (IsEmptySort ds) (λ m e. own_is_kind u m e.own) (kinds_in ds) (text_under g n)
+        (first_of_them g (IsEmptySort ds) ids own so k n at (λ j i l a. inhabited_is_not_empty i (text_within g ids own so j i a) (full j i l a))) in
         record {
           front = first.front;
           kind = first.kind;
           behind = first.behind;
           names = first.names;
-          empty = no_value_is_empty n (text_within g ids (kinds_in ds) so k n at) s its never;
+          empty = no_value_is_empty n (text_within g ids own so k n at) (kind_is_own u (text_under g n) (own_beside g u.sort (kinds_in ds) ids so k n at)) s its never;
           earlier = first.earlier;
         }
 
     pub none_empty : (ids : List NameId) → AreNamesOf g ids ds → ((j : ℕ) (i : NameId) → slice_get ids j ≡ Some i → IsInhabitedName g i) → NoEmptySort ds
     none_empty ids so full n e =
         let u = under_names ds in
-        let all = none_of_them g (IsEmptySort ds) ids (kinds_in ds) so (λ j i a. inhabited_is_not_empty i (text_within g ids (kinds_in ds) so j i a) (full j i a)) in
+        let own = own_among u.sort (kinds_in ds) in
+        let all = none_of_all u.sort (IsEmptySort ds) (λ m h. own_is_kind u m h.own) (kinds_in ds)
+        (none_of_them g (IsEmptySort ds) ids own so (λ j i a. inhabited_is_not_empty i (text_within g ids own so j i a) (full j i a))) in
         let stood = (e.declared.sorts.named n).0 (named e.number, e.named_so) in
         let known : (k : Kind) × (first_named n (kinds_in ds) ≡ Some k) = is_declared u n stood.0 stood.1 in
         found_entry (λ m _. ¬ (IsEmptySort ds m)) n (kinds_in ds) known.0 all known.1 e
@@ -189,8 +272,9 @@ module _ (g : Sig) (stands : IsSignature g) where
     pub all_have_values : (ids : List NameId) → AreNamesOf g ids ds → ((j : ℕ) (i : NameId) → slice_get ids j ≡ Some i → IsInhabitedName g i) → NoSortIsEmpty (data_meant g)
     all_have_values ids so full d l =
         let own = is.sorts.no_more d l in
+        let u = under_names ds in
         let known = declared_kind own.0 own.1 in
-        let at = id_beside ids (kinds_in ds) so own.0 known.0 known.1 in
+        let at = id_beside ids (own_among u.sort (kinds_in ds)) so own.0 known.0 (found_among u.sort (kinds_in ds) own.0 (own_is_kind u own.0 own.1) ∙ known.1) in
         let name : text_under g at.1 ≡ own.0 = get_or_from_slice_get g.texts at.1.0 own.0 [] at.3 in
         let within = slice_get_within g.texts at.1.0 own.0 at.3 in
         let has : first_named (text_under g at.1) (vocabulary_of g).sort_names ≡ Some (named d) = ap (λ (m : Name). first_named m (vocabulary_of g).sort_names) name ∙ own.2.0 in

@@ -11,7 +11,7 @@ use Rattle.sort_table.specs.NamedLists.{all_named, first_named}
 use Rattle.sort_table.specs.BareSorts.{SortExpression, truth_values, positives, naturals, integers, lists_of, a_name}
 use Rattle.sort_table.specs.SortMeanings.{Kind, alone, a_struct, equal_to, UnderNames, StandsFor, for_truth_values, for_positives, for_naturals, for_integers, for_lists, for_plain, for_struct, for_alias}
 use Rattle.sort_table.specs.TextFunctions.{TextFunction, TextRole}
-use Rattle.sort_table.specs.Vocabularies.{Vocabulary, sort_in, sorts_in, HasConstructor, IsConstruction, by_struct, by_cons, by_none, IsOwn, declared_alone, declared_as_struct, IsSortNamed, HasSorts, HasNumber, GivesPlain, IsRole, of_struct, of_cons, of_no_cons, of_place, of_test, of_map, IsFunction, EachPair, IsActionOf, IsVocabularyOf}
+use Rattle.sort_table.specs.Vocabularies.{Vocabulary, sort_in, sorts_in, HasConstructor, IsConstruction, by_struct, by_cons, by_none, IsOwn, declared_alone, declared_as_struct, IsSortNamed, HasSorts, HasNumber, GivesPlain, IsRole, of_struct, of_cons, of_no_cons, of_place, of_test, of_map, IsFunction, EachPair, AreSortsOf, IsVocabularyOf}
 use Rattle.sort_table.specs.Growth.{More, with_more, with_declared, AllStand, IsMore, VocabulariesGrow}
 use Rattle.sort_table.proofs.OneSort.{one_sort}
 use Rattle.sort_table.proofs.ListForms.{found_entry, is_declared}
@@ -337,14 +337,11 @@ module _ (u : UnderNames) (sort : Name → Option Kind) (more : Name → List Te
       side (inr far) = let f : (f : Name) × Contains m.function_names (f, k) = g.functions_used k far h in (f.0, contains_after v.function_names m.function_names (f.0, k) f.1)
 
   -- ---- actions
-  action_now : (a : Name) (es : List SortExpression) → Contains (u.actions a) es → (ss : List Sort) × (sorts_in x.sort_names es ≡ Some ss) × Contains v.actions (a, ss)
-  action_now a es h = let r : (ss : List Sort) × (sorts_in v.sort_names es ≡ Some ss) × Contains v.actions (a, ss) = is.each_action a es h in (r.0, sorts_behind v.sort_names m.sort_names es r.0 r.1, r.2)
-
-  no_other : (a : Name) (ss : List Sort) → Contains v.actions (a, ss) → IsActionOf w x a ss
-  no_other a ss h = let e : IsActionOf u v a ss = is.no_other_action a ss h in (e.0, e.1, sorts_behind v.sort_names m.sort_names e.0 ss e.2)
+  actions_now : (a : Name) → EachPair (AreSortsOf x) (u.actions a) (all_named a v.actions)
+  actions_now a = pairs_with (AreSortsOf v) (AreSortsOf x) (λ es ss h. sorts_behind v.sort_names m.sort_names es ss h) (u.actions a) (all_named a v.actions) (is.actions a)
 
   grown : IsVocabularyOf w x
-  grown = record { sorts = sorts_grow; functions = record { each = each_now; no_more = functions_used_now; once = g.once }; each_action = action_now; no_other_action = no_other }
+  grown = record { sorts = sorts_grow; functions = record { each = each_now; no_more = functions_used_now; once = g.once }; actions = actions_now }
 
 pub vocabularies_grow : VocabulariesGrow
 vocabularies_grow u sort more v m is stand g = grown u sort more v m is stand g

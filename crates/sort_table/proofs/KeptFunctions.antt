@@ -25,7 +25,7 @@ use Rattle.sort_table.specs.BareDeclarations as bare
 use Rattle.sort_table.specs.TextFunctions.{TextRole, Named}
 use Rattle.sort_table.specs.Vocabularies.{sort_in, EachPair}
 use Rattle.sort_table.specs.NamedSorts.{AddsLists, no_lists, one_list, IsNamed}
-use Rattle.sort_table.specs.EnteredFunctions.{HasSortOf, HaveSortsOf, IsKnownName, IsKnownOption, IsReadyField, IsReadyConstructor, IsNameId, IsOptionalId, IsFieldOf, IsConOf, IsEntryOf, IsConstructorAt, HasTextRole, of_struct, of_cons, of_map, of_place, of_test, IsEntered, Keeps}
+use Rattle.sort_table.specs.EnteredFunctions.{HasSortOf, HaveSortsOf, IsReadable, IsKnownName, IsKnownOption, IsReadyField, IsReadyConstructor, IsNameId, IsOptionalId, IsFieldOf, IsConOf, IsEntryOf, IsConstructorAt, HasTextRole, of_struct, of_cons, of_map, of_place, of_test, IsEntered, Keeps}
 use Rattle.sort_table.proofs.Growing.{pairs_behind, pairs_with}
 use Rattle.sort_table.proofs.NamedSignatures.{names_with_list, count_with_list, sort_with_list}
 
@@ -101,6 +101,9 @@ module _ (g h : Sig) (keeps : Keeps g h) where
   pub named_kept : (n : Name) → IsNamed g n → IsNamed h n
   named_kept n is = (is.0, ap (first_named n) keeps.names ∙ is.1)
 
+  pub readable_kept : (e : SortExpression) → IsReadable g e → IsReadable h e
+  readable_kept e is = (is.0, has_sort_kept e is.0 is.1)
+
   pub name_kept : (n : Name) (i : NameId) → IsNameId g n i → IsNameId h n i
   name_kept n i at = ap (λ ts. slice_get ts i.0) keeps.texts ∙ at
 
@@ -115,7 +118,7 @@ module _ (g h : Sig) (keeps : Keeps g h) where
   known_option_kept (Some n) is = known_kept n is
 
   pub ready_field_kept : (f : bare.Field) → IsReadyField g f → IsReadyField h f
-  ready_field_kept f is = (known_option_kept f.name is.0, λ n leaf. named_kept n (is.1 n leaf))
+  ready_field_kept f is = (known_option_kept f.name is.0, readable_kept f.sort is.1)
 
   pub ready_constructor_kept : (c : bare.Constructor) → IsReadyConstructor g c → IsReadyConstructor h c
   ready_constructor_kept c is = record {

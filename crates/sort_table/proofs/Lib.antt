@@ -16,6 +16,7 @@ pub mod FirstEmpty
 pub mod SortsOfLists
 pub mod IndexPlaces
 pub mod Searches
+pub mod SortTreeSteps
 pub mod UsedNameLemmas
 pub mod AliasPlaces
 pub mod AliasCycles
@@ -23,8 +24,10 @@ pub mod NamingSorts
 pub mod AliasEdges
 pub mod NamedSignatures
 pub mod FirstPlaces
+pub mod WrittenListLemmas
 pub mod DeclaringLemmas
 pub mod KeptFunctions
+pub mod WrittenSortLemmas
 pub mod TextNames
 pub mod EnteredNames
 pub mod SortTablesOfNames
@@ -34,11 +37,13 @@ pub mod EnteringFunctions
 pub mod EnteringStructs
 pub mod NothingTwice
 pub mod AddedStructs
+pub mod SortsThere
 pub mod AddedDeclarations
 pub mod AddedActions
 pub mod MeetingMarks
 pub mod FlatSortLemmas
 pub mod MarkedItems
+pub mod OwnNames
 pub mod PushedMarks
 pub mod ItemMarkLemmas
 pub mod DeclaredAgain

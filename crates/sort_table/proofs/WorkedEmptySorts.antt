@@ -62,8 +62,7 @@ is_vocabulary = record {
     no_more = functions_used;
     once = have_one_place (λ i. i) (0 ∷ []) (refl, tt);
   };
-  each_action = λ a es h. let never : h.0 < 0 = h.1 in let no_way : ⊥ = omega (arith, never) in absurd no_way;
-  no_other_action = λ a ss h. let never : h.0 < 0 = h.1 in let no_way : ⊥ = omega (arith, never) in absurd no_way;
+  actions = λ a. tt;
 }
 
 -- ---- no constructed term has the sort
@@ -109,6 +108,6 @@ first_empty_sort = record {
   kind = a_struct;
   behind = [];
   names = refl;
-  empty = record { vocabulary = v; number = 0; declared = is_vocabulary; named_so = refl; within = omega arith; empty = ((λ h. cc), no_value) };
+  empty = record { vocabulary = v; number = 0; declared = is_vocabulary; own = declared_as_struct refl; named_so = refl; within = omega arith; empty = ((λ h. cc), no_value) };
   earlier = tt;
 }

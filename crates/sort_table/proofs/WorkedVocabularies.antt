@@ -9,10 +9,10 @@ use Rattle.data_theory.specs.Declarations.{Construction, sort_at, function_at}
 use Rattle.sort_table.specs.Expressions.{Name}
 use Rattle.sort_table.specs.NamedLists.{first_named}
 use Rattle.sort_table.specs.BareSorts.{SortExpression, lists_of, a_name}
-use Rattle.sort_table.specs.SortMeanings.{UnderNames, under_names, StandsFor, for_lists, for_plain, for_struct, for_alias}
+use Rattle.sort_table.specs.SortMeanings.{actions_in, UnderNames, under_names, StandsFor, for_lists, for_plain, for_struct, for_alias}
 use Rattle.sort_table.specs.TextFunctions as text
 use Rattle.sort_table.specs.TextFunctions.{functions_in}
-use Rattle.sort_table.specs.Vocabularies.{Vocabulary, IsConstruction, by_struct, by_cons, IsOwn, declared_alone, declared_as_struct, IsSortNamed, IsFunction, of_struct, of_cons, of_place, of_test, of_map, sorts_in, IsActionOf, IsVocabularyOf}
+use Rattle.sort_table.specs.Vocabularies.{Vocabulary, IsConstruction, by_struct, by_cons, IsOwn, declared_alone, declared_as_struct, IsSortNamed, IsFunction, of_struct, of_cons, of_place, of_test, of_map, AreSortsOf, IsVocabularyOf}
 use Rattle.sort_table.specs.Worked.{worked, in_order, turned, ATextHasVocabulariesInAnyNumbering, d, e, f, t}
 use Rattle.sort_table.proofs.ListForms.{have_one_place, each_named, has_sorts}
 
@@ -49,23 +49,6 @@ by_place_turned (suc k) = d
 
 told : (by_number : ℕ → Name) (n : Name) (k : ℕ) → n ≡ by_number k → (i : ℕ) → Some (named k) ≡ Some (named i) → n ≡ by_number i
 told by_number n k same i h = let equal : k ≡ i = cc in same ∙ ap by_number equal
-
--- ---- the one action
-the_action : (v : Vocabulary) (s : Sort) → first_named t v.sort_names ≡ Some s → (a : Name) (ss : List Sort) → Contains {X = Name × List Sort} ((codes "a", s ∷ []) ∷ []) (a, ss) → IsActionOf u v a ss
-the_action v s has a ss (zero, h, same) = subst (λ (p : Name × List Sort). IsActionOf u v p.0 p.1) same (a_name t ∷ [], (0, omega arith, refl), ap (option_and_then (λ r. option_map (λ rs. r ∷ rs) (Some []))) has)
-the_action v s has a ss (suc k, h, same) = let never : ⊥ = omega (arith, h) in absurd never
-
-each_action : (v : Vocabulary) (s : Sort) → first_named t v.sort_names ≡ Some s → (a : Name) (es : List SortExpression) → Contains (u.actions a) es → (ss : List Sort) × (sorts_in v.sort_names es ≡ Some ss) × Contains {X = Name × List Sort} ((codes "a", s ∷ []) ∷ []) (a, ss)
-each_action v s has a es among = by_name (bytes_eq (codes "a") a) refl among
-  where
-    by_name : (b : Bool) → bytes_eq (codes "a") a ≡ b → Contains (cond b ((a_name t ∷ []) ∷ []) []) es → (ss : List Sort) × (sorts_in v.sort_names es ≡ Some ss) × Contains {X = Name × List Sort} ((codes "a", s ∷ []) ∷ []) (a, ss)
-    by_name true same (zero, h, q) = (
-      s ∷ [],
-      sym (ap (sorts_in v.sort_names) q) ∙ ap (option_and_then (λ r. option_map (λ rs. r ∷ rs) (Some []))) has,
-      (0, omega arith, ap (λ n. (n, s ∷ [])) ((bytes_eq-Decides (codes "a") a).0 same)),
-    )
-    by_name true same (suc k, h, q) = let never : ⊥ = omega (arith, h) in absurd never
-    by_name false same (k, h, q) = let never : ⊥ = omega (arith, h) in absurd never
 
 -- ---- what is used
 sorts_used : (v : Vocabulary) (n m : Name) → ((x : Name) × IsOwn u x × IsSortNamed u v x 0) → ((x : Name) × IsOwn u x × IsSortNamed u v x 1) → (k : ℕ) → k < 2 → (x : Name) × IsOwn u x × IsSortNamed u v x k
@@ -132,8 +115,7 @@ in_order_is = record {
     no_more = functions_used;
     once = have_one_place (λ i. i) (0 ∷ 1 ∷ 2 ∷ 3 ∷ 4 ∷ 5 ∷ 6 ∷ []) (refl, (refl, (refl, (refl, (refl, (refl, (refl, tt)))))));
   };
-  each_action = each_action in_order (named 1) refl;
-  no_other_action = the_action in_order (named 1) refl;
+  actions = each_named (AreSortsOf in_order) (actions_in worked) in_order.actions (refl, refl, (refl, refl, tt));
 }
 
 turned_is : IsVocabularyOf u turned
@@ -175,8 +157,7 @@ turned_is = record {
     no_more = turned_functions_used;
     once = have_one_place (λ i. 6 - i) (6 ∷ 5 ∷ 4 ∷ 3 ∷ 2 ∷ 1 ∷ 0 ∷ []) (refl, (refl, (refl, (refl, (refl, (refl, (refl, tt)))))));
   };
-  each_action = each_action turned (named 0) refl;
-  no_other_action = the_action turned (named 0) refl;
+  actions = each_named (AreSortsOf turned) (actions_in worked) turned.actions (refl, refl, (refl, refl, tt));
 }
 
 pub a_text_has_vocabularies_in_any_numbering : ATextHasVocabulariesInAnyNumbering

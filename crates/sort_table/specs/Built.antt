@@ -9,16 +9,16 @@ use Rattle.data_theory.specs.Sorts.{IsListOver}
 use Rattle.data_theory.specs.Signature.{Sig, IsTaken}
 use Rattle.data_theory.specs.IdData.{data_meant}
 use Rattle.data_theory.specs.IdRoles.{AreRoles}
-use Rattle.data_theory.specs.IdTerms.{sort_under}
 use Rattle.mcrl2_syntax.specs.Declarations.{PlainSpec}
 use Rattle.sort_table.specs.Expressions.{Name}
-use Rattle.sort_table.specs.BareSorts.{SortExpression, lists_of}
+use Rattle.sort_table.specs.BareSorts.{SortExpression}
 use Rattle.sort_table.specs.BareProcesses.{Variables, sums_in}
 use Rattle.sort_table.specs.BareDeclarations.{Field, Constructor, Declaration, sorts, alias, struct, constructors, mappings, variables, equation, actions, process, initial, declarations_in, bare_sections}
 use Rattle.sort_table.specs.SortMeanings.{under_names}
-use Rattle.sort_table.specs.Vocabularies.{sort_in, IsVocabularyOf}
+use Rattle.sort_table.specs.Vocabularies.{IsVocabularyOf}
 use Rattle.sort_table.specs.SignatureVocabularies.{vocabulary_of}
-use Rattle.sort_table.specs.NamedSorts.{sort_names_of}
+use Rattle.sort_table.specs.WrittenLists.{IsPartSort}
+use Rattle.sort_table.specs.EnteredFunctions.{HasSortOf}
 use Rattle.sort_table.specs.Refusals.{unknown_sort, sort_cycle, duplicate, empty_sort, IsRefusedWith, IsSoundlyDeclared}
 use Rattle.sort_table.specs.Identifiers.{identifiers_in, copied_identifiers}
 use Rattle.sort_table.specs.declared.building.SortFault.{SortFault}
@@ -43,30 +43,24 @@ expressions_in (actions as_ es) = es
 expressions_in (process p vs body) = sorts_of_variables vs ++ flat_map sorts_of_variables (sums_in body)
 expressions_in (initial body) = flat_map sorts_of_variables (sums_in body)
 
--- an expression stands in another one
-pub data StandsIn (e : SortExpression) : SortExpression → Type 0 where
-  itself : StandsIn e e
-  in_list : (s : SortExpression) → StandsIn e s → StandsIn e (lists_of s)
-
--- a sort of the signature is that of an expression in the declarations
+-- a sort of the signature is that of an expression in the declarations, or of a part of one
 pub record IsWritten (ds : List Declaration) (g : Sig) (l : SortId) : Type 0 where
   pub declaration : Declaration
   pub expression : SortExpression
-  pub part : SortExpression
   pub declared : Contains ds declaration
   pub used : Contains (expressions_in declaration) expression
-  pub within : StandsIn part expression
-  pub meant : sort_in (sort_names_of g) part ≡ Some (sort_under g l)
+  pub part : IsPartSort expression g l
 
 -- ---- the answer
 -- The signature has what the text declares and no variables. All identifiers of the text are entered; those of copied declarations
--- are taken, and but for the words and the names that are taken from the start no others. Each list sort is that of an expression
--- in the declarations. The roles of functions hold.
+-- are taken, and but for the words and the names that are taken from the start no others. Each sort expression of the declarations,
+-- also of parameters, sums and variables, has its sort, and each list sort is that of such an expression. The roles of functions hold.
 pub record IsDeclared (spec : PlainSpec) (g : Sig) : Type 0 where
   pub vocabulary : IsVocabularyOf (under_names (declarations_in (bare_sections spec))) (vocabulary_of g)
   pub no_variables : g.variables ≡ []
   pub entered : All (Contains g.texts) (identifiers_in spec)
   pub taken : (t : Name) → IsTaken g t ↔ (Contains first_names t ⊎ Contains (copied_identifiers spec) t)
+  pub written : (d : Declaration) (e : SortExpression) → Contains (declarations_in (bare_sections spec)) d → Contains (expressions_in d) e → (s : SortId) × HasSortOf g e s
   pub lists : (e l : SortId) → IsListOver g.sorts e l → IsWritten (declarations_in (bare_sections spec)) g l
   pub roles : AreRoles g
 

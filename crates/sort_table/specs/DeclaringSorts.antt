@@ -1,9 +1,12 @@
 -- How the declared sorts come into a signature.
-use Rattle.std.specs.Prelude.{◌≡◌, ◌<◌, ◌↔◌, ℕ, List, [], ◌∷◌, length, Some, slice_index}
+use Rattle.std.specs.Prelude.{◌≡◌, ◌<◌, ◌↔◌, ◌⊎◌, ℕ, List, [], ◌∷◌, length, Some, slice_index}
 use Rattle.std.specs.Global.{Vec}
 use Rattle.graphs.specs.Graphs.{HasEdge}
 use Rattle.data_theory.specs.declared.ids.NameId.{NameId}
 use Rattle.data_theory.specs.Terms.{Sort, boolean, positive, natural, integer}
+use Rattle.data_theory.specs.declared.ids.SortId.{SortId}
+use Rattle.data_theory.specs.Sorts.{IsListOver}
+use Rattle.data_theory.specs.WholeSignatures.{IsSignature}
 use Rattle.data_theory.specs.Signature.{Sig}
 use Rattle.sort_table.specs.Expressions.{Name}
 use Rattle.sort_table.specs.NamedLists.{first_named}
@@ -12,6 +15,7 @@ use Rattle.sort_table.specs.SortMeanings.{Kind, equal_to}
 use Rattle.sort_table.specs.SortIndexes.{first_place}
 use Rattle.sort_table.specs.UsedNames.{leaf_of}
 use Rattle.sort_table.specs.AliasGraphs.{HasAliasEdge}
+use Rattle.sort_table.specs.WrittenLists.{IsPartSort}
 use Rattle.sort_table.specs.NamedSorts.{AreIdsOf, IsNamed, IsOwnKind, NamesSorts, AddsSorts, sort_names_of, sort_count}
 
 -- the sorts that are always there, in the order of their numbers
@@ -28,11 +32,26 @@ pub record IsDeclaring (ks : List (Name × Kind)) (ids : List NameId) (g : Sig) 
   pub ids_are : AreIdsOf g.texts ks ids
   pub names : NamesSorts ks (sort_names_of g) (sort_count g)
 
+-- A list sort was added for an alias: at that time it was that of a part of the alias's expression.
+pub record IsOfAlias (ks : List (Name × Kind)) (h : Sig) (l : SortId) : Type 0 where
+  pub name : Name
+  pub expression : SortExpression
+  pub declared : first_named name ks ≡ Some (equal_to expression)
+  pub before : Sig
+  pub stands : IsSignature before
+  pub within : l.0 < length before.sorts
+  pub part : IsPartSort expression before l
+  pub since : AddsSorts before h
+
+abbrev pub NewListsOfAliases : List (Name × Kind) → Sig → Sig → Type 0
+NewListsOfAliases ks g h = (x l : SortId) → IsListOver h.sorts x l → IsListOver g.sorts x l ⊎ IsOfAlias ks h l
+
 -- sorts are added, and no name loses its sort
 pub record GoesOn (ks : List (Name × Kind)) (ids : List NameId) (g h : Sig) : Type 0 where
   pub state : IsDeclaring ks ids h
   pub adds : AddsSorts g h
   pub keeps : (n : Name) → IsNamed g n → IsNamed h n
+  pub lists : NewListsOfAliases ks g h
 
 -- a name that is declared first at this place, and is no alias, has a sort
 abbrev pub OwnIsNamed : List (Name × Kind) → ℕ → Sig → Type 0

@@ -7,17 +7,18 @@ use Rattle.sort_table.specs.Expressions.{Name}
 use Rattle.sort_table.specs.BareDeclarations.{Declaration}
 use Rattle.sort_table.specs.NamedLists.{first_named}
 use Rattle.sort_table.specs.SortMeanings.{Kind, kinds_in, under_names}
-use Rattle.sort_table.specs.Vocabularies.{Vocabulary, IsVocabularyOf}
+use Rattle.sort_table.specs.Vocabularies.{Vocabulary, IsOwn, IsVocabularyOf}
 
 -- the sort has constructors, and no closed term of constructors, numerals and unknown elements
 abbrev pub IsEmpty : Data → ℕ → Type 0
 IsEmpty t d = ¬ (sort_at t d ≡ without_constructors) × ((u : Term) → IsConstructed t u → ¬ (HasSort t [] u (named d)))
 
--- the name of a sort that is empty in a vocabulary of the text
+-- the own name, and no alias, of a sort that is empty in a vocabulary of the text
 pub record IsEmptySort (ds : List Declaration) (name : Name) : Type 0 where
   pub vocabulary : Vocabulary
   pub number : ℕ
   pub declared : IsVocabularyOf (under_names ds) vocabulary
+  pub own : IsOwn (under_names ds) name
   pub named_so : first_named name vocabulary.sort_names ≡ Some (named number)
   pub within : number < length vocabulary.tables.sorts
   pub empty : IsEmpty vocabulary.tables number

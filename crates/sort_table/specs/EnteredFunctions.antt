@@ -15,10 +15,9 @@ use Rattle.data_theory.specs.IdTerms.{sort_under}
 use Rattle.sort_table.specs.Expressions.{Name}
 use Rattle.sort_table.specs.BareSorts.{SortExpression}
 use Rattle.sort_table.specs.BareDeclarations as bare
-use Rattle.sort_table.specs.UsedNames.{leaf_of}
 use Rattle.sort_table.specs.TextFunctions.{TextRole, struct_constructor, declared_constructor, projection, recogniser, mapping, Named}
 use Rattle.sort_table.specs.Vocabularies.{sort_in, EachPair}
-use Rattle.sort_table.specs.NamedSorts.{sort_names_of, sort_count, IsNamed}
+use Rattle.sort_table.specs.NamedSorts.{sort_names_of, sort_count}
 
 -- a sort of the signature is that of an expression
 pub record HasSortOf (g : Sig) (e : SortExpression) (s : SortId) : Type 0 where
@@ -28,9 +27,9 @@ pub record HasSortOf (g : Sig) (e : SortExpression) (s : SortId) : Type 0 where
 abbrev pub HaveSortsOf : Sig → List SortExpression → List SortId → Type 0
 HaveSortsOf g = EachPair (HasSortOf g)
 
--- the name in the expression, if there is one, has a sort
+-- the expression has a sort
 abbrev pub IsReadable : Sig → SortExpression → Type 0
-IsReadable g e = (n : Name) → leaf_of e ≡ Some n → IsNamed g n
+IsReadable g e = (s : SortId) × HasSortOf g e s
 
 -- a name that is text and taken
 pub record IsKnownName (g : Sig) (n : Name) : Type 0 where

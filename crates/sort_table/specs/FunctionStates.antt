@@ -3,7 +3,7 @@ use Rattle.std.specs.Prelude.{◌≡◌, ◌+◌, ◌⊎◌, ℕ, List, [], ◌�
 use Rattle.std.specs.List.{Contains, AllByRecursion, flat_map}
 use Rattle.data_theory.specs.declared.ids.SortId.{SortId}
 use Rattle.data_theory.specs.declared.ids.FunId.{FunId}
-use Rattle.data_theory.specs.Sorts.{SortInfo, structured, IsBare}
+use Rattle.data_theory.specs.Sorts.{SortInfo, structured, IsListOver, IsBare}
 use Rattle.data_theory.specs.Places.{HaveOnePlace}
 use Rattle.data_theory.specs.Signature.{Sig}
 use Rattle.sort_table.specs.Expressions.{Name}
@@ -64,11 +64,16 @@ pub data IsPlain : TextRole → Type 0 where
 abbrev pub KeepsSorts : Sig → Sig → Type 0
 KeepsSorts g h = (s : SortId) (t : SortInfo) → slice_get g.sorts s.0 ≡ Some t → slice_get h.sorts s.0 ≡ Some t
 
+-- the list sorts are the same
+abbrev pub KeepsLists : Sig → Sig → Type 0
+KeepsLists g h = (e l : SortId) → IsListOver h.sorts e l → IsListOver g.sorts e l
+
 -- a struct is entered: its sort gets the constructors, and no other sort changes
 pub record AddsStruct (n : Name) (cs : List Constructor) (g h : Sig) : Type 0 where
   pub adds : AddsFunctions (functions_by (struct n cs)) g h
   pub made : (s : SortId) × HasSortOf h (a_name n) s × IsStructured h s
   pub sorts : (s : SortId) (t : SortInfo) → slice_get g.sorts s.0 ≡ Some t → (slice_get h.sorts s.0 ≡ Some t) ⊎ HasSortOf h (a_name n) s
+  pub lists : KeepsLists g h
 
 -- ---- declarations
 -- what the entry of a declaration's functions needs
@@ -99,3 +104,4 @@ pub record AddsDeclarations (ds : List Declaration) (g h : Sig) : Type 0 where
   pub adds : AddsFunctions (functions_in ds) g h
   pub made : (n : Name) → Contains (structs_in ds) n → (s : SortId) × HasSortOf h (a_name n) s × IsStructured h s
   pub sorts : (s : SortId) (t : SortInfo) → slice_get g.sorts s.0 ≡ Some t → (slice_get h.sorts s.0 ≡ Some t) ⊎ ((n : Name) × Contains (structs_in ds) n × HasSortOf h (a_name n) s)
+  pub lists : KeepsLists g h

@@ -71,6 +71,9 @@ in_action (named_action span a ds) = a.bytes ∷ flat_map in_data ds
 abbrev pub in_assignment : PlainAssignment → List Name
 in_assignment x = x.name.bytes ∷ in_data x.value
 
+abbrev pub in_set : PlainNameSet → List Name
+in_set s = bare_names s.names
+
 abbrev pub in_renaming : PlainRenaming → List Name
 in_renaming r = r.old.bytes ∷ r.renamed.bytes ∷ []
 
@@ -84,7 +87,7 @@ abbrev mutual
   in_process (processes.multi span as_) = flat_map in_action as_
   in_process (processes.call span p xs) = p.bytes ∷ flat_map in_assignment xs
   in_process (processes.within span p) = in_process p
-  in_process (processes.allow span sets p) = flat_map (λ (s : PlainNameSet). bare_names s.names) sets ++ in_process p
+  in_process (processes.allow span sets p) = flat_map in_set sets ++ in_process p
   in_process (processes.block span ns p) = bare_names ns ++ in_process p
   in_process (processes.hide span ns p) = bare_names ns ++ in_process p
   in_process (processes.rename span rs p) = flat_map in_renaming rs ++ in_process p

@@ -10,6 +10,7 @@ pub mod SortMeanings
 pub mod Vocabularies
 pub mod SignatureVocabularies
 pub mod NamedSorts
+pub mod WrittenLists
 pub mod SortIndexes
 pub mod IndexedKinds
 pub mod UnknownSorts
@@ -26,7 +27,10 @@ pub mod Refusals
 pub mod Identifiers
 pub mod Built
 pub mod EnteredFunctions
+pub mod WrittenSorts
 pub mod FunctionStates
+pub mod LentTexts
+pub mod LentTrees
 pub mod NamedFunctions
 pub mod EnteredActions
 pub mod VocabularyLaws

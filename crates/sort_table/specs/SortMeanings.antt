@@ -29,8 +29,8 @@ actions_by _ = []
 abbrev pub actions_in : List Declaration → List (Name × List SortExpression)
 actions_in ds = flat_map actions_by ds
 
--- What stands under a name: its sort, where its first declaration counts, its functions in the order of the text, and the sorts
--- of its actions. Nothing else of a text's declarations says which data it has.
+-- What stands under a name: its sort, where its first declaration counts, and its functions and the sorts of its actions, each in the
+-- order of the text. Nothing else of a text's declarations says which data it has.
 pub record UnderNames : Type 0 where
   pub sort : Name → Option Kind
   pub functions : Name → List TextFunction

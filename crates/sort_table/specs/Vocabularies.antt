@@ -13,7 +13,7 @@ use Rattle.sort_table.specs.TextFunctions as text
 use Rattle.sort_table.specs.TextFunctions.{TextRole, TextFunction}
 
 -- The sorts and functions behind their numbers, the names of sorts with their sorts, the names of functions with their numbers
--- and the actions with their sorts. A name's functions stand in the order of the text.
+-- and the actions with their sorts. A name's functions stand in the order of the text, and so do its actions.
 pub record Vocabulary : Type 0 where
   pub tables : Data
   pub sort_names : List (Name × Sort)
@@ -99,13 +99,13 @@ pub record HasFunctions (u : UnderNames) (v : Vocabulary) : Type 0 where
   pub no_more : (k : ℕ) → k < length v.tables.functions → (f : Name) × Contains v.function_names (f, k)
   pub once : HaveOnePlace (map (λ (r : Name × ℕ). r.1) v.function_names)
 
--- the sorts of an action of this name
-abbrev pub IsActionOf : UnderNames → Vocabulary → Name → List Sort → Type 0
-IsActionOf u v a ss = (es : List SortExpression) × Contains (u.actions a) es × (sorts_in v.sort_names es ≡ Some ss)
+-- these are the sorts of the expressions
+abbrev pub AreSortsOf : Vocabulary → List SortExpression → List Sort → Type 0
+AreSortsOf v es ss = sorts_in v.sort_names es ≡ Some ss
 
--- The vocabulary has what is declared and nothing else, each sort and each function under any number.
+-- The vocabulary has what is declared and nothing else, each sort and each function under any number. A name's actions stand in the
+-- order of the text.
 pub record IsVocabularyOf (u : UnderNames) (v : Vocabulary) : Type 0 where
   pub sorts : HasSorts u v
   pub functions : HasFunctions u v
-  pub each_action : (a : Name) (es : List SortExpression) → Contains (u.actions a) es → (ss : List Sort) × (sorts_in v.sort_names es ≡ Some ss) × Contains v.actions (a, ss)
-  pub no_other_action : (a : Name) (ss : List Sort) → Contains v.actions (a, ss) → IsActionOf u v a ss
+  pub actions : (a : Name) → EachPair (AreSortsOf v) (u.actions a) (all_named a v.actions)

@@ -23,7 +23,7 @@ f = codes "F"
 abbrev pub t : Name
 t = codes "T"
 
--- sort D; F = E; E = List(D); T = struct leaf | node(left: T, D)?is_node; cons c: D; map g: Nat -> F; g: E -> Nat; act a: T;
+-- sort D; F = E; E = List(D); T = struct leaf | node(left: T, D)?is_node; cons c: D; map g: Nat -> F; g: E -> Nat; act a: T; a: Nat;
 abbrev pub worked : List Declaration
 worked =
     sorts (d ∷ [])
@@ -37,6 +37,7 @@ worked =
     ∷ mappings (codes "g" ∷ []) (naturals ∷ []) (a f)
     ∷ mappings (codes "g" ∷ []) (a e ∷ []) naturals
     ∷ actions (codes "a" ∷ []) (a t ∷ [])
+    ∷ actions (codes "a" ∷ []) (naturals ∷ [])
     ∷ []
 
 -- in the order of the text
@@ -56,7 +57,7 @@ in_order = record {
   };
   sort_names = (d, named 0) ∷ (f, list (named 0)) ∷ (e, list (named 0)) ∷ (t, named 1) ∷ [];
   function_names = (codes "leaf", 0) ∷ (codes "node", 1) ∷ (codes "left", 2) ∷ (codes "is_node", 3) ∷ (codes "c", 4) ∷ (codes "g", 5) ∷ (codes "g", 6) ∷ [];
-  actions = (codes "a", named 1 ∷ []) ∷ [];
+  actions = (codes "a", named 1 ∷ []) ∷ (codes "a", natural ∷ []) ∷ [];
 }
 
 -- with T in front of D, the functions from the last one on, and the names of sorts in another order
@@ -76,7 +77,7 @@ turned = record {
   };
   sort_names = (t, named 0) ∷ (e, list (named 1)) ∷ (d, named 1) ∷ (f, list (named 1)) ∷ [];
   function_names = (codes "leaf", 6) ∷ (codes "node", 5) ∷ (codes "left", 4) ∷ (codes "is_node", 3) ∷ (codes "c", 2) ∷ (codes "g", 1) ∷ (codes "g", 0) ∷ [];
-  actions = (codes "a", named 0 ∷ []) ∷ [];
+  actions = (codes "a", named 0 ∷ []) ∷ (codes "a", natural ∷ []) ∷ [];
 }
 
 -- both are vocabularies of the text

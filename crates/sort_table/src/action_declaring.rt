@@ -91,7 +91,6 @@ impl<'a> SortNames<'a> {
         requires known { AllByRecursion (IsKnownName signature.old) (names_of words.now) }
         ensures { OnOk result (AddsActions (actions_named (map bare_sort (map plain_sort domain.now)) words.now) signature.old signature.new) }
     {
-        let _ = signature.names();
         let sorts = self.sorts_of_trees(alloc, signature, domain)?;
         add_each_act(alloc, signature, words, sorts.as_slice())
     }

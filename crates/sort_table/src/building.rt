@@ -119,7 +119,8 @@ fn enter_all(alloc: Global, names: &mut Names, texts: &[&[u8]]) -> Result<Vec<Na
     Ok(ids)
 }
 
-/// A signature with what a specification declares, with the ids of the declared sort names in the order of the text.
+/// A signature with what a specification declares, with the ids of the declared sort names that are no aliases, in the order of the
+/// text.
 ///
 /// This stands in for what is to make it, and finds no memory.
 fn declared_signature(

@@ -14,8 +14,8 @@ use data_theory::{NameId, NoMemory, Signature};
 use std::alloc::Global;
 use term_pool::inhabited_sorts;
 
-/// Of the names of the declared sorts, in the order of the text, the first whose sort has constructors and no finite value. An alias
-/// counts as its sort does.
+/// Of the names of the declared sorts but for aliases, in the order of the text, the first whose sort has constructors and no finite
+/// value.
 ///
 /// The time is linear in the signature. `NoMemory` comes only where memory runs out. Structured sorts and their values are those of
 /// Groote and Mousavi's book, data types.

@@ -9,11 +9,11 @@ ghost use Rattle.sort_table.specs.BareSorts.{SortExpression, bare_sort};
 ghost use Rattle.sort_table.specs.BareDeclarations.{struct, bare_word, bare_field, bare_constructor};
 ghost use Rattle.sort_table.specs.Vocabularies.{EachPair};
 ghost use Rattle.sort_table.specs.IndexedKinds.{kinds_of_index};
-ghost use Rattle.sort_table.specs.NamedSorts.{AddsLists, IsNamed, ReadsSorts};
+ghost use Rattle.sort_table.specs.NamedSorts.{IsNamed, ReadsSorts};
 ghost use Rattle.sort_table.specs.EnteredFunctions.{HaveSortsOf, IsReadable, IsKnownName, IsKnownOption, IsReadyField, IsReadyConstructor, IsNameId, IsOptionalId, IsFieldOf, IsConOf, HasSortOf};
 ghost use Rattle.sort_table.specs.TextFunctions.{TextRole, functions_by, functions_in};
 ghost use Rattle.sort_table.specs.DeclarationTrees.{declaration_of, declarations_under};
-ghost use Rattle.sort_table.specs.FunctionStates.{AddsFunctions, AddsDeclarations, AddsStruct, AreBare, CanEnter, HasBareSort, IsReadyDeclaration, StructsDiffer, IsPlain, KeepsSorts};
+ghost use Rattle.sort_table.specs.FunctionStates.{AddsFunctions, AddsDeclarations, AddsStruct, AreBare, CanEnter, HasBareSort, IsReadyDeclaration, StructsDiffer, IsPlain};
 ghost use Rattle.sort_table.specs.NamedFunctions.{names_of, functions_named, SomeCanEnter};
 
 use crate::sort_declaring::SortNames;
@@ -79,49 +79,21 @@ fn add_each(
 }
 
 impl<'a> SortNames<'a> {
-    /// The sorts of sort expressions. The list sorts that they need are added.
-    ///
-    /// # Errors
-    ///
-    /// `NoMemory` where there is none for them.
-    pub(crate) fn sorts_of_trees(
-        &self,
-        alloc: Global,
-        signature: &mut Signature,
-        trees: &'a [SortTree],
-    ) -> Result<Vec<SortId>, NoMemory>
-        requires reads { ReadsSorts (kinds_of_index self.now.index) self.now.ids.items signature.old }
-        requires named { AllByRecursion (IsReadable signature.old) (map bare_sort (map plain_sort trees.now)) }
-        ensures sorts { IfOk result (λ sorts. HaveSortsOf signature.new (map bare_sort (map plain_sort trees.now)) sorts.items) }
-        ensures added { OnOk result (AddsLists signature.old signature.new) }
-        ensures reads { OnOk result (ReadsSorts (kinds_of_index self.now.index) self.now.ids.items signature.new) }
-    {
-        let _ = signature.names();
-        let mut sorts = Vec::new(alloc);
-        for tree in trees {
-            sorts.push(self.sort_of_tree(signature, tree)?)?;
-        }
-        Ok(sorts)
-    }
-
     /// The arguments of a constructor, with the sorts of their expressions.
     fn fields(
         &self,
         alloc: Global,
-        signature: &mut Signature,
+        signature: &Signature,
         fields: &'a [Field],
     ) -> Result<Vec<(Option<NameId>, SortId)>, NoMemory>
-        requires reads { ReadsSorts (kinds_of_index self.now.index) self.now.ids.items signature.old }
-        requires ready { AllByRecursion (IsReadyField signature.old) (map bare_field (map field_of fields.now)) }
-        ensures fields { IfOk result (λ made. EachPair (IsFieldOf signature.new) (map bare_field (map field_of fields.now)) made.items) }
-        ensures added { OnOk result (AddsLists signature.old signature.new) }
-        ensures reads { OnOk result (ReadsSorts (kinds_of_index self.now.index) self.now.ids.items signature.new) }
+        requires reads { ReadsSorts (kinds_of_index self.now.index) self.now.ids.items signature.now }
+        requires ready { AllByRecursion (IsReadyField signature.now) (map bare_field (map field_of fields.now)) }
+        ensures { IfOk result (λ made. EachPair (IsFieldOf signature.now) (map bare_field (map field_of fields.now)) made.items) }
     {
-        let _ = signature.names();
         let mut made = Vec::new(alloc);
         for field in fields {
             let name = optional_id(signature, &field.name);
-            let sort = self.sort_of_tree(signature, &field.sort)?;
+            let sort = self.sort_there(signature, &field.sort);
             made.push((name, sort))?;
         }
         Ok(made)
@@ -131,16 +103,13 @@ impl<'a> SortNames<'a> {
     fn constructor(
         &self,
         alloc: Global,
-        signature: &mut Signature,
+        signature: &Signature,
         constructor: &'a Constructor,
     ) -> Result<ConDecl, NoMemory>
-        requires reads { ReadsSorts (kinds_of_index self.now.index) self.now.ids.items signature.old }
-        requires ready { IsReadyConstructor signature.old (bare_constructor (constructor_of constructor.now)) }
-        ensures constructor { IfOk result (λ made. IsConOf signature.new (bare_constructor (constructor_of constructor.now)) (con_of made)) }
-        ensures added { OnOk result (AddsLists signature.old signature.new) }
-        ensures reads { OnOk result (ReadsSorts (kinds_of_index self.now.index) self.now.ids.items signature.new) }
+        requires reads { ReadsSorts (kinds_of_index self.now.index) self.now.ids.items signature.now }
+        requires ready { IsReadyConstructor signature.now (bare_constructor (constructor_of constructor.now)) }
+        ensures { IfOk result (λ made. IsConOf signature.now (bare_constructor (constructor_of constructor.now)) (con_of made)) }
     {
-        let _ = signature.names();
         let name = name_id(signature, constructor.name.bytes.as_slice());
         let test = optional_id(signature, &constructor.recogniser);
         let fields = self.fields(alloc, signature, constructor.fields.as_slice())?;
@@ -151,20 +120,17 @@ impl<'a> SortNames<'a> {
     ///
     /// # Errors
     ///
-    /// `NoMemory` where there is none for them, or for the list sorts that they need.
+    /// `NoMemory` where there is none for them.
     pub(crate) fn struct_constructors(
         &self,
         alloc: Global,
-        signature: &mut Signature,
+        signature: &Signature,
         constructors: &'a [Constructor],
     ) -> Result<Vec<ConDecl>, NoMemory>
-        requires reads { ReadsSorts (kinds_of_index self.now.index) self.now.ids.items signature.old }
-        requires ready { AllByRecursion (IsReadyConstructor signature.old) (map bare_constructor (map constructor_of constructors.now)) }
-        ensures constructors { IfOk result (λ made. EachPair (IsConOf signature.new) (map bare_constructor (map constructor_of constructors.now)) (cons_of made.items)) }
-        ensures added { OnOk result (AddsLists signature.old signature.new) }
-        ensures reads { OnOk result (ReadsSorts (kinds_of_index self.now.index) self.now.ids.items signature.new) }
+        requires reads { ReadsSorts (kinds_of_index self.now.index) self.now.ids.items signature.now }
+        requires ready { AllByRecursion (IsReadyConstructor signature.now) (map bare_constructor (map constructor_of constructors.now)) }
+        ensures { IfOk result (λ made. EachPair (IsConOf signature.now) (map bare_constructor (map constructor_of constructors.now)) (cons_of made.items)) }
     {
-        let _ = signature.names();
         let mut made = Vec::new(alloc);
         for constructor in constructors {
             made.push(self.constructor(alloc, signature, constructor)?)?;
@@ -187,11 +153,11 @@ impl<'a> SortNames<'a> {
         requires known { AllByRecursion (IsKnownName signature.old) (names_of words.now) }
         requires next { (r : TextRole) × IsPlain r × CanEnter signature.old (functions_named (map bare_sort (map plain_sort domain.now)) (bare_sort (plain_sort sort.now)) r words.now) }
         ensures entered { OnOk result ((r : TextRole) → IsPlain r → AddsFunctions (functions_named (map bare_sort (map plain_sort domain.now)) (bare_sort (plain_sort sort.now)) r words.now) signature.old signature.new) }
-        ensures sorts { OnOk result (KeepsSorts signature.old signature.new) }
+        ensures sorts { OnOk result (signature.new.sorts ≡ signature.old.sorts) }
     {
         let _ = signature.names();
         let args = self.sorts_of_trees(alloc, signature, domain)?;
-        let to = self.sort_of_tree(signature, sort)?;
+        let to = self.sort_there(signature, sort);
         add_each(alloc, signature, words, args.as_slice(), to)
     }
 
@@ -213,7 +179,6 @@ impl<'a> SortNames<'a> {
         let _ = signature.names();
         let sort = self.sort_named(signature, name);
         let made = self.struct_constructors(alloc, signature, constructors)?;
-        let _ = signature.names();
         signature.set_struct(sort, made)
     }
 

@@ -15,14 +15,17 @@ mod flat_sorts;
 mod function_declaring;
 mod item_entries;
 pub mod laws;
+mod own_names;
 mod repeated_variables;
 mod repeats;
 mod sort_cycles;
 mod sort_declaring;
 mod sort_entries;
 mod sort_indexes;
+mod sort_reading;
 mod sort_signatures;
 mod unknown_sorts;
+mod written_sorts;
 
 pub use building::{SortFault, build};
 pub use duplicates::first_duplicate;

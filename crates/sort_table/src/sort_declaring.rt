@@ -20,7 +20,8 @@ ghost use Rattle.data_theory.specs.SortNames.{IsName};
 ghost use Rattle.sort_table.specs.UsedNames.{leaf_of};
 ghost use Rattle.sort_table.specs.IndexedKinds.{kinds_of_index};
 ghost use Rattle.sort_table.specs.NamedSorts.{AreIdsOf, AreSoundKinds, HaveSortNames, AddsLists, AddsSorts, IsNamed, IsOwnKind, ReadsSorts, sort_names_of, sort_count};
-ghost use Rattle.sort_table.specs.DeclaringSorts.{first_four, IsFirst, IsDeclaring, GoesOn, OwnIsNamed, AliasIsNamed, IsReady, AreLevels};
+ghost use Rattle.sort_table.specs.WrittenLists.{NewListsOf, NewListIs};
+ghost use Rattle.sort_table.specs.DeclaringSorts.{first_four, IsFirst, IsDeclaring, NewListsOfAliases, GoesOn, OwnIsNamed, AliasIsNamed, IsReady, AreLevels};
 
 use crate::alias_levels::alias_levels;
 use crate::sort_entries::{Definition, SortIndex};
@@ -86,6 +87,7 @@ impl<'a> SortNames<'a> {
         ensures sorts { OnOk result ((ds : List Declaration) → kinds_of_index self.now.index ≡ kinds_in ds → HaveSortNames (under_names ds) (sort_names_of signature.new) (sort_count signature.new)) }
         ensures added { OnOk result (AddsSorts signature.old signature.new) }
         ensures reads { OnOk result (ReadsSorts (kinds_of_index self.now.index) self.now.ids.items signature.new) }
+        ensures lists { OnOk result (NewListsOfAliases (kinds_of_index self.now.index) signature.old signature.new) }
     {
         self.add_own_sorts(signature)?;
         let levels = alias_levels(alloc, &self.index)?;
@@ -238,7 +240,9 @@ impl<'a> SortNames<'a> {
         ensures added { OnOk result (AddsLists signature.old signature.new) }
         ensures names { OnOk result (sort_names_of signature.new ≡ sort_names_of signature.old) }
         ensures reads { OnOk result (ReadsSorts (kinds_of_index self.now.index) self.now.ids.items signature.new) }
+        ensures lists { OnOk result (NewListsOf (bare_sort (plain_sort tree.now)) signature.old signature.new) }
     {
+        let _ = signature.names();
         match tree {
             SortTree::Bool(_) => Ok(built_in(signature, 0)),
             SortTree::Pos(_) => Ok(built_in(signature, 1)),
@@ -272,7 +276,7 @@ impl<'a> SortNames<'a> {
 }
 
 /// Bool, Pos, Nat or Int.
-fn built_in(signature: &Signature, number: usize) -> SortId
+pub(crate) fn built_in(signature: &Signature, number: usize) -> SortId
     requires { number < 4 }
     ensures sort { Some (sort_under signature.now result) ≡ slice_get first_four number }
     ensures within { result.0 < length signature.now.sorts }
@@ -288,6 +292,7 @@ fn list_over(signature: &mut Signature, element: SortId) -> Result<SortId, NoMem
     ensures within { IfOk result (λ sort. sort.0 < length signature.new.sorts) }
     ensures added { OnOk result (AddsLists signature.old signature.new) }
     ensures names { OnOk result (sort_names_of signature.new ≡ sort_names_of signature.old) }
+    ensures lists { IfOk result (λ sort. NewListIs sort signature.old signature.new) }
 {
     let _ = signature.names();
     match signature.list_of(element) {
@@ -304,6 +309,7 @@ fn add_list(signature: &mut Signature, element: SortId) -> Result<SortId, NoMemo
     ensures within { IfOk result (λ sort. sort.0 < length signature.new.sorts) }
     ensures added { OnOk result (AddsLists signature.old signature.new) }
     ensures names { OnOk result (sort_names_of signature.new ≡ sort_names_of signature.old) }
+    ensures lists { IfOk result (λ sort. NewListIs sort signature.old signature.new) }
 {
     let _ = signature.names();
     let sort = signature.add_list(element)?;

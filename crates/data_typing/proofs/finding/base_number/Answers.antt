@@ -1,6 +1,7 @@
-use Rattle.std.proofs.Common.{rules, sym, ap, ◌∙◌, arith}
+use Rattle.std.proofs.Common.{rules, length, sym, subst, ap, ◌∙◌}
 use Rattle.data_theory.proofs.IdSymbolLemmas.{boolean_is, positive_is, natural_is, integer_is}
 use Rattle.data_typing.specs.FlatSorts.{base_sort}
+use Rattle.data_typing.specs.Within.{IsBaseWithin}
 use Rattle.data_typing.proofs.FindingLemmas.{named_at}
 use Rattle.data_typing.proofs.finding.base_number.Goals as goal
 
@@ -16,8 +17,8 @@ returns-in-Nat-clause-means c = natural_is c.args.sig.now c.next_sort.ensures.st
 pub returns-in-Int-clause-means : goal.returns-in-Int-clause-means
 returns-in-Int-clause-means c = integer_is c.args.sig.now c.next_sort.ensures.stands.table ∙ ap base_sort (sym c.in-Int.is)
 
-pub returns-else-number-named-clause-means : goal.returns-else-number-named-clause-means
-returns-else-number-named-clause-means c = (named_at c.args.sig.now c.args.named.now c.requires.named c.in-Named.number _ (omega arith) (search rules)).1 ∙ ap base_sort (sym c.in-Named.is)
+pub returns-in-Named-clause-means : goal.returns-in-Named-clause-means
+returns-in-Named-clause-means c = (named_at c.args.sig.now c.args.named.now c.requires.named c.in-Named.number _ (subst (IsBaseWithin (length c.args.named.now)) c.in-Named.is c.requires.there) (search rules)).1 ∙ ap base_sort (sym c.in-Named.is)
 
-pub returns-else-number-named-clause-within : goal.returns-else-number-named-clause-within
-returns-else-number-named-clause-within c = (named_at c.args.sig.now c.args.named.now c.requires.named c.in-Named.number _ (omega arith) (search rules)).0
+pub returns-in-Named-clause-within : goal.returns-in-Named-clause-within
+returns-in-Named-clause-within c = (named_at c.args.sig.now c.args.named.now c.requires.named c.in-Named.number _ (subst (IsBaseWithin (length c.args.named.now)) c.in-Named.is c.requires.there) (search rules)).0

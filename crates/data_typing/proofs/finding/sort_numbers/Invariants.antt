@@ -2,6 +2,7 @@ use Rattle.std.proofs.Common.{◌≡◌, ◌<◌, length, map, take}
 use Rattle.std.specs.List.{All}
 use Rattle.data_theory.specs.declared.ids.SortId.{SortId}
 use Rattle.data_theory.specs.IdTerms.{sort_under, IsGrown}
+use Rattle.sort_table.specs.NamedSorts.{AddsLists}
 use Rattle.data_typing.specs.FlatSorts.{flat_sort}
 use Rattle.data_typing.specs.NamedSorts.{AreNamedSorts}
 use Rattle.data_typing.proofs.finding.sort_numbers.Given as goal
@@ -12,4 +13,5 @@ invariant-loop-flat l = record {
   within : All (λ (sort : SortId). sort.0 < length l.sig.sorts) l.sorts.items;
   named : AreNamedSorts l.sig l.named;
   grown : IsGrown l.fn.sig l.sig;
+  added : AddsLists l.fn.sig l.sig;
 }

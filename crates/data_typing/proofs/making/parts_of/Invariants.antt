@@ -1,6 +1,7 @@
 use Rattle.std.proofs.Common.{◌≡◌, take}
 use Rattle.std.specs.List.{All}
 use Rattle.data_theory.specs.IdTerms.{symbol_under, IsGrown}
+use Rattle.sort_table.specs.NamedSorts.{AddsLists}
 use Rattle.data_typing.specs.NamedSorts.{AreNamedSorts}
 use Rattle.data_typing.specs.CodeSteps.{items_of}
 use Rattle.data_typing.specs.CodeParts.{part_items, IsPartWithin}
@@ -12,4 +13,5 @@ invariant-loop-step l = record {
   within : All (IsPartWithin l.sig) l.parts.items;
   named : AreNamedSorts l.sig l.named;
   grown : IsGrown l.fn.sig l.sig;
+  added : AddsLists l.fn.sig l.sig;
 }

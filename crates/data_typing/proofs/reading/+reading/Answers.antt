@@ -8,6 +8,7 @@ use Rattle.mcrl2_syntax.specs.declared.data_tree.DataTree.{DataTree}
 use Rattle.mcrl2_syntax.specs.declared.data_tree.DataTree.TheShapes.{weighed-DataTree-Sum-2-at-2}
 use Rattle.mcrl2_syntax.proofs.data_tree.DataTree.TheLaws.{the_size}
 use Rattle.mcrl2_syntax.specs.DataTrees.{plain_data, plain_operands, operands_of}
+use Rattle.sort_table.specs.NamedSorts.{sort_count}
 use Rattle.sort_table.specs.Expressions.{numeral, listed, word, none, one, two}
 use Rattle.sort_table.specs.BareData.{bare_data, prefix_text, infix_text, to_the_left}
 use Rattle.data_typing.specs.Nodes.{AreBelow}
@@ -131,6 +132,7 @@ read-returns-in_ok-parts-in-Or-clause-stands t c =
 pub read_all-loop-tree-preserved : goal.read_all-loop-tree-preserved
 read_all-loop-tree-preserved t c = record {
   grown = goes_on c.args.nodes.now.items c.loop-tree.nodes.items c.read.new.nodes.items c.loop-tree.invariant.grown c.in_ok-at.ensures.grown;
+  sound = λ h. c.in_ok-at.ensures.sound (c.loop-tree.invariant.sound h);
   stand = all_more (symbol_under c.args.sig.now) (meaning_in c.args.sig.now c.args.scope.now) c.loop-tree.nodes.items c.read.new.nodes.items c.in_ok-at.ensures.grown c.loop-tree.parts.items c.push.new.self.items c.args.trees.now c.loop-tree.tree-index c.tree-item.result c.in_ok-at.at
       c.loop-tree-test.true c.tree-item.is c.loop-tree.invariant.stand c.in_ok-at.ensures.stands c.in_ok-push.ensures.items;
 }
@@ -138,6 +140,7 @@ read_all-loop-tree-preserved t c = record {
 pub read_chain-loop-operand-preserved : goal.read_chain-loop-operand-preserved
 read_chain-loop-operand-preserved t c = record {
   grown = goes_on c.args.nodes.now.items c.loop-operand.nodes.items c.add_word.new.nodes.items c.loop-operand.invariant.grown (goes_on c.loop-operand.nodes.items c.read.new.nodes.items c.add_word.new.nodes.items c.in_ok-right.ensures.grown c.in_ok-at.ensures.grown);
+  sound = λ h. c.in_ok-at.ensures.sound (c.in_ok-right.ensures.sound (c.loop-operand.invariant.sound h));
   within = c.in_ok-at.ensures.within;
   stands = λ e s. chain_more (symbol_under c.args.sig.now) (meaning_in c.args.sig.now c.args.scope.now) c.loop-operand.nodes.items c.read.new.nodes.items c.add_word.new.nodes.items c.in_ok-right.ensures.grown c.loop-operand.at c.in_ok-right.right c.in_ok-at.at c.args.operands.now c.loop-operand.operand-index c.operand-item.result
       c.loop-operand-test.true c.operand-item.is e (c.loop-operand.invariant.stands e s) c.in_ok-right.ensures.stands c.in_ok-parts.parts.items c.in_ok-parts.ensures.items c.infix_text.result.now c.infix_text.ensures c.in_ok-at.ensures.stands;
@@ -146,11 +149,23 @@ read_chain-loop-operand-preserved t c = record {
 pub read_all-read-requires : goal.read_all-read-requires
 read_all-read-requires t c = (
   omega (arith, c.decreases, most_at the_size c.args.trees.now c.loop-tree.tree-index c.tree-item.result c.loop-tree-test.true c.tree-item.is),
-  (c.requires.flats, (c.requires.names, (c.loop-tree.invariant.grown.nodes, readable_at c.args.trees.now c.loop-tree.tree-index c.tree-item.result c.requires.trees c.loop-tree-test.true c.tree-item.is))),
+  (c.requires.flats, (c.requires.names, (c.requires.sorts, (c.loop-tree.invariant.grown.nodes, readable_at c.args.trees.now c.loop-tree.tree-index c.tree-item.result c.requires.trees c.loop-tree-test.true c.tree-item.is)))),
 )
 
 pub read_chain-read-requires : goal.read_chain-read-requires
 read_chain-read-requires t c = (
   omega (arith, c.decreases, most_at (λ (o : InfixSign × DataTree). weighed-DataTree-Sum-2-at-2.weight DataTree the_size o) c.args.operands.now c.loop-operand.operand-index c.operand-item.result c.loop-operand-test.true c.operand-item.is),
-  (c.requires.flats, (c.requires.names, (c.loop-operand.invariant.grown.nodes, operand_at c.args.operands.now c.loop-operand.operand-index c.operand-item.result c.requires.trees c.loop-operand-test.true c.operand-item.is))),
+  (c.requires.flats, (c.requires.names, (c.requires.sorts, (c.loop-operand.invariant.grown.nodes, operand_at c.args.operands.now c.loop-operand.operand-index c.operand-item.result c.requires.trees c.loop-operand-test.true c.operand-item.is)))),
 )
+
+pub read-returns-in-Numeral-clause-sound : goal.read-returns-in-Numeral-clause-sound
+read-returns-in-Numeral-clause-sound t c = IfOk-weaker c.add_numeral.result _ _ (λ _ k. k (sort_count c.args.sig.now) (length c.args.sig.now.functions)) c.add_numeral.ensures.sound
+
+pub read-returns-in_ok-parts-in-List-clause-sound : goal.read-returns-in_ok-parts-in-List-clause-sound
+read-returns-in_ok-parts-in-List-clause-sound t c = IfOk-weaker c.add_list.result _ _ (λ _ k h. k (sort_count c.args.sig.now) (length c.args.sig.now.functions) (c.in_ok-parts-in-List.ensures.sound h)) c.add_list.ensures.sound
+
+pub read_all-returns-clause-sound : goal.read_all-returns-clause-sound
+read_all-returns-clause-sound t c = c.loop-tree.invariant.sound
+
+pub read_chain-returns-clause-sound : goal.read_chain-returns-clause-sound
+read_chain-returns-clause-sound t c = c.loop-operand.invariant.sound

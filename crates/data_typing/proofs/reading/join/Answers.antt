@@ -15,6 +15,7 @@ loop-step-init c =
     let some : 1 ≤ length c.args.operands.now = some_there c.args.operands.now c.is_empty.result c.is_empty.ensures c.if-is_empty.false in
     record {
       grown = not_on c.args.nodes.now.items c.requires.nodes;
+      sound = λ h. h;
       stands = λ es s. join_begins (symbol_under c.args.sig.now) (meaning_in c.args.sig.now c.args.scope.now) c.args.text.now c.args.nodes.now.items c.args.operands.now es s (length c.args.operands.now - 1) _ (omega arith) (omega (arith, some));
       within = below_at (length c.args.nodes.now.items) c.args.operands.now (length c.args.operands.now - 1) c.requires.below (omega (arith, some));
     }
@@ -24,9 +25,13 @@ loop-step-preserved c =
     let some : 1 ≤ length c.args.operands.now = some_there c.args.operands.now c.is_empty.result c.is_empty.ensures c.if-is_empty.false in
     record {
       grown = goes_on c.args.nodes.now.items c.loop-step.nodes.items c.add_word-in-loop-step.new.nodes.items c.loop-step.invariant.grown c.in_ok-at.ensures.grown;
+      sound = λ h. c.in_ok-at.ensures.sound (c.loop-step.invariant.sound h);
       stands = λ es s.
           join_goes_on (symbol_under c.args.sig.now) (meaning_in c.args.sig.now c.args.scope.now) c.args.text.now c.args.nodes.now.items c.loop-step.nodes.items c.add_word-in-loop-step.new.nodes.items c.args.operands.now es s c.loop-step.invariant.grown
           (length c.args.operands.now - 1 - 1 - c.loop-step.step) (length c.args.operands.now - 1 - c.loop-step.step) (length c.args.operands.now - 1 - (c.loop-step.step + 1)) c.loop-step.at c.in_ok-at.at
           (omega arith) (omega (arith, some, c.loop-step-test.true)) (omega (arith, some, c.loop-step-test.true)) (c.loop-step.invariant.stands es s) c.in_ok-parts.parts.items c.in_ok-parts.ensures.items c.in_ok-at.ensures.stands;
       within = c.in_ok-at.ensures.within;
     }
+
+pub returns-clause-sound : goal.returns-clause-sound
+returns-clause-sound c = c.loop-step.invariant.sound

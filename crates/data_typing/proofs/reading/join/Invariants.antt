@@ -1,6 +1,8 @@
 use Rattle.std.proofs.Common.{◌<◌, ◌-◌, List, length, drop}
 use Rattle.data_theory.specs.IdTerms.{symbol_under}
 use Rattle.sort_table.specs.Expressions.{Expression}
+use Rattle.sort_table.specs.NamedSorts.{sort_count}
+use Rattle.data_typing.specs.Within.{AreNodesWithin}
 use Rattle.data_typing.specs.NodeTypings.{Stands, EachStands, GoOn}
 use Rattle.data_typing.specs.CodeWords.{meaning_in}
 use Rattle.data_typing.specs.Readings.{joined}
@@ -9,6 +11,7 @@ use Rattle.data_typing.proofs.reading.join.Given as goal
 abbrev pub invariant-loop-step : goal.invariant-loop-step
 invariant-loop-step l = record {
   grown : GoOn l.initial.nodes.items l.nodes.items;
+  sound : AreNodesWithin (sort_count l.sig) (length l.sig.functions) l.initial.nodes.items → AreNodesWithin (sort_count l.sig) (length l.sig.functions) l.nodes.items;
   stands : (es : List Expression) → EachStands (symbol_under l.sig) (meaning_in l.sig l.scope) l.initial.nodes.items l.operands es → Stands (symbol_under l.sig) (meaning_in l.sig l.scope) l.nodes.items l.at (joined l.text (drop (l.last - l.step) es));
   within : l.at < length l.nodes.items;
 }

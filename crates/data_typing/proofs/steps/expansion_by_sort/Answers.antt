@@ -1,3 +1,6 @@
+use Rattle.std.proofs.lemmas.Result.{IfOk-weaker}
+use Rattle.data_typing.specs.Typings.{elements}
+use Rattle.data_typing.proofs.WithinLemmas.{read_off_within}
 use Rattle.std.proofs.Common.{ℕ, List, map, sym, subst, ap, ◌∙◌}
 use Rattle.std.specs.Prelude.{IfOk, option_map}
 use Rattle.data_theory.specs.declared.ids.FunId.{FunId}
@@ -11,8 +14,8 @@ use Rattle.data_typing.specs.CodeSteps.{kind_by_sort, typings_at, parts_limit, C
 use Rattle.data_typing.proofs.StepLemmas.{comes_as}
 use Rattle.data_typing.proofs.steps.expansion_by_sort.Goals as goal
 
-pub returns-in-Call : goal.returns-in-Call
-returns-in-Call c =
+pub returns-in-Call-clause-comes : goal.returns-in-Call-clause-comes
+returns-in-Call-clause-comes c =
     let n = c.args.nodes.now in
     let js : List ℕ = c.as_slice-arguments.result.now in
     subst (λ (ks : List ℕ). IfOk c.call_by_sort.result (λ o. (y : FunId → Symbol) → Comes y n (parts_limit n ks) o (kind_by_sort y c.args.node.now.kind (typings_at y n ks) (flat_sort c.args.sort)))) c.as_slice-arguments.ensures.value
@@ -21,4 +24,8 @@ returns-in-Call c =
     (λ y.
     ap (λ (fs : List code.Overload). typings.call_by_sort (map (signature_of y) fs) (option_map scheme_of c.in-Call.any) (typings_at y n js) (flat_sort c.args.sort)) c.deref.ensures.value
     ∙ ap (λ (k : Kind). kind_by_sort y k (typings_at y n js) (flat_sort c.args.sort)) (sym c.in-Call.is))
-    c.call_by_sort.result c.call_by_sort.ensures)
+    c.call_by_sort.result c.call_by_sort.ensures.comes)
+
+pub returns-in-Some-clause-within : goal.returns-in-Some-clause-within
+returns-in-Some-clause-within c =
+    IfOk-weaker c.list_expansion.result _ _ (λ o k n m h s. k n m (read_off_within n c.args.sort elements c.read_off.result c.read_off.ensures c.in-Some.element c.in-Some.is s)) c.list_expansion.ensures.within

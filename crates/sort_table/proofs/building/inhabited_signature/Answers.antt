@@ -2,9 +2,9 @@ use Rattle.std.proofs.Common.{◌∙◌, List, sym, subst, ap}
 use Rattle.std.specs.Prelude.{slice_get}
 use Rattle.data_theory.specs.declared.ids.NameId.{NameId}
 use Rattle.data_theory.proofs.PlaceLemmas.{read_contained}
-use Rattle.sort_table.specs.SortMeanings.{kinds_in}
+use Rattle.sort_table.specs.SortMeanings.{kinds_in, under_names}
 use Rattle.sort_table.specs.SignatureVocabularies.{text_under}
-use Rattle.sort_table.specs.DeclaredNames.{AreNamesOf}
+use Rattle.sort_table.specs.DeclaredNames.{own_among, AreNamesOf}
 use Rattle.sort_table.specs.DeclarationTrees.{declarations_of_text}
 use Rattle.sort_table.proofs.FirstEmpty.{text_within}
 use Rattle.sort_table.proofs.NamedSignatures.{text_read}
@@ -31,7 +31,7 @@ returns-in-Ok-Some-clause-refused c =
     let among = rw c.in-Ok-Some.field-0-is at c.in-Ok-Some.ensures.among in
     let found = rw c.in-Ok-Some.field-0-is at c.in-Ok-Some.ensures.found ds c.in_ok-signature.ensures.declared.vocabulary names in
     let at = read_contained c.as_slice.result.now c.in-Ok-Some.name among in
-    let within = text_within g c.as_slice.result.now (kinds_in ds) names at.0 c.in-Ok-Some.name at.1 in (
+    let within = text_within g c.as_slice.result.now (own_among (under_names ds).sort (kinds_in ds)) names at.0 c.in-Ok-Some.name at.1 in (
       text_under g c.in-Ok-Some.name,
       ap (λ ts. slice_get ts c.in-Ok-Some.name.0) c.into_names.ensures ∙ text_read g.texts c.in-Ok-Some.name.0 within,
       (c.requires.known, c.requires.no_cycle, c.requires.once, found),

@@ -4,6 +4,7 @@ use Rattle.data_theory.specs.Signature.{Sig}
 use Rattle.sort_table.specs.NamedSorts.{AddsLists, no_lists, one_list, sort_names_of}
 use Rattle.sort_table.proofs.NamedSignatures.{names_with_list}
 use Rattle.sort_table.proofs.DeclaringLemmas.{list_added}
+use Rattle.sort_table.proofs.WrittenListLemmas.{new_list_is}
 use Rattle.sort_table.proofs.sort_declaring.add_list.Goals as goal
 
 pub returns-clause-sort : goal.returns-clause-sort
@@ -18,3 +19,6 @@ returns-clause-added c = subst (λ (h : Sig). AddsLists c.args.signature.now h) 
 
 pub returns-clause-names : goal.returns-clause-names
 returns-clause-names c = ap sort_names_of (c.in_ok-sort.ensures.added c.requires.absent) ∙ names_with_list c.args.signature.now c.args.element c.names.ensures.stands.complete
+
+pub returns-clause-lists : goal.returns-clause-lists
+returns-clause-lists c = new_list_is c.args.signature.now c.add_list.new.self c.args.element c.in_ok-sort.sort c.names.ensures.stands c.requires.within c.requires.absent (c.in_ok-sort.ensures.added c.requires.absent) c.in_ok-sort.ensures.list

@@ -1,3 +1,4 @@
+use Rattle.std.proofs.Common.{inl}
 use Rattle.std.proofs.lemmas.Option.{slice_get_within}
 use Rattle.sort_table.specs.NamedSorts.{no_lists}
 use Rattle.sort_table.proofs.NamedSignatures.{list_meaning}
@@ -11,3 +12,6 @@ returns-in-Some-clause-within c = let over = c.in-Some.ensures in slice_get_with
 
 pub returns-in-Some-clause-added : goal.returns-in-Some-clause-added
 returns-in-Some-clause-added c = no_lists
+
+pub returns-in-Some-clause-lists : goal.returns-in-Some-clause-lists
+returns-in-Some-clause-lists c = λ x l over. inl over

@@ -26,3 +26,7 @@ returns-clause-added c =
 
 pub returns-clause-reads : goal.returns-clause-reads
 returns-clause-reads c = reads (kinds_of_index c.args.self.now.index) c.args.self.now.ids.items c.add_levels.new.signature c.in_ok-add_levels.ensures.goes_on.state
+
+pub returns-clause-lists : goal.returns-clause-lists
+returns-clause-lists c =
+    (goes_further (kinds_of_index c.args.self.now.index) c.args.self.now.ids.items c.args.signature.now c.add_own_sorts.new.signature c.add_levels.new.signature c.in_ok-add_own_sorts.ensures.goes_on c.in_ok-add_levels.ensures.goes_on).lists

@@ -28,7 +28,7 @@ returns-clause-goes_on c =
     let text = text_read g.texts c.args.id.0 c.requires.text in
     on_ok_weaker c.add_alias.result (λ added. subst (λ (k : Sig). GoesOn ks c.args.self.now.ids.items g k) (sym added)
     (alias_goes_on ks c.args.self.now.ids.items g h (get_or g.texts c.args.id.0 []) (bare_sort (plain_sort c.args.tree.now)) c.args.id c.in_ok-sort.sort c.names.ensures.stands c.requires.state text c.requires.text c.requires.absent
-    c.in_ok-sort.ensures.added c.in_ok-sort.ensures.names c.in_ok-sort.ensures.sort c.in_ok-sort.ensures.within (c.requires.alias (get_or g.texts c.args.id.0 []) text))) c.add_alias.ensures.added
+    c.in_ok-sort.ensures.added c.in_ok-sort.ensures.names c.in_ok-sort.ensures.sort c.in_ok-sort.ensures.within c.in_ok-sort.ensures.lists (c.requires.alias (get_or g.texts c.args.id.0 []) text))) c.add_alias.ensures.added
 
 pub returns-clause-named : goal.returns-clause-named
 returns-clause-named c =
@@ -37,4 +37,4 @@ returns-clause-named c =
     let h = c.sort_of_tree.new.signature in
     on_ok_weaker c.add_alias.result (λ added. λ n text. subst (λ (k : Sig). IsNamed k n) (sym added)
     (alias_now ks c.args.self.now.ids.items g h n (bare_sort (plain_sort c.args.tree.now)) c.args.id c.in_ok-sort.sort c.names.ensures.stands c.requires.state text c.requires.text c.requires.absent
-    c.in_ok-sort.ensures.added c.in_ok-sort.ensures.names c.in_ok-sort.ensures.sort c.in_ok-sort.ensures.within)) c.add_alias.ensures.added
+    c.in_ok-sort.ensures.added c.in_ok-sort.ensures.names c.in_ok-sort.ensures.sort c.in_ok-sort.ensures.within c.in_ok-sort.ensures.lists)) c.add_alias.ensures.added
