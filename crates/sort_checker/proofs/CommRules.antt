@@ -97,7 +97,7 @@ same_there ss (rs ∷ sss) e = by_test (sorts_eq ss rs) refl (same_there ss sss)
     by_test true q f k = subst (λ (ts : List Sort). Contains (ts ∷ sss) ss) (sym (sorts_same ss rs q)) (contains_first ss sss)
     by_test false q f k = contains_later rs ss sss (f k)
 
-all_of : {A : Type 0} (p : A → Bool) (x : A) (xs : List A) → list_all p xs ≡ true → Contains xs x → p x ≡ true
+pub all_of : {A : Type 0} (p : A → Bool) (x : A) (xs : List A) → list_all p xs ≡ true → Contains xs x → p x ≡ true
 all_of p x [] h c = absurd (contains_none x c)
 all_of p x (y ∷ ys) h c = let r = both_true (p y) (list_all p ys) h in ⊎_elim (λ (e : y ≡ x). subst (λ z. p z ≡ true) e r.0) (λ d. all_of p x ys r.1 d) (contains_cases y x ys c)
 

@@ -32,3 +32,4 @@ pub mod ElaboratedEquations
 pub mod NameLists
 pub mod ScopeLists
 pub mod ActionGroups
+pub mod WorkedWholeTexts

@@ -28,3 +28,4 @@ pub mod KnownNames
 pub mod UnknownTrees
 pub mod ActionTables
 pub mod CommTrees
+pub mod WorkedWholeTexts

@@ -11,6 +11,7 @@ ghost use Rattle.sort_checker.specs.SoundTexts.{SoundProcessesElaborate, SoundDe
 ghost use Rattle.sort_checker.specs.WholeTexts.{WellTypedTextsElaborate};
 ghost use Rattle.sort_checker.specs.WorkedFaults.{TheseHaveFaults};
 ghost use Rattle.sort_checker.specs.WorkedElaborations.{TheseElaborate};
+ghost use Rattle.sort_checker.specs.WorkedWholeTexts.{TheWholeTextIsWellTyped};
 
 /// A text is refused with one fault at most.
 pub fn refusals_are_single()
@@ -59,6 +60,11 @@ pub fn these_have_faults()
 /// A worked definition and a worked equation elaborate as the language says.
 pub fn these_elaborate()
     ensures { TheseElaborate }
+{}
+
+/// A worked whole text is well typed.
+pub fn the_whole_text_is_well_typed()
+    ensures { TheWholeTextIsWellTyped }
 {}
 
 /// Sorts, and functions under names that don't stand in a text, change nothing in what it elaborates to.
