@@ -68,11 +68,13 @@ fn case(
     let Some(last) = lines.last() else {
         return Ok(String::new(alloc));
     };
+    let said = (sorts.as_slice(), actions.as_slice());
+    if last.starts_with("stacked") {
+        let lin = stack_encoder::encode(alloc, &form, sig, pool)?;
+        return done(alloc, &lin, last.as_str(), said, sig, pool);
+    }
     match encode(alloc, &form, sig, pool) {
-        Ok(lin) => {
-            let said = (sorts.as_slice(), actions.as_slice());
-            done(alloc, &lin, last.as_str(), said, sig, pool)
-        },
+        Ok(lin) => done(alloc, &lin, last.as_str(), said, sig, pool),
         Err(EncodeFault::NotTail(number)) => Ok(format!(in alloc; "not tail {number}")?),
         Err(EncodeFault::NoMemory) => Err(NoMemory),
     }

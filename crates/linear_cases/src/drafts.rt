@@ -470,7 +470,7 @@ pub fn add_line(
             let summand = summand(alloc, draft, sig, pool, text)?;
             add_summand(draft, summand)?;
         }
-        "linear" => {
+        "linear" | "stacked" => {
             let init = terms(alloc, draft, sig, pool, first_part(text).0)?;
             draft.init = init;
         }
