@@ -1,0 +1,22 @@
+//! Says of small texts which fault of typing they have, for the table in `stdin` and `stdout`.
+//!
+//! A line of the input is a text. For each the program prints a line: the first of the faults 12 and 15 to 17 that the text has, with the
+//! number of the declaration and the name, or else `no fault`. A line that begins with `%` is a heading, and its own answer. The
+//! signature has the actions over built-in sorts and the names of mappings alone.
+#![tactic(auto)]
+
+mod answers;
+mod signatures;
+
+use answers::answer;
+use std::io::{self, Write};
+
+fn main(rt: HostRuntime) -> io::Result<()> {
+    let mut out = rt.stdout();
+    for line in rt.lines(rt.alloc()) {
+        let mut answer = answer(rt.alloc(), line?.as_str())?;
+        answer.push(b'\n')?;
+        out.write_all(&answer)?;
+    }
+    Ok(())
+}
