@@ -23,3 +23,8 @@ pub mod FixedFunctions
 pub mod WrittenRules
 pub mod TruthAnswers
 pub mod PlaceEqualities
+pub mod RowShapes
+pub mod WordSigns
+pub mod ListFacts
+pub mod Markings
+pub mod HeadNumbers

@@ -2,7 +2,9 @@ pub mod Standing
 pub mod Signs
 pub mod Views
 pub mod FirstLines
+pub mod Marking
 pub mod Signatures
+pub mod Written
 pub mod Rules
 pub mod Places
 pub mod Frames

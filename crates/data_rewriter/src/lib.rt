@@ -1,8 +1,10 @@
 //! Rewriting of terms.
 #![tactic(auto)]
 
+mod building;
 mod equal_lines;
 mod equations;
+mod function_signs;
 mod lines;
 mod list_lines;
 mod machine;
@@ -17,6 +19,7 @@ mod struct_lines;
 mod tables;
 mod truth_lines;
 mod views;
+mod word_signs;
 
 pub use machine::Normal;
 pub use rewriter::{Rewriter, Truth};

@@ -8,18 +8,21 @@ ghost use Rattle.term_pool.specs.Pools.{Extends};
 ghost use Rattle.data_rewriter.specs.Standing.{IsTerm};
 ghost use Rattle.data_rewriter.specs.States.{Says};
 ghost use Rattle.data_rewriter.specs.Rewriters.{Fits, IsDecision, IsTruthOf, number_rules};
+ghost use Rattle.std.specs.List.{All};
+ghost use Rattle.data_rewriter.specs.Written.{AreEquationsOf, IsRule, rules_of};
 ghost use Rattle.data_rewriter.specs.Signatures.{AreSignTables};
 ghost use Rattle.term_pool.specs.HeadTrees.{IsIn};
 
+use crate::building::tables_of;
 use crate::machine::{Normal, run};
 use crate::tables::Tables;
 use crate::truth_lines::{is_false, is_true};
 use crate::views::view_of;
-use data_theory::{NoMemory, Num, TermId};
+use data_theory::{NoMemory, Num, Signature, TermId};
 use number_rules::{NumOp, NumberRules};
 use std::alloc::Global;
 use std::collections::HashMap;
-use term_pool::Pool;
+use term_pool::{Pool, Theory};
 
 /// How a term of sort Bool is decided.
 #[derive(Clone, Copy, Debug, PartialEq, Eq)]
@@ -44,6 +47,29 @@ pub struct Rewriter<F: Fn(NumOp, Num, Num) -> Option<Num>> {
 }
 
 impl<F: Fn(NumOp, Num, Num) -> Option<Num>> Rewriter<F> {
+    /// A rewriter of the data of a signature and of written equations, whose terms are in the pool.
+    pub fn new(
+        alloc: Global,
+        sig: &Signature,
+        pool: &Pool,
+        theory: &Theory,
+        rules: NumberRules<F>,
+    ) -> Result<Rewriter<F>, NoMemory>
+        requires { All (IsRule sig.now pool.now.trees) (rules_of theory.now) }
+        ensures fits { IfOk result (λ rewriter. (own : List Equation) → AreEquationsOf sig.now pool.now.trees (rules_of theory.now) own → Fits rewriter sig.now own pool.now.trees) }
+        ensures rules { IfOk result (λ rewriter. number_rules rewriter ≡ rules) }
+    {
+        // What a signature keeps stands behind each of its calls.
+        sig.next_sort();
+        let tables = tables_of(alloc, sig, pool, theory)?;
+        Ok(Rewriter {
+            tables,
+            rules,
+            normal_forms: HashMap::new(alloc),
+            alloc,
+        })
+    }
+
     /// The term that a term goes to, where the fuel suffices. One unit of fuel is one use of an equation, in the term or in a
     /// condition, or the beginning of a written equation's condition other than `true`. What is known of terms that were
     /// rewritten costs no fuel.
