@@ -3,9 +3,10 @@
 
 Run it from the top of the repository, once `rt run` has built the program in crates/declaration_cases: bench/declarations.py [WORD..]
 It prints one line for each kind of text and size: the kind, how many declarations, names or sorts the text has, its size, the processor's
-seconds beyond those of a text without any, how many times those of a tenth of the size, and for the largest the peak memory for each byte of the text. At
-last it names the kinds that grow worse than n log n. With words only the kinds that have one of them are tried. The program runs under
-a stack of a mebibyte, so that nothing that goes down along a text ends well. It is no part of the gate.
+seconds beyond those of a text without any, how many times those of a tenth of the size, and for the largest the peak memory for each byte
+of the text, which is never less than that of this script. At last it names the kinds that grow worse than n log n. With words only the
+kinds that have one of them are tried. The program runs under a stack of a mebibyte, so that nothing that goes down along a text ends
+well. It is no part of the gate.
 """
 
 import math
@@ -94,12 +95,22 @@ def sums(count):
     return "proc P = " + " + ".join(["sum x, y: Nat . delta"] * count) + ";"
 
 
-def twice(text, first, last):
-    """What a text says whose last declaration is the first one again."""
-    return lambda count: (text(count), f"duplicate {first} {last(count)}")
+def twice(text):
+    """A text whose last declaration is the first one again, and what is said of it."""
+    return lambda count: (text(count), f"duplicate 1 {count}")
 
 
-# The text of a size, and what is said of it where it isn't that there is no fault.
+def cycle(count):
+    """Aliases that go round, and what is said of them."""
+    return chain("{}", "A0")(count), "sort cycle " + " ".join(names("A", count))
+
+
+def unknown(count):
+    """Actions of which the last one's sort isn't declared, and what is said of them."""
+    return each("act", "a@: Nat")(count - 1) + " act a: E;", f"unknown sort E in declaration {count}"
+
+
+# The text of a size, and where there is a fault what is said of it.
 KINDS = {
     "sorts": each("sort", "D@"),
     "sorts, together": together("sort", "D", ""),
@@ -128,9 +139,11 @@ KINDS = {
     "sums": sums,
     "var sections": variables,
     "var, one section": lambda count: each("var", "x@: Nat")(count) + " eqn x0 = x0;",
-    "a sort twice": twice(lambda count: each("sort", "D@")(count - 1) + " sort D0;", 1, lambda count: count),
-    "a map twice": twice(lambda count: each("map", "f@: Nat # Bool -> Nat")(count - 1) + " map f0: Nat # Bool -> Bool;", 1, lambda count: count),
-    "an action, a process": twice(lambda count: each("act", "a@: Nat")(count - 1) + " proc a0 = delta;", 1, lambda count: count),
+    "an unknown sort": unknown,
+    "a cycle": cycle,
+    "a sort twice": twice(lambda count: each("sort", "D@")(count - 1) + " sort D0;"),
+    "a map twice": twice(lambda count: each("map", "f@: Nat # Bool -> Nat")(count - 1) + " map f0: Nat # Bool -> Bool;"),
+    "an action, a process": twice(lambda count: each("act", "a@: Nat")(count - 1) + " proc a0 = delta;"),
 }
 
 
