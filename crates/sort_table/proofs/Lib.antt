@@ -48,6 +48,7 @@ pub mod AddedActions
 pub mod MeetingMarks
 pub mod FlatSortLemmas
 pub mod MarkedItems
+pub mod DomainLemmas
 pub mod OwnNames
 pub mod PushedMarks
 pub mod ItemMarkLemmas

@@ -45,6 +45,7 @@ pub mod WorkedTrees
 pub mod Repeats
 pub mod FlatSorts
 pub mod BuiltInTests
+pub mod Domains
 pub mod ItemMarks
 pub mod RepeatedVariables
 pub mod PlacedDeclarations

@@ -10,6 +10,7 @@ mod building;
 mod built_in_tests;
 mod constructor_marks;
 mod declaration_lists;
+mod domains;
 mod duplicates;
 mod empty_sorts;
 mod flat_sorts;
