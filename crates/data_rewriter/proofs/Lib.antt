@@ -28,3 +28,4 @@ pub mod WordSigns
 pub mod ListFacts
 pub mod Markings
 pub mod HeadNumbers
+pub mod Simple

@@ -12,3 +12,4 @@ pub mod States
 pub mod Matching
 pub mod FirstRules
 pub mod Rewriters
+pub mod Simplifying

@@ -14,6 +14,7 @@ mod number_lines;
 mod rewriter;
 mod rights;
 mod signs;
+mod simplifier;
 mod stack;
 mod struct_lines;
 mod tables;
@@ -23,3 +24,4 @@ mod word_signs;
 
 pub use machine::Normal;
 pub use rewriter::{Rewriter, Truth};
+pub use simplifier::{AsIs, ByRewriter, Simplifier};
