@@ -15,6 +15,7 @@ pub mod StateMoves
 pub mod StepMoves
 pub mod ArgumentMoves
 pub mod RootMoves
+pub mod Keeping
 pub mod Running
 pub mod PatternMoves
 pub mod LastLine

@@ -30,6 +30,7 @@ pub a_rewriter_stays : {F : Type 0} (r : Rewriter F) (sig : Sig) (own : List Equ
 a_rewriter_stays r sig own old new grows h = record {
   tables = tables_kept r.tables sig own old new grows h.tables;
   stored = stored_kept sig own old new grows r.normal_forms h.stored;
+  closed = h.closed;
 }
 
 pub goes_is_simplified : (sig : Sig) (own : List Equation) (old new : List Tree) (t u : TermId) (n : ℕ) → IsSignature sig → IsTerm sig new u → GoesTo (data_meant sig) own (term_at sig old t) (term_at sig new u) n → IsSimplified sig own old new t u

@@ -11,5 +11,6 @@ pub mod Frames
 pub mod States
 pub mod Matching
 pub mod FirstRules
+pub mod Stored
 pub mod Rewriters
 pub mod Simplifying
