@@ -48,3 +48,5 @@ pub mod BuiltInTests
 pub mod ItemMarks
 pub mod RepeatedVariables
 pub mod PlacedDeclarations
+pub mod PlacedSections
+pub mod TextSignatures
