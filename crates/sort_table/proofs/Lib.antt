@@ -55,3 +55,17 @@ pub mod ItemMarkLemmas
 pub mod DeclaredAgain
 pub mod BuiltInLemmas
 pub mod TwiceLemmas
+pub mod GivenConstructors
+pub mod KeptMeanings
+pub mod GivenMeanings
+pub mod AddedSorts
+pub mod SortKinds
+pub mod OwnSorts
+pub mod ReadySections
+pub mod CopiedNames
+pub mod GivenVocabulary
+pub mod GivenActions
+pub mod BuiltSignatures
+pub mod ConstructorPlaces
+pub mod ListedFunctions
+pub mod SpelledPlaces

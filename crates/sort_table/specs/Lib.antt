@@ -49,3 +49,5 @@ pub mod Domains
 pub mod ItemMarks
 pub mod RepeatedVariables
 pub mod PlacedDeclarations
+pub mod PlacedSections
+pub mod TextSignatures
