@@ -1,36 +1,32 @@
 -- Equations that stand make a form that fits.
-use Rattle.std.proofs.Common.{◌≡◌, ◌<◌, ◌≤◌, ◌-◌, ◌+◌, ℕ, suc, List, [], ◌∷◌, ◌++◌, map, length, get_or, Option, None, Some, refl, sym, ap, ap₂, ◌∙◌, subst, arith}
-use Rattle.std.specs.Prelude.{slice_get, Contains, option_map}
+use Rattle.std.proofs.Common.{◌≡◌, ◌≤◌, ◌-◌, ℕ, suc, List, [], ◌∷◌, ◌++◌, map, length, get_or, Some, refl, sym, ap, ap₂, ◌∙◌, subst, arith}
+use Rattle.std.specs.Prelude.{slice_get, option_map}
 use Rattle.std.specs.List.{All}
 use Rattle.std.proofs.lemmas.List.{length-map, map-append}
-use Rattle.std.proofs.lemmas.List.Elements.{All-nil, All-cons, All-head, All-tail, All-weaker, All-contains}
+use Rattle.std.proofs.lemmas.List.Elements.{All-head, All-tail, All-weaker, All-contains}
 use Rattle.std.proofs.lemmas.Option.{slice_get_within, slice_get-map, slice_get-get_or}
 use Rattle.data_theory.specs.declared.ids.VarId.{VarId}
 use Rattle.data_theory.specs.declared.ids.TermId.{TermId}
 use Rattle.data_theory.specs.Terms.{Term, Terms, variable, numeral, unknown, application, none, more, IsClosed, AreClosed}
 use Rattle.data_theory.specs.Environments.{terms_of, IsOver, AreOver, Apart, AreDistinct}
-use Rattle.data_theory.specs.Table.{bool_sort}
 use Rattle.data_theory.specs.Signature.{Sig}
 use Rattle.data_theory.specs.WholeSignatures.{IsSignature}
 use Rattle.data_theory.specs.IdTrees.{Tree}
 use Rattle.data_theory.proofs.EnvironmentLemmas.{contains_nothing}
-use Rattle.data_theory.proofs.PlaceLemmas.{read_contained, contains_read}
+use Rattle.data_theory.proofs.PlaceLemmas.{read_contained}
 use Rattle.term_pool.specs.HeadTrees.{IsIn}
 use Rattle.process_terms.specs.PlainProcesses.{PlainAction}
-use Rattle.process_terms.specs.Labels.{Label}
 use Rattle.process_terms.specs.Meanings.{ReadsOnly, bound_at, term_at, label_of}
 use Rattle.process_terms.specs.SignatureEntries.{entries_of}
 use Rattle.bisim_laws.specs.LinearProcesses.{variables, LabelIsOver, no_action_left, action_over}
-use Rattle.bisim_laws.specs.BaseStates.{GreibachCall}
 use Rattle.lps_core.specs.Fitting.{AreTermsOf, IsActionOf, IsVariable, sort_of_variable, HasTakenName}
-use Rattle.lps_core.specs.Naming.{names_of}
 use Rattle.lps_core.specs.TreeSummands.{numbers_of}
 use Rattle.lps_core.proofs.Members.{contains_map, mapped_at, all_from}
 use Rattle.lps_core.proofs.MeantTrees.{numbers_meant}
 use Rattle.lps_core.proofs.StayingFits.{closed_terms_fit}
-use Rattle.proc_unfold.specs.FittingModels.{TermFits, TermsFit, ActionFits}
-use Rattle.greibach.specs.Forms.{FormSummand, FormEquation, CallIsOver, IsFormSummand, IsFormEquation, IsForm}
-use Rattle.greibach.specs.PlainForms.{PlainFormSummand, PlainEquation, PlainForm, call_of, form_summand_of, equation_of, form_of}
+use Rattle.proc_unfold.specs.FittingModels.{TermsFit, ActionFits}
+use Rattle.greibach.specs.Forms.{CallIsOver, IsFormSummand, IsFormEquation}
+use Rattle.greibach.specs.PlainForms.{PlainFormSummand, PlainEquation, call_of, form_summand_of, equation_of, form_of}
 use Rattle.greibach.specs.FittingForms.{CallFits, FormSummandFits, EquationFits, FormFits}
 use Rattle.greibach.specs.PlacesInCode.{PlainPlace}
 use Rattle.greibach.specs.Surroundings.{HasTakenNames, NumberedCall, SummandStands, EquationStands, AreEquations}
@@ -43,11 +39,11 @@ mutual
   closed_over_none (unknown d k) h = tt
   closed_over_none (application f ts) h = all_closed_over_none ts h
 
-  all_closed_over_none : (ts : Terms) → AreOver [] ts → AreClosed ts
+  pub all_closed_over_none : (ts : Terms) → AreOver [] ts → AreClosed ts
   all_closed_over_none none h = tt
   all_closed_over_none (more t ts) h = (closed_over_none t h.0, all_closed_over_none ts h.1)
 
-all_over : (g : Sig) (ts : List Tree) (xs : List VarId) (ids : List TermId) → All (ReadsOnly (entries_of g ts) xs) ids → AreOver (numbers_of xs) (terms_of (map (term_at (entries_of g ts)) ids))
+pub all_over : (g : Sig) (ts : List Tree) (xs : List VarId) (ids : List TermId) → All (ReadsOnly (entries_of g ts) xs) ids → AreOver (numbers_of xs) (terms_of (map (term_at (entries_of g ts)) ids))
 all_over g ts xs [] h = tt
 all_over g ts xs (id ∷ ids) h = (All-head (ReadsOnly (entries_of g ts) xs) id ids h, all_over g ts xs ids (All-tail (ReadsOnly (entries_of g ts) xs) id ids h))
 

@@ -1,6 +1,6 @@
 -- What holds of conditions, holds of their parts and of a chain of them.
-use Rattle.std.proofs.Common.{◌≡◌, ◌==◌, ℕ, Bool, true, false, List, [], ◌∷◌, ◌++◌, map, refl, sym, ap, ◌∙◌, subst, cond, if◌then◌else◌, Some}
-use Rattle.std.specs.Prelude.{slice_get, Contains}
+use Rattle.std.proofs.Common.{◌≡◌, ◌==◌, ℕ, Bool, true, false, List, [], ◌∷◌, ◌++◌, refl, sym, ap, ◌∙◌, subst, cond, if◌then◌else◌, Some}
+use Rattle.std.specs.Prelude.{slice_get}
 use Rattle.std.specs.List.{All, AllByRecursion}
 use Rattle.std.proofs.lemmas.Bool.Decides.{Decides-eqb}
 use Rattle.std.proofs.lemmas.List.Elements.{All-nil, All-cons, All-head, All-tail}
@@ -19,7 +19,6 @@ use Rattle.data_theory.specs.IdTrees.{Tree, variable, numeral, function, none, m
 use Rattle.data_theory.specs.IdTreeSorts.{HasTreeSort, HaveTreeSorts}
 use Rattle.data_theory.specs.IdTerms.{term_under}
 use Rattle.term_pool.specs.HeadTrees.{tree_at, trees_at, IsIn, AreIn}
-use Rattle.process_terms.specs.SignatureEntries.{entries_of}
 use Rattle.lps_core.specs.TreeConditions.{true_tree, and_function, and_tree, tree_parts, is_true_tree, trees_without_true, conjunction_tree}
 use Rattle.lps_core.specs.TreeSummands.{numbers_of}
 use Rattle.lps_core.proofs.Staying.{term_is}
@@ -48,7 +47,7 @@ one_function q = cc
 abbrev pub not_function : FunId
 not_function = record { 0 = 8 }
 
-not_unmerged : (t : Tree) → apply_tree not_function (more t none) ≡ function not_function (more t none)
+pub not_unmerged : (t : Tree) → apply_tree not_function (more t none) ≡ function not_function (more t none)
 not_unmerged (variable v) = refl
 not_unmerged (numeral s z) = refl
 not_unmerged (function f ts) = refl

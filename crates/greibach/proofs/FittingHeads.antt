@@ -1,12 +1,11 @@
 -- The summands that are added fit.
-use Rattle.std.proofs.Common.{◌≡◌, ◌<◌, ◌-◌, ◌⊎◌, inl, inr, ⊎_elim, ◌==◌, ℕ, List, [], ◌∷◌, ◌++◌, map, length, reverse, cond, Option, None, Some, refl, sym, ap, ap₂, ◌∙◌, subst}
+use Rattle.std.proofs.Common.{◌≡◌, ◌<◌, ⊎_elim, ℕ, List, [], ◌∷◌, ◌++◌, map, length, reverse, cond, Option, None, Some, refl, sym, ap, ap₂, ◌∙◌, subst}
 use Rattle.std.specs.Prelude.{slice_get, IfSome}
 use Rattle.std.specs.List.{All, AllZip, Contains}
 use Rattle.std.proofs.lemmas.Bool.Decides.{eqb_tells}
 use Rattle.std.proofs.lemmas.List.{reverse-append}
-use Rattle.std.proofs.lemmas.List.Elements.{All-nil, All-cons, All-head, All-tail, All-push, All-append, All-weaker, All-contains}
+use Rattle.std.proofs.lemmas.List.Elements.{All-nil, All-cons, All-head, All-tail, All-push, All-append, All-weaker}
 use Rattle.std.proofs.lemmas.Option.{get_or_from_slice_get, slice_get_within}
-use Rattle.data_theory.specs.declared.ids.ProcId.{ProcId}
 use Rattle.data_theory.specs.declared.ids.SortId.{SortId}
 use Rattle.data_theory.specs.declared.ids.VarId.{VarId}
 use Rattle.data_theory.specs.declared.ids.TermId.{TermId}
@@ -14,8 +13,8 @@ use Rattle.data_theory.specs.Environments.{Apart, AreDistinct, IsOver}
 use Rattle.data_theory.specs.Table.{bool_sort}
 use Rattle.data_theory.specs.Signature.{Sig}
 use Rattle.data_theory.specs.WholeSignatures.{IsSignature}
-use Rattle.data_theory.specs.IdTrees.{Tree, put_tree, trees_of}
-use Rattle.data_theory.specs.IdTreeSorts.{HasTreeSort, HaveTreeSorts}
+use Rattle.data_theory.specs.IdTrees.{Tree, put_tree}
+use Rattle.data_theory.specs.IdTreeSorts.{HasTreeSort}
 use Rattle.data_theory.specs.IdTerms.{term_under}
 use Rattle.lps_core.proofs.Staying.{term_is}
 use Rattle.term_pool.specs.HeadTrees.{tree_at, trees_at, IsIn, AreIn}
@@ -24,27 +23,25 @@ use Rattle.term_pool.specs.Bindings.{listed, listed_terms}
 use Rattle.term_pool.proofs.Lists.{contains_none, contains_cons, contains_head, contains_tail}
 use Rattle.process_terms.specs.PlainProcesses.{PlainAction, PlainDefinition}
 use Rattle.process_terms.specs.Meanings.{ReadsOnly}
-use Rattle.process_terms.specs.SignatureEntries.{entries_of, BothGrow}
+use Rattle.process_terms.specs.SignatureEntries.{entries_of}
 use Rattle.lps_core.specs.Fitting.{IsVariable, sort_of_variable}
 use Rattle.lps_core.specs.TreeSummands.{IsActionIn, trees_of_label, put_actions, numbers_of}
 use Rattle.lps_core.proofs.Members.{all_at}
 use Rattle.lps_core.proofs.NamedSums.{all_front, all_last, sorts_kept}
-use Rattle.lps_core.proofs.PoolTrees.{extends_itself, extends_on, args_along, trees_kept, listed_kept, actions_in_kept, actions_kept, actions_along, all_in_kept}
+use Rattle.lps_core.proofs.PoolTrees.{extends_itself, extends_on, args_along, trees_kept, listed_kept, actions_in_kept, actions_kept, actions_along}
 use Rattle.proc_unfold.specs.FittingModels.{TermFits, TermsFit, ActionFits}
-use Rattle.proc_unfold.proofs.PuttingLemmas.{terms_put}
-use Rattle.greibach.specs.PlainForms.{PlainFormSummand}
 use Rattle.greibach.specs.PlacesInCode.{PlainPart, delta, act, choice, cond as cond_part, sum, call, whole, PlainPlace, PlainEntry, PlainPlaces}
 use Rattle.greibach.specs.ListedVariables.{listed_variables}
-use Rattle.greibach.specs.OnwardCalls.{part_at, rest_at, params_of_place, entry_place, rest_trees, first_trees, onward_trees, IsTreeCall, AreTreeCalls, RestIsListed, FirstIsListed, OnwardIsListed, HasArgumentsIn}
-use Rattle.greibach.specs.NumberedCalls.{HasNumber, HaveNumbers, none_numbered, one_more_numbered}
-use Rattle.greibach.specs.FittingPlaces.{AreAmong, IsThere, CallOfReached, PartFits, PlaceFits, PlacesFit, PlacesFitSince}
-use Rattle.greibach.specs.Surroundings.{PlainAround, PlainUnfolding, BindingFits, CallOfPlace, NumberedCall, Surrounds, SummandStands, IsCovered, CallStands, AreStanding, CanAdd, Added}
-use Rattle.greibach.specs.AddedLabels.{CallsAdded, LabelAdded}
-use Rattle.greibach.proofs.ReadPlaces.{begins_then, from_members, to_members, still_read}
+use Rattle.greibach.specs.OnwardCalls.{part_at, rest_at, params_of_place, entry_place, rest_trees, first_trees, onward_trees, IsTreeCall, RestIsListed, FirstIsListed, OnwardIsListed, HasArgumentsIn}
+use Rattle.greibach.specs.NumberedCalls.{HaveNumbers, none_numbered, one_more_numbered}
+use Rattle.greibach.specs.FittingPlaces.{IsThere, CallOfReached, PartFits, PlaceFits, PlacesFitSince}
+use Rattle.greibach.specs.Surroundings.{PlainAround, PlainUnfolding, BindingFits, CallOfPlace, NumberedCall, SummandStands, IsCovered, CallStands, CanAdd, Added}
+use Rattle.greibach.specs.AddedLabels.{LabelAdded}
+use Rattle.greibach.proofs.ReadPlaces.{begins_then, from_members, to_members}
 use Rattle.greibach.specs.MeetingOrder.{IsNumberOf, Meets, none_met, met_before, met_now}
 use Rattle.data_theory.specs.Complete.{BeginsWith}
 use Rattle.greibach.proofs.MetPlaces.{meets_behind}
-use Rattle.greibach.proofs.GrownFits.{pool_alone, action_grows, terms_grow, variables_grow, call_grows, numbered_grows, surrounds_grow, summands_grow, terms_wider, since_grows}
+use Rattle.greibach.proofs.GrownFits.{pool_alone, action_grows, terms_grow, variables_grow, numbered_grows, surrounds_grow, summands_grow, terms_wider}
 use Rattle.greibach.proofs.PutFitting.{listed_within, put_terms_fit, put_label_fits}
 use Rattle.greibach.proofs.ConditionTrees.{chain_fits}
 

@@ -38,7 +38,7 @@ table_same : (e : Entries) (ds : List PlainDefinition) → map definition_in (ma
 table_same e [] = refl
 table_same e (x ∷ ds) = ap₂ (λ xs fs. record { params = xs; body = body_of e x.body } ∷ fs) (variables_same e x.params) (table_same e ds)
 
-among_at : (fs : List Piece) (x : ℕ) (f : Piece) → slice_get fs x ≡ Some f → (params_among fs x ≡ f.params) × (body_among fs x ≡ f.body)
+pub among_at : (fs : List Piece) (x : ℕ) (f : Piece) → slice_get fs x ≡ Some f → (params_among fs x ≡ f.params) × (body_among fs x ≡ f.body)
 among_at [] x f e = cc
 among_at (k ∷ fs) zero f e = let s : k ≡ f = cc in (ap (λ (z : Piece). z.params) s, ap (λ (z : Piece). z.body) s)
 among_at (k ∷ fs) (suc x) f e = among_at fs x f e

@@ -1,8 +1,7 @@
 -- What fits over a signature and a pool fits over grown ones, and over more variables.
-use Rattle.std.proofs.Common.{◌≡◌, ◌<◌, ◌-◌, ◌⊎◌, ⊎_elim, ℕ, List, [], ◌∷◌, ◌++◌, map, refl, sym, ap, ◌∙◌, subst, Some}
-use Rattle.std.specs.Prelude.{slice_get}
-use Rattle.std.specs.List.{All, Contains}
-use Rattle.std.proofs.lemmas.List.Elements.{All-nil, All-cons, All-head, All-tail, All-weaker, All-contains, Contains-append_left, Contains-append_right, Contains-append_cases}
+use Rattle.std.proofs.Common.{◌-◌, ℕ, List, [], ◌∷◌, ◌++◌, map, refl, sym, ◌∙◌, subst}
+use Rattle.std.specs.List.{All}
+use Rattle.std.proofs.lemmas.List.Elements.{All-nil, All-cons, All-head, All-tail, All-weaker}
 use Rattle.data_theory.specs.declared.ids.SortId.{SortId}
 use Rattle.data_theory.specs.declared.ids.VarId.{VarId}
 use Rattle.data_theory.specs.declared.ids.TermId.{TermId}
@@ -29,12 +28,11 @@ use Rattle.lps_core.proofs.PoolTrees.{extends_on}
 use Rattle.lps_core.proofs.Staying.{term_stays}
 use Rattle.lps_core.proofs.StayingFits.{term_fits, terms_fit, action_fits}
 use Rattle.proc_unfold.specs.FittingModels.{TermFits, TermsFit, ActionFits}
-use Rattle.greibach.specs.MeetingOrder.{IsNumberOf}
 use Rattle.greibach.specs.PlainForms.{PlainFormSummand}
 use Rattle.greibach.specs.PlacesInCode.{PlainPlace, PlainPlaces}
 use Rattle.greibach.specs.FittingPlaces.{AreAmong, PlacesFitSince}
-use Rattle.greibach.specs.Surroundings.{PlainAround, PlainUnfolding, BindingFits, CallOfPlace, NumberedCall, Surrounds, SummandStands, AreStanding, CanAdd, Added}
-use Rattle.greibach.proofs.ReadPlaces.{still_read, from_members, begins_itself, begins_then}
+use Rattle.greibach.specs.Surroundings.{PlainAround, PlainUnfolding, BindingFits, CallOfPlace, NumberedCall, Surrounds, SummandStands, CanAdd, Added}
+use Rattle.greibach.proofs.ReadPlaces.{still_read, begins_itself, begins_then}
 
 pub both_by_names : (g h : Sig) (ts us : List Tree) → GrowsByNames g h → Extends ts us → BothGrow g h ts us
 both_by_names g h ts us n e = record { signature = n.grown; pool = e }

@@ -1,17 +1,15 @@
 -- Each form of part: what its heads ask for, and what is added.
-use Rattle.std.proofs.Common.{◌≡◌, ◌<◌, ◌+◌, ◌⊎◌, inl, inr, ⊎_elim, ℕ, zero, suc, List, [], ◌∷◌, ◌++◌, map, take, length, get_or, Option, None, Some, refl, sym, ap, ap₂, ◌∙◌, subst, arith}
+use Rattle.std.proofs.Common.{◌≡◌, ◌<◌, ◌+◌, ◌⊎◌, inl, inr, ⊎_elim, ℕ, zero, suc, List, [], ◌∷◌, ◌++◌, map, take, length, get_or, Option, None, Some, refl, sym, ap, ◌∙◌, subst, arith}
 use Rattle.std.specs.Prelude.{slice_get, IfSome, OnOk, Result, Ok, Err}
 use Rattle.std.proofs.Math.Seq.{take-append_seam}
 use Rattle.data_theory.proofs.PlaceLemmas.{map_taken}
 use Rattle.std.specs.List.{All, Contains}
 use Rattle.std.proofs.lemmas.List.{length-map, map-append, length-append, append-nil}
-use Rattle.std.proofs.lemmas.List.Elements.{All-nil, All-cons, All-head, All-tail, All-push, All-append, All-weaker, All-contains, Contains-append_left, Contains-append_right, Contains-append_cases, Contains-push}
-use Rattle.std.proofs.lemmas.Option.{slice_get_within, slice_get-get_or}
-use Rattle.data_theory.specs.declared.ids.SortId.{SortId}
+use Rattle.std.proofs.lemmas.List.Elements.{All-nil, All-cons, All-head, All-tail, All-push, All-weaker, All-contains, Contains-append_left, Contains-append_right, Contains-append_cases, Contains-push}
 use Rattle.data_theory.specs.declared.ids.VarId.{VarId}
 use Rattle.data_theory.specs.declared.ids.TermId.{TermId}
 use Rattle.data_theory.specs.declared.signature.Variable.{Variable}
-use Rattle.data_theory.specs.Environments.{Apart, AreDistinct, IsOver}
+use Rattle.data_theory.specs.Environments.{AreDistinct, IsOver}
 use Rattle.data_theory.specs.Table.{bool_sort}
 use Rattle.data_theory.specs.Signature.{Sig, with_variable}
 use Rattle.data_theory.specs.WholeSignatures.{IsSignature}
@@ -20,7 +18,7 @@ use Rattle.data_theory.specs.IdTreeSorts.{IsVariableOf, HasTreeSort}
 use Rattle.data_theory.specs.IdTerms.{term_under}
 use Rattle.term_pool.specs.HeadTrees.{tree_at, trees_at, IsIn, AreIn}
 use Rattle.term_pool.specs.Pools.{Extends}
-use Rattle.term_pool.specs.Bindings.{listed, listed_terms}
+use Rattle.term_pool.specs.Bindings.{listed}
 use Rattle.term_pool.proofs.Lists.{contains_none, contains_cons, contains_head, contains_tail}
 use Rattle.process_terms.specs.Meanings.{ReadsOnly}
 use Rattle.process_terms.specs.SignatureEntries.{entries_of}
@@ -28,7 +26,7 @@ use Rattle.lps_core.specs.Fitting.{IsVariable, sort_of_variable}
 use Rattle.lps_core.specs.Naming.{GrowsByNames, name_of}
 use Rattle.lps_core.specs.TreeSummands.{numbers_of}
 use Rattle.lps_core.proofs.Members.{contains_map, map_contains}
-use Rattle.lps_core.proofs.NamedSums.{variable_kept, name_kept, sort_kept, variable_there, last_variable, names_then, taken_name, name_taken}
+use Rattle.lps_core.proofs.NamedSums.{variable_kept, name_kept, sort_kept, variable_there, last_variable, taken_name, name_taken}
 use Rattle.lps_core.proofs.OverVariables.{distinct_append}
 use Rattle.lps_core.proofs.Staying.{term_is}
 use Rattle.lps_core.proofs.PoolTrees.{tree_kept, listed_kept, put_along}
@@ -46,11 +44,10 @@ use Rattle.greibach.specs.RenewedVariables.{IsRenewed, renewed}
 use Rattle.greibach.specs.FittingPlaces.{AreAmong, IsThere, PartFits, PlaceFits, PlacesFitSince}
 use Rattle.greibach.specs.AddedLabels.{LabelAdded}
 use Rattle.greibach.proofs.FittingHeads.{place_fits, there_covered, call_stands, onward_stands, label_added}
-use Rattle.greibach.specs.Surroundings.{PlainAround, PlainUnfolding, HasTakenNames, BindingFits, CallOfPlace, Surrounds, SummandStands, IsCovered, IsCoveredBut, CallStands, AreStanding, CanAdd, Added}
-use Rattle.greibach.proofs.ReadPlaces.{begins_itself, from_members, to_members, among_front}
-use Rattle.greibach.proofs.GrownFits.{pool_alone, both_by_names, action_grows, term_grows, terms_grow, variables_grow, surrounds_grow, can_later, can_in_pool, added_then, term_wider, terms_wider, binding_wider, call_wider, since_grows, summands_grow}
+use Rattle.greibach.specs.Surroundings.{PlainAround, PlainUnfolding, HasTakenNames, BindingFits, CallOfPlace, SummandStands, IsCovered, IsCoveredBut, CallStands, CanAdd, Added}
+use Rattle.greibach.proofs.ReadPlaces.{begins_itself, from_members, to_members}
+use Rattle.greibach.proofs.GrownFits.{pool_alone, both_by_names, action_grows, term_grows, terms_grow, surrounds_grow, added_then, term_wider, binding_wider, call_wider, since_grows, summands_grow}
 use Rattle.greibach.proofs.PutFitting.{listed_within, put_terms_fit, put_term_fits}
-use Rattle.greibach.proofs.ConditionTrees.{parts_fit, not_fits}
 
 -- ---- the place in code
 pub here_stands : (items : List Place) (n : ℕ) (q : Place) → q ≡ get_or items n q → n < length items → slice_get (map plain_place items) n ≡ Some (plain_place q)
@@ -58,7 +55,7 @@ here_stands [] n q e l = absurd (omega (arith, l))
 here_stands (x ∷ items) zero q e l = ap (λ (z : Place). Some (plain_place z)) (sym e)
 here_stands (x ∷ items) (suc n) q e l = here_stands items n q e (omega (arith, l))
 
-some_place : {A : Type 0} {x y : A} → Some x ≡ Some y → x ≡ y
+pub some_place : {A : Type 0} {x y : A} → Some x ≡ Some y → x ≡ y
 some_place e = cc
 
 -- the covered place is this one
@@ -159,7 +156,7 @@ module _ (g : Sig) (x : VarId) where
 variable_sorted : (h : Sig) (y : VarId) → IsVariable h y → IsVariableOf h y (sort_of_variable h y)
 variable_sorted h y k = (get_or h.variables y.0 _, variable_there h y k _, refl)
 
-all_below : (g : Sig) (xs : List VarId) (v : ℕ) → All (IsVariable g) xs → Contains (numbers_of xs) v → v < length g.variables
+pub all_below : (g : Sig) (xs : List VarId) (v : ℕ) → All (IsVariable g) xs → Contains (numbers_of xs) v → v < length g.variables
 all_below g xs v k i = let r = contains_map (λ (z : VarId). z.0) xs v i in subst (λ n. n < length g.variables) (sym r.1.1) (All-contains (IsVariable g) xs r.0 k r.1.0)
 
 pub summed_can : (g h : Sig) (ts us : List Tree) (t : PlainPlaces) (a : PlainAround) (u : PlainUnfolding) (x y : VarId) (id : TermId) → CanAdd g ts t a u → IsVariable g x → GrowsByNames g h → IsRenewed g x h y → Extends ts us → IsIn us id → tree_at us id ≡ variable y

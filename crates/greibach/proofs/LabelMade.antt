@@ -11,12 +11,11 @@ use Rattle.process_terms.specs.PlainProcesses.{PlainAction}
 use Rattle.lps_core.specs.TreeConditions.{conjunction_tree}
 use Rattle.lps_core.specs.TreeSummands.{IsActionIn, trees_of_label, put_actions}
 use Rattle.lps_core.proofs.PoolTrees.{extends_on, tree_kept, trees_kept, args_along, listed_kept, actions_in_kept, actions_kept, actions_along}
-use Rattle.greibach.specs.PlainForms.{PlainFormSummand}
 use Rattle.greibach.specs.PlacesInCode.{PlainPart, delta, act, choice, cond, sum, call, whole, PlainPlaces}
-use Rattle.greibach.specs.OnwardCalls.{part_at, rest_at, entry_place, kept_trees, first_trees, onward_trees, AreTreeCalls, FirstIsListed, OnwardIsListed, HasArgumentsIn}
+use Rattle.greibach.specs.OnwardCalls.{part_at, rest_at, entry_place, first_trees, onward_trees, AreTreeCalls, FirstIsListed, OnwardIsListed, HasArgumentsIn}
 use Rattle.greibach.specs.NumberedCalls.{AddsNumbered}
 use Rattle.greibach.specs.Surroundings.{PlainAround, PlainUnfolding}
-use Rattle.greibach.specs.AddedLabels.{CallsAdded, LabelAdded}
+use Rattle.greibach.specs.AddedLabels.{LabelAdded}
 use Rattle.greibach.proofs.TreeCalls.{rest_kept}
 
 module _ (ts us : List Tree) (t : PlainPlaces) (by : List (VarId × TermId)) (e : Extends ts us) (own : AreIn ts (listed_terms by)) where

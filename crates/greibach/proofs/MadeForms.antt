@@ -1,5 +1,5 @@
 -- The equations of all places that are met make a form that fits.
-use Rattle.std.proofs.Common.{◌≡◌, ◌<◌, ◌≤◌, ◌-◌, ◌∙◌, ℕ, List, [], ◌∷◌, ◌++◌, map, length, get_or, refl, sym, ap, subst, arith, Some}
+use Rattle.std.proofs.Common.{◌≡◌, ◌<◌, ◌∙◌, ℕ, List, [], ◌∷◌, ◌++◌, map, length, get_or, refl, sym, ap, subst, arith, Some}
 use Rattle.std.specs.Prelude.{slice_get}
 use Rattle.std.specs.List.{All, Contains}
 use Rattle.std.proofs.lemmas.Option.{slice_get_within, slice_get-get_or}
@@ -25,7 +25,7 @@ use Rattle.greibach.specs.FittingForms.{FormFits}
 use Rattle.greibach.specs.PlainForms.{PlainEquation}
 use Rattle.greibach.specs.PlacesInCode.{PlainPlace, PlainPlaces}
 use Rattle.greibach.specs.FittingPlaces.{AreAmong, PlaceFits, PlacesFit, PlacesFitSince, StartsAt}
-use Rattle.greibach.specs.Surroundings.{EquationStands, AreEquations, FormMade}
+use Rattle.greibach.specs.Surroundings.{AreEquations, FormMade}
 use Rattle.lps_core.proofs.Members.{all_at}
 use Rattle.greibach.proofs.FittingHeads.{place_fits}
 use Rattle.greibach.proofs.GrownFits.{both_by_names, terms_grow, variables_grow}

@@ -1,6 +1,6 @@
 -- Places that are met, by a set in its order.
 use Rattle.std.proofs.Common.{◌≡◌, ◌||◌, ◌==◌, ℕ, Bool, true, false, List, [], ◌∷◌, ◌++◌, if◌then◌else◌, ⊎_elim, refl, sym, ap, ◌∙◌, subst}
-use Rattle.std.specs.List.{Contains, list_any}
+use Rattle.std.specs.List.{list_any}
 use Rattle.std.proofs.lemmas.Bool.Decides.{eqb_tells}
 use Rattle.std.proofs.lemmas.Map.Views.{Contains-from_any}
 use Rattle.lps_core.proofs.Members.{In, here, there, contains_in}

@@ -63,7 +63,7 @@ number_by_test q qs p true t k e go = ap (λ z. Some z) (place_same q p t)
 number_by_test q qs p false t zero e go = let s : q ≡ p = cc in absurd (tests_differ (sym t ∙ ap (λ z. same_place q z) (sym s) ∙ place_itself q))
 number_by_test q qs p false t (suc k) e go = go k e
 
-number_reads : (qs : List Place) (p : Place) (k : ℕ) → slice_get qs k ≡ Some p → slice_get qs (number_in qs p) ≡ Some p
+pub number_reads : (qs : List Place) (p : Place) (k : ℕ) → slice_get qs k ≡ Some p → slice_get qs (number_in qs p) ≡ Some p
 number_reads [] p k e = cc
 number_reads (q ∷ qs) p k e = number_by_test q qs p (same_place q p) refl k e (number_reads qs p)
 

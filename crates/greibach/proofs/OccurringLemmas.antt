@@ -1,16 +1,16 @@
 -- Variables that occur in terms of a pool, gathered from the greatest number down.
-use Rattle.std.proofs.Common.{◌≡◌, ◌<◌, ◌⊎◌, inl, inr, ⊎_elim, List, [], ◌∷◌, ◌++◌, map, refl, sym, ap, ◌∙◌, subst, arith}
+use Rattle.std.proofs.Common.{◌≡◌, ◌<◌, ◌⊎◌, inl, inr, ⊎_elim, List, [], ◌∷◌, ◌++◌, sym, ap, subst, arith}
 use Rattle.std.specs.Prelude.{◌↔◌}
 use Rattle.std.specs.List.{All, Contains}
 use Rattle.std.proofs.lemmas.List.Elements.{All-contains, All-weaker, All-contains_itself, Contains-append_left, Contains-push, Contains-push_cases}
 use Rattle.data_theory.specs.declared.ids.VarId.{VarId}
 use Rattle.data_theory.specs.declared.ids.TermId.{TermId}
-use Rattle.data_theory.specs.IdTrees.{Tree, Trees, variable, numeral, function, none, more, trees_of}
+use Rattle.data_theory.specs.IdTrees.{Tree, trees_of}
 use Rattle.term_pool.specs.declared.terms.Head.{Head}
 use Rattle.term_pool.specs.declared.terms.Head.TheVariants.{Var, Num, Fun}
 use Rattle.term_pool.specs.HeadTrees.{written_tree, Stands, tree_at, trees_at, IsIn, AreIn}
 use Rattle.term_pool.proofs.Lists.{contains_none, contains_cons, contains_head, contains_tail}
-use Rattle.term_pool.proofs.InsertedTerms.{HasToo, HasAll}
+use Rattle.term_pool.proofs.InsertedTerms.{HasAll}
 use Rattle.greibach.specs.OccurringVariables.{Occurs, OccursAmong, OccursIn}
 
 -- ---- heads

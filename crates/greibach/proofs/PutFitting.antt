@@ -1,10 +1,10 @@
 -- Terms that are put in fit, by what is listed for the variables.
-use Rattle.std.proofs.Common.{◌≡◌, ◌==◌, ◌⊎◌, ⊎_elim, ℕ, List, [], ◌∷◌, ◌++◌, map, cond, true, false, refl, sym, ap, ap₂, ◌∙◌, subst, Some}
+use Rattle.std.proofs.Common.{◌≡◌, ⊎_elim, ℕ, List, [], ◌∷◌, cond, sym, ap, ◌∙◌, subst}
 use Rattle.std.specs.Prelude.{slice_get}
 use Rattle.std.specs.List.{All, Contains}
 use Rattle.std.proofs.lemmas.Bool.Decides.{eqb_tells}
 use Rattle.std.proofs.lemmas.List.Elements.{All-nil, All-cons, All-head, All-tail, All-weaker}
-use Rattle.std.proofs.lemmas.Option.{slice_get-get_or, get_or_from_slice_get}
+use Rattle.std.proofs.lemmas.Option.{get_or_from_slice_get}
 use Rattle.data_theory.specs.declared.ids.SortId.{SortId}
 use Rattle.data_theory.specs.declared.ids.VarId.{VarId}
 use Rattle.data_theory.specs.declared.ids.TermId.{TermId}
@@ -14,7 +14,7 @@ use Rattle.data_theory.specs.Signature.{Sig}
 use Rattle.data_theory.specs.WholeSignatures.{IsSignature}
 use Rattle.data_theory.specs.IdTrees.{Tree, put_tree}
 use Rattle.data_theory.specs.IdTreeSorts.{IsVariableOf, HasTreeSort}
-use Rattle.term_pool.specs.HeadTrees.{tree_at, trees_at, IsIn, AreIn}
+use Rattle.term_pool.specs.HeadTrees.{tree_at, IsIn, AreIn}
 use Rattle.term_pool.specs.Bindings.{listed, listed_terms}
 use Rattle.term_pool.specs.TermSorts.{HaveVariableSorts}
 use Rattle.term_pool.proofs.Lists.{contains_none, contains_cons}
@@ -23,8 +23,6 @@ use Rattle.process_terms.specs.SignatureEntries.{entries_of}
 use Rattle.process_terms.specs.Meanings.{term_at, ReadsOnly}
 use Rattle.lps_core.specs.Fitting.{IsVariable, sort_of_variable}
 use Rattle.lps_core.specs.TreeSummands.{IsActionIn, TreeAction, trees_of_action, trees_of_label, put_in_action, put_actions, numbers_of}
-use Rattle.lps_core.proofs.Members.{contains_map}
-use Rattle.lps_core.proofs.NamedSums.{variable_there}
 use Rattle.proc_unfold.specs.FittingModels.{TermFits, TermsFit, ActionFits}
 use Rattle.proc_unfold.specs.PutTerms.{ArePut}
 use Rattle.proc_unfold.proofs.PutBodies.{env_of}

@@ -1,5 +1,5 @@
 -- The parts of what is read, one after another.
-use Rattle.std.proofs.Common.{◌≡◌, ◌<◌, ◌≤◌, ◌+◌, ◌-◌, ◌==◌, ◌||◌, eqb, Bool, true, false, ◌⊎◌, inl, inr, ⊎_elim, ℕ, zero, suc, List, [], ◌∷◌, ◌++◌, map, length, get_or, take, refl, sym, ap, ◌∙◌, subst, arith, append_assoc, append-nil, Option, None, Some, Vec}
+use Rattle.std.proofs.Common.{◌≡◌, ◌<◌, ◌≤◌, ◌+◌, ◌-◌, ◌==◌, ◌||◌, eqb, Bool, true, false, ◌⊎◌, inl, inr, ⊎_elim, ℕ, zero, suc, List, [], ◌∷◌, ◌++◌, map, length, get_or, take, refl, sym, ap, ◌∙◌, subst, arith, append_assoc, Option, None, Some, Vec}
 use Rattle.std.specs.Prelude.{◌↔◌, IfSome, IfOk, OnOk, MatchOption, Result, Ok, Err, slice_get}
 use Rattle.std.specs.List.{All, AllByRecursion, IsDistinct, Contains, list_any}
 use Rattle.std.proofs.lemmas.Bool.Decides.{Decides-eqb}
@@ -20,19 +20,19 @@ use Rattle.term_pool.proofs.Lists.{contains_none, contains_head, contains_tail}
 use Rattle.std.specs.Global.{Global, Box}
 use Rattle.process_terms.specs.declared.processes.Proc.{Proc}
 use Rattle.process_terms.specs.declared.processes.Proc.TheVariants as procs
-use Rattle.process_terms.specs.PlainProcesses.{PlainDefinition, PlainProcess, PlainProcesses, processes_of, plain_process, PlainComponent, call_of, term_of, plain_definition}
+use Rattle.process_terms.specs.PlainProcesses.{PlainDefinition, PlainProcess, processes_of, plain_process, PlainComponent, call_of, term_of, plain_definition}
 use Rattle.process_terms.specs.declared.definitions.ProcDef.{ProcDef}
 use Rattle.process_terms.specs.PlainProcesses.{cond as cond_of, sum as sum_of}
-use Rattle.proc_unfold.proofs.ProcessSteps.{choice_step, seq_step, cond_step, sum_step}
+use Rattle.proc_unfold.proofs.ProcessSteps.{choice_step, seq_step, cond_step, sum_step, merge_step}
 use Rattle.lps_core.specs.Fitting.{IsVariable}
 use Rattle.lps_core.proofs.Members.{all_from}
 use Rattle.proc_unfold.specs.FittingModels.{TermFits, ProcessFits, ProcessesFit}
-use Rattle.greibach.specs.PlacesInCode.{PlainPart, choice, cond, sum, whole, PlainPlace, PlainEntry, PlainPlaces}
-use Rattle.greibach.specs.OccurringVariables.{OccursIn, those_among, params_at, rest_params}
+use Rattle.greibach.specs.PlacesInCode.{choice, cond, sum, whole, PlainPlace, PlainEntry, PlainPlaces}
+use Rattle.greibach.specs.OccurringVariables.{those_among, params_at, rest_params}
 use Rattle.greibach.specs.FittingPlaces.{AreAmong, IsThere, PlaceFits, EntryFits, FitsInScope, FitInScope, ReadsFittingly, HasRead, StartsAt}
 use Rattle.greibach.specs.Readings.{IsPushed, AreNeeded, HasBegun}
 use Rattle.greibach.proofs.AddedVariables.{kept_among}
-use Rattle.greibach.proofs.ReadPlaces.{begins_itself, begins_then, still_read, from_members, to_members, among_front, term_narrowed, there_grown, there_wider, there_narrowed, params_are, rest_wider, rest_narrowed, place_grown, read_pushed, read_needed, read_then, fewer_variables}
+use Rattle.greibach.proofs.ReadPlaces.{begins_itself, begins_then, still_read, from_members, to_members, among_front, term_narrowed, there_grown, there_narrowed, params_are, rest_wider, place_grown, read_pushed, read_needed, fewer_variables}
 
 -- ---- parts of process terms
 module _ (g : Sig) (ts : List Tree) (ds : List PlainDefinition) (scope : List VarId) where
@@ -48,6 +48,13 @@ module _ (g : Sig) (ts : List Tree) (ds : List PlainDefinition) (scope : List Va
     variables = h.variables;
     among = h.among;
     fit = subst (λ l. ProcessesFit g ts ds h.variables (processes_of (map plain_process l))) (sym e) (subst (ProcessFits g ts ds h.variables) (ap plain_process is ∙ seq_step parts) h.fits);
+  }
+
+  pub merge_fits : (p : Proc) (parts : Vec Proc Global) (items : List Proc) → p ≡ procs.Merge parts → items ≡ parts.items → FitsInScope g ts ds scope (plain_process p) → FitInScope g ts ds scope (processes_of (map plain_process items))
+  merge_fits p parts items is e h = record {
+    variables = h.variables;
+    among = h.among;
+    fit = subst (λ l. ProcessesFit g ts ds h.variables (processes_of (map plain_process l))) (sym e) (subst (ProcessFits g ts ds h.variables) (ap plain_process is ∙ merge_step parts) h.fits);
   }
 
   pub cond_fits : (p q r : Proc) (c : TermId) (then other : Box Proc) → p ≡ procs.Cond c then other → q ≡ then.value → r ≡ other.value → FitsInScope g ts ds scope (plain_process p) → FitsInScope g ts ds scope (cond_of c (plain_process q) (plain_process r))

@@ -1,9 +1,9 @@
 -- Places that are read fit.
-use Rattle.std.proofs.Common.{◌≡◌, ◌<◌, ◌≤◌, ◌+◌, ◌⊎◌, inl, inr, ⊎_elim, ℕ, zero, suc, List, [], ◌∷◌, ◌++◌, map, length, get_or, take, refl, sym, ap, ◌∙◌, subst, arith, append_assoc, append-nil, Option, None, Some}
+use Rattle.std.proofs.Common.{◌≡◌, ◌<◌, ◌+◌, ◌⊎◌, inl, inr, ⊎_elim, ℕ, List, [], ◌∷◌, ◌++◌, map, length, get_or, take, refl, sym, ap, ◌∙◌, subst, arith, append_assoc, append-nil, Option, None, Some}
 use Rattle.std.specs.Prelude.{◌↔◌, IfSome, IfOk, OnOk, Result, Ok, Err, slice_get}
 use Rattle.std.proofs.lemmas.List.{length-map, map-append, take_more}
 use Rattle.std.specs.List.{All, Contains}
-use Rattle.std.proofs.lemmas.List.Elements.{All-nil, All-cons, All-head, All-tail, All-push, All-append, All-weaker, All-filter, All-contains, Contains-append_left, Contains-append_right, Contains-append_cases, Contains-push_cases}
+use Rattle.std.proofs.lemmas.List.Elements.{All-nil, All-cons, All-head, All-tail, All-push, All-append, All-weaker, All-filter, All-contains, Contains-append_left, Contains-append_right}
 use Rattle.std.proofs.lemmas.Option.{slice_get_within, get_or_from_slice_get}
 use Rattle.data_theory.specs.declared.ids.ProcId.{ProcId}
 use Rattle.data_theory.specs.declared.ids.SortId.{SortId}
@@ -16,7 +16,7 @@ use Rattle.data_theory.specs.IdTrees.{Tree, Trees, variable, numeral, function, 
 use Rattle.data_theory.specs.IdTerms.{term_under, terms_under}
 use Rattle.data_theory.proofs.PlaceLemmas.{read_front, read_last}
 use Rattle.term_pool.specs.HeadTrees.{tree_at, IsIn, AreIn}
-use Rattle.term_pool.proofs.Lists.{contains_none, contains_cons, contains_head, contains_tail}
+use Rattle.term_pool.proofs.Lists.{contains_none, contains_head}
 use Rattle.process_terms.specs.PlainProcesses.{PlainAction, PlainDefinition, plain_action}
 use Rattle.process_terms.specs.declared.labels.Action.{Action}
 use Rattle.process_terms.specs.Meanings.{ReadsOnly}
@@ -29,7 +29,7 @@ use Rattle.proc_unfold.specs.FittingModels.{TermFits, TermsFit, ActionFits, Call
 use Rattle.greibach.specs.PlacesInCode.{PlainPart, delta, act, choice, cond, sum, call, whole, PlainPlace, plain_place}
 use Rattle.greibach.specs.declared.places.Place.{Place}
 use Rattle.greibach.specs.OccurringVariables.{Occurs, OccursAmong, OccursIn, label_terms, those_among, params_at, rest_params}
-use Rattle.greibach.specs.FittingPlaces.{AreAmong, IsThere, CallOfReached, PartFits, PlaceFits, ReadsFittingly, HasRead}
+use Rattle.greibach.specs.FittingPlaces.{AreAmong, IsThere, PartFits, PlaceFits, ReadsFittingly, HasRead}
 use Rattle.greibach.specs.Readings.{IsPushed, AreNeeded}
 use Rattle.greibach.proofs.AddedVariables.{kept_among, among_is_there}
 

@@ -8,7 +8,7 @@ use Rattle.std.proofs.lemmas.Option.{get_or_from_slice_get}
 use Rattle.data_theory.specs.Complete.{BeginsWith}
 use Rattle.data_theory.proofs.PlaceLemmas.{pushed_by_place}
 use Rattle.std.specs.List.{All, Contains, IsDistinct, list_any}
-use Rattle.std.proofs.lemmas.List.{length-map, length-append, map-append, take_more, take_all}
+use Rattle.std.proofs.lemmas.List.{length-map, length-append, map-append, take_more}
 use Rattle.std.proofs.lemmas.List.Elements.{All-nil, All-cons, All-head, All-tail, All-push, All-weaker, All-contains}
 use Rattle.data_theory.specs.declared.ids.NameId.{NameId}
 use Rattle.data_theory.specs.declared.ids.VarId.{VarId}
@@ -18,7 +18,7 @@ use Rattle.data_theory.specs.Table.{bool_sort}
 use Rattle.data_theory.specs.Signature.{Sig}
 use Rattle.data_theory.specs.WholeSignatures.{IsSignature}
 use Rattle.data_theory.specs.IdTrees.{Tree, variable, trees_of}
-use Rattle.data_theory.specs.IdTreeSorts.{HasTreeSort, HaveTreeSorts, IsVariableOf}
+use Rattle.data_theory.specs.IdTreeSorts.{HaveTreeSorts}
 use Rattle.data_theory.specs.IdTerms.{term_under}
 use Rattle.term_pool.specs.HeadTrees.{tree_at, trees_at, IsIn, AreIn}
 use Rattle.term_pool.specs.Pools.{Extends}
@@ -30,21 +30,20 @@ use Rattle.lps_core.specs.Naming.{name_of, names_of, GrowsByNames, IsNamed, it_s
 use Rattle.lps_core.specs.TreeSummands.{numbers_of}
 use Rattle.lps_core.proofs.GrownSignatures.{fresh_variables}
 use Rattle.lps_core.proofs.Members.{map_contains, contains_map}
-use Rattle.lps_core.proofs.NamedSums.{SumStands, SumsStand, AreTaken, names_none, names_then, variable_there, variable_kept, name_kept, names_kept, sort_kept, sorts_kept, taken_name, name_taken, sum_named, sums_named, all_front, all_last}
-use Rattle.lps_core.proofs.PoolTrees.{extends_itself, extends_on, trees_kept, all_in_kept}
+use Rattle.lps_core.proofs.NamedSums.{SumStands, AreTaken, names_none, names_then, variable_there, variable_kept, name_kept, names_kept, sort_kept, sorts_kept, taken_name, name_taken, sum_named, sums_named, all_front, all_last}
+use Rattle.lps_core.proofs.PoolTrees.{trees_kept}
 use Rattle.lps_core.proofs.Staying.{term_is}
 use Rattle.proc_unfold.specs.FittingModels.{TermFits, TermsFit}
-use Rattle.greibach.specs.ListedVariables.{listed_variables, paired}
+use Rattle.greibach.specs.ListedVariables.{paired}
 use Rattle.greibach.specs.RenewedVariables.{IsRenewed, renewed, AreRenewed, none_renewed, one_more_renewed}
 use Rattle.greibach.specs.PlacesInCode.{PlainPlace, PlainPlaces}
 use Rattle.greibach.specs.FittingPlaces.{PlacesFitSince}
-use Rattle.greibach.specs.Surroundings.{PlainAround, PlainUnfolding, HasTakenNames, BindingFits, IsCovered, CanAdd, SummandStands, CallOfPlace, ParametersStand, EquationStands, AreEquations}
+use Rattle.greibach.specs.Surroundings.{PlainUnfolding, HasTakenNames, IsCovered, CanAdd, SummandStands, CallOfPlace, ParametersStand, EquationStands, AreEquations}
 use Rattle.greibach.proofs.OneByOne.{renewed_grows}
 use Rattle.greibach.proofs.GrownFits.{both_by_names, variables_grow, since_grows, summands_grow}
 use Rattle.greibach.proofs.ReadPlaces.{still_read}
 use Rattle.greibach.specs.OccurringVariables.{params_at}
 use Rattle.greibach.specs.PlainForms.{PlainEquation}
-use Rattle.greibach.proofs.FittingHeads.{place_fits}
 use Rattle.greibach.proofs.HeadArms.{renewed_names, renewed_is_variable, renewed_sort, paired_fit, paired_listed}
 
 -- ---- renewed variables

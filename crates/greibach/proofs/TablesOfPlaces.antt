@@ -1,6 +1,5 @@
 -- What stands in the table of places.
 use Rattle.std.proofs.Common.{◌≡◌, ◌<◌, ℕ, zero, suc, List, [], ◌∷◌, None, map, length, get_or, refl, sym, ap, ◌∙◌, arith}
-use Rattle.data_theory.specs.declared.ids.VarId.{VarId}
 use Rattle.greibach.specs.declared.places.Place.{Place}
 use Rattle.greibach.specs.declared.places.Places.{Places}
 use Rattle.greibach.specs.PlacesInCode.{delta, PlainPlace, plain_place, plain_places}

@@ -1,5 +1,5 @@
 -- Calls with the trees that they are wanted with.
-use Rattle.std.proofs.Common.{◌≡◌, ◌<◌, ℕ, List, [], ◌∷◌, ◌++◌, Vec, None, Some, Option, map, length, get_or, refl, sym, ap, ap₂, ◌∙◌, subst}
+use Rattle.std.proofs.Common.{◌≡◌, ◌<◌, ℕ, List, [], ◌∷◌, Vec, None, Some, Option, map, length, get_or, refl, sym, ap, ap₂, ◌∙◌, subst}
 use Rattle.std.proofs.lemmas.List.{length-map}
 use Rattle.std.specs.Global.{Global}
 use Rattle.std.specs.List.{All, Contains}
@@ -12,7 +12,6 @@ use Rattle.term_pool.specs.HeadTrees.{trees_at, IsIn, AreIn}
 use Rattle.term_pool.specs.Pools.{Extends}
 use Rattle.term_pool.specs.Bindings.{listed, listed_terms}
 use Rattle.lps_core.proofs.PoolTrees.{listed_kept}
-use Rattle.greibach.specs.ListedVariables.{listed_variables}
 use Rattle.greibach.specs.declared.places.Part.{Part}
 use Rattle.greibach.specs.declared.places.Part.TheVariants as parts
 use Rattle.greibach.specs.declared.places.Place.{Place}
@@ -20,7 +19,7 @@ use Rattle.greibach.specs.declared.places.Entry.{Entry}
 use Rattle.greibach.specs.declared.places.Places.{Places}
 use Rattle.greibach.specs.MeetingOrder.{IsNumberOf, Meets, none_met}
 use Rattle.greibach.specs.PlacesInCode.{plain_calls}
-use Rattle.greibach.specs.OnwardCalls.{no_place, part_at, entry_place, params_of_place, rest_trees, kept_trees, first_trees, onward_trees, AreTreeCalls, RestIsListed, HasArgumentsIn, HasArgumentsAmong}
+use Rattle.greibach.specs.OnwardCalls.{no_place, part_at, entry_place, params_of_place, rest_trees, kept_trees, first_trees, onward_trees, AreTreeCalls, HasArgumentsIn, HasArgumentsAmong}
 use Rattle.greibach.specs.PlacesInCode.{PlainPlace, PlainEntry, PlainPlaces, plain_part, plain_place, plain_entry, plain_places}
 use Rattle.greibach.proofs.NumberedOneByOne.{meets_then, number_stays}
 use Rattle.greibach.proofs.TablesOfPlaces.{mapped_there}

@@ -1,5 +1,5 @@
 -- When a table of places fits a pool and a signature.
-use Rattle.std.specs.Prelude.{◌≡◌, ◌<◌, ℕ, List, [], ◌∷◌, map, length, Option, Some, IfSome, slice_get}
+use Rattle.std.specs.Prelude.{◌≡◌, ◌<◌, ℕ, List, [], ◌∷◌, length, Some, IfSome, slice_get}
 use Rattle.std.specs.List.{All, Contains}
 use Rattle.data_theory.specs.declared.ids.ProcId.{ProcId}
 use Rattle.data_theory.specs.declared.ids.VarId.{VarId}

@@ -19,3 +19,8 @@ pub mod FittingPlaces
 pub mod Readings
 pub mod Surroundings
 pub mod AddedLabels
+pub mod TableReadings
+pub mod AddedHeads
+pub mod TablesRead
+pub mod MadeEquations
+pub mod Scopes

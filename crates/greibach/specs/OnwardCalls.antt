@@ -8,7 +8,7 @@ use Rattle.term_pool.specs.HeadTrees.{trees_at, AreIn}
 use Rattle.term_pool.specs.Bindings.{listed}
 use Rattle.greibach.specs.ListedVariables.{listed_variables}
 use Rattle.greibach.specs.MeetingOrder.{IsNumberOf, Meets}
-use Rattle.greibach.specs.PlacesInCode.{PlainPart, delta, act, choice, cond, sum, call, PlainPlace, PlainEntry, PlainPlaces}
+use Rattle.greibach.specs.PlacesInCode.{PlainPart, delta, call, PlainPlace, PlainPlaces}
 
 abbrev pub no_place : PlainPlace
 no_place = record { part = delta; rest = None; params = [] }

@@ -7,11 +7,14 @@ use Rattle.data_theory.specs.declared.ids.VarId.{VarId}
 use Rattle.data_theory.specs.declared.ids.TermId.{TermId}
 use Rattle.data_theory.specs.IdTrees.{Tree}
 use Rattle.process_terms.specs.PlainProcesses.{PlainProcess, PlainProcesses, PlainDefinition, plain_definition, PlainComponent, call_of, term_of}
+use Rattle.process_terms.specs.Meanings.{Entries, body_of}
+use Rattle.proc_unfold.specs.Parallel.{HasParallel}
 use Rattle.greibach.specs.declared.reading.Reader.{Reader}
 use Rattle.greibach.specs.declared.reading.Source.{Source}
 use Rattle.greibach.specs.PlacesInCode.{PlainPart, PlainPlace, PlainEntry, plain_place}
 use Rattle.greibach.specs.OccurringVariables.{OccursIn, rest_params}
 use Rattle.greibach.specs.FittingPlaces.{IsThere, FitsInScope, FitInScope, ReadsFittingly, HasRead}
+use Rattle.greibach.specs.TableReadings.{Reads}
 
 abbrev pub definitions_in : Source → List PlainDefinition
 definitions_in s = map plain_definition s.model.now.procs.items
@@ -37,6 +40,15 @@ CanReadAll s r ps = FitInScope s.sig.now s.pool.now.trees (definitions_in s) r.s
 -- from the old reader to the new one something was read, which begins at this place
 abbrev pub ReadsOn : Source → Reader → Reader → List VarId → ℕ → Type 0
 ReadsOn s old new scope n = HasRead s.sig.now s.pool.now.trees (definitions_in s) (places_in old) (places_in new) old.reached.keys new.reached.keys scope n
+
+-- In each later table there stands what was read for the process term, where that has no parallel operator.
+abbrev pub ReadsTerm : List Tree → List PlainPlace → List PlainPlace → List ProcId → List ProcId → List VarId → PlainProcess → Option ℕ → ℕ → Type 0
+ReadsTerm ts old new before after scope p rest n =
+    (e : Entries) (reached : List ProcId) (table : List PlainPlace) → BeginsWith after reached → BeginsWith new table → (HasParallel (body_of e p) → ⊥)
+    → Reads e ts reached table scope (body_of e p) rest (length old) (length new) before after n
+
+abbrev pub ReadsAs : Source → Reader → Reader → List VarId → PlainProcess → Option ℕ → ℕ → Type 0
+ReadsAs s old new scope p rest n = ReadsTerm s.pool.now.trees (places_in old) (places_in new) old.reached.keys new.reached.keys scope p rest n
 
 -- a place was added, with these parameters
 abbrev pub IsPushed : List PlainPlace → PlainPart → Option ℕ → List VarId → List PlainPlace → ℕ → Type 0

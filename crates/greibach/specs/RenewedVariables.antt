@@ -1,7 +1,6 @@
 -- Other variables with the names and sorts of given ones.
-use Rattle.std.specs.Prelude.{ℕ, List, [], ◌∷◌, ◌++◌, length}
+use Rattle.std.specs.Prelude.{List, [], ◌∷◌, ◌++◌, length}
 use Rattle.data_theory.specs.declared.ids.VarId.{VarId}
-use Rattle.data_theory.specs.declared.signature.Variable.{Variable}
 use Rattle.data_theory.specs.Signature.{Sig, with_variable}
 use Rattle.lps_core.specs.Fitting.{sort_of_variable}
 use Rattle.lps_core.specs.Naming.{name_of}

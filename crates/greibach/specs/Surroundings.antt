@@ -9,9 +9,8 @@ use Rattle.data_theory.specs.Signature.{Sig}
 use Rattle.data_theory.specs.Complete.{BeginsWith}
 use Rattle.data_theory.specs.IdTrees.{Tree}
 use Rattle.data_theory.specs.WholeSignatures.{IsSignature}
-use Rattle.term_pool.specs.Pools.{Extends}
 use Rattle.lps_core.specs.Fitting.{IsVariable, sort_of_variable, HasTakenName}
-use Rattle.lps_core.specs.Naming.{GrowsByNames, names_of}
+use Rattle.lps_core.specs.Naming.{names_of}
 use Rattle.lps_core.specs.TreeSummands.{numbers_of}
 use Rattle.proc_unfold.specs.FittingModels.{TermFits, TermsFit, ActionFits}
 use Rattle.greibach.specs.declared.heads.Around.{Around}

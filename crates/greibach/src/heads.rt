@@ -17,6 +17,7 @@ ghost use Rattle.greibach.specs.OnwardCalls.{OnwardIsListed};
 ghost use Rattle.greibach.specs.AddedLabels.{LabelAdded};
 ghost use Rattle.proc_unfold.specs.FittingModels.{TermFits};
 ghost use Rattle.greibach.specs.Surroundings.{plain_around, plain_unfolding, Added, CanAdd, IsCovered, IsCoveredBut, CallStands};
+ghost use Rattle.greibach.specs.AddedHeads.{Adds, AddsBranches, AddsCalled, AddsEach, AddsEntered, AddsGuarded, AddsSummed, Grew};
 
 use crate::calls::{Call, add_waiting, onward_calls};
 use crate::environments::{bound_to, terms_for, with_first};
@@ -62,7 +63,7 @@ fn add_label(
     around: Around<'_>,
     label: &Label,
     rest: Option<usize>,
-    unfolding: &mut Unfolding,
+    under_way: &mut Unfolding,
 ) -> Result<(), NoMemory>
     requires parts { AreIn pool.old.trees around.parts.now }
     requires listed { AreIn pool.old.trees (listed_terms around.by.now) }
@@ -70,19 +71,19 @@ fn add_label(
     requires onward { OnwardIsListed (plain_places places.now) pool.old.trees around.by.now rest }
     ensures kept { Extends pool.old.trees pool.new.trees }
     ensures constants { pool.new.constants ≡ pool.old.constants }
-    ensures added { OnOk result (LabelAdded pool.old.trees pool.new.trees (plain_places places.now) (plain_around around.entry) (plain_label label.now) rest (plain_unfolding unfolding.old) (plain_unfolding unfolding.new)) }
+    ensures added { OnOk result (LabelAdded pool.old.trees pool.new.trees (plain_places places.now) (plain_around around.entry) (plain_label label.now) rest (plain_unfolding under_way.old) (plain_unfolding under_way.new)) }
 {
     let cond = conjoined(pool, around.parts.to_vec(alloc)?)?;
     let label = put_label(alloc, pool, label, around.by)?;
-    let mut next = onward_calls(alloc, places, pool, rest, around.by, &mut unfolding.met)?;
+    let mut next = onward_calls(alloc, places, pool, rest, around.by, &mut under_way.met)?;
     add_waiting(
         alloc,
-        unfolding.waiting.as_slice(),
-        &mut unfolding.met,
+        under_way.waiting.as_slice(),
+        &mut under_way.met,
         &mut next,
     )?;
     let sums = around.sums.to_vec(alloc)?;
-    unfolding.summands.push(GreibachSummand {
+    under_way.summands.push(GreibachSummand {
         sums,
         cond,
         label,
@@ -101,15 +102,16 @@ fn add_guarded(
     around: Around<'_>,
     cond: TermId,
     place: usize,
-    unfolding: &mut Unfolding,
+    under_way: &mut Unfolding,
 ) -> Result<(), NoMemory>
-    requires can { CanAdd sig.old pool.old.trees (plain_places places.now) (plain_around around) (plain_unfolding unfolding.old) }
+    requires can { CanAdd sig.old pool.old.trees (plain_places places.now) (plain_around around) (plain_unfolding under_way.old) }
     requires condition { TermFits sig.old pool.old.trees (around.sums.now ++ around.params.now) bool_sort cond }
     requires place { IsCovered (plain_places places.now).places around.by.now place }
     ensures grown { GrowsByNames sig.old sig.new }
     ensures kept { Extends pool.old.trees pool.new.trees }
     ensures constants { pool.new.constants ≡ pool.old.constants }
-    ensures added { OnOk result (Added sig.old sig.new pool.old.trees pool.new.trees (plain_places places.now) around.entry.params.now (plain_unfolding unfolding.old) (plain_unfolding unfolding.new)) }
+    ensures added { OnOk result (Added sig.old sig.new pool.old.trees pool.new.trees (plain_places places.now) around.entry.params.now (plain_unfolding under_way.old) (plain_unfolding under_way.new)) }
+    ensures heads { OnOk result (Grew sig.new pool.new.trees (plain_unfolding under_way.old) (plain_unfolding under_way.new) (λ e. AddsGuarded e (plain_places places.now) (plain_around around.entry) (plain_unfolding under_way.old).waiting cond place)) }
 {
     let mut parts = around.parts.to_vec(alloc)?;
     parts_of(pool, cond, &mut parts)?;
@@ -120,7 +122,7 @@ fn add_guarded(
         parts: parts.as_slice(),
         room: around.room,
     };
-    add(alloc, places, sig, pool, inside, place, unfolding)
+    add(alloc, places, sig, pool, inside, place, under_way)
 }
 
 /// Adds the summands of a sum's operand, with another variable for its own.
@@ -133,15 +135,16 @@ fn add_summed(
     around: Around<'_>,
     var: VarId,
     place: usize,
-    unfolding: &mut Unfolding,
+    under_way: &mut Unfolding,
 ) -> Result<(), NoMemory>
-    requires can { CanAdd sig.old pool.old.trees (plain_places places.now) (plain_around around) (plain_unfolding unfolding.old) }
+    requires can { CanAdd sig.old pool.old.trees (plain_places places.now) (plain_around around) (plain_unfolding under_way.old) }
     requires variable { IsVariable sig.old var }
     requires place { IsCoveredBut (plain_places places.now).places around.by.now var place }
     ensures grown { GrowsByNames sig.old sig.new }
     ensures kept { Extends pool.old.trees pool.new.trees }
     ensures constants { pool.new.constants ≡ pool.old.constants }
-    ensures added { OnOk result (Added sig.old sig.new pool.old.trees pool.new.trees (plain_places places.now) around.entry.params.now (plain_unfolding unfolding.old) (plain_unfolding unfolding.new)) }
+    ensures added { OnOk result (Added sig.old sig.new pool.old.trees pool.new.trees (plain_places places.now) around.entry.params.now (plain_unfolding under_way.old) (plain_unfolding under_way.new)) }
+    ensures heads { OnOk result (Grew sig.new pool.new.trees (plain_unfolding under_way.old) (plain_unfolding under_way.new) (λ e. AddsSummed e (plain_places places.now) (plain_around around.entry) (plain_unfolding under_way.old).waiting var place)) }
 {
     let other = renew(sig, var)?;
     let term = variable_term(pool, other)?;
@@ -154,7 +157,7 @@ fn add_summed(
         parts: around.parts,
         room: around.room,
     };
-    add(alloc, places, sig, pool, inside, place, unfolding)
+    add(alloc, places, sig, pool, inside, place, under_way)
 }
 
 /// Adds the summands of a called definition.
@@ -167,14 +170,15 @@ fn add_entered(
     around: Around<'_>,
     callee: usize,
     args: &[TermId],
-    unfolding: &mut Unfolding,
+    under_way: &mut Unfolding,
 ) -> Result<(), NoMemory>
-    requires can { CanAdd sig.old pool.old.trees (plain_places places.now) (plain_around around) (plain_unfolding unfolding.old) }
+    requires can { CanAdd sig.old pool.old.trees (plain_places places.now) (plain_around around) (plain_unfolding under_way.old) }
     requires call { CallStands sig.old pool.old.trees (plain_places places.now) around.by.now callee args.now }
     ensures grown { GrowsByNames sig.old sig.new }
     ensures kept { Extends pool.old.trees pool.new.trees }
     ensures constants { pool.new.constants ≡ pool.old.constants }
-    ensures added { OnOk result (Added sig.old sig.new pool.old.trees pool.new.trees (plain_places places.now) around.entry.params.now (plain_unfolding unfolding.old) (plain_unfolding unfolding.new)) }
+    ensures added { OnOk result (Added sig.old sig.new pool.old.trees pool.new.trees (plain_places places.now) around.entry.params.now (plain_unfolding under_way.old) (plain_unfolding under_way.new)) }
+    ensures heads { OnOk result (Grew sig.new pool.new.trees (plain_unfolding under_way.old) (plain_unfolding under_way.new) (λ e. AddsEntered e (plain_places places.now) (plain_around around.entry) (plain_unfolding under_way.old).waiting callee args.now)) }
 {
     let entry = places.entries[callee];
     let args = put_all(alloc, pool, args, around.by)?;
@@ -186,7 +190,7 @@ fn add_entered(
         parts: around.parts,
         room: around.room,
     };
-    add(alloc, places, sig, pool, inside, entry.place, unfolding)
+    add(alloc, places, sig, pool, inside, entry.place, under_way)
 }
 
 /// Adds the summands of a called definition, with what follows the call waiting behind them.
@@ -200,25 +204,26 @@ fn add_called(
     callee: usize,
     args: &[TermId],
     rest: Option<usize>,
-    unfolding: &mut Unfolding,
+    under_way: &mut Unfolding,
 ) -> Result<(), NoMemory>
-    requires can { CanAdd sig.old pool.old.trees (plain_places places.now) (plain_around around) (plain_unfolding unfolding.old) }
+    requires can { CanAdd sig.old pool.old.trees (plain_places places.now) (plain_around around) (plain_unfolding under_way.old) }
     requires call { CallStands sig.old pool.old.trees (plain_places places.now) around.by.now callee args.now }
     requires rest { IfSome rest (IsCovered (plain_places places.now).places around.by.now) }
     ensures grown { GrowsByNames sig.old sig.new }
     ensures kept { Extends pool.old.trees pool.new.trees }
     ensures constants { pool.new.constants ≡ pool.old.constants }
-    ensures added { OnOk result (Added sig.old sig.new pool.old.trees pool.new.trees (plain_places places.now) around.entry.params.now (plain_unfolding unfolding.old) (plain_unfolding unfolding.new)) }
+    ensures added { OnOk result (Added sig.old sig.new pool.old.trees pool.new.trees (plain_places places.now) around.entry.params.now (plain_unfolding under_way.old) (plain_unfolding under_way.new)) }
+    ensures heads { OnOk result (Grew sig.new pool.new.trees (plain_unfolding under_way.old) (plain_unfolding under_way.new) (λ e. AddsCalled e (plain_places places.now) (plain_around around.entry) (plain_unfolding under_way.old).waiting callee args.now rest)) }
 {
     let Some(place) = rest else {
-        return add_entered(alloc, places, sig, pool, around, callee, args, unfolding);
+        return add_entered(alloc, places, sig, pool, around, callee, args, under_way);
     };
     let params = places.places[place].params.as_slice();
     let behind = terms_for(alloc, params, around.by)?;
-    let depth = unfolding.waiting.len();
-    unfolding.waiting.push((place, behind))?;
-    add_entered(alloc, places, sig, pool, around, callee, args, unfolding)?;
-    unfolding.waiting.truncate(depth);
+    let depth = under_way.waiting.len();
+    under_way.waiting.push((place, behind))?;
+    add_entered(alloc, places, sig, pool, around, callee, args, under_way)?;
+    under_way.waiting.truncate(depth);
     Ok(())
 }
 
@@ -231,17 +236,18 @@ fn add_operands(
     pool: &mut Pool,
     around: Around<'_>,
     operands: &[usize],
-    unfolding: &mut Unfolding,
+    under_way: &mut Unfolding,
 ) -> Result<(), NoMemory>
-    requires can { CanAdd sig.old pool.old.trees (plain_places places.now) (plain_around around) (plain_unfolding unfolding.old) }
+    requires can { CanAdd sig.old pool.old.trees (plain_places places.now) (plain_around around) (plain_unfolding under_way.old) }
     requires operands { All (IsCovered (plain_places places.now).places around.by.now) operands.now }
     ensures grown { GrowsByNames sig.old sig.new }
     ensures kept { Extends pool.old.trees pool.new.trees }
     ensures constants { pool.new.constants ≡ pool.old.constants }
-    ensures added { OnOk result (Added sig.old sig.new pool.old.trees pool.new.trees (plain_places places.now) around.entry.params.now (plain_unfolding unfolding.old) (plain_unfolding unfolding.new)) }
+    ensures added { OnOk result (Added sig.old sig.new pool.old.trees pool.new.trees (plain_places places.now) around.entry.params.now (plain_unfolding under_way.old) (plain_unfolding under_way.new)) }
+    ensures heads { OnOk result (Grew sig.new pool.new.trees (plain_unfolding under_way.old) (plain_unfolding under_way.new) (λ e. AddsEach e (plain_places places.now) (plain_around around.entry) (plain_unfolding under_way.old).waiting operands.now)) }
 {
     for operand in operands {
-        add(alloc, places, sig, pool, around, *operand, unfolding)?;
+        add(alloc, places, sig, pool, around, *operand, under_way)?;
     }
     Ok(())
 }
@@ -257,21 +263,22 @@ fn add_branches(
     condition: TermId,
     then: usize,
     other: usize,
-    unfolding: &mut Unfolding,
+    under_way: &mut Unfolding,
 ) -> Result<(), NoMemory>
-    requires can { CanAdd sig.old pool.old.trees (plain_places places.now) (plain_around around) (plain_unfolding unfolding.old) }
+    requires can { CanAdd sig.old pool.old.trees (plain_places places.now) (plain_around around) (plain_unfolding under_way.old) }
     requires condition { TermFits sig.old pool.old.trees (listed_variables around.by.now) bool_sort condition }
     requires then { IsCovered (plain_places places.now).places around.by.now then }
     requires other { IsCovered (plain_places places.now).places around.by.now other }
     ensures grown { GrowsByNames sig.old sig.new }
     ensures kept { Extends pool.old.trees pool.new.trees }
     ensures constants { pool.new.constants ≡ pool.old.constants }
-    ensures added { OnOk result (Added sig.old sig.new pool.old.trees pool.new.trees (plain_places places.now) around.entry.params.now (plain_unfolding unfolding.old) (plain_unfolding unfolding.new)) }
+    ensures added { OnOk result (Added sig.old sig.new pool.old.trees pool.new.trees (plain_places places.now) around.entry.params.now (plain_unfolding under_way.old) (plain_unfolding under_way.new)) }
+    ensures heads { OnOk result (Grew sig.new pool.new.trees (plain_unfolding under_way.old) (plain_unfolding under_way.new) (λ e. AddsBranches e (plain_places places.now) (plain_around around.entry) (plain_unfolding under_way.old).waiting condition then other)) }
 {
     let holds = pool.subst(condition, around.by)?;
-    add_guarded(alloc, places, sig, pool, around, holds, then, unfolding)?;
+    add_guarded(alloc, places, sig, pool, around, holds, then, under_way)?;
     let fails = pool.intern(Head::Fun(NOT), &[holds])?;
-    add_guarded(alloc, places, sig, pool, around, fails, other, unfolding)
+    add_guarded(alloc, places, sig, pool, around, fails, other, under_way)
 }
 
 /// Adds the summands of what stands at a place, from the left.
@@ -283,14 +290,15 @@ pub fn add(
     pool: &mut Pool,
     around: Around<'_>,
     place: usize,
-    unfolding: &mut Unfolding,
+    under_way: &mut Unfolding,
 ) -> Result<(), NoMemory>
-    requires can { CanAdd sig.old pool.old.trees (plain_places places.now) (plain_around around) (plain_unfolding unfolding.old) }
+    requires can { CanAdd sig.old pool.old.trees (plain_places places.now) (plain_around around) (plain_unfolding under_way.old) }
     requires place { IsCovered (plain_places places.now).places around.by.now place }
     ensures grown { GrowsByNames sig.old sig.new }
     ensures kept { Extends pool.old.trees pool.new.trees }
     ensures constants { pool.new.constants ≡ pool.old.constants }
-    ensures added { OnOk result (Added sig.old sig.new pool.old.trees pool.new.trees (plain_places places.now) around.entry.params.now (plain_unfolding unfolding.old) (plain_unfolding unfolding.new)) }
+    ensures added { OnOk result (Added sig.old sig.new pool.old.trees pool.new.trees (plain_places places.now) around.entry.params.now (plain_unfolding under_way.old) (plain_unfolding under_way.new)) }
+    ensures heads { OnOk result (Grew sig.new pool.new.trees (plain_unfolding under_way.old) (plain_unfolding under_way.new) (λ e. Adds e (plain_places places.now) (plain_around around.entry) (plain_unfolding under_way.old).waiting place)) }
 {
     if around.room == 0 {
         return Err(NoMemory);
@@ -305,7 +313,7 @@ pub fn add(
     let here: &Place<'_> = &places.places[place];
     match &here.part {
         Part::Delta => Ok(()),
-        Part::Act(label) => add_label(alloc, places, pool, inside, *label, here.rest, unfolding),
+        Part::Act(label) => add_label(alloc, places, pool, inside, *label, here.rest, under_way),
         Part::Choice(operands) => add_operands(
             alloc,
             places,
@@ -313,17 +321,17 @@ pub fn add(
             pool,
             inside,
             operands.as_slice(),
-            unfolding,
+            under_way,
         ),
         Part::Cond(condition, then, other) => add_branches(
-            alloc, places, sig, pool, inside, *condition, *then, *other, unfolding,
+            alloc, places, sig, pool, inside, *condition, *then, *other, under_way,
         ),
         Part::Sum(var, operand) => add_summed(
-            alloc, places, sig, pool, inside, *var, *operand, unfolding,
+            alloc, places, sig, pool, inside, *var, *operand, under_way,
         ),
         Part::Call(callee, args) => add_called(
-            alloc, places, sig, pool, inside, *callee, *args, here.rest, unfolding,
+            alloc, places, sig, pool, inside, *callee, *args, here.rest, under_way,
         ),
-        Part::Whole(body) => add(alloc, places, sig, pool, inside, *body, unfolding),
+        Part::Whole(body) => add(alloc, places, sig, pool, inside, *body, under_way),
     }
 }

@@ -11,10 +11,13 @@ ghost use Rattle.lps_core.specs.Fitting.{IsVariable};
 ghost use Rattle.lps_core.specs.Naming.{GrowsByNames};
 ghost use Rattle.proc_unfold.specs.FittingModels.{ComponentFits, ModelFits};
 ghost use Rattle.greibach.specs.FittingForms.{FormFits};
-ghost use Rattle.greibach.specs.ComponentForms.{arguments_of};
+ghost use Rattle.greibach.specs.ComponentForms.{arguments_of, IsBisimilarForm, IsFormOf};
+ghost use Rattle.greibach.specs.Scopes.{BindsItsVariablesOnce, HasSequentialBodies};
 ghost use Rattle.greibach.specs.PlainForms.{plain_equation, plain_form};
 ghost use Rattle.greibach.specs.PlacesInCode.{plain_places};
 ghost use Rattle.greibach.specs.FittingPlaces.{PlacesFitSince};
+ghost use Rattle.greibach.specs.AddedHeads.{Later};
+ghost use Rattle.greibach.specs.MadeEquations.{IsEquationAt, MakesAll};
 ghost use Rattle.greibach.specs.Surroundings.{plain_unfolding, EquationMade, FormMade, HasTakenNames, ParametersStand};
 
 use crate::environments::bound_to;
@@ -69,19 +72,20 @@ fn equation(
     sig: &mut Signature,
     pool: &mut Pool,
     place: usize,
-    unfolding: &mut Unfolding,
+    under_way: &mut Unfolding,
 ) -> Result<GreibachEquation, NoMemory>
     requires stands { IsSignature sig.old }
     requires names { HasTakenNames sig.old }
     requires table { PlacesFitSince sig.old pool.old.trees (plain_places places.now) }
     requires place { place < length places.now.places.items }
-    requires met { All (λ n. n < length places.now.places.items) unfolding.old.met.keys }
-    requires waiting { unfolding.old.waiting.items ≡ [] }
-    requires summands { unfolding.old.summands.items ≡ [] }
+    requires met { All (λ n. n < length places.now.places.items) under_way.old.met.keys }
+    requires waiting { under_way.old.waiting.items ≡ [] }
+    requires summands { under_way.old.summands.items ≡ [] }
     ensures grown { GrowsByNames sig.old sig.new }
     ensures kept { Extends pool.old.trees pool.new.trees }
     ensures constants { pool.new.constants ≡ pool.old.constants }
-    ensures made { IfOk result (λ made. EquationMade sig.new pool.new.trees (plain_places places.now).places place (plain_unfolding unfolding.old) (plain_unfolding unfolding.new) (plain_equation made)) }
+    ensures made { IfOk result (λ made. EquationMade sig.new pool.new.trees (plain_places places.now).places place (plain_unfolding under_way.old) (plain_unfolding under_way.new) (plain_equation made)) }
+    ensures heads { IfOk result (λ made. Later sig.new pool.new.trees (λ e. IsEquationAt e (plain_places places.now) place (plain_equation made) under_way.old.met.keys under_way.new.met.keys)) }
 {
     let vars = places.places[place].params.as_slice();
     let params = parameters(alloc, sig, vars)?;
@@ -94,9 +98,9 @@ fn equation(
         parts: &[],
         room: MAX_DEPTH,
     };
-    add(alloc, places, sig, pool, around, place, unfolding)?;
+    add(alloc, places, sig, pool, around, place, under_way)?;
     let mut summands = Vec::new(alloc);
-    std::mem::swap(&mut summands, &mut unfolding.summands);
+    std::mem::swap(&mut summands, &mut under_way.summands);
     Ok(GreibachEquation { params, summands })
 }
 
@@ -115,17 +119,18 @@ fn equations(
     ensures kept { Extends pool.old.trees pool.new.trees }
     ensures constants { pool.new.constants ≡ pool.old.constants }
     ensures made { IfOk result (λ made. FormMade sig.new pool.new.trees (plain_places places.now) (map plain_equation made.items)) }
+    ensures heads { IfOk result (λ made. Later sig.new pool.new.trees (λ e. MakesAll e (plain_places places.now) (map plain_equation made.items))) }
 {
-    let mut unfolding = Unfolding {
+    let mut under_way = Unfolding {
         met: IndexSet::new(alloc),
         waiting: Vec::new(alloc),
         summands: Vec::new(alloc),
     };
-    number(places.start, &mut unfolding.met)?;
+    number(places.start, &mut under_way.met)?;
     let mut equations = Vec::new(alloc);
-    while equations.len() < unfolding.met.len() {
-        let place = unfolding.met[equations.len()];
-        let made = equation(alloc, places, sig, pool, place, &mut unfolding)?;
+    while equations.len() < under_way.met.len() {
+        let place = under_way.met[equations.len()];
+        let made = equation(alloc, places, sig, pool, place, &mut under_way)?;
         equations.push(made)?;
     }
     Ok(equations)
@@ -162,11 +167,15 @@ pub fn normal_form(
     requires names { HasTakenNames sig.old }
     requires model { ModelFits sig.old pool.old.trees (plain_model guarded.now.model.now) }
     requires component { ComponentFits sig.old pool.old.trees (plain_model guarded.now.model.now).definitions (plain_component start.now) }
+    requires sequential { HasSequentialBodies (plain_model guarded.now.model.now) (plain_component start.now) }
+    requires scopes { BindsItsVariablesOnce (plain_model guarded.now.model.now) (plain_component start.now) }
     ensures grown { GrowsByNames sig.old sig.new }
     ensures kept { Extends pool.old.trees pool.new.trees }
     ensures constants { pool.new.constants ≡ pool.old.constants }
     ensures names { OnOk result (HasTakenNames sig.new) }
     ensures fits { IfOk result (λ form. FormFits sig.new pool.new.trees (plain_form form)) }
+    ensures unfolds { IfOk result (λ form. IsFormOf sig.new pool.new.trees (plain_model guarded.now.model.now) (plain_component start.now) (plain_form form)) }
+    ensures bisimilar { IfOk result (λ form. IsBisimilarForm sig.new pool.new.trees (plain_model guarded.now.model.now) (plain_component start.now) (plain_form form)) }
 {
     let source = Source {
         model: guarded.model,

@@ -5,12 +5,14 @@ ghost use Rattle.std.specs.List.{All, Contains};
 ghost use Rattle.data_theory.specs.declared.ids.VarId.{VarId};
 ghost use Rattle.data_theory.specs.Complete.{BeginsWith};
 ghost use Rattle.term_pool.specs.HeadTrees.{AreIn};
-ghost use Rattle.process_terms.specs.PlainProcesses.{plain_component, plain_definition, plain_label, plain_model, plain_process, processes_of, act, call, choice, cond, seq, sum, more_processes, no_processes};
+ghost use Rattle.process_terms.specs.PlainProcesses.{plain_component, plain_definition, plain_label, plain_model, plain_process, processes_of, act, call, choice, cond, delta, merge, seq, sum, more_processes, no_processes};
 ghost use Rattle.greibach.specs.PlacesInCode.{PlainEntry, plain_entry, plain_part, plain_place, plain_places};
 ghost use Rattle.greibach.specs.OccurringVariables.{label_terms, params_at, rest_params, those_among};
-ghost use Rattle.proc_unfold.specs.FittingModels.{DefinitionFits, ModelFits, ComponentFits};
+ghost use Rattle.lps_core.specs.Fitting.{IsVariable};
+ghost use Rattle.proc_unfold.specs.FittingModels.{DefinitionFits, ModelFits, ComponentFits, ProcessFits};
+ghost use Rattle.greibach.specs.TablesRead.{Begins, IsTableOf, ReadsWhole};
 ghost use Rattle.greibach.specs.FittingPlaces.{PlacesFit, StartsAt};
-ghost use Rattle.greibach.specs.Readings.{HasBegun, ReadsDefinition, definitions_in, places_in, IsReading, RestIsRead, CanRead, CanReadAll, ReadsOn, IsPushed, AreNeeded};
+ghost use Rattle.greibach.specs.Readings.{HasBegun, ReadsDefinition, definitions_in, places_in, IsReading, RestIsRead, CanRead, CanReadAll, ReadsAs, ReadsOn, IsPushed, AreNeeded};
 
 use crate::places::{Entry, Part, Place, Places};
 use crate::variables::{add_terms, add_variables, among};
@@ -105,6 +107,7 @@ fn read_delta<'a>(
     requires rest { RestIsRead reader.old rest }
     ensures scope { OnOk result (reader.new.scope.items ≡ reader.old.scope.items) }
     ensures read { IfOk result (λ n. ReadsOn source.entry reader.old reader.new reader.old.scope.items n) }
+    ensures reads { IfOk result (λ n. ReadsAs source.entry reader.old reader.new reader.old.scope.items delta rest n) }
 {
     let needed = needed_for(source, reader.places.as_slice(), &[], rest)?;
     push(source.alloc, reader, Part::Delta, rest, &needed)
@@ -133,6 +136,7 @@ fn read_label<'a>(
     requires rest { RestIsRead reader.old rest }
     ensures scope { OnOk result (reader.new.scope.items ≡ reader.old.scope.items) }
     ensures read { IfOk result (λ n. ReadsOn source.entry reader.old reader.new reader.old.scope.items n) }
+    ensures reads { IfOk result (λ n. ReadsAs source.entry reader.old reader.new reader.old.scope.items (act (plain_label label.now)) rest n) }
 {
     let terms = arguments_of(source.alloc, label)?;
     let needed = needed_for(source, reader.places.as_slice(), terms.as_slice(), rest)?;
@@ -162,6 +166,7 @@ fn read_call<'a>(
     requires rest { RestIsRead reader.old rest }
     ensures scope { OnOk result (reader.new.scope.items ≡ reader.old.scope.items) }
     ensures read { IfOk result (λ n. ReadsOn source.entry reader.old reader.new reader.old.scope.items n) }
+    ensures reads { IfOk result (λ n. ReadsAs source.entry reader.old reader.new reader.old.scope.items (call callee args.now) rest n) }
 {
     let number = reach(callee, &mut reader.reached)?;
     let needed = needed_for(source, reader.places.as_slice(), args, rest)?;
@@ -187,6 +192,7 @@ fn read_chain<'a>(
     requires rest { RestIsRead reader.old rest }
     ensures scope { OnOk result (reader.new.scope.items ≡ reader.old.scope.items) }
     ensures read { IfOk result (λ n. ReadsOn source.entry reader.old reader.new reader.old.scope.items n) }
+    ensures reads { IfOk result (λ n. ReadsAs source.entry reader.old reader.new reader.old.scope.items (seq (processes_of (map plain_process parts.now))) rest n) }
 {
     if parts.is_empty() {
         return read_delta(source, reader, rest);
@@ -213,9 +219,10 @@ fn read_choice<'a>(
     requires rest { RestIsRead reader.old rest }
     ensures scope { OnOk result (reader.new.scope.items ≡ reader.old.scope.items) }
     ensures read { IfOk result (λ n. ReadsOn source.entry reader.old reader.new reader.old.scope.items n) }
+    ensures reads { IfOk result (λ n. ReadsAs source.entry reader.old reader.new reader.old.scope.items (choice (processes_of (map plain_process parts.now))) rest n) }
 {
-    if let [only] = parts {
-        return read(source, reader, only, rest);
+    if parts.len() == 1 {
+        return read(source, reader, &parts[0], rest);
     }
     let mut operands = Vec::new(source.alloc);
     let mut needed = needed_for(source, reader.places.as_slice(), &[], rest)?;
@@ -225,6 +232,27 @@ fn read_choice<'a>(
         operands.push(place)?;
     }
     push(source.alloc, reader, Part::Choice(operands), rest, &needed)
+}
+
+/// Reads the operand of a `||` that has only one. Without operands it does nothing.
+#[cycle(read)]
+fn read_merge<'a>(
+    source: Source<'_, 'a>,
+    reader: &mut Reader<'a>,
+    parts: &'a [Proc],
+    rest: Option<usize>,
+) -> Result<usize, NoMemory>
+    requires fits { CanReadAll source reader.old (processes_of (map plain_process parts.now)) }
+    requires so_far { IsReading source reader.old }
+    requires rest { RestIsRead reader.old rest }
+    ensures scope { OnOk result (reader.new.scope.items ≡ reader.old.scope.items) }
+    ensures read { IfOk result (λ n. ReadsOn source.entry reader.old reader.new reader.old.scope.items n) }
+    ensures reads { IfOk result (λ n. ReadsAs source.entry reader.old reader.new reader.old.scope.items (merge (processes_of (map plain_process parts.now))) rest n) }
+{
+    if parts.len() == 1 {
+        return read(source, reader, &parts[0], rest);
+    }
+    read_delta(source, reader, rest)
 }
 
 /// Reads the operand of a sum, with the sum's variables in scope.
@@ -241,6 +269,7 @@ fn read_sum<'a>(
     requires rest { RestIsRead reader.old rest }
     ensures scope { OnOk result (reader.new.scope.items ≡ reader.old.scope.items) }
     ensures read { IfOk result (λ n. ReadsOn source.entry reader.old reader.new reader.old.scope.items n) }
+    ensures reads { IfOk result (λ n. ReadsAs source.entry reader.old reader.new reader.old.scope.items (sum vars.now (plain_process part.now)) rest n) }
 {
     let outer = reader.scope.len();
     reader.scope.extend_from_slice(vars)?;
@@ -272,6 +301,7 @@ fn read_cond<'a>(
     requires rest { RestIsRead reader.old rest }
     ensures scope { OnOk result (reader.new.scope.items ≡ reader.old.scope.items) }
     ensures read { IfOk result (λ n. ReadsOn source.entry reader.old reader.new reader.old.scope.items n) }
+    ensures reads { IfOk result (λ n. ReadsAs source.entry reader.old reader.new reader.old.scope.items (cond condition (plain_process then.now) (plain_process other.now)) rest n) }
 {
     let first = read(source, reader, then, rest)?;
     let second = read(source, reader, other, rest)?;
@@ -300,6 +330,7 @@ fn read<'a>(
     requires rest { RestIsRead reader.old rest }
     ensures scope { OnOk result (reader.new.scope.items ≡ reader.old.scope.items) }
     ensures read { IfOk result (λ n. ReadsOn source.entry reader.old reader.new reader.old.scope.items n) }
+    ensures reads { IfOk result (λ n. ReadsAs source.entry reader.old reader.new reader.old.scope.items (plain_process process.now) rest n) }
 {
     match process {
         Proc::Act(label) => read_label(source, reader, label, rest),
@@ -310,11 +341,37 @@ fn read<'a>(
             source, reader, *condition, then, other, rest,
         ),
         Proc::Sum(vars, part) => read_sum(source, reader, vars.as_slice(), part, rest),
+        Proc::Merge(parts) => read_merge(source, reader, parts.as_slice(), rest),
         _ => read_delta(source, reader, rest),
     }
 }
 
-/// Reads a definition. All its parameters count as free in it.
+/// Reads a process term over these parameters, and gives the place of all of it. All the parameters count as free in it.
+fn read_whole<'a>(
+    source: Source<'_, 'a>,
+    reader: &mut Reader<'a>,
+    params: &[VarId],
+    process: &'a Proc,
+) -> Result<usize, NoMemory>
+    requires params { All (IsVariable source.sig.now) params.now }
+    requires fits { ProcessFits source.sig.now source.pool.now.trees (definitions_in source) params.now (plain_process process.now) }
+    requires so_far { IsReading source reader.old }
+    ensures scope { OnOk result (reader.new.scope.items ≡ params.now) }
+    ensures read { IfOk result (λ n. ReadsOn source.entry reader.old reader.new params.now n) }
+    ensures whole { IfOk result (λ n. ReadsWhole source.entry.pool.now.trees (places_in reader.old) (places_in reader.new) reader.old.reached.keys reader.new.reached.keys params.now (plain_process process.now) n) }
+{
+    reader.scope = params.to_vec(source.alloc)?;
+    let body = read(source, reader, process, None)?;
+    let place = reader.places.len();
+    reader.places.push(Place {
+        part: Part::Whole(body),
+        rest: None,
+        params: params.to_vec(source.alloc)?,
+    })?;
+    Ok(place)
+}
+
+/// Reads a definition.
 fn read_definition<'a>(
     source: Source<'_, 'a>,
     reader: &mut Reader<'a>,
@@ -324,16 +381,10 @@ fn read_definition<'a>(
     requires definition { DefinitionFits source.sig.now source.pool.now.trees (definitions_in source) (plain_definition definition.now) }
     requires so_far { IsReading source reader.old }
     ensures read { IfOk result (λ e. ReadsDefinition source.entry reader.old reader.new process (plain_definition definition.now) (plain_entry e)) }
+    ensures whole { IfOk result (λ e. ReadsWhole source.entry.pool.now.trees (places_in reader.old) (places_in reader.new) reader.old.reached.keys reader.new.reached.keys definition.now.params.items (plain_process definition.now.body) e.place) }
 {
     let params = definition.params.as_slice();
-    reader.scope = params.to_vec(source.alloc)?;
-    let body = read(source, reader, &definition.body, None)?;
-    let place = reader.places.len();
-    reader.places.push(Place {
-        part: Part::Whole(body),
-        rest: None,
-        params: params.to_vec(source.alloc)?,
-    })?;
+    let place = read_whole(source, reader, params, &definition.body)?;
     Ok(Entry {
         process,
         place,
@@ -349,17 +400,18 @@ fn read_start<'a>(
 ) -> Result<Option<usize>, NoMemory>
     requires fits { ComponentFits source.sig.now source.pool.now.trees (definitions_in source) (plain_component start.now) }
     requires so_far { IsReading source reader.old }
-    requires bare { reader.old.scope.items ≡ [] }
+    requires places { places_in reader.old ≡ [] }
     requires none { reader.old.reached.keys ≡ [] }
     ensures so_far { OnOk result (IsReading source.entry reader.new) }
     ensures begun { IfOk result (HasBegun (places_in reader.new) reader.new.reached.keys (plain_component start.now)) }
+    ensures begins { IfOk result (Begins source.entry.pool.now.trees (plain_component start.now) (places_in reader.new) reader.new.reached.keys) }
 {
     match start {
         Component::Call(process, _) => {
             let _ = reach(*process, &mut reader.reached)?;
             Ok(None)
         }
-        Component::Term(process) => Ok(Some(read(source, reader, process, None)?)),
+        Component::Term(process) => Ok(Some(read_whole(source, reader, &[], process)?)),
     }
 }
 
@@ -380,6 +432,7 @@ pub fn read_places<'a>(source: Source<'_, 'a>, start: &'a Component) -> Result<P
     requires fits { ComponentFits source.sig.now source.pool.now.trees (definitions_in source) (plain_component start.now) }
     ensures fit { IfOk result (λ t. PlacesFit source.entry.sig.now source.entry.pool.now.trees (plain_places t)) }
     ensures starts { IfOk result (λ t. StartsAt (definitions_in source.entry) (plain_component start.now) (plain_places t)) }
+    ensures table { IfOk result (λ t. IsTableOf source.entry.pool.now.trees (definitions_in source.entry) (plain_component start.now) (plain_places t)) }
 {
     let alloc = source.alloc;
     let procs: &'a [ProcDef] = source.model.procs.as_slice();

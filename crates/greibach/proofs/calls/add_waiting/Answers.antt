@@ -1,4 +1,4 @@
-use Rattle.std.proofs.Common.{◌≡◌, ◌-◌, get_or, rules}
+use Rattle.std.proofs.Common.{rules}
 use Rattle.greibach.proofs.NumberedOneByOne.{numbering_none_in, numbering_more_in}
 use Rattle.greibach.proofs.calls.add_waiting.Goals as goal
 

@@ -1,4 +1,4 @@
-use Rattle.std.proofs.Common.{◌≡◌, ◌∙◌, get_or, sym, subst, rules}
+use Rattle.std.proofs.Common.{◌∙◌, sym, subst, rules}
 use Rattle.std.specs.List.{All, Contains}
 use Rattle.data_theory.specs.declared.ids.VarId.{VarId}
 use Rattle.greibach.specs.ListedVariables.{listed_variables}

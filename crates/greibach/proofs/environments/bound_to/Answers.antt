@@ -1,4 +1,4 @@
-use Rattle.std.proofs.Common.{◌≡◌, ◌<◌, sym, subst, length, rules}
+use Rattle.std.proofs.Common.{◌<◌, sym, subst, length, rules}
 use Rattle.greibach.proofs.ListedTerms.{paired_pushed}
 use Rattle.greibach.proofs.environments.bound_to.Goals as goal
 

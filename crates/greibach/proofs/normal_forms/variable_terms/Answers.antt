@@ -1,4 +1,4 @@
-use Rattle.std.proofs.Common.{◌≡◌, ◌+◌, ◌∙◌, sym, subst}
+use Rattle.std.proofs.Common.{◌∙◌, sym, subst}
 use Rattle.std.proofs.lemmas.List.Elements.{All-push}
 use Rattle.term_pool.specs.HeadTrees.{IsIn, AreIn}
 use Rattle.lps_core.proofs.PoolTrees.{extends_on, all_in_kept}

@@ -1,4 +1,4 @@
-use Rattle.std.proofs.Common.{◌≡◌, ◌∙◌, map, sym, subst, get_or, rules}
+use Rattle.std.proofs.Common.{◌∙◌, sym, subst}
 use Rattle.std.specs.Prelude.{◌↔◌, ◌⊎◌, OnOk}
 use Rattle.std.specs.List.{Contains}
 use Rattle.data_theory.specs.declared.ids.VarId.{VarId}

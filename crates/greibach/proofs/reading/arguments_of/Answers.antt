@@ -1,8 +1,4 @@
-use Rattle.std.proofs.Common.{◌≡◌, ◌+◌, ◌++◌, ◌∷◌, [], ◌∙◌, map, take, get_or, sym, ap, subst, length, ◌<◌}
-use Rattle.std.proofs.lemmas.List.{take_more, map-append, append-nil}
-use Rattle.process_terms.specs.PlainProcesses.{plain_action}
-use Rattle.process_terms.specs.declared.labels.Action.{Action}
-use Rattle.greibach.specs.OccurringVariables.{label_terms}
+use Rattle.std.proofs.Common.{◌≡◌, ◌++◌, ◌∙◌, get_or, ap, subst, length, ◌<◌}
 use Rattle.greibach.proofs.ReadPlaces.{one_more_action}
 use Rattle.greibach.proofs.reading.arguments_of.Goals as goal
 

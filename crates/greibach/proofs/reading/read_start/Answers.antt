@@ -1,8 +1,11 @@
-use Rattle.std.proofs.Common.{◌≡◌, ◌<◌, None, refl, sym, ap, subst, length}
+use Rattle.std.proofs.Common.{⊎_elim, None, refl, sym, subst}
+use Rattle.std.specs.List.{Contains}
+use Rattle.term_pool.proofs.Lists.{contains_none}
 use Rattle.std.proofs.lemmas.Option.{slice_get_within}
 use Rattle.process_terms.specs.PlainProcesses.{plain_component}
 use Rattle.proc_unfold.specs.FittingModels.{ComponentFits}
 use Rattle.greibach.specs.Readings.{definitions_in, places_in, HasBegun}
+use Rattle.greibach.specs.TablesRead.{Begins}
 use Rattle.greibach.proofs.ReadParts.{reached_reading, first_reached}
 use Rattle.greibach.proofs.reading.read_start.Goals as goal
 
@@ -16,3 +19,12 @@ pub returns-in_ok-reach-in-Call-clause-begun : goal.returns-in_ok-reach-in-Call-
 returns-in_ok-reach-in-Call-clause-begun c =
     subst (λ z. HasBegun (places_in c.args.reader.now) c.reach.new.reached.keys (plain_component z) None) (sym c.in-Call.is)
     (refl, first_reached c.args.reader.now.reached.keys c.reach.new.reached.keys c.in-Call.process c.in_ok-reach-in-Call.field-0 c.requires.none c.in_ok-reach-in-Call.ensures.known c.in_ok-reach-in-Call.ensures.only)
+
+pub returns-in_ok-reach-in-Call-clause-begins : goal.returns-in_ok-reach-in-Call-clause-begins
+returns-in_ok-reach-in-Call-clause-begins c =
+    subst (λ z. Begins c.args.source.pool.now.trees (plain_component z) (places_in c.args.reader.now) c.reach.new.reached.keys None) (sym c.in-Call.is) (
+      refl,
+      c.requires.places,
+      first_reached c.args.reader.now.reached.keys c.reach.new.reached.keys c.in-Call.process c.in_ok-reach-in-Call.field-0 c.requires.none c.in_ok-reach-in-Call.ensures.known c.in_ok-reach-in-Call.ensures.only,
+      λ y i. ⊎_elim (λ j. absurd (contains_none y (subst (λ l. Contains l y) c.requires.none j))) (λ e. e) (c.in_ok-reach-in-Call.ensures.only y i),
+    )

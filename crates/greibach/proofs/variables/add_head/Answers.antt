@@ -1,4 +1,4 @@
-use Rattle.std.proofs.Common.{◌≡◌, inl, inr, ⊎_elim, ap, ◌∙◌, sym}
+use Rattle.std.proofs.Common.{inl, inr, ⊎_elim, ap, ◌∙◌, sym}
 use Rattle.term_pool.specs.declared.terms.Head.TheVariants.{Var}
 use Rattle.term_pool.proofs.InsertedTerms.{HasToo}
 use Rattle.greibach.proofs.AddedVariables.{has_key}
