@@ -33,3 +33,13 @@ pub mod NameLists
 pub mod ScopeLists
 pub mod ActionGroups
 pub mod WorkedWholeTexts
+pub mod Adding
+pub mod WhatStays
+pub mod MadeBodies
+pub mod ReadLists
+pub mod Binding
+pub mod EnteringScopes
+pub mod NamedNumbers
+pub mod EnteringWords
+pub mod EnteringGroups
+pub mod SortTreeParts

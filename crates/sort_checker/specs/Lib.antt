@@ -29,3 +29,8 @@ pub mod UnknownTrees
 pub mod ActionTables
 pub mod CommTrees
 pub mod WorkedWholeTexts
+pub mod Additions
+pub mod ElaboratedParts
+pub mod CodeContexts
+pub mod NumberedWords
+pub mod AssignedTrees

@@ -1,5 +1,6 @@
 //! Laws of elaboration.
 
+ghost use Rattle.sort_checker.specs.Additions.{AdditionsChangeNothing};
 ghost use Rattle.sort_checker.specs.ActionLaws.{ActionsAreFoundByNumbers};
 ghost use Rattle.sort_checker.specs.FirstFaults.{TheFirstIsFound};
 ghost use Rattle.sort_checker.specs.Refusals.{RefusalsAreSingle};
@@ -94,4 +95,9 @@ pub fn well_typed_texts_elaborate()
 /// An action of a signature's vocabulary is found by the numbers of its sorts.
 pub fn actions_are_found_by_numbers()
     ensures { ActionsAreFoundByNumbers }
+{}
+
+/// Variables and list sorts come behind what was there, and change nothing in the vocabulary.
+pub fn additions_change_nothing()
+    ensures { AdditionsChangeNothing }
 {}

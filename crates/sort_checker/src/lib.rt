@@ -5,16 +5,21 @@
 #![tactic(auto)]
 
 mod action_tables;
+mod binders;
 mod comm_shapes;
 mod known_names;
 pub mod laws;
 mod left_sides;
 mod name_numbers;
+mod process_tables;
 mod renamings;
 mod scope_names;
 mod scoped_declarations;
+mod sort_numbers;
 mod stops;
 mod unknown_names;
+mod wished_terms;
+mod word_numbers;
 
 pub use comm_shapes::comm_shape;
 pub use left_sides::variable_left;
