@@ -38,3 +38,4 @@ pub mod CodeTerms
 pub mod NumeralPieces
 pub mod CodeForms
 pub mod CodeLists
+pub mod CodeSorts

@@ -26,3 +26,4 @@ pub mod Wordings
 pub mod TermParts
 pub mod WordForms
 pub mod CodeWordings
+pub mod TextWordings

@@ -7,6 +7,7 @@
 mod forms;
 pub mod laws;
 mod numbers;
+mod sorts;
 mod term_writer;
 mod terms;
 mod tokens;
