@@ -39,3 +39,4 @@ pub mod NumeralPieces
 pub mod CodeForms
 pub mod CodeLists
 pub mod CodeSorts
+pub mod CodeActions

@@ -27,3 +27,4 @@ pub mod TermParts
 pub mod WordForms
 pub mod CodeWordings
 pub mod TextWordings
+pub mod CodeProcesses

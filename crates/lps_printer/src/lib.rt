@@ -5,8 +5,10 @@
 #![tactic(auto)]
 
 mod forms;
+mod labels;
 pub mod laws;
 mod numbers;
+mod process_writer;
 mod sorts;
 mod term_writer;
 mod terms;

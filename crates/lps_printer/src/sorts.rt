@@ -58,12 +58,7 @@ pub(crate) fn push_sort(
 }
 
 /// `x: S`, behind white space.
-fn push_variable(
-    sig: &Signature,
-    var: VarId,
-    gap: &[u8],
-    out: &mut Vec<u8>,
-) -> Result<(), NoMemory>
+fn push_variable(sig: &Signature, var: VarId, gap: &[u8], out: &mut Vec<u8>) -> Result<(), NoMemory>
     requires { IsVariable sig.now var }
     ensures { OnOk result ((n : TextNames) → NamesSorts sig.now n → NamesVariables sig.now n → Adds out.old.items out.new.items (λ rest. print_variable (variable_by sig.now n var) gap.now rest)) }
 {

@@ -35,4 +35,3 @@ returns-in-Cons t c = on_ok_weaker c.push_sort_name-in-Cons.result (λ p n k. ad
 
 pub returns-in-Struct : goal.returns-in-Struct
 returns-in-Struct t c = on_ok_weaker c.push_sort_name-in-Struct.result (λ p n k. adds_sort c.args.gap.now (sort_of_kind c.args.sig.now c.kind.ensures.stands.table c.args.sort c.kind.result.now c.kind.ensures.kind c.requires n _ c.in-Struct.is) (p n k)) c.push_sort_name-in-Struct.ensures
-
