@@ -40,3 +40,4 @@ pub mod CodeForms
 pub mod CodeLists
 pub mod CodeSorts
 pub mod CodeActions
+pub mod CodeNexts

@@ -1,17 +1,21 @@
 -- What processes are worded with in code.
-use Rattle.std.specs.Prelude.{ℕ, List, map}
+use Rattle.std.specs.Prelude.{◌≡◌, ℕ, Bool, true, false, List, [], ◌∷◌, length, map, drop, Option, option_map}
+use Rattle.std.specs.List.{All}
+use Rattle.data_theory.specs.declared.ids.TermId.{TermId}
+use Rattle.data_theory.specs.declared.ids.VarId.{VarId}
 use Rattle.process_terms.specs.PlainProcesses.{PlainAction}
 use Rattle.process_terms.specs.Labels.{Label}
-use Rattle.process_terms.specs.Meanings.{Entries, action_of, label_of}
+use Rattle.process_terms.specs.Meanings.{Entries, bound_at, term_at, action_of, label_of}
 use Rattle.process_terms.specs.SignatureEntries.{entries_of}
 use Rattle.lps_core.specs.Fitting.{IsActionOf}
 use Rattle.lps_printer.specs.declared.process_writer.ProcessWriter as code
 use Rattle.lps_printer.specs.Pieces.{Piece}
 use Rattle.lps_printer.specs.PrintedProcesses as printed_
-use Rattle.lps_printer.specs.SummandLayout.{print_action, print_bars}
-use Rattle.lps_printer.specs.FilledLinears.{filled_action, filled_label}
-use Rattle.lps_printer.specs.WrittenProcesses.{TextNames, action_written, first_written, others_written}
+use Rattle.lps_printer.specs.SummandLayout.{print_action, print_bars, print_assignment, print_assignments}
+use Rattle.lps_printer.specs.FilledLinears.{filled_terms, filled_action, filled_label}
+use Rattle.lps_printer.specs.WrittenProcesses.{TextNames, action_written, first_written, others_written, assignments_written, next_written}
 use Rattle.lps_printer.specs.Adding.{Adds}
+use Rattle.lps_printer.specs.CodeWordings.{IsTermBy}
 use Rattle.lps_printer.specs.TextWordings.{TextWording, IsTextWordedBy}
 
 abbrev pub IsTextWording : code.ProcessWriter → TextWording → Type 0
@@ -38,3 +42,31 @@ label_by c t m = filled_label t.constant t.names (label_of (entries_by c) m)
 -- the layout of a label
 abbrev pub print_label : TextNames → Label → List ℕ → List Piece → List Piece
 print_label n m gap rest = print_action (first_written n m) gap (print_bars (others_written n m) rest)
+
+-- ---- calls
+-- the assignments of next terms to parameters, without those that stay
+abbrev pub assignments_by : code.ProcessWriter → TextWording → List VarId → List TermId → List printed_.Assignment
+assignments_by c t vs ids = assignments_written t.names (map (bound_at (entries_by c)) vs) (filled_terms t.constant t.names true (map (term_at (entries_by c)) ids))
+
+-- those behind this place
+abbrev pub assignments_from : code.ProcessWriter → TextWording → List TermId → ℕ → List printed_.Assignment
+assignments_from c t ids i = assignments_by c t (drop i c.params.now) (drop i ids)
+
+-- assignments with commas between them; where others stand in front, the first one has a comma too
+abbrev pub print_listed : Bool → List printed_.Assignment → List Piece → List Piece
+print_listed true [] rest = rest
+print_listed true (x ∷ xs) rest = print_assignment x [] (print_assignments xs rest)
+print_listed false xs rest = print_assignments xs rest
+
+-- how a summand goes on
+abbrev pub next_by : code.ProcessWriter → TextWording → Option (List TermId) → printed_.Next
+next_by c t next = next_written t.names (map (bound_at (entries_by c)) c.params.now) (option_map (filled_terms t.constant t.names true) (option_map (map (term_at (entries_by c))) next))
+
+-- a term for each parameter
+pub record AreNextBy (c : code.ProcessWriter) (ids : List TermId) : Type 0 where
+  pub long : length ids ≡ length c.params.now
+  pub terms : All (IsTermBy c.terms) ids
+
+-- the wordings that have the name of the process
+abbrev pub AddsProcess : code.ProcessWriter → List ℕ → List ℕ → (TextWording → List Piece → List Piece) → Type 0
+AddsProcess c old new in_front = (t : TextWording) → IsTextWording c t → t.names.process ≡ c.process.now → Adds old new (in_front t)

@@ -7,6 +7,7 @@
 mod forms;
 mod labels;
 pub mod laws;
+mod next_terms;
 mod numbers;
 mod process_writer;
 mod sorts;
