@@ -41,3 +41,5 @@ pub mod CodeLists
 pub mod CodeSorts
 pub mod CodeActions
 pub mod CodeNexts
+pub mod Truths
+pub mod CodeSummands

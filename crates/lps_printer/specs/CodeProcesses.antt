@@ -1,19 +1,22 @@
 -- What processes are worded with in code.
-use Rattle.std.specs.Prelude.{◌≡◌, ℕ, Bool, true, false, List, [], ◌∷◌, length, map, drop, Option, option_map}
+use Rattle.std.specs.Prelude.{◌≡◌, ℕ, Bool, true, false, List, [], ◌∷◌, length, map, drop, Option, option_map, IfSome, Vec}
+use Rattle.std.specs.Global.{Global}
 use Rattle.std.specs.List.{All}
 use Rattle.data_theory.specs.declared.ids.TermId.{TermId}
 use Rattle.data_theory.specs.declared.ids.VarId.{VarId}
-use Rattle.process_terms.specs.PlainProcesses.{PlainAction}
+use Rattle.process_terms.specs.PlainProcesses.{PlainAction, plain_label}
 use Rattle.process_terms.specs.Labels.{Label}
 use Rattle.process_terms.specs.Meanings.{Entries, bound_at, term_at, action_of, label_of}
 use Rattle.process_terms.specs.SignatureEntries.{entries_of}
-use Rattle.lps_core.specs.Fitting.{IsActionOf}
+use Rattle.lps_core.specs.Fitting.{IsVariable, IsActionOf}
+use Rattle.lps_core.specs.declared.linears.Summand.{Summand}
+use Rattle.lps_core.specs.PlainLinears.{PlainSummand, summand_of}
 use Rattle.lps_printer.specs.declared.process_writer.ProcessWriter as code
 use Rattle.lps_printer.specs.Pieces.{Piece}
 use Rattle.lps_printer.specs.PrintedProcesses as printed_
-use Rattle.lps_printer.specs.SummandLayout.{print_action, print_bars, print_assignment, print_assignments}
-use Rattle.lps_printer.specs.FilledLinears.{filled_terms, filled_action, filled_label}
-use Rattle.lps_printer.specs.WrittenProcesses.{TextNames, action_written, first_written, others_written, assignments_written, next_written}
+use Rattle.lps_printer.specs.SummandLayout.{print_action, print_bars, print_assignment, print_assignments, print_when}
+use Rattle.lps_printer.specs.FilledLinears.{filled_terms, filled_action, filled_label, filled_summand}
+use Rattle.lps_printer.specs.WrittenProcesses.{TextNames, action_written, first_written, others_written, assignments_written, next_written, summand_written}
 use Rattle.lps_printer.specs.Adding.{Adds}
 use Rattle.lps_printer.specs.CodeWordings.{IsTermBy}
 use Rattle.lps_printer.specs.TextWordings.{TextWording, IsTextWordedBy}
@@ -70,3 +73,20 @@ pub record AreNextBy (c : code.ProcessWriter) (ids : List TermId) : Type 0 where
 -- the wordings that have the name of the process
 abbrev pub AddsProcess : code.ProcessWriter → List ℕ → List ℕ → (TextWording → List Piece → List Piece) → Type 0
 AddsProcess c old new in_front = (t : TextWording) → IsTextWording c t → t.names.process ≡ c.process.now → Adds old new (in_front t)
+
+-- ---- summands
+-- its parts fit the tables, and it goes on with a term for each parameter
+pub record IsSummandBy (c : code.ProcessWriter) (s : Summand) : Type 0 where
+  pub params : All (IsVariable c.terms.sig.now) c.params.now
+  pub sums : All (IsVariable c.terms.sig.now) s.sums.items
+  pub condition : IsTermBy c.terms s.cond
+  pub label : All (IsActionBy c) (plain_label s.label)
+  pub next : IfSome s.next (λ (ids : Vec TermId Global). AreNextBy c ids.items)
+
+-- a summand with its constants in the place of empty lists
+abbrev pub summand_by : code.ProcessWriter → TextWording → PlainSummand → printed_.Summand
+summand_by c t s = summand_written t.names (map (bound_at (entries_by c)) c.params.now) (filled_summand t.constant t.names (summand_of (entries_by c) s))
+
+-- the layout of a summand without its sums
+abbrev pub print_guarded : printed_.Summand → List ℕ → List Piece → List Piece
+print_guarded s gap rest = print_when s.condition s.first s.others s.next gap rest

@@ -11,6 +11,7 @@ mod next_terms;
 mod numbers;
 mod process_writer;
 mod sorts;
+mod summands;
 mod term_writer;
 mod terms;
 mod tokens;
