@@ -38,3 +38,8 @@ pub mod CodeTerms
 pub mod NumeralPieces
 pub mod CodeForms
 pub mod CodeLists
+pub mod CodeSorts
+pub mod CodeActions
+pub mod CodeNexts
+pub mod Truths
+pub mod CodeSummands

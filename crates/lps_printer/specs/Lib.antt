@@ -26,3 +26,5 @@ pub mod Wordings
 pub mod TermParts
 pub mod WordForms
 pub mod CodeWordings
+pub mod TextWordings
+pub mod CodeProcesses

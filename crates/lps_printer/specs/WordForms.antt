@@ -155,6 +155,23 @@ is_of_cast of_element = false
 is_of_cast of_cast = true
 is_of_cast of_others = false
 
+abbrev pub is_truth : Word → Bool
+is_truth words.True = true
+is_truth words.False = false
+is_truth words.Not = false
+is_truth words.And = false
+is_truth words.Or = false
+is_truth words.Implies = false
+is_truth words.Equal = false
+is_truth words.Different = false
+is_truth words.If = false
+is_truth words.Less = false
+is_truth words.AtMost = false
+is_truth words.Greater = false
+is_truth words.AtLeast = false
+is_truth (words.Number w) = false
+is_truth (words.List w) = false
+
 -- ---- in code
 abbrev pub shape_by : Word → Form → Shape
 shape_by w forms.Truth = constant_true

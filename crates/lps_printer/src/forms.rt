@@ -1,7 +1,7 @@
 //! How built-in functions are written, and when operands stand in brackets.
 
 ghost use Rattle.std.specs.Prelude.{◌≡◌};
-ghost use Rattle.lps_printer.specs.WordForms.{is_of_cast, is_of_element, is_of_empty, minus_or_closed, needs_brackets_in, outermost_in, right_needs_in, shape_by, word_class, word_shape};
+ghost use Rattle.lps_printer.specs.WordForms.{is_truth, is_of_cast, is_of_element, is_of_empty, minus_or_closed, needs_brackets_in, outermost_in, right_needs_in, shape_by, word_class, word_shape};
 ghost use Rattle.sort_table.specs.BareData as bare;
 ghost use Rattle.lps_printer.specs.DataLayout.{is_same_chain};
 
@@ -170,6 +170,16 @@ pub(crate) fn is_cast(word: Word) -> bool
         Word::Number(NumberWord::PosToNat) => true,
         Word::Number(NumberWord::NatToInt) => true,
         Word::Number(NumberWord::PosToInt) => true,
+        _ => false,
+    }
+}
+
+/// Whether a word is `true`.
+pub(crate) fn is_truth(word: Word) -> bool
+    ensures { result ≡ is_truth word }
+{
+    match word {
+        Word::True => true,
         _ => false,
     }
 }

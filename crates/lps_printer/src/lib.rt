@@ -5,8 +5,13 @@
 #![tactic(auto)]
 
 mod forms;
+mod labels;
 pub mod laws;
+mod next_terms;
 mod numbers;
+mod process_writer;
+mod sorts;
+mod summands;
 mod term_writer;
 mod terms;
 mod tokens;

@@ -3,12 +3,14 @@
 ghost use Rattle.std.specs.Prelude.{◌≡◌, ◌<◌, length, slice_get, get_or, option_map, IfSome, Some, None, false};
 ghost use Rattle.data_theory.specs.declared.ids.FunId.{FunId};
 ghost use Rattle.data_theory.specs.Functions.{Function};
+ghost use Rattle.bisim_laws.specs.LinearProcesses.{is_true};
 ghost use Rattle.lps_core.specs.Fitting.{IsVariable};
 ghost use Rattle.lps_printer.specs.Wordings.{Wording};
 ghost use Rattle.lps_printer.specs.ReadableNames.{is_nil};
 ghost use Rattle.lps_printer.specs.TermParts.{element_parts, ends_in_empty, variable_of};
 ghost use Rattle.lps_printer.specs.CodeWordings.{term_by, AreBelow, IsTermBy, IsWording};
 
+use crate::forms::is_truth;
 use crate::term_writer::TermWriter;
 use data_theory::{FunId, ListWord, TermId, VarId, Word};
 use term_pool::Head;
@@ -104,6 +106,26 @@ impl TermWriter<'_> {
         match self.pool.node(id).head {
             Head::Var(var) => Some(var),
             _ => None,
+        }
+    }
+
+    /// Whether a term is `true`.
+    pub(crate) fn is_true(&self, id: TermId) -> bool
+        requires { IsTermBy self.now id }
+        ensures { result ≡ is_true (term_by self.now id) }
+    {
+        let _ = self.sig.names();
+        let node = self.pool.node(id);
+        let Head::Fun(fun) = node.head else {
+            return false;
+        };
+        let args = node.args.as_slice();
+        if !args.is_empty() {
+            return false;
+        }
+        match self.sig.word_of(fun) {
+            Some(word) => is_truth(word),
+            None => false,
         }
     }
 }
