@@ -33,3 +33,11 @@ pub mod NameLists
 pub mod ScopeLists
 pub mod ActionGroups
 pub mod WorkedWholeTexts
+pub mod DataWords
+pub mod VariableNames
+pub mod FreeWords
+pub mod ScopesInCode
+pub mod ReadyLeaves
+pub mod ParameterLists
+pub mod SortsByName
+pub mod FreeParts

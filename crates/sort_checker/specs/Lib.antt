@@ -29,3 +29,8 @@ pub mod UnknownTrees
 pub mod ActionTables
 pub mod CommTrees
 pub mod WorkedWholeTexts
+pub mod ReadyTrees
+pub mod VariableScopes
+pub mod ParameterTables
+pub mod TextContexts
+pub mod FreeTrees
