@@ -1,5 +1,5 @@
 -- Where no sign passes a test, nor `true` nor `false`, the first word of an expression that passes is its first such identifier.
-use Rattle.std.proofs.Common.{◌≡◌, Bool, true, false, cond, List, [], ◌∷◌, ◌++◌, refl, sym, ap, ap₂, ◌∙◌}
+use Rattle.std.proofs.Common.{◌≡◌, Bool, false, cond, List, [], ◌∷◌, ◌++◌, refl, sym, ap, ap₂, ◌∙◌}
 use Rattle.std.specs.Prelude.{Option, Some, None, codes}
 use Rattle.std.specs.Option.{option_or}
 use Rattle.std.specs.List.{find}
@@ -9,7 +9,7 @@ use Rattle.mcrl2_syntax.specs.declared.data_tree.InfixSign.{InfixSign}
 use Rattle.mcrl2_syntax.specs.declared.data_tree.InfixSign.TheVariants as infixes
 use Rattle.mcrl2_syntax.specs.DataTrees as trees
 use Rattle.mcrl2_syntax.specs.DataTrees.{PlainData, PlainDatas, PlainOperands, no_datas, more_datas, no_operands, more_operands}
-use Rattle.sort_table.specs.Expressions.{Name, Expression, one, two}
+use Rattle.sort_table.specs.Expressions.{Name, Expression, two}
 use Rattle.sort_table.specs.BareData.{prefix_text, infix_text, bare_data, bare_datas, to_the_left, to_the_right, behind}
 use Rattle.sort_table.specs.Identifiers.{in_data, in_datas, in_operands}
 use Rattle.sort_checker.specs.Faults.{words_in, words_in_all}

@@ -1,23 +1,20 @@
 -- What is left out of calls, and searches along lists in code.
-use Rattle.std.proofs.Common.{◌≡◌, ◌<◌, ◌+◌, ◌==◌, ℕ, zero, suc, Bool, true, false, not, cond, ◌||◌, List, [], ◌∷◌, ◌++◌, length, map, take, drop, get_or, refl, sym, ap, ap₂, ◌∙◌, subst, arith, eqb-true, eq-eqb}
-use Rattle.std.specs.Prelude.{Option, Some, None, is_some, is_none, option_map, option_and_then, slice_get, bytes_eq, if◌then◌else◌}
-use Rattle.std.specs.Option.{option_or}
-use Rattle.std.specs.List.{All, find}
+use Rattle.std.proofs.Common.{◌≡◌, ◌<◌, ◌+◌, ◌==◌, ℕ, zero, suc, Bool, true, false, cond, ◌||◌, List, [], ◌∷◌, ◌++◌, length, map, take, get_or, refl, sym, ap, ap₂, ◌∙◌, arith, eqb-true, eq-eqb}
+use Rattle.std.specs.Prelude.{Option, Some, None, is_some, option_map, option_and_then, bytes_eq, if◌then◌else◌}
+use Rattle.std.specs.List.{find}
 use Rattle.std.proofs.lemmas.List.Elements.{All-head, All-tail}
-use Rattle.std.proofs.lemmas.Option.{none-some, same_Some, slice_get-get_or, get_or_from_slice_get}
+use Rattle.std.proofs.lemmas.Option.{none-some, same_Some, slice_get-get_or}
 use Rattle.std.proofs.lemmas.Slice.Eq.{bytes_eq-Decides}
-use denote.Ref.{Bor}
 use Rattle.mcrl2_syntax.specs.declared.process_tree.Assignment.{Assignment}
 use Rattle.mcrl2_syntax.specs.DataTrees.{plain_data}
 use Rattle.data_theory.specs.declared.ids.NameId.{NameId}
 use Rattle.data_theory.specs.Names.{AreDifferent}
 use Rattle.data_theory.specs.Signature.{Sig}
-use Rattle.data_theory.specs.Terms.{Sort, Term, variable}
+use Rattle.data_theory.specs.Terms.{Sort, variable}
 use Rattle.data_theory.specs.WholeSignatures.{IsSignature}
 use Rattle.sort_table.specs.BareData.{bare_data}
 use Rattle.sort_table.specs.BareProcesses.{Variables}
 use Rattle.sort_table.specs.Expressions.{Name, Expression}
-use Rattle.sort_table.specs.LentTexts.{texts_of}
 use Rattle.sort_table.specs.NamedLists.{first_named}
 use Rattle.sort_table.specs.SignatureVocabularies.{text_under, vocabulary_of}
 use Rattle.sort_table.specs.Vocabularies.{Vocabulary}

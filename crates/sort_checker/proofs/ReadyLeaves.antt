@@ -14,7 +14,7 @@ use Rattle.mcrl2_lexer.specs.declared.kind.Kind.TheVariants.{Identifier}
 use Rattle.mcrl2_lexer.specs.Tokens.{IsToken}
 use Rattle.mcrl2_syntax.specs.Declarations as trees
 use Rattle.mcrl2_syntax.specs.Declarations.{PlainDecl, PlainSection, plain_decl, section_of, spec_of}
-use Rattle.mcrl2_syntax.specs.ProcessParts.{PlainAction, tau_action, named_action, PlainAssignment, PlainNameSet, PlainVarGroup, PlainRenaming, PlainCommRule, var_group_of}
+use Rattle.mcrl2_syntax.specs.ProcessParts.{PlainAction, tau_action, named_action, PlainAssignment, PlainVarGroup, var_group_of}
 use Rattle.mcrl2_syntax.specs.ProcessTrees as processes
 use Rattle.mcrl2_syntax.specs.ProcessTrees.{PlainProcess, PlainProcesses, no_processes, more_processes}
 use Rattle.mcrl2_syntax.specs.TreeWords.{IsName, IsDataOfWords, IsActionOfWords, IsAssignmentOfWords, IsGroupOfWords, IsProcessOfWords, AreProcessesOfWords, IsDeclarationOfWords, IsSectionOfWords, IsSpecOfWords}
@@ -23,13 +23,13 @@ use Rattle.sort_table.specs.Expressions.{Name}
 use Rattle.sort_table.specs.BareProcesses.{Variables, bare_names, bare_group, bare_variables}
 use Rattle.sort_table.specs.BareSorts.{SortExpression, bare_sort}
 use Rattle.sort_table.proofs.Searches.{IsListed, listed_more}
-use Rattle.sort_table.specs.Identifiers.{in_sort, in_data, in_group, in_action, in_assignment, in_set, in_renaming, in_rule, in_process, in_processes, in_declaration, in_section, identifiers_in}
+use Rattle.sort_table.specs.Identifiers.{in_sort, in_data, in_group, in_set, in_renaming, in_rule, in_process, in_processes, in_declaration, in_section, identifiers_in}
 use Rattle.sort_table.specs.BareDeclarations.{bare_declaration}
 use Rattle.sort_table.specs.DeclarationTrees.{declaration_of}
 use Rattle.sort_checker.specs.FreeTrees.{AreVariableNames}
 use Rattle.sort_checker.specs.Parts.{variables_by}
 use Rattle.sort_checker.specs.ScopedTrees.{variables_under}
-use Rattle.sort_checker.specs.ReadyTrees.{Leaf, some_variables, an_expression, leaves_of_data, leaves_of_action, leaves_of_values, leaves_in, leaves_in_all, IsReadyGroup, IsReadyLeaf, AreReadyGroups, AreReadyLeaves, IsReadyDeclaration, AreReadyDeclarations, AreReadySections}
+use Rattle.sort_checker.specs.ReadyTrees.{some_variables, an_expression, leaves_of_data, leaves_of_action, leaves_of_values, leaves_in, leaves_in_all, IsReadyGroup, IsReadyLeaf, AreReadyGroups, AreReadyLeaves, IsReadyDeclaration, AreReadyDeclarations, AreReadySections}
 use Rattle.sort_checker.proofs.NumberedActions.{all_by}
 
 -- ---- elements of lists

@@ -1,5 +1,5 @@
 -- The variables in scope with their sorts, in code.
-use Rattle.std.specs.Prelude.{◌≡◌, Bool, List, map, is_some}
+use Rattle.std.specs.Prelude.{◌≡◌, Bool, map, is_some}
 use Rattle.data_theory.specs.Signature.{Sig}
 use Rattle.sort_table.specs.Expressions.{Name}
 use Rattle.sort_table.specs.BareSorts.{SortExpression}

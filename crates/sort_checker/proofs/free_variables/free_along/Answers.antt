@@ -1,4 +1,4 @@
-use Rattle.std.proofs.Common.{◌≡◌, ◌+◌, ℕ, drop, sym, ap, ◌∙◌}
+use Rattle.std.proofs.Common.{◌+◌, drop, sym, ap, ◌∙◌}
 use Rattle.std.specs.Prelude.{Option, option_map}
 use Rattle.std.specs.Option.{option_or}
 use Rattle.data_typing.specs.Typings.{first_of}

@@ -1,4 +1,4 @@
-use Rattle.std.proofs.Common.{List, sym, ap, ◌∙◌}
+use Rattle.std.proofs.Common.{sym, ap, ◌∙◌}
 use denote.Ref.{Bor}
 use Rattle.sort_table.specs.Expressions.{Name}
 use Rattle.sort_table.specs.LentTexts.{texts_of}

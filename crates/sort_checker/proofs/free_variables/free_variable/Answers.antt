@@ -1,10 +1,8 @@
 use Rattle.std.proofs.Common.{ℕ, ◌+◌, ◌++◌, List, drop, ap, sym, ◌∙◌, subst}
 use Rattle.std.specs.Prelude.{option_map}
 use Rattle.data_theory.specs.Signature.{Sig}
-use Rattle.mcrl2_syntax.specs.Declarations.{spec_of}
 use Rattle.mcrl2_syntax.specs.declared.declaration.Decl.{Decl}
 use Rattle.mcrl2_syntax.specs.declared.declaration.Section.{Section}
-use Rattle.sort_table.specs.BareDeclarations.{bare_sections}
 use Rattle.sort_checker.specs.FreeTrees.{free_in}
 use Rattle.sort_checker.specs.Parts.{ScopedDeclaration, scoped_behind, scoped_declarations}
 use Rattle.sort_checker.specs.ReadyTrees.{AreReadyDeclarations, AreReadySections}

@@ -1,5 +1,5 @@
-use Rattle.std.proofs.Common.{◌≡◌, ◌++◌, ◌∷◌, [], List, map, take, refl, sym, ap, ap₂, ◌∙◌, subst}
-use Rattle.std.specs.Prelude.{None, Some, IfSome, option_map}
+use Rattle.std.proofs.Common.{◌++◌, ◌∷◌, [], List, map, sym, ap, ◌∙◌, subst}
+use Rattle.std.specs.Prelude.{IfSome, option_map}
 use Rattle.std.specs.List.{AllByRecursion, Contains}
 use Rattle.std.specs.Str.{IsUtf8}
 use Rattle.std.proofs.lemmas.List.{append-nil, map-append, take_all}
@@ -7,12 +7,10 @@ use Rattle.std.proofs.lemmas.Option.{slice_get_within}
 use Rattle.data_theory.specs.Terms.{Sort}
 use Rattle.mcrl2_lexer.proofs.NameTokens.{identifier_is_text}
 use Rattle.mcrl2_syntax.specs.declared.word.Word.{Word}
-use Rattle.mcrl2_syntax.specs.ProcessParts.{var_group_of}
 use Rattle.mcrl2_syntax.specs.SortTrees.{plain_sort}
 use Rattle.mcrl2_syntax.specs.TreeWords.{IsName, AreNames}
 use Rattle.mcrl2_syntax.specs.Words.{PlainWord, word_of}
 use Rattle.mcrl2_syntax.proofs.Lists.{all_both}
-use Rattle.sort_table.specs.BareProcesses.{bare_group}
 use Rattle.sort_table.specs.BareSorts.{bare_sort}
 use Rattle.sort_table.specs.Expressions.{Name}
 use Rattle.sort_table.specs.SignatureVocabularies.{vocabulary_of}
@@ -21,7 +19,7 @@ use Rattle.data_typing.specs.Contexts.{IsFlatOver}
 use Rattle.data_typing.specs.FlatSorts.{flat_sort}
 use Rattle.sort_checker.specs.FullVocabularies.{Parameters}
 use Rattle.sort_checker.specs.declared.parameter_tables.Parameter.{Parameter}
-use Rattle.sort_checker.specs.ParameterTables.{sorted_variables, parameter_of, parameters_of, IsParameterOver}
+use Rattle.sort_checker.specs.ParameterTables.{parameter_of, parameters_of, IsParameterOver}
 use Rattle.sort_checker.proofs.NameLists.{appended_more}
 use Rattle.sort_checker.proofs.ParameterLists.{none_sorted, all_alike, sorted_words, sorted_words_listed}
 use Rattle.sort_checker.proofs.ReadyLeaves.{holds_at}

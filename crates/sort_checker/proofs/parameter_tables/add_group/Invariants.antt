@@ -1,8 +1,7 @@
-use Rattle.std.proofs.Common.{◌≡◌, ◌++◌, List, map, take}
+use Rattle.std.proofs.Common.{◌≡◌, ◌++◌, map, take}
 use Rattle.std.specs.List.{AllByRecursion}
 use Rattle.mcrl2_syntax.specs.Words.{PlainWord, word_of}
 use Rattle.data_typing.specs.FlatSorts.{flat_sort}
-use Rattle.sort_checker.specs.FullVocabularies.{Parameters}
 use Rattle.sort_checker.specs.ParameterTables.{parameters_of, IsParameterOver}
 use Rattle.sort_checker.proofs.parameter_tables.add_group.Given as goal
 

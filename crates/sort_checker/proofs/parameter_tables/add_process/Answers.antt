@@ -1,4 +1,4 @@
-use Rattle.std.proofs.Common.{◌≡◌, ◌++◌, ◌∷◌, [], List, map, true, false, sym, ap, ◌∙◌, subst}
+use Rattle.std.proofs.Common.{◌++◌, ◌∷◌, [], List, map, sym, ap, ◌∙◌, subst}
 use Rattle.std.specs.Prelude.{Some}
 use Rattle.std.specs.Prelude.{Vec, option_map, bytes_eq}
 use Rattle.std.specs.Global.{Global}
@@ -18,7 +18,7 @@ use Rattle.sort_table.specs.SignatureVocabularies.{vocabulary_of}
 use Rattle.sort_checker.specs.declared.parameter_tables.Parameter.{Parameter}
 use Rattle.sort_checker.specs.declared.parameter_tables.ParameterTable.{ParameterTable}
 use Rattle.sort_checker.specs.FullVocabularies.{Written, process_by}
-use Rattle.sort_checker.specs.ParameterTables.{sorted_variables, entry_under, parameters_of, HasProcesses}
+use Rattle.sort_checker.specs.ParameterTables.{sorted_variables, entry_under, HasProcesses}
 use Rattle.sort_checker.specs.ReadyTrees.{AreReadyGroups, IsReadyDeclaration}
 use Rattle.sort_checker.proofs.ParameterLists.{entry_there, entry_absent, items_put, told_again, told_new}
 use Rattle.sort_checker.proofs.ReadyLeaves.{groups_ready}

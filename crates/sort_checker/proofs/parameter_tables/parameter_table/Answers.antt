@@ -1,4 +1,4 @@
-use Rattle.std.proofs.Common.{◌≡◌, ◌++◌, ◌∙◌, List, map, take, sym, ap, subst}
+use Rattle.std.proofs.Common.{◌++◌, ◌∙◌, List, map, take, sym, ap, subst}
 use Rattle.mcrl2_syntax.specs.declared.declaration.Decl.{Decl}
 use Rattle.mcrl2_syntax.specs.declared.declaration.Section.{Section}
 use Rattle.sort_table.specs.BareDeclarations.{declarations_in}

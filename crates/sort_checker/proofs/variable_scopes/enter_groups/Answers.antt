@@ -1,4 +1,4 @@
-use Rattle.std.proofs.Common.{◌≡◌, ◌++◌, List, take, map, refl, sym, ap, subst}
+use Rattle.std.proofs.Common.{◌++◌, List, take, map, refl, sym, ap, subst}
 use Rattle.std.specs.List.{AllByRecursion, Contains}
 use Rattle.std.proofs.lemmas.List.{take_all}
 use Rattle.mcrl2_syntax.specs.declared.process_tree.VarGroup.{VarGroup}

@@ -1,4 +1,4 @@
-use Rattle.std.proofs.Common.{◌≡◌, ◌++◌, ◌∷◌, [], List, take, map, refl, sym, ap, subst}
+use Rattle.std.proofs.Common.{◌++◌, ◌∷◌, [], List, take, refl, sym, ap, subst}
 use Rattle.std.specs.List.{Contains}
 use Rattle.std.specs.Str.{IsUtf8}
 use Rattle.std.proofs.lemmas.List.{take_all}
