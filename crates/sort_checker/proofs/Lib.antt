@@ -43,3 +43,11 @@ pub mod NamedNumbers
 pub mod EnteringWords
 pub mod EnteringGroups
 pub mod SortTreeParts
+pub mod DataWords
+pub mod VariableNames
+pub mod FreeWords
+pub mod ScopesInCode
+pub mod ReadyLeaves
+pub mod ParameterLists
+pub mod SortsByName
+pub mod FreeParts

@@ -4,6 +4,7 @@ use Rattle.std.specs.Prelude.{Option, Some, None, option_map}
 use Rattle.std.specs.Option.{option_or}
 use Rattle.std.proofs.lemmas.Option.{none-some}
 use Rattle.std.proofs.lemmas.List.{take_more, map-append}
+use Rattle.std.proofs.Math.Seq.{drop-cons}
 use Rattle.sort_checker.specs.Refusals.{first_from}
 
 -- in front of place i nothing is found, and there something is
@@ -62,3 +63,9 @@ drop_beyond [] zero h = refl
 drop_beyond [] (suc n) h = refl
 drop_beyond (x ∷ xs) zero h = let never : ⊥ = omega (arith, h) in absurd never
 drop_beyond (x ∷ xs) (suc n) h = drop_beyond xs n (omega (arith, h))
+
+-- the first one of those from place i on
+pub from_cut : {D C A : Type 0} (g : C → D) (f : D → Option A) (k : ℕ) (cs : List C) (i : ℕ) (c : C) → i < length cs → c ≡ get_or cs i c
+    → first_from f k (map g (drop i cs)) ≡ option_or (option_map (λ a. (k, a)) (f (g c))) (first_from f (suc k) (map g (drop (i + 1) cs)))
+from_cut {C = C} g f k cs i c l e =
+    let next : suc i ≡ i + 1 = omega arith in ap (λ (xs : List C). first_from f k (map g xs)) (drop-cons cs i c l ∙ ap₂ (λ (x : C) (n : ℕ). x ∷ drop n cs) (sym e) next)

@@ -1,13 +1,20 @@
 -- The stops of a process term have its parts and its operators.
-use Rattle.std.proofs.Common.{◌≡◌, ◌-◌, List, [], ◌∷◌, ◌++◌, map, length, take, refl, sym, ap, ap₂, ◌∙◌, append_assoc, append-nil, arith, length-append}
+use Rattle.std.proofs.Common.{◌≡◌, ◌<◌, ◌+◌, ◌-◌, ℕ, suc, drop, get_or, List, [], ◌∷◌, ◌++◌, map, length, take, refl, sym, ap, ap₂, ◌∙◌, append_assoc, append-nil, arith, length-append}
 use Rattle.std.specs.List.{flat_map}
 use Rattle.std.proofs.lemmas.Grind.{flat_map-append}
+use Rattle.std.proofs.Math.Seq.{drop-cons}
 use Rattle.process_terms.specs.Processes.{Around, allow, block, hide, rename, comm}
 use Rattle.sort_table.specs.BareProcesses as bare
 use Rattle.sort_table.specs.BareProcesses.{Variables, Process, Processes}
 use Rattle.sort_checker.specs.Operators.{renaming_of, rule_of, operators_in, operators_in_all}
 use Rattle.sort_checker.specs.Parts.{a_condition, an_operator, ScopedPart, scoped, parts_in, parts_in_all}
-use Rattle.sort_checker.specs.Stops.{Stop, leave, stops_in, stops_in_all, without, scoped_along, operators_by}
+use Rattle.std.specs.Prelude.{Option}
+use Rattle.std.specs.Option.{option_or}
+use Rattle.data_typing.specs.Typings.{first_of}
+use Rattle.sort_checker.specs.declared.stops.StopTree.{StopTree}
+use Rattle.sort_checker.specs.Stops.{Stop, enter, leave, at, stops_in, stops_in_all, without, variables_behind, part_at, scoped_along, operators_by}
+use Rattle.sort_checker.specs.StopTrees.{stop_of, stops_of}
+use Rattle.sort_checker.proofs.Firsts.{first_append}
 
 take_front : {A : Type 0} (xs ys : List A) → take (length xs) (xs ++ ys) ≡ xs
 take_front [] ys = refl
@@ -71,3 +78,21 @@ mutual
   all_operators_along : (ps : Processes) → flat_map operators_by (stops_in_all ps) ≡ operators_in_all ps
   all_operators_along bare.none = refl
   all_operators_along (bare.more p ps) = flat_map-append operators_by (stops_in p) (stops_in_all ps) ∙ ap₂ (λ (os us : List Around). os ++ us) (operators_along p) (all_operators_along ps)
+
+-- ---- the stops from one place on
+along_cut : (xs : Variables) (s : Stop) (ss : List Stop) → scoped_along xs (s ∷ ss) ≡ part_at xs s ++ scoped_along (variables_behind xs s) ss
+along_cut xs (enter ys) ss = refl
+along_cut xs (leave ys) ss = refl
+along_cut xs (at p) ss = refl
+
+stops_cut : (ss : List StopTree) (i : ℕ) (s : StopTree) → i < length ss → s ≡ get_or ss i s → stops_of (drop i ss) ≡ stop_of s ∷ stops_of (drop (i + 1) ss)
+stops_cut ss i s l e = let next : suc i ≡ i + 1 = omega arith in ap stops_of (drop-cons ss i s l ∙ ap₂ (λ (x : StopTree) (n : ℕ). x ∷ drop n ss) (sym e) next)
+
+pub scoped_cut_at : (xs : Variables) (ss : List StopTree) (i : ℕ) (s : StopTree) → i < length ss → s ≡ get_or ss i s
+    → scoped_along xs (stops_of (drop i ss)) ≡ part_at xs (stop_of s) ++ scoped_along (variables_behind xs (stop_of s)) (stops_of (drop (i + 1) ss))
+scoped_cut_at xs ss i s l e = ap (scoped_along xs) (stops_cut ss i s l e) ∙ along_cut xs (stop_of s) (stops_of (drop (i + 1) ss))
+
+pub first_along_cut : {B : Type 0} (f : ScopedPart → Option B) (xs : Variables) (ss : List StopTree) (i : ℕ) (s : StopTree) → i < length ss → s ≡ get_or ss i s
+    → first_of f (scoped_along xs (stops_of (drop i ss))) ≡ option_or (first_of f (part_at xs (stop_of s))) (first_of f (scoped_along (variables_behind xs (stop_of s)) (stops_of (drop (i + 1) ss))))
+first_along_cut f xs ss i s l e =
+    ap (first_of f) (scoped_cut_at xs ss i s l e) ∙ first_append f (part_at xs (stop_of s)) (scoped_along (variables_behind xs (stop_of s)) (stops_of (drop (i + 1) ss)))

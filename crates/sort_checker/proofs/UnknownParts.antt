@@ -37,7 +37,7 @@ use Rattle.sort_checker.proofs.Firsts.{or_none}
 use Rattle.sort_checker.proofs.UnknownWords.{first_unknown, identifiers_unknown, named_unknown}
 
 -- ---- lists
-find_same : {A : Type 0} (p q : A → Bool) → ((x : A) → p x ≡ q x) → (xs : List A) → find p xs ≡ find q xs
+pub find_same : {A : Type 0} (p q : A → Bool) → ((x : A) → p x ≡ q x) → (xs : List A) → find p xs ≡ find q xs
 find_same p q h [] = refl
 find_same p q h (x ∷ xs) = ap₂ (λ (b : Bool) (o : _). cond b (Some x) o) (h x) (find_same p q h xs)
 

@@ -9,6 +9,7 @@ use Rattle.std.proofs.lemmas.List.Folds.{find-append}
 use Rattle.data_theory.specs.Terms.{Sort, list}
 use Rattle.data_theory.specs.Provable.{Equation}
 use Rattle.process_terms.specs.Processes.{Around, Body, Definition}
+use Rattle.mcrl2_syntax.proofs.Lists.{all_back}
 use Rattle.sort_table.specs.Expressions.{Name}
 use Rattle.sort_table.specs.NamedLists.{first_named}
 use Rattle.sort_table.specs.BareSorts.{SortExpression, truth_values, positives, naturals, integers, lists_of, a_name}
@@ -186,10 +187,6 @@ module _ (v : FullVocabulary) where
     equations_of_section xs sorts (d ∷ ds) rest h lone more =
         all_appended (λ (e : WrittenEquation). (q : Equation) × ElaboratesEquation v e q) (equation_under xs d) (flat_map equations_by (map (under xs) ds ++ rest)) (of_equation xs d sorts h.0 lone.0) (equations_of_section xs sorts ds rest h.1 lone.1 more)
 
-    behind_section : {A : Type 0} (P : A → Type 0) (xs ys : List A) → AllByRecursion P (xs ++ ys) → AllByRecursion P ys
-    behind_section P [] ys h = h
-    behind_section P (x ∷ xs) ys h = behind_section P xs ys h.1
-
     equations_of_sections : (xs : Variables) → HaveSorts v.declared xs → (ss : List Section) → AllByRecursion (IsSoundDeclaration v) (scoped_behind xs ss) → AllByRecursion (λ d. has_variable_left d ≡ false) (scoped_behind xs ss)
         → AllByRecursion (HasKnownSorts all) (declarations_in ss) → AllByRecursion (λ (e : WrittenEquation). (q : Equation) × ElaboratesEquation v e q) (flat_map equations_by (scoped_behind xs ss))
     equations_of_sections xs sorts [] h lone k = tt
@@ -197,7 +194,7 @@ module _ (v : FullVocabulary) where
         let rest : List ScopedDeclaration = scoped_behind (flat_map variables_by s.declarations) ss in
         let next = sorts_of_section s.declarations (declarations_in ss) k in
         equations_of_section xs sorts s.declarations rest h lone
-        (equations_of_sections (flat_map variables_by s.declarations) next.0 ss (behind_section (IsSoundDeclaration v) (map (under xs) s.declarations) rest h) (behind_section (λ d. has_variable_left d ≡ false) (map (under xs) s.declarations) rest lone) next.1)
+        (equations_of_sections (flat_map variables_by s.declarations) next.0 ss (all_back (IsSoundDeclaration v) (map (under xs) s.declarations) rest h) (all_back (λ d. has_variable_left d ≡ false) (map (under xs) s.declarations) rest lone) next.1)
 
     -- ---- of all
     module _ {A : Type 0} (P : A → Type 0) (by : Declaration → List A)

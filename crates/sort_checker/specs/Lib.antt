@@ -34,3 +34,8 @@ pub mod ElaboratedParts
 pub mod CodeContexts
 pub mod NumberedWords
 pub mod AssignedTrees
+pub mod ReadyTrees
+pub mod VariableScopes
+pub mod ParameterTables
+pub mod TextContexts
+pub mod FreeTrees

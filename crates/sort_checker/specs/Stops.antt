@@ -36,6 +36,18 @@ abbrev mutual
 abbrev pub without : Variables → Variables → Variables
 without ys xs = take (length xs - length ys) xs
 
+-- the variables in scope behind a stop
+abbrev pub variables_behind : Variables → Stop → Variables
+variables_behind xs (enter ys) = xs ++ ys
+variables_behind xs (leave ys) = without ys xs
+variables_behind xs (at p) = xs
+
+-- the part at a stop, with the variables in scope
+abbrev pub part_at : Variables → Stop → List ScopedPart
+part_at xs (enter ys) = []
+part_at xs (leave ys) = []
+part_at xs (at p) = scoped xs p ∷ []
+
 -- the parts, each with the variables in scope
 abbrev pub scoped_along : Variables → List Stop → List ScopedPart
 scoped_along xs [] = []

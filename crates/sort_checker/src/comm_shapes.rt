@@ -266,7 +266,7 @@ fn fits_at<'a>(
 }
 
 /// Whether an action of this name is declared with these sorts.
-fn has_action<'a>(
+pub(crate) fn has_action<'a>(
     sig: &'a Signature,
     table: &ActionTable<'a>,
     name: &'a [u8],

@@ -146,7 +146,10 @@ fn lone_operand<'a>(sign: &'a [u8], operands: &'a [DataTree]) -> Option<&'a [u8]
 }
 
 /// The names of the variables that these declarations declare.
-fn section_names<'a>(alloc: Global, declarations: &'a [Decl]) -> Result<NameNumbers<'a>, NoMemory>
+pub(crate) fn section_names<'a>(
+    alloc: Global,
+    declarations: &'a [Decl],
+) -> Result<NameNumbers<'a>, NoMemory>
     ensures { IfOk result (λ names. (n : Name) → has_name names n ≡ stands_in n (names_before declarations.now)) }
 {
     let mut names = NameNumbers::new(alloc);

@@ -5,6 +5,7 @@ ghost use Rattle.mcrl2_syntax.specs.ProcessTrees.{plain_process, processes_of};
 ghost use Rattle.sort_table.specs.BareProcesses.{bare_process, bare_processes};
 ghost use Rattle.sort_checker.specs.Stops.{stops_in, stops_in_all};
 ghost use Rattle.sort_checker.specs.Stops.{at};
+ghost use Rattle.sort_checker.specs.ReadyTrees.{leaves_in, leaves_in_all, leaves_of_part, leaves_along};
 ghost use Rattle.sort_checker.specs.StopTrees.{part_of, stops_of};
 ghost use Rattle.sort_checker.specs.declared.stops.StopTree.TheVariants.{At};
 
@@ -54,7 +55,8 @@ pub(crate) enum StopTree<'a> {
 ///
 /// `NoMemory` where there is none for the list.
 pub(crate) fn stops<'a>(alloc: Global, process: &'a ProcTree) -> Result<Vec<StopTree<'a>>, NoMemory>
-    ensures { IfOk result (λ list. stops_of list.items ≡ stops_in (bare_process (plain_process process.now))) }
+    ensures stops { IfOk result (λ list. stops_of list.items ≡ stops_in (bare_process (plain_process process.now))) }
+    ensures leaves { IfOk result (λ list. leaves_along list.items ≡ leaves_in (plain_process process.now)) }
 {
     let mut list = Vec::new(alloc);
     add_process(&mut list, process)?;
@@ -72,7 +74,8 @@ fn add_part<'a>(list: &mut Vec<StopTree<'a>>, part: PartTree<'a>) -> Result<(), 
 /// Puts the stops of a process term behind the others.
 #[cycle(stops)]
 fn add_process<'a>(list: &mut Vec<StopTree<'a>>, process: &'a ProcTree) -> Result<(), NoMemory>
-    ensures { OnOk result (stops_of list.new.items ≡ stops_of list.old.items ++ stops_in (bare_process (plain_process process.now))) }
+    ensures stops { OnOk result (stops_of list.new.items ≡ stops_of list.old.items ++ stops_in (bare_process (plain_process process.now))) }
+    ensures leaves { OnOk result (leaves_along list.new.items ≡ leaves_along list.old.items ++ leaves_in (plain_process process.now)) }
 {
     match process {
         ProcTree::Delta(_) => Ok(()),
@@ -122,7 +125,8 @@ fn add_around<'a>(
     part: PartTree<'a>,
     inner: &'a ProcTree,
 ) -> Result<(), NoMemory>
-    ensures { OnOk result (stops_of list.new.items ≡ stops_of list.old.items ++ (at (part_of part.entry) ∷ stops_in (bare_process (plain_process inner.now)))) }
+    ensures stops { OnOk result (stops_of list.new.items ≡ stops_of list.old.items ++ (at (part_of part.entry) ∷ stops_in (bare_process (plain_process inner.now)))) }
+    ensures leaves { OnOk result (leaves_along list.new.items ≡ leaves_along list.old.items ++ (leaves_of_part part.entry ++ leaves_in (plain_process inner.now))) }
 {
     add_part(list, part)?;
     add_process(list, inner)
@@ -134,7 +138,8 @@ fn add_processes<'a>(
     list: &mut Vec<StopTree<'a>>,
     processes: &'a [ProcTree],
 ) -> Result<(), NoMemory>
-    ensures { OnOk result (stops_of list.new.items ≡ stops_of list.old.items ++ stops_in_all (bare_processes (processes_of (map plain_process processes.now)))) }
+    ensures stops { OnOk result (stops_of list.new.items ≡ stops_of list.old.items ++ stops_in_all (bare_processes (processes_of (map plain_process processes.now)))) }
+    ensures leaves { OnOk result (leaves_along list.new.items ≡ leaves_along list.old.items ++ leaves_in_all (processes_of (map plain_process processes.now))) }
 {
     for process in processes {
         add_process(list, process)?;

@@ -14,5 +14,5 @@ pub returns : goal.returns
 returns c =
     ok_then c.fault_along.result c.fault_along.ensures
     (λ found h. h ∙ (ap (λ (ss : List StopTree). fault_along (vocabulary_of c.args.sig.now) ss) c.as_slice.ensures.value
-    ∙ (ap (λ (ss : List Stop). fault_among (vocabulary_of c.args.sig.now) (flat_map operators_by ss)) c.in_ok-list.ensures
+    ∙ (ap (λ (ss : List Stop). fault_among (vocabulary_of c.args.sig.now) (flat_map operators_by ss)) c.in_ok-list.ensures.stops
     ∙ ap (fault_among (vocabulary_of c.args.sig.now)) (operators_along (bare_process (plain_process c.args.process.now))))))

@@ -20,4 +20,4 @@ returns c =
     ok_then c.unknown_along.result c.unknown_along.ensures
     (λ found h v known.
     h ∙ (ap₂ (λ (sc : List Name) (ss : List StopTree). unknown_along c.args.known.now sc ss) (c.in_ok-enter_groups.ensures ∙ ap (λ (ns : List Name). ns ++ names_of_groups c.args.groups.now) c.new-scope.ensures) c.as_slice.ensures.value
-    ∙ (along_unknown v c.args.known.now known xs c.in_ok-list.list.items ∙ ap (first_of (unknown_name v)) (ap (scoped_along xs) c.in_ok-list.ensures ∙ parts_along xs (bare_process (plain_process c.args.process.now))))))
+    ∙ (along_unknown v c.args.known.now known xs c.in_ok-list.list.items ∙ ap (first_of (unknown_name v)) (ap (scoped_along xs) c.in_ok-list.ensures.stops ∙ parts_along xs (bare_process (plain_process c.args.process.now))))))
