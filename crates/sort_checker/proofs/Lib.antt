@@ -43,3 +43,4 @@ pub mod NamedNumbers
 pub mod EnteringWords
 pub mod EnteringGroups
 pub mod SortTreeParts
+pub mod CallArguments
