@@ -51,3 +51,4 @@ pub mod ReadyLeaves
 pub mod ParameterLists
 pub mod SortsByName
 pub mod FreeParts
+pub mod CallArguments

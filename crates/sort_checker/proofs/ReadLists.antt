@@ -57,3 +57,9 @@ take_shorter xs some = let short = at_most (length xs - 1) xs in omega (arith, s
     at_most zero ys = omega arith
     at_most (suc n) [] = omega arith
     at_most (suc n) (y ∷ ys) = let rest : length (take n ys) ≤ n = at_most n ys in omega (arith, rest)
+
+-- what stands at a place doesn't hang on what is read where nothing does
+pub same_there : {A : Type 0} (xs : List A) (i : ℕ) (d e : A) → i < length xs → get_or xs i d ≡ get_or xs i e
+same_there [] i d e l = let never : ⊥ = omega (arith, l) in absurd never
+same_there (x ∷ xs) zero d e l = refl
+same_there (x ∷ xs) (suc i) d e l = same_there xs i d e (omega (arith, l))

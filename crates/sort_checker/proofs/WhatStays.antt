@@ -96,6 +96,10 @@ pub some_is_found : (g : Sig) (p : PoolContents) (want : Option Term) (t : Term)
 some_is_found g p want t some _ none (no_term e) = let never : None ≡ Some t = sym e ∙ some in cc
 some_is_found g p want t some _ none (the_term u e is) = cc
 
+pub nothing_found : (g : Sig) (p : PoolContents) (want : Option Term) (found : Option TermId) → found ≡ None → IsWished g p want found → want ≡ None
+nothing_found g p want _ none (no_term e) = e
+nothing_found g p want _ none (the_term t e is) = cc
+
 pub the_found : (g : Sig) (p : PoolContents) (want : Option Term) (found : Option TermId) (id : TermId) → found ≡ Some id → IsWished g p want found → (t : Term) × (want ≡ Some t) × IsTerm g p id t
 the_found g p want _ id is (no_term e) = cc
 the_found g p want _ id is (the_term {id = k} t e stands) = let same : k ≡ id = cc in (t, e, subst (λ j. IsTerm g p j t) same stands)

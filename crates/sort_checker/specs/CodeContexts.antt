@@ -32,7 +32,7 @@ use Rattle.sort_checker.specs.NameNumbers.{number_under}
 use Rattle.sort_checker.specs.FullVocabularies.{Parameters, FullVocabulary, process_named}
 use Rattle.sort_checker.specs.Elaborations.{Elaborates, AllElaborate}
 use Rattle.sort_checker.specs.Scopes.{Binds}
-use Rattle.sort_checker.specs.ElaboratedParts.{IsTerm, AreBinders, IsBody, AreBodies}
+use Rattle.sort_checker.specs.ElaboratedParts.{IsTerm, AreTerms, AreBinders, IsBody, AreBodies}
 
 -- ---- processes
 abbrev pub parameter_of : Parameter → Name × Sort
@@ -91,6 +91,11 @@ EnterBehind g bs ids xs h cs js = (more : List VarId) × (js ≡ ids ++ more) ×
 pub data IsWished (g : Sig) (p : PoolContents) (want : Option Term) : Option TermId → Type 0 where
   no_term : want ≡ None → IsWished g p want None
   the_term : {id : TermId} (t : Term) → want ≡ Some t → IsTerm g p id t → IsWished g p want (Some id)
+
+-- the terms that are wished of several, where they have some
+pub data AreWished (g : Sig) (p : PoolContents) (want : Option (List Term)) : Option (List TermId) → Type 0 where
+  no_terms : want ≡ None → AreWished g p want None
+  the_terms : {ids : List TermId} (ts : List Term) → want ≡ Some ts → AreTerms g p ids ts → AreWished g p want (Some ids)
 
 -- the expression checks at the sort
 pub record CanCheck (g : Sig) (bs : List Bound) (e : Expression) (sort : Sort) : Type 0 where

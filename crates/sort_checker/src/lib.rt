@@ -5,6 +5,7 @@
 #![tactic(auto)]
 
 mod action_tables;
+mod argument_terms;
 mod binders;
 mod comm_shapes;
 mod data_names;
