@@ -50,3 +50,4 @@ pub mod SortedBodies
 pub mod ComponentViews
 pub mod CollectedEquations
 pub mod FormOfComponent
+pub mod WhateverStands

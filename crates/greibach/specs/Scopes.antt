@@ -34,3 +34,11 @@ HasSequentialBodies m c = (e : Entries) → IsSequential (table_of e m.definitio
 
 abbrev pub BindsItsVariablesOnce : PlainModel → PlainComponent → Type 0
 BindsItsVariablesOnce m c = (e : Entries) → HaveOwnVariables (table_of e m.definitions) (component_body e c)
+
+-- ---- laws
+-- one way to read the numbers tells it for all
+abbrev pub SequentialBodiesAreSequential : Type 0
+SequentialBodiesAreSequential = (e : Entries) (m : PlainModel) (c : PlainComponent) → IsSequential (table_of e m.definitions) (component_body e c) → HasSequentialBodies m c
+
+abbrev pub VariablesAreBoundOnce : Type 0
+VariablesAreBoundOnce = (e : Entries) (m : PlainModel) (c : PlainComponent) → HaveOwnVariables (table_of e m.definitions) (component_body e c) → BindsItsVariablesOnce m c

@@ -50,3 +50,11 @@ ghost use Rattle.greibach.specs.ComponentForms.{FormsOfComponentsAreGood};
 pub fn forms_of_components_are_good()
     ensures { FormsOfComponentsAreGood }
 {}
+
+ghost use Rattle.greibach.specs.Scopes.{SequentialBodiesAreSequential, VariablesAreBoundOnce};
+
+/// Whether bodies are sequential and bind their variables once doesn't depend on what stands under the numbers of a specification.
+pub fn scopes_are_of_the_text()
+    ensures sequential { SequentialBodiesAreSequential }
+    ensures bound { VariablesAreBoundOnce }
+{}
