@@ -28,9 +28,8 @@ use Rattle.data_theory.proofs.IdSortLemmas.{read_within}
 use Rattle.data_theory.proofs.IdSymbolLemmas.{holds_at}
 use Rattle.term_pool.specs.HeadTrees.{no_tree, trees_at, IsIn, AreIn}
 use Rattle.process_terms.specs.PlainProcesses.{PlainAction}
-use Rattle.process_terms.specs.Meanings.{term_at, action_of, label_of}
+use Rattle.process_terms.specs.Meanings.{term_at, action_of}
 use Rattle.process_terms.specs.SignatureEntries.{action_entry, entries_of}
-use Rattle.lps_core.specs.Fitting.{AreTermsOf}
 use Rattle.lps_printer.specs.declared.process_writer.ProcessWriter as code
 use Rattle.lps_printer.specs.Pieces.{Piece, bytes_of}
 use Rattle.lps_printer.specs.PrintedExpressions as form
@@ -41,7 +40,7 @@ use Rattle.lps_printer.specs.WrittenTerms.{opens, places, written_all, call}
 use Rattle.lps_printer.specs.EmptyLists.{filled}
 use Rattle.lps_printer.specs.SummandLayout.{print_action, print_bars}
 use Rattle.lps_printer.specs.FilledLinears.{filled_terms, filled_action}
-use Rattle.lps_printer.specs.WrittenProcesses.{action_written, others_written}
+use Rattle.lps_printer.specs.WrittenProcesses.{action_written}
 use Rattle.lps_printer.specs.Adding.{Adds}
 use Rattle.lps_printer.specs.Wordings.{opened, placed, IsSortedTerm, term_of}
 use Rattle.lps_printer.specs.TermParts.{worded}
@@ -66,7 +65,7 @@ terms_fit g ts (s ∷ ss) (x ∷ xs) a h =
     All-cons (IsSortedTerm g ts) x xs (record { within = All-head (IsIn ts) x xs a; sort = s; sorted = h.0 }) (terms_fit g ts ss xs (All-tail (IsIn ts) x xs a) h.1)
 
 module _ (t : TextWording) where
-  places_of : (us : List Term) → places (written_all t.names.terms (terms_of (map (λ u. (filled t.constant t.names.terms.once u).placed) us))) ≡ worded (of_terms t) true (terms_of us)
+  pub places_of : (us : List Term) → places (written_all t.names.terms (terms_of (map (λ u. (filled t.constant t.names.terms.once u).placed) us))) ≡ worded (of_terms t) true (terms_of us)
   places_of [] = refl
   places_of (u ∷ us) = ap (form.more (placed (of_terms t) u)) (places_of us)
 
@@ -82,7 +81,7 @@ module _ (t : TextWording) where
   act_is x us true = ap (printed_.act x) (places_of us)
   act_is x us false = ap (printed_.act x) (opens_of us)
 
-call_printed : (x : List ℕ) (es : Expressions) (gap : List ℕ) (rest : List Piece) → print (call x es) gap rest ≡ print_action (printed_.act x es) gap rest
+pub call_printed : (x : List ℕ) (es : Expressions) (gap : List ℕ) (rest : List Piece) → print (call x es) gap rest ≡ print_action (printed_.act x es) gap rest
 call_printed x form.none gap rest = refl
 call_printed x (form.more e es) gap rest = refl
 

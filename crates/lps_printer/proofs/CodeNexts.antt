@@ -1,6 +1,5 @@
 -- How a summand goes on, as it is printed.
-use Rattle.std.proofs.Common.{◌≡◌, ℕ, ◌+◌, ◌<◌, Bool, true, false, cond, List, [], ◌∷◌, length, map, get_or, drop, codes, Option, Some, None, refl, sym, ap, ◌∙◌, subst, arith, drop-cons, add-one}
-use Rattle.std.specs.Prelude.{option_map}
+use Rattle.std.proofs.Common.{◌≡◌, ℕ, ◌+◌, ◌<◌, Bool, true, false, cond, List, [], ◌∷◌, length, map, get_or, drop, codes, Option, Some, refl, sym, ap, ◌∙◌, subst, arith, drop-cons, add-one}
 use Rattle.std.proofs.lemmas.List.{get_or-map, length-map}
 use Rattle.mcrl2_lexer.specs.declared.kind.Kind.TheVariants.{Dot, Identifier, LeftParen, RightParen}
 use Rattle.data_theory.specs.declared.ids.TermId.{TermId}
@@ -17,8 +16,8 @@ use Rattle.lps_printer.specs.Pieces.{Piece}
 use Rattle.lps_printer.specs.PrintedProcesses as printed_
 use Rattle.lps_printer.specs.PrintedProcesses.{goes_bare, goes}
 use Rattle.lps_printer.specs.DataLayout.{piece, space}
-use Rattle.lps_printer.specs.WrittenTerms.{Manner, no_elements, an_element, a_cast, declared, built_in, manner, written}
-use Rattle.lps_printer.specs.EmptyLists.{Filled, empty_or, filled_in, filled, filled_all}
+use Rattle.lps_printer.specs.WrittenTerms.{Manner, no_elements, an_element, a_cast, declared, built_in, manner}
+use Rattle.lps_printer.specs.EmptyLists.{Filled, filled_in, filled, filled_all}
 use Rattle.lps_printer.specs.SummandLayout.{print_next}
 use Rattle.lps_printer.specs.FilledLinears.{filled_terms}
 use Rattle.lps_printer.specs.WrittenProcesses.{TextNames, is_own, assignments_written, call_written}

@@ -1,5 +1,5 @@
 -- Sorts and variables that are printed.
-use Rattle.std.proofs.Common.{◌≡◌, ℕ, ◌+◌, ◌<◌, List, [], ◌∷◌, length, map, get_or, drop, codes, Option, Some, None, refl, sym, ap, ◌∙◌, subst, arith, drop-cons, add-one}
+use Rattle.std.proofs.Common.{◌≡◌, ℕ, ◌+◌, ◌<◌, List, [], ◌∷◌, length, map, get_or, drop, codes, Some, refl, sym, ap, ◌∙◌, subst, drop-cons, add-one}
 use Rattle.std.specs.Prelude.{slice_get, IfSome}
 use Rattle.std.proofs.lemmas.Option.{get_or_from_slice_get}
 use Rattle.mcrl2_lexer.specs.declared.kind.Kind.{Kind}
@@ -20,7 +20,6 @@ use Rattle.data_theory.proofs.IdSortLemmas.{read_within}
 use Rattle.data_theory.proofs.IdSymbolLemmas.{read_sort}
 use Rattle.lps_core.specs.Fitting.{sort_of_variable}
 use Rattle.sort_table.specs.BareSorts.{SortExpression}
-use Rattle.lps_printer.specs.Pieces.{Piece}
 use Rattle.lps_printer.specs.DataLayout.{piece, space}
 use Rattle.lps_printer.specs.PrintedProcesses as printed_
 use Rattle.lps_printer.specs.SummandLayout.{print_sort, print_variable, print_variables}

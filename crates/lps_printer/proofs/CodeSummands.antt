@@ -1,5 +1,5 @@
 -- Summands that are printed.
-use Rattle.std.proofs.Common.{◌≡◌, ℕ, suc, ◌-◌, ◌<◌, Bool, true, false, cond, List, [], ◌∷◌, length, map, get_or, take, drop, codes, Option, Some, None, refl, sym, ap, ◌∙◌, arith}
+use Rattle.std.proofs.Common.{◌≡◌, ℕ, suc, ◌-◌, ◌<◌, Bool, true, false, cond, List, [], ◌∷◌, length, map, get_or, take, drop, codes, Some, None, refl, sym, ap, ◌∙◌, arith}
 use Rattle.std.specs.List.{All}
 use Rattle.std.proofs.Math.Seq.{take-length}
 use Rattle.std.proofs.lemmas.List.{get_or-map}
@@ -10,17 +10,15 @@ use Rattle.data_theory.specs.declared.signature.Variable.{Variable}
 use Rattle.data_theory.specs.Terms.{boolean}
 use Rattle.data_theory.specs.Equations.{trueᵗ}
 use Rattle.data_theory.specs.Table.{bool_sort}
-use Rattle.data_theory.specs.Signature.{Sig}
 use Rattle.data_theory.specs.IdTerms.{sort_under, term_under}
 use Rattle.term_pool.specs.HeadTrees.{no_tree, IsIn}
-use Rattle.process_terms.specs.Meanings.{bound_at, term_at}
+use Rattle.process_terms.specs.Meanings.{bound_at}
 use Rattle.bisim_laws.specs.LinearProcesses.{is_true}
 use Rattle.lps_core.specs.declared.linears.Summand.{Summand}
 use Rattle.lps_core.specs.Fitting.{IsVariable}
 use Rattle.lps_core.specs.PlainLinears.{plain_summand}
 use Rattle.lps_printer.specs.declared.process_writer.ProcessWriter as code
 use Rattle.lps_printer.specs.Pieces.{Piece}
-use Rattle.lps_printer.specs.PrintedProcesses as printed_
 use Rattle.lps_printer.specs.DataLayout.{piece, space}
 use Rattle.lps_printer.specs.WrittenTerms.{written}
 use Rattle.lps_printer.specs.EmptyLists.{filled}

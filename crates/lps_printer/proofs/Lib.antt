@@ -43,3 +43,4 @@ pub mod CodeActions
 pub mod CodeNexts
 pub mod Truths
 pub mod CodeSummands
+pub mod CodeDefinitions

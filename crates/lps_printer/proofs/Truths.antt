@@ -1,5 +1,5 @@
 -- Whether terms are `true`.
-use Rattle.std.proofs.Common.{◌≡◌, ◌<◌, ℕ, Bool, true, false, List, [], ◌∷◌, length, Option, Some, None, refl, sym, ap, ◌∙◌, subst}
+use Rattle.std.proofs.Common.{◌≡◌, ◌<◌, ℕ, Bool, false, List, [], ◌∷◌, length, Option, Some, None, refl, sym, ap, ◌∙◌}
 use Rattle.std.specs.Prelude.{slice_get, IfSome}
 use Rattle.data_theory.specs.declared.ids.FunId.{FunId}
 use Rattle.data_theory.specs.declared.ids.TermId.{TermId}
@@ -14,7 +14,7 @@ use Rattle.data_theory.proofs.IdSortLemmas.{read_within}
 use Rattle.data_theory.proofs.IdSymbolLemmas.{built_in_tells, declared_is}
 use Rattle.bisim_laws.specs.LinearProcesses.{is_true}
 use Rattle.lps_printer.specs.declared.term_writer.TermWriter as code
-use Rattle.lps_printer.specs.EmptyLists.{empty_or, filled, filled_all}
+use Rattle.lps_printer.specs.EmptyLists.{empty_or, filled}
 use Rattle.lps_printer.specs.WordForms.{is_truth}
 use Rattle.lps_printer.specs.CodeWordings.{HasWord, application_by}
 use Rattle.lps_printer.proofs.CodeForms.{at_entry}

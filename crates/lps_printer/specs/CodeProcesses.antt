@@ -10,7 +10,7 @@ use Rattle.process_terms.specs.Meanings.{Entries, bound_at, term_at, action_of, 
 use Rattle.process_terms.specs.SignatureEntries.{entries_of}
 use Rattle.lps_core.specs.Fitting.{IsVariable, IsActionOf}
 use Rattle.lps_core.specs.declared.linears.Summand.{Summand}
-use Rattle.lps_core.specs.PlainLinears.{PlainSummand, summand_of}
+use Rattle.lps_core.specs.PlainLinears.{PlainSummand, plain_summand, summand_of}
 use Rattle.lps_printer.specs.declared.process_writer.ProcessWriter as code
 use Rattle.lps_printer.specs.Pieces.{Piece}
 use Rattle.lps_printer.specs.PrintedProcesses as printed_
@@ -19,7 +19,8 @@ use Rattle.lps_printer.specs.FilledLinears.{filled_terms, filled_action, filled_
 use Rattle.lps_printer.specs.WrittenProcesses.{TextNames, action_written, first_written, others_written, assignments_written, next_written, summand_written}
 use Rattle.lps_printer.specs.Adding.{Adds}
 use Rattle.lps_printer.specs.CodeWordings.{IsTermBy}
-use Rattle.lps_printer.specs.TextWordings.{TextWording, IsTextWordedBy}
+use Rattle.lps_printer.specs.DefinitionTexts.{start_action}
+use Rattle.lps_printer.specs.TextWordings.{TextWording, variable_by, IsTextWordedBy}
 
 abbrev pub IsTextWording : code.ProcessWriter → TextWording → Type 0
 IsTextWording c t = IsTextWordedBy c.terms.sig.now c.terms.once.now c.terms.constants.now c.once.now t
@@ -90,3 +91,14 @@ summand_by c t s = summand_written t.names (map (bound_at (entries_by c)) c.para
 -- the layout of a summand without its sums
 abbrev pub print_guarded : printed_.Summand → List ℕ → List Piece → List Piece
 print_guarded s gap rest = print_when s.condition s.first s.others s.next gap rest
+
+-- ---- definitions
+abbrev pub parameters_by : code.ProcessWriter → TextWording → List printed_.Variable
+parameters_by c t = map (variable_by c.terms.sig.now t.names) c.params.now
+
+abbrev pub summands_by : code.ProcessWriter → TextWording → List Summand → List printed_.Summand
+summands_by c t ss = map (summand_by c t) (map plain_summand ss)
+
+-- the call with its initial terms
+abbrev pub start_by : code.ProcessWriter → TextWording → List TermId → printed_.Action
+start_by c t ids = start_action t.names (filled_terms t.constant t.names true (map (term_at (entries_by c)) ids))

@@ -4,6 +4,7 @@
 //! bodies: the contract of each is a law of these definitions, so that the crates above can cite it.
 #![tactic(auto)]
 
+mod definitions;
 mod forms;
 mod labels;
 pub mod laws;

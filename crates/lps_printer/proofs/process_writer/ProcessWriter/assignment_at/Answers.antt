@@ -1,6 +1,5 @@
-use Rattle.std.proofs.Common.{sym, ◌∙◌, arith}
+use Rattle.std.proofs.Common.{sym, ◌∙◌}
 use Rattle.mcrl2_lexer.specs.declared.kind.Kind.TheVariants.{Comma}
-use Rattle.data_theory.specs.declared.ids.TermId.{TermId}
 use Rattle.lps_printer.proofs.AddingPieces.{adds_both}
 use Rattle.lps_printer.proofs.CodeTerms.{first_id}
 use Rattle.lps_printer.proofs.CodeSorts.{first_variable}

@@ -1,4 +1,4 @@
-use Rattle.std.proofs.Common.{◌∷◌, List, Some, sym, ap, ◌∙◌, subst}
+use Rattle.std.proofs.Common.{◌∷◌, Some, sym, ap, ◌∙◌, subst}
 use Rattle.std.proofs.lemmas.Result.{on_ok_weaker}
 use Rattle.mcrl2_lexer.specs.declared.kind.Kind.TheVariants.{Dot, Identifier, LeftParen, RightParen}
 use Rattle.lps_core.specs.PlainLinears.{plain_next}

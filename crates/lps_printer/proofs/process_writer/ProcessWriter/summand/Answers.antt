@@ -1,4 +1,4 @@
-use Rattle.std.proofs.Common.{◌≡◌, ◌∷◌, ◌-◌, List, length, get_or, take, drop, sym, ◌∙◌}
+use Rattle.std.proofs.Common.{◌-◌, length, get_or, take, drop, sym, ◌∙◌}
 use Rattle.std.proofs.lemmas.Result.{on_ok_weaker}
 use Rattle.mcrl2_lexer.specs.declared.kind.Kind.TheVariants.{Sum, Dot}
 use Rattle.lps_printer.specs.TextWordings.{NamesVariables}

@@ -1,4 +1,4 @@
-use Rattle.std.proofs.Common.{◌≡◌, ◌<◌, length, sym, ap, ◌∙◌, arith}
+use Rattle.std.proofs.Common.{length, sym, ap, ◌∙◌, arith}
 use Rattle.bisim_laws.specs.LinearProcesses.{is_true}
 use Rattle.lps_printer.specs.CodeWordings.{application_by}
 use Rattle.lps_printer.proofs.CodeTerms.{node_by, term_is, application_fits}
