@@ -2,7 +2,7 @@
 use Rattle.std.proofs.Common.{◌≡◌, ℕ, ◌+◌, ◌<◌, Bool, true, false, cond, List, [], ◌∷◌, length, map, get_or, take, drop, codes, ◌++◌, ◌-◌, suc, Some, refl, sym, ap, ◌∙◌, subst, arith, drop-cons, add-one}
 use Rattle.std.proofs.Common.{eqb}
 use Rattle.std.proofs.Math.Dec.{eqb-suc-zero}
-use Rattle.std.proofs.Math.Seq.{take-length}
+use Rattle.std.proofs.Math.Seq.{take-length, drop-length}
 use Rattle.std.specs.Prelude.{slice_get}
 use Rattle.std.specs.List.{All}
 use Rattle.std.proofs.lemmas.List.{get_or-map, length-map}
@@ -129,11 +129,7 @@ pub at_item : {A B : Type 0} (f : A → B) (P : B → Type 0) (xs : List A) (i :
 at_item f P xs i x l e h = subst P (get_or-map f xs i x (f x) l ∙ ap f (sym e)) (h i (f x) (subst (λ n. i < n) (sym (length-map xs f)) l))
 
 pub nothing_left : {A B : Type 0} (f : A → B) (xs : List A) (i : ℕ) → length xs ≡ i → map f (drop i xs) ≡ []
-nothing_left f xs i e = ap (λ k. map f (drop k xs)) (sym e) ∙ ap (map f) (all_dropped xs)
-  where
-    all_dropped : {A : Type 0} (ys : List A) → drop (length ys) ys ≡ []
-    all_dropped [] = refl
-    all_dropped (y ∷ ys) = all_dropped ys
+nothing_left f xs i e = ap (λ k. map f (drop k xs)) (sym e) ∙ ap (map f) (drop-length xs)
 
 -- the first of a list and those behind it
 pub first_and_others : {A B : Type 0} (f : A → B) (xs : List A) (x : A) → 0 < length xs → x ≡ get_or xs 0 x → f x ∷ map f (take (length xs - 1) (drop 1 xs)) ≡ map f xs

@@ -1,5 +1,6 @@
 -- Lists of terms that are printed one by one.
-use Rattle.std.proofs.Common.{◌≡◌, ℕ, ◌+◌, ◌<◌, Bool, true, List, [], ◌∷◌, length, get_or, drop, codes, Option, Some, refl, sym, ap, ◌∙◌, drop-cons, add-one}
+use Rattle.std.proofs.Common.{◌≡◌, ℕ, ◌+◌, ◌<◌, Bool, true, List, [], ◌∷◌, length, get_or, drop, codes, Option, Some, sym, ap, ◌∙◌, drop-cons, add-one}
+use Rattle.std.proofs.Math.Seq.{drop-length}
 use Rattle.mcrl2_lexer.specs.declared.kind.Kind.{Kind}
 use Rattle.mcrl2_lexer.specs.declared.kind.Kind.TheVariants.{Comma}
 use Rattle.data_theory.specs.declared.ids.TermId.{TermId}
@@ -29,11 +30,7 @@ further_step c w b ids i d l p q r =
     adds_further (ap (λ xs. worded w b (terms_by c xs)) cut) (item_added (in_place w b (term_by c (get_or ids i d))) (worded w b (terms_by c (drop (i + 1) ids))) p q r)
 
 pub further_end : (c : code.TermWriter) (w : Wording) (b : Bool) (ids : List TermId) (a : List ℕ) → Adds a a (λ rest. print_more (worded w b (terms_by c (drop (length ids) ids))) rest)
-further_end c w b ids a = adds_further (ap (λ xs. worded w b (terms_by c xs)) (sym (nothing_left ids))) (adds_none a)
-  where
-    nothing_left : (xs : List TermId) → drop (length xs) xs ≡ []
-    nothing_left [] = refl
-    nothing_left (x ∷ xs) = nothing_left xs
+further_end c w b ids a = adds_further (ap (λ xs. worded w b (terms_by c xs)) (sym (drop-length ids))) (adds_none a)
 
 -- ---- elements of a chain
 pub record AddsElements (w : Wording) (t : Term) (a final : List ℕ) : Type 0 where

@@ -1,5 +1,6 @@
 -- How a summand goes on, as it is printed.
 use Rattle.std.proofs.Common.{◌≡◌, ℕ, ◌+◌, ◌<◌, Bool, true, false, cond, List, [], ◌∷◌, length, map, get_or, drop, codes, Option, Some, refl, sym, ap, ◌∙◌, subst, arith, drop-cons, add-one}
+use Rattle.std.proofs.Math.Seq.{drop-length}
 use Rattle.std.proofs.lemmas.List.{get_or-map, length-map}
 use Rattle.mcrl2_lexer.specs.declared.kind.Kind.TheVariants.{Dot, Identifier, LeftParen, RightParen}
 use Rattle.data_theory.specs.declared.ids.TermId.{TermId}
@@ -79,11 +80,7 @@ none_assigned c t [] = refl
 none_assigned c t (v ∷ vs) = refl
 
 all_dropped : (xs : List TermId) (i : ℕ) → length xs ≡ i → drop i xs ≡ []
-all_dropped xs i e = ap (λ k. drop k xs) (sym e) ∙ dropped xs
-  where
-    dropped : (ys : List TermId) → drop (length ys) ys ≡ []
-    dropped [] = refl
-    dropped (y ∷ ys) = dropped ys
+all_dropped xs i e = ap (λ k. drop k xs) (sym e) ∙ drop-length xs
 
 nothing_listed : (b : Bool) (a : List ℕ) → Adds a a (λ rest. print_listed b [] rest)
 nothing_listed true a = adds_none a

@@ -1,5 +1,6 @@
 -- Sorts and variables that are printed.
-use Rattle.std.proofs.Common.{◌≡◌, ℕ, ◌+◌, ◌<◌, List, [], ◌∷◌, length, map, get_or, drop, codes, Some, refl, sym, ap, ◌∙◌, subst, drop-cons, add-one}
+use Rattle.std.proofs.Common.{◌≡◌, ℕ, ◌+◌, ◌<◌, List, [], ◌∷◌, length, map, get_or, drop, codes, Some, sym, ap, ◌∙◌, subst, drop-cons, add-one}
+use Rattle.std.proofs.Math.Seq.{drop-length}
 use Rattle.std.specs.Prelude.{slice_get, IfSome}
 use Rattle.std.proofs.lemmas.Option.{get_or_from_slice_get}
 use Rattle.mcrl2_lexer.specs.declared.kind.Kind.{Kind}
@@ -88,8 +89,4 @@ variables_step {a = a} {final = final} g n vs i d l p q r =
     variables_adds (ap (map (variable_by g n)) cut) all
 
 pub variables_end : (g : Sig) (n : TextNames) (vs : List VarId) (a : List ℕ) → Adds a a (λ rest. print_variables (map (variable_by g n) (drop (length vs) vs)) rest)
-variables_end g n vs a = variables_adds (ap (map (variable_by g n)) (sym (nothing_left vs))) (adds_none a)
-  where
-    nothing_left : (xs : List VarId) → drop (length xs) xs ≡ []
-    nothing_left [] = refl
-    nothing_left (x ∷ xs) = nothing_left xs
+variables_end g n vs a = variables_adds (ap (map (variable_by g n)) (sym (drop-length vs))) (adds_none a)
