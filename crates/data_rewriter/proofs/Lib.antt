@@ -15,6 +15,7 @@ pub mod StateMoves
 pub mod StepMoves
 pub mod ArgumentMoves
 pub mod RootMoves
+pub mod Keeping
 pub mod Running
 pub mod PatternMoves
 pub mod LastLine
@@ -23,3 +24,9 @@ pub mod FixedFunctions
 pub mod WrittenRules
 pub mod TruthAnswers
 pub mod PlaceEqualities
+pub mod RowShapes
+pub mod WordSigns
+pub mod ListFacts
+pub mod Markings
+pub mod HeadNumbers
+pub mod Simple

@@ -1,16 +1,16 @@
 -- The equalities of two lists of arguments, from the last one on.
-use Rattle.std.proofs.Common.{◌≡◌, ◌⊎◌, ℕ, zero, suc, ◌+◌, ◌<◌, ◌≤◌, drop, get_or, List, [], ◌∷◌, map, length, refl, sym, ap, ◌∙◌, subst, arith, inl, inr, ⊎_elim}
+use Rattle.std.proofs.Common.{◌≡◌, ◌⊎◌, ℕ, zero, suc, ◌<◌, ◌≤◌, drop, get_or, List, [], ◌∷◌, length, refl, sym, ap, subst, arith, inl, inr, ⊎_elim}
 use Rattle.std.specs.List.{All}
 use Rattle.std.proofs.lemmas.List.Elements.{All-head, All-tail}
 use Rattle.data_theory.specs.declared.ids.TermId.{TermId}
 use Rattle.data_theory.specs.declared.ids.FunId.{FunId}
-use Rattle.data_theory.specs.Terms.{Sort, boolean, Symbol, equality, Term, Terms, apply, more, none}
+use Rattle.data_theory.specs.Terms.{Sort, boolean, Symbol, equality, Term, apply, more, none}
 use Rattle.data_theory.specs.Equations.{trueᵗ, ◌∧ᵗ◌, equals, all_equal}
 use Rattle.data_theory.specs.Signature.{Sig}
 use Rattle.data_theory.specs.IdTrees.{Tree}
 use Rattle.term_pool.specs.Pools.{Extends}
 use Rattle.data_rewriter.proofs.Standings.{stands_still_for}
-use Rattle.data_rewriter.specs.Standing.{IsTerm, StandsFor, IsSymbolOf, term_at, listed_at, terms_of}
+use Rattle.data_rewriter.specs.Standing.{IsTerm, StandsFor, IsSymbolOf, listed_at, terms_of}
 use Rattle.data_rewriter.specs.Signatures.{AreEqualities, equal_from}
 
 pub nothing_left : (k : ℕ) (ss : List Sort) (us vs : List Term) → (length ss ≤ k) ⊎ ((length us ≤ k) ⊎ (length vs ≤ k)) → equal_from k ss us vs ≡ trueᵗ

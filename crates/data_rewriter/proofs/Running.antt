@@ -17,6 +17,9 @@ use Rattle.data_rewriter.specs.declared.tables.Tables.{Tables}
 use Rattle.data_rewriter.specs.declared.machine.Hand.{Hand}
 use Rattle.data_rewriter.specs.declared.machine.Hand.TheVariants.{Visit, Answer, Spent}
 use Rattle.data_rewriter.specs.declared.machine.Normal.TheVariants.{Done, Spent as SpentAt}
+use Rattle.data_theory.specs.IdTables.{IsTable}
+use Rattle.data_rewriter.specs.Stored.{AreCovered, KeepsStored}
+use Rattle.data_rewriter.proofs.Keeping.{then_keeps}
 use Rattle.data_rewriter.specs.Places.{whole, at_the_origin}
 use Rattle.data_rewriter.specs.Frames.{Plain}
 use Rattle.data_rewriter.specs.States.{AreWithin, IsFrameWithin, AreTablesOf, AreStored, IsStored, AreIdsIn, IsFrameIn, Shows, Says, StartsIn}
@@ -64,12 +67,12 @@ module _ {S : Type 0} (tables : Tables) (old mid : List Tree) (at_first store : 
   }
 
   -- the fuel is spent
-  pub says_spent : hand ≡ Spent → (sig : Sig) (own : List Equation) → AreTablesOf tables sig own old → AreStored sig own old at_first → IsTreeWithin sig (tree_at old term) → Says sig own old mid term fuel fuel' (SpentAt term) × AreStored sig own mid store
+  pub says_spent : hand ≡ Spent → (sig : Sig) (own : List Equation) → AreTablesOf tables sig own old → AreStored sig own old at_first → IsTreeWithin sig (tree_at old term) → Says sig own old mid term fuel fuel' (SpentAt term)
   says_spent e sig own all s w =
       let sh : Shows sig own mid (term_at sig old term) stack start Spent fuel fuel' = subst (λ (h : Hand). Shows sig own mid (term_at sig old term) stack start h fuel fuel') e (is.shows sig own all s w) in
       let none : fuel' ≡ 0 = is.empty e in
       let less : fuel < sh.behind + suc sh.here = let f = sh.fuel in omega (arith, none, f) in
-      ((refl, none, (sh.behind + suc sh.here, less, chain_from_the_origin (data_meant sig) own sh.waits (suc sh.here) sh.shown)), is.stored sig own all s w)
+      (refl, none, (sh.behind + suc sh.here, less, chain_from_the_origin (data_meant sig) own sh.waits (suc sh.here) sh.shown))
 
   -- the pairs of an answer may be stored
   pub answer_is_stored : (u : TermId) → hand ≡ Answer u → (sig : Sig) (own : List Equation) → AreTablesOf tables sig own old → AreStored sig own old at_first → IsTreeWithin sig (tree_at old term) → IsStored sig own mid start u × IsStored sig own mid u u
@@ -102,6 +105,20 @@ module _ {S : Type 0} (tables : Tables) (old mid : List Tree) (at_first store : 
         over = is.over;
         shows = is.shows;
       })
+
+-- ---- pairs that were stored stay
+abbrev pub KeepsAll : {S : Type 0} → Tables → List Tree → HashMap TermId TermId S → HashMap TermId TermId S → TermId → Type 0
+KeepsAll tables old at_first store term = (sig : Sig) (own : List Equation) → AreTablesOf tables sig own old → AreStored sig own old at_first → IsTreeWithin sig (tree_at old term) → AreCovered own → KeepsStored at_first store
+
+pub keeps_as : {S : Type 0} (tables : Tables) (old : List Tree) (at_first store store' : HashMap TermId TermId S) (term : TermId) → store' ≡ store → KeepsAll tables old at_first store term → KeepsAll tables old at_first store' term
+keeps_as {S} tables old at_first store store' term e h = subst (λ (x : HashMap TermId TermId S). KeepsAll tables old at_first x term) (sym e) h
+
+-- behind an answer that was stored, as far as there was memory
+pub keeps_on : {S : Type 0} (tables : Tables) (old mid : List Tree) (at_first store later : HashMap TermId TermId S) (term : TermId) (stack : List Plain) (start : TermId) (hand : Hand) (fuel fuel' : ℕ) → IsRunning tables old mid at_first store term stack start hand fuel fuel' → (u : TermId) → hand ≡ Answer u
+    → ((sig : Sig) (own : List Equation) → IsTable sig → AreCovered own → AreStored sig own mid store → IsStored sig own mid start u → IsStored sig own mid u u → KeepsStored store later) → KeepsAll tables old at_first store term → KeepsAll tables old at_first later term
+keeps_on tables old mid at_first store later term stack start hand fuel fuel' is u e kept h sig own all s w covered =
+    let pairs = answer_is_stored tables old mid at_first store term stack start hand fuel fuel' is u e sig own all s w in
+    then_keeps at_first store later (h sig own all s w covered) (kept sig own all.signs.signature.table covered (is.stored sig own all s w) pairs.0 pairs.1)
 
 -- the same at equal values
 pub runs_as : {S : Type 0} (tables : Tables) (old : List Tree) (at_first : HashMap TermId TermId S) (term : TermId) (fuel : ℕ) (mid mid' : List Tree) (store store' : HashMap TermId TermId S) (stack stack' : List Plain) (start start' : TermId) (hand hand' : Hand) (fuel' fuel'' : ℕ) → mid' ≡ mid → store' ≡ store → stack' ≡ stack → start' ≡ start → hand' ≡ hand → fuel'' ≡ fuel' → IsRunning tables old mid at_first store term stack start hand fuel fuel' → IsRunning tables old mid' at_first store' term stack' start' hand' fuel fuel''

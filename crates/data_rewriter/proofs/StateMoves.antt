@@ -16,7 +16,7 @@ use Rattle.data_theory.specs.Signature.{Sig}
 use Rattle.data_theory.specs.IdTables.{IsTable}
 use Rattle.data_theory.specs.IdData.{data_meant}
 use Rattle.data_theory.specs.IdTrees.{Tree, none}
-use Rattle.data_theory.specs.IdTerms.{IsTreeWithin, term_under, symbol_under, variable_sorts}
+use Rattle.data_theory.specs.IdTerms.{IsTreeWithin, term_under, symbol_under}
 use Rattle.data_theory.proofs.IdTermLemmas.{merging_trees_merges_terms}
 use Rattle.term_pool.specs.declared.terms.Head.{Head}
 use Rattle.term_pool.specs.declared.terms.Head.TheVariants.{Var, Num as Number, Fun}
@@ -29,7 +29,8 @@ use Rattle.data_rewriter.specs.declared.machine.Hand.{Hand}
 use Rattle.data_rewriter.specs.declared.machine.Hand.TheVariants.{Visit, Root, Answer, Spent}
 use Rattle.data_rewriter.specs.Places.{whole, from_equation, Leads, Pending, applying, deciding, Waits, in_a_place}
 use Rattle.data_rewriter.specs.Frames.{Plain, applies, decides}
-use Rattle.data_rewriter.specs.States.{IsRule, IsLeft, HasHead, IsFrameWithin, AreWithin, AreIdsIn, IsHandIn, AreTablesOf, equation_at, IsFrameIn, pending_at, HandShows, Shows, AreStored}
+use Rattle.data_rewriter.specs.Written.{IsRule, IsLeft, AreEquationsOf}
+use Rattle.data_rewriter.specs.States.{HasHead, IsFrameWithin, AreWithin, AreIdsIn, IsHandIn, AreTablesOf, IsFrameIn, pending_at, HandShows, Shows, AreStored}
 use Rattle.term_pool.proofs.NodeTrees.{stays_in, stay_in, tree_kept}
 use Rattle.data_rewriter.proofs.Standings.{call_at, term_stays, application_at, term_kept}
 use Rattle.data_rewriter.proofs.Leading.{then_leads, to_the_root, stands_still}
@@ -155,15 +156,19 @@ stored_kept sig own old new e store all t u is =
     let q : term_at sig old u ≡ term_at sig new u = sym (term_kept sig old new u e a.1) in
     (stays_in old new t e a.0, stays_in old new u e a.1, (a.2.0, subst (λ (x : Term). GoesTo (data_meant sig) own x (term_at sig new u) a.2.0) p (subst (λ (x : Term). GoesTo (data_meant sig) own (term_at sig old t) x a.2.0) q a.2.1)), subst (IsTreeWithin sig) (sym (tree_kept old new t e a.0)) a.3, subst (IsTreeWithin sig) (sym (tree_kept old new u e a.1)) a.4)
 
-equations_kept : (sig : Sig) (old new : List Tree) (rs : List Rule) → Extends old new → All (IsRule sig old) rs → map (equation_at sig new) rs ≡ map (equation_at sig old) rs
-equations_kept sig old new [] e h = refl
-equations_kept sig old new (r ∷ rs) e h =
-    let i = All-head (IsRule sig old) r rs h in
-    let a = term_kept sig old new r.cond e i.condition.inside in
-    let b = term_kept sig old new r.left e i.left.inside in
-    let d = term_kept sig old new r.right e i.right.inside in
-    let rest = equations_kept sig old new rs e (All-tail (IsRule sig old) r rs h) in
-    λ j. (record { sorts = variable_sorts sig; condition = a j; left = b j; right = d j }) ∷ rest j
+equations_kept : (sig : Sig) (old new : List Tree) (rs : List Rule) (qs : List Equation) → Extends old new → All (IsRule sig old) rs → AreEquationsOf sig old rs qs → AreEquationsOf sig new rs qs
+equations_kept sig old new [] [] e h are = tt
+equations_kept sig old new [] (q ∷ qs) e h are = absurd are
+equations_kept sig old new (r ∷ rs) [] e h are = absurd are
+equations_kept sig old new (r ∷ rs) (q ∷ qs) e h are =
+    let i = All-head (IsRule sig old) r rs h in (
+      record {
+        condition = are.0.condition ∙ sym (term_kept sig old new r.cond e i.condition.inside);
+        left = are.0.left ∙ sym (term_kept sig old new r.left e i.left.inside);
+        right = are.0.right ∙ sym (term_kept sig old new r.right e i.right.inside);
+      },
+      equations_kept sig old new rs qs e (All-tail (IsRule sig old) r rs h) are.1,
+    )
 
 rule_kept : (sig : Sig) (old new : List Tree) → Extends old new → (r : Rule) → IsRule sig old r → IsRule sig new r
 rule_kept sig old new e r i = record {
@@ -181,7 +186,7 @@ at_rule sig ts (x ∷ rs) (suc n) r h e = at_rule sig ts rs n r (All-tail (IsRul
 pub tables_kept : (tables : Tables) (sig : Sig) (own : List Equation) (old new : List Tree) → Extends old new → AreTablesOf tables sig own old → AreTablesOf tables sig own new
 tables_kept tables sig own old new e a = record {
   signs = a.signs;
-  equations = a.equations ∙ sym (equations_kept sig old new tables.rules.items e a.rules);
+  equations = equations_kept sig old new tables.rules.items own e a.rules a.equations;
   rules = All-weaker (IsRule sig old) (IsRule sig new) (rule_kept sig old new e) tables.rules.items a.rules;
   heads = λ f inside. let h = a.heads f inside in record {
     rise = h.rise;

@@ -1,7 +1,7 @@
 -- Written equations that match.
-use Rattle.std.proofs.Common.{◌≡◌, ℕ, zero, suc, ◌+◌, ◌-◌, ◌<◌, ◌≤◌, take, get_or, List, [], ◌∷◌, ◌++◌, append-nil, map, length, refl, sym, ap, ◌∙◌, subst, arith, Some, None, Bool, true, false, cond, ⊎_elim}
+use Rattle.std.proofs.Common.{◌≡◌, ℕ, zero, suc, ◌+◌, ◌-◌, ◌<◌, ◌≤◌, take, get_or, List, [], ◌∷◌, ◌++◌, append-nil, length, refl, sym, ap, ◌∙◌, subst, arith, Some, None, Bool, true, false, cond, ⊎_elim}
 use Rattle.std.proofs.Common.{Vec}
-use Rattle.std.specs.Prelude.{MatchOption, ◌⊎◌, option_map, Option, IfSome, slice_get, ◌==◌}
+use Rattle.std.specs.Prelude.{MatchOption, ◌⊎◌, Option, IfSome, slice_get, ◌==◌}
 use Rattle.std.specs.List.{All, Contains}
 use Rattle.std.proofs.lemmas.Option.{slice_get_read, slice_get_within, get_or_from_slice_get}
 use Rattle.std.proofs.lemmas.List.Elements.{Contains-append_cases, All-nil, All-cons, All-head, All-tail, All-contains, All-weaker}
@@ -29,7 +29,8 @@ use Rattle.term_pool.proofs.Filling.{listed_same}
 use Rattle.term_pool.proofs.NodeTrees.{tree_kept}
 use Rattle.data_rewriter.specs.declared.tables.Rule.{Rule}
 use Rattle.data_rewriter.specs.Standing.{IsTerm, StandsFor, term_at}
-use Rattle.data_rewriter.specs.States.{AreTablesOf, IsFirst, IsFoundWithin, HasCondition, IsRule, IsLeft, HasHead, Rise, equation_at}
+use Rattle.data_rewriter.specs.States.{AreTablesOf, IsFirst, IsFoundWithin, HasCondition, HasHead, Rise}
+use Rattle.data_rewriter.specs.Written.{IsRule, IsLeft, IsEquationOf, AreEquationsOf}
 use Rattle.data_rewriter.specs.Matching.{IsMatchState, Lays, Misses, AreListed, Agrees}
 use Rattle.data_rewriter.specs.FirstRules.{put_by, IsMatched, IsFirstRule}
 use Rattle.data_rewriter.specs.FirstLines.{LineAt, IsFirstAt, IsConditionMade}
@@ -182,39 +183,42 @@ charged (terms.application (terms.membership p) ts) n = refl
 charged (terms.application (terms.function p) ts) n = refl
 
 -- ---- the written equations behind the rules
-at_rules : (sig : Sig) (ts : List Tree) (rs : List Rule) (j : ℕ) (q : Equation) → slice_get (map (equation_at sig ts) rs) j ≡ Some q → (r : Rule) × (slice_get rs j ≡ Some r) × (q ≡ equation_at sig ts r)
-at_rules sig ts [] j q e = absurd cc
-at_rules sig ts (r ∷ rs) zero q e = (r, refl, some_same (sym e))
-  where
-    some_same : Some q ≡ Some (equation_at sig ts r) → q ≡ equation_at sig ts r
-    some_same e = cc
-at_rules sig ts (r ∷ rs) (suc j) q e = at_rules sig ts rs j q e
+at_rules : (sig : Sig) (ts : List Tree) (rs : List Rule) (qs : List Equation) → AreEquationsOf sig ts rs qs → (j : ℕ) (q : Equation) → slice_get qs j ≡ Some q → (r : Rule) × (slice_get rs j ≡ Some r) × IsEquationOf sig ts r q
+at_rules sig ts [] [] are j q e = absurd cc
+at_rules sig ts [] (p ∷ qs) are j q e = absurd are
+at_rules sig ts (r ∷ rs) [] are j q e = absurd are
+at_rules sig ts (r ∷ rs) (p ∷ qs) are zero q e = let same : p ≡ q = cc in (r, refl, subst (IsEquationOf sig ts r) same are.0)
+at_rules sig ts (r ∷ rs) (p ∷ qs) are (suc j) q e = at_rules sig ts rs qs are.1 j q e
 
-rules_at : (sig : Sig) (ts : List Tree) (rs : List Rule) (j : ℕ) (r : Rule) → slice_get rs j ≡ Some r → slice_get (map (equation_at sig ts) rs) j ≡ Some (equation_at sig ts r)
-rules_at sig ts [] j r e = absurd cc
-rules_at sig ts (x ∷ rs) zero r e = ap (λ (o : Option Rule). option_map (equation_at sig ts) o) e
-rules_at sig ts (x ∷ rs) (suc j) r e = rules_at sig ts rs j r e
+rules_at : (sig : Sig) (ts : List Tree) (rs : List Rule) (qs : List Equation) → AreEquationsOf sig ts rs qs → (j : ℕ) (r : Rule) → slice_get rs j ≡ Some r → (q : Equation) × (slice_get qs j ≡ Some q) × IsEquationOf sig ts r q
+rules_at sig ts [] [] are j r e = absurd cc
+rules_at sig ts [] (p ∷ qs) are j r e = absurd are
+rules_at sig ts (x ∷ rs) [] are j r e = absurd are
+rules_at sig ts (x ∷ rs) (p ∷ qs) are zero r e = let same : x ≡ r = cc in (p, refl, subst (λ (y : Rule). IsEquationOf sig ts y p) same are.0)
+rules_at sig ts (x ∷ rs) (p ∷ qs) are (suc j) r e = rules_at sig ts rs qs are.1 j r e
 
 module _ (tables : Tables) (sig : Sig) (own : List Equation) (old : List Tree) (all : AreTablesOf tables sig own old) (root : TermId) (from first : ℕ) (first_is : first ≡ from - 55) (start : (from ≡ 0) ⊎ (lines ≤ from)) (none : (i : ℕ) (c r : Term) → from ≤ i → LineAt (data_meant sig) i (term_at sig old root) c r → ⊥) where
   -- no equation matches where no rule does
   no_rule : (bound : ℕ) → ((n : ℕ) (r : Rule) → first ≤ n → n < bound → slice_get tables.rules.items n ≡ Some r → Misses sig old r.left root) → (i : ℕ) (c r : Term) (x : ℕ) → from ≤ i → i < lines + bound → Applies (data_meant sig) own i (term_at sig old root) c r x → ⊥
   no_rule bound misses i c r x behind inside (a_line b p) = none i c r behind (b, p)
   no_rule bound misses i c r x behind inside (an_equation {q = q} j e at is lays) =
-      let found = at_rules sig old tables.rules.items j q (subst (λ (qs : List Equation). slice_get qs j ≡ Some q) all.equations at) in
+      let found = at_rules sig old tables.rules.items own all.equations j q at in
       let here : first ≤ j = omega (arith, first_is, behind, is) in
       let less : j < bound = omega (arith, is, inside) in
-      misses j found.0 here less found.1 e (ap (λ (x : Equation). laid e x.left) (sym found.2) ∙ lays)
+      misses j found.0 here less found.1 e (ap (laid e) (sym found.2.left) ∙ lays)
 
   pub none_written : IsFirstRule sig old tables.rules.items root first None → (i : ℕ) (c r : Term) (x : ℕ) → from ≤ i → i < lines + length own → Applies (data_meant sig) own i (term_at sig old root) c r x → ⊥
   none_written misses i c r x behind inside b = no_rule (length own) (λ n s l m at. misses n s l at) i c r x behind inside b
 
   pub found_written : (new : List Tree) → Extends old new → IsTerm sig old root → (m : Matched) → (h : IsMatched sig old tables.rules.items root first m) → (f : Found) → f.number ≡ lines + m.number → StandsFor sig new f.right (put (put_by sig old m.found.items) (term_at sig old h.rule.right)) × IsConditionMade sig new f.cond (put (put_by sig old m.found.items) (term_at sig old h.rule.cond)) → IsFirst sig own new root from f × IsFoundWithin sig new f
-  found_written new grows root_term m h f number made =
+  found_written new grows root_term m h f number made_of_rule =
       let e = put_by sig old m.found.items in
-      let q = equation_at sig old h.rule in
-      let at : slice_get own m.number ≡ Some q = subst (λ (qs : List Equation). slice_get qs m.number ≡ Some q) (sym all.equations) (rules_at sig old tables.rules.items m.number h.rule h.there) in
+      let found = rules_at sig old tables.rules.items own all.equations m.number h.rule h.there in
+      let q = found.0 in
+      let at : slice_get own m.number ≡ Some q = found.1 in
+      let made = meant_made e q h.rule found.2 made_of_rule in
       let inside : m.number < length own = slice_get_within own m.number q at in
-      let lays : laid e (term_at sig old h.rule.left) ≡ term_at sig old root = (h.state.0 e).1 (all_agree sig old m.found.items m.found.items h.state.3, All-nil (Lays sig old e)) in
+      let lays : laid e q.left ≡ term_at sig old root = ap (laid e) found.2.left ∙ (h.state.0 e).1 (all_agree sig old m.found.items m.found.items h.state.3, All-nil (Lays sig old e)) in
       let there : Applies (data_meant sig) own (lines + m.number) (term_at sig old root) (put e q.condition) (put e q.right) (charge_of (put e q.condition)) = an_equation m.number e at refl lays in
       let kept = term_kept sig old new root grows root_term.inside in
       let l = h.behind in (
@@ -230,6 +234,9 @@ module _ (tables : Tables) (sig : Sig) (own : List Equation) (old : List Tree) (
         (made.0.term.within, within_as f.cond (put e q.condition) made.1),
       )
     where
+      meant_made : (e : ℕ → Term) (q : Equation) (r : Rule) → IsEquationOf sig old r q → StandsFor sig new f.right (put e (term_at sig old r.right)) × IsConditionMade sig new f.cond (put e (term_at sig old r.cond)) → StandsFor sig new f.right (put e q.right) × IsConditionMade sig new f.cond (put e q.condition)
+      meant_made e q r is made = (subst (λ t. StandsFor sig new f.right (put e t)) (sym is.right) made.0, subst (λ t. IsConditionMade sig new f.cond (put e t)) (sym is.condition) made.1)
+
       condition_as : (o : Option TermId) (c : Term) → IsConditionMade sig new o c → HasCondition sig new f.number c (charge_of c) o
       condition_as None c h = h
       condition_as (Some id) c h = (h.0.is, h.1, (λ l. charged c h.1))

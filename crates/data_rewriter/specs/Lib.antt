@@ -2,11 +2,15 @@ pub mod Standing
 pub mod Signs
 pub mod Views
 pub mod FirstLines
+pub mod Marking
 pub mod Signatures
+pub mod Written
 pub mod Rules
 pub mod Places
 pub mod Frames
 pub mod States
 pub mod Matching
 pub mod FirstRules
+pub mod Stored
 pub mod Rewriters
+pub mod Simplifying

@@ -1,5 +1,5 @@
 -- What a rewriter keeps, and what its answers say.
-use Rattle.std.specs.Prelude.{◌≡◌, ◌≢◌, ◌≤◌, ◌+◌, ℕ, List}
+use Rattle.std.specs.Prelude.{◌≡◌, ◌≢◌, ◌≤◌, ◌+◌, ℕ, List, Option, Some}
 use Rattle.data_theory.specs.declared.ids.TermId.{TermId}
 use Rattle.data_theory.specs.Equations.{trueᵗ, falseᵗ}
 use Rattle.data_theory.specs.Provable.{Equation}
@@ -11,6 +11,10 @@ use Rattle.number_rules.specs.declared.rules.NumberRules.{NumberRules}
 use Rattle.data_rewriter.specs.declared.rewriter.Rewriter.{Rewriter}
 use Rattle.data_rewriter.specs.declared.rewriter.Truth.{Truth}
 use Rattle.data_rewriter.specs.declared.rewriter.Truth.TheVariants.{Yes, No, Stuck, Spent}
+use Rattle.term_pool.specs.Bindings.{result_of}
+use Rattle.data_rewriter.specs.declared.machine.Normal.{Normal}
+use Rattle.data_rewriter.specs.declared.machine.Normal.TheVariants.{Done, Spent as SpentAt}
+use Rattle.data_rewriter.specs.Stored.{AreCovered, IsClosed}
 use Rattle.data_rewriter.specs.Standing.{IsTerm, term_at}
 use Rattle.data_rewriter.specs.States.{AreTablesOf, AreStored}
 
@@ -19,10 +23,21 @@ abbrev pub number_rules : {F : Type 0} → Rewriter F → NumberRules F
 number_rules r = r.rules
 
 -- A rewriter of these data fits a pool: what it keeps of the signature and of the written equations stands there, and each
--- stored pair is a term of the data and the term that it goes to.
+-- stored pair is a term of the data and the term that it goes to. What is stored for a term is stored for itself, where the equations
+-- have no further variables on their right sides.
 pub record Fits {F : Type 0} (r : Rewriter F) (sig : Sig) (own : List Equation) (ts : List Tree) : Type 0 where
   pub tables : AreTablesOf r.tables sig own ts
   pub stored : AreStored sig own ts r.normal_forms
+  pub closed : AreCovered own → IsClosed r.normal_forms
+
+-- the normal form that a rewriter has stored for a term
+abbrev pub stored_form : {F : Type 0} → Rewriter F → TermId → Option TermId
+stored_form r t = result_of r.normal_forms t
+
+-- what was answered for a term is stored for it and for itself
+abbrev pub IsStoredAnswer : {F : Type 0} → Rewriter F → TermId → Normal → Type 0
+IsStoredAnswer r t (Done u) = (stored_form r t ≡ Some u) × (stored_form r u ≡ Some u)
+IsStoredAnswer r t (SpentAt u) = Unit {0}
 
 -- how a term of sort Bool is decided, where the fuel falls from the first number to the second
 abbrev pub IsDecision : Sig → List Equation → List Tree → List Tree → TermId → ℕ → ℕ → Truth → Type 0

@@ -1,5 +1,5 @@
 -- What the tables of a rewriter say of a signature.
-use Rattle.std.specs.Prelude.{◌≡◌, ℕ, List, [], ◌∷◌, map, drop, get_or}
+use Rattle.std.specs.Prelude.{ℕ, List, [], ◌∷◌, map, drop, get_or}
 use Rattle.data_theory.specs.declared.ids.FunId.{FunId}
 use Rattle.data_theory.specs.Terms.{Sort, equality, function, Term}
 use Rattle.data_theory.specs.Declarations.{function_at}

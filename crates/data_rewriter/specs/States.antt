@@ -11,8 +11,8 @@ use Rattle.data_theory.specs.Provable.{Equation}
 use Rattle.data_theory.specs.Rewriting.{lines, Applies, GoesTo, Chain, ChainOfMoreThan}
 use Rattle.data_theory.specs.Signature.{Sig}
 use Rattle.data_theory.specs.IdData.{data_meant}
-use Rattle.data_theory.specs.IdTrees.{Tree, variable, function}
-use Rattle.data_theory.specs.IdTerms.{symbol_under, variable_sorts, IsTreeWithin}
+use Rattle.data_theory.specs.IdTrees.{Tree, function}
+use Rattle.data_theory.specs.IdTerms.{symbol_under, IsTreeWithin}
 use Rattle.term_pool.specs.HeadTrees.{tree_at, IsIn, AreIn}
 use Rattle.term_pool.specs.Bindings.{result_of}
 use Rattle.data_rewriter.specs.declared.machine.Hand.{Hand}
@@ -24,6 +24,7 @@ use Rattle.data_rewriter.specs.declared.tables.Tables.{Tables}
 use Rattle.data_rewriter.specs.declared.equations.Found.{Found}
 use Rattle.data_rewriter.specs.Standing.{IsTerm, term_at, listed_at, terms_of}
 use Rattle.data_rewriter.specs.Rules.{numbers_at}
+use Rattle.data_rewriter.specs.Written.{IsRule, AreEquationsOf}
 use Rattle.data_rewriter.specs.Signatures.{AreSignTables}
 use Rattle.data_rewriter.specs.Places.{whole, from_equation, Leads, Pending, applying, deciding, Waits}
 use Rattle.data_rewriter.specs.Frames.{Plain, applies, decides}
@@ -31,9 +32,6 @@ use Rattle.data_rewriter.specs.Frames.{Plain, applies, decides}
 abbrev pub pending_at : Sig → List Tree → Plain → Pending
 pending_at sig ts (applies start fun args done) = applying (term_at sig ts start) (symbol_under sig fun) (listed_at sig ts (take done args)) (listed_at sig ts (drop (suc done) args))
 pending_at sig ts (decides start root number right) = deciding (term_at sig ts start) number (term_at sig ts root) (term_at sig ts right)
-
-abbrev pub equation_at : Sig → List Tree → Rule → Equation
-equation_at sig ts r = record { sorts = variable_sorts sig; condition = term_at sig ts r.cond; left = term_at sig ts r.left; right = term_at sig ts r.right }
 
 -- the ids of a pending place are in the pool
 abbrev pub IsFrameIn : List Tree → Plain → Type 0
@@ -99,17 +97,6 @@ Follows Over old new stack start hand stack' start' hand' fuel fuel' =
     → AreWithin sig new stack' start' hand' × ((origin : Term) (before : ℕ) → Shows sig own old origin stack start hand before fuel → Shows sig own new origin stack' start' hand' before fuel')
 
 -- ---- what the parts of a machine give
--- a written equation is over the signature, and its left side is no variable
-abbrev pub IsLeft : Tree → Type 0
-IsLeft (variable v) = ⊥
-IsLeft _ = Unit {0}
-
-pub record IsRule (sig : Sig) (ts : List Tree) (r : Rule) : Type 0 where
-  pub condition : IsTerm sig ts r.cond
-  pub left : IsTerm sig ts r.left
-  pub right : IsTerm sig ts r.right
-  pub no_variable : IsLeft (tree_at ts r.left)
-
 -- these numbers rise
 abbrev pub Rise : List ℕ → Type 0
 Rise [] = Unit {0}
@@ -128,7 +115,7 @@ pub record AreRulesAt (ts : List Tree) (rules : List Rule) (f : FunId) (numbers 
 -- the tables mean the signature's functions and the written equations
 pub record AreTablesOf (tables : Tables) (sig : Sig) (own : List Equation) (ts : List Tree) : Type 0 where
   pub signs : AreSignTables tables sig
-  pub equations : own ≡ map (equation_at sig ts) tables.rules.items
+  pub equations : AreEquationsOf sig ts tables.rules.items own
   pub rules : All (IsRule sig ts) tables.rules.items
   pub heads : (f : FunId) → f.0 < length sig.functions → AreRulesAt ts tables.rules.items f (numbers_at tables f)
 

@@ -16,8 +16,9 @@ ghost use Rattle.term_pool.specs.Bindings.{listed_terms};
 ghost use Rattle.term_pool.specs.Pools.{Extends};
 ghost use Rattle.data_rewriter.specs.Standing.{IsTerm, StandsFor, term_at};
 ghost use Rattle.data_rewriter.specs.FirstLines.{LineAt, IsConditionMade};
+ghost use Rattle.data_rewriter.specs.Written.{IsRule};
 ghost use Rattle.data_rewriter.specs.FirstRules.{IsFirstRule, put_by};
-ghost use Rattle.data_rewriter.specs.States.{AreTablesOf, IsRule, HasHead, IsFirstOrNone, IsFoundIn, IsFoundWithin};
+ghost use Rattle.data_rewriter.specs.States.{AreTablesOf, HasHead, IsFirstOrNone, IsFoundIn, IsFoundWithin};
 
 use crate::lines::first_line;
 use crate::making::make_line;

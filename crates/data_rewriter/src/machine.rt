@@ -17,6 +17,8 @@ ghost use Rattle.data_theory.specs.IdTerms.{symbol_under, IsTreeWithin};
 ghost use Rattle.data_rewriter.specs.Standing.{IsTerm, term_at};
 ghost use Rattle.data_theory.specs.Rewriting.{FirstDecides, LooksFirst, IsTruthValue};
 ghost use Rattle.data_rewriter.specs.Places as places;
+ghost use Rattle.data_rewriter.specs.Stored.{AreCovered, KeepsStored};
+ghost use Rattle.term_pool.specs.Bindings.{result_of};
 ghost use Rattle.number_rules.specs.Rule.{IsExact, rule_of};
 ghost use Rattle.data_rewriter.specs.States.{Says, IsStored, IsHandIn, AreTablesOf, EntersRoot, UsesRight, IsFirst, IsFirstOrNone, IsFoundIn, IsFoundWithin, IsHandWithin, AreIdsIn, IsFrameIn, Follows, Shows, AreStored, StartsIn};
 
@@ -348,18 +350,33 @@ fn at_root<F: Fn(NumOp, Num, Num) -> Option<Num>>(
     }
 }
 
-/// Keeps what a place goes to.
-fn keep(
+/// Keeps what a place goes to, and that this goes to itself. What was kept stays, also where there is no memory.
+pub fn keep(
+    pool: &Pool,
     normal_forms: &mut HashMap<TermId, TermId>,
     start: TermId,
     normal: TermId,
 ) -> Result<(), NoMemory>
-    ensures within { OnOk result ((ts : List Tree) → StartsIn ts normal_forms.old → IsIn ts start → IsIn ts normal → StartsIn ts normal_forms.new) }
-    ensures stored { OnOk result ((sig : Sig) (own : List Equation) (ts : List Tree) → AreStored sig own ts normal_forms.old → IsStored sig own ts start normal → IsStored sig own ts normal normal → AreStored sig own ts normal_forms.new) }
+    ensures within { (ts : List Tree) → StartsIn ts normal_forms.old → IsIn ts start → IsIn ts normal → StartsIn ts normal_forms.new }
+    ensures stored { (sig : Sig) (own : List Equation) (ts : List Tree) → AreStored sig own ts normal_forms.old → IsStored sig own ts start normal → IsStored sig own ts normal normal → AreStored sig own ts normal_forms.new }
+    ensures pairs { (sig : Sig) (own : List Equation) → IsTable sig → AreCovered own → AreStored sig own pool.now.trees normal_forms.old → IsStored sig own pool.now.trees start normal → IsStored sig own pool.now.trees normal normal → KeepsStored normal_forms.old normal_forms.new }
+    ensures both { OnOk result ((result_of normal_forms.new start ≡ Some normal) × (result_of normal_forms.new normal ≡ Some normal)) }
 {
-    normal_forms.insert(start, normal)?;
+    // No two numbers of a pool have one tree.
+    pool.len();
     normal_forms.insert(normal, normal)?;
+    normal_forms.insert(start, normal)?;
     Ok(())
+}
+
+/// The normal form that is kept for a term.
+pub fn kept(normal_forms: &HashMap<TermId, TermId>, term: TermId) -> Option<TermId>
+    ensures { result ≡ result_of normal_forms.now term }
+{
+    match normal_forms.get(&term) {
+        Some(normal) => Some(*normal),
+        None => None,
+    }
 }
 
 /// Rewrites a term.
@@ -377,7 +394,9 @@ pub fn run<F: Fn(NumOp, Num, Num) -> Option<Num>>(
     requires rules { IsExact (F.pre (rule_of rules.now)) (F.post (rule_of rules.now)) }
     requires stored { StartsIn pool.old.trees normal_forms.old }
     ensures kept { Extends pool.old.trees pool.new.trees }
-    ensures says { IfOk result (λ r. (sig : Sig) (own : List Equation) → AreTablesOf tables.now sig own pool.old.trees → AreStored sig own pool.old.trees normal_forms.old → IsTreeWithin sig (tree_at pool.old.trees term) → Says sig own pool.old.trees pool.new.trees term fuel.old fuel.new r × AreStored sig own pool.new.trees normal_forms.new) }
+    ensures stored { (sig : Sig) (own : List Equation) → AreTablesOf tables.now sig own pool.old.trees → AreStored sig own pool.old.trees normal_forms.old → IsTreeWithin sig (tree_at pool.old.trees term) → AreStored sig own pool.new.trees normal_forms.new }
+    ensures pairs { (sig : Sig) (own : List Equation) → AreTablesOf tables.now sig own pool.old.trees → AreStored sig own pool.old.trees normal_forms.old → IsTreeWithin sig (tree_at pool.old.trees term) → AreCovered own → KeepsStored normal_forms.old normal_forms.new }
+    ensures says { IfOk result (λ r. (sig : Sig) (own : List Equation) → AreTablesOf tables.now sig own pool.old.trees → AreStored sig own pool.old.trees normal_forms.old → IsTreeWithin sig (tree_at pool.old.trees term) → Says sig own pool.old.trees pool.new.trees term fuel.old fuel.new r) }
 {
     let mut stack = Stack::new(alloc);
     let mut place = Place {
@@ -394,7 +413,7 @@ pub fn run<F: Fn(NumOp, Num, Num) -> Option<Num>>(
                 )?
             }
             Hand::Answer(normal) => {
-                keep(normal_forms, start, normal)?;
+                keep(pool, normal_forms, start, normal)?;
                 let Some(frame) = stack.pop() else {
                     return Ok(Normal::Done(normal));
                 };

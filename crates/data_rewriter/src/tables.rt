@@ -21,8 +21,6 @@ pub struct Rule {
 pub struct Tables {
     /// The sign of each function.
     pub signs: Vec<Sign>,
-    /// The equality of each sort.
-    pub equalities: Vec<FunId>,
     /// For each function the equalities of its arguments' sorts.
     pub places: Vec<Vec<FunId>>,
     pub rules: Vec<Rule>,

@@ -31,3 +31,4 @@ pub mod Contexts
 pub mod SameVocabulary
 pub mod MakingLemmas
 pub mod ReadableWords
+pub mod TreesWithin

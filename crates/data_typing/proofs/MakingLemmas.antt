@@ -76,6 +76,11 @@ All-taken P zero xs h = All-nil P
 All-taken P (suc n) [] h = All-nil P
 All-taken P (suc n) (x ∷ xs) h = All-cons P x (take n xs) (All-head P x xs h) (All-taken P n xs (All-tail P x xs h))
 
+pub All-dropped : {A : Type 0} (P : A → Type 0) (n : ℕ) (xs : List A) → All P xs → All P (drop n xs)
+All-dropped P zero xs h = h
+All-dropped P (suc n) [] h = All-nil P
+All-dropped P (suc n) (x ∷ xs) h = All-dropped P n xs (All-tail P x xs h)
+
 -- the last terms under a function
 pub joined_terms : (g : Sig) → IsTable g → (f : FunId) (n : ℕ) (old new : List Tree) → Extends old new → (ids made : List TermId) → All (IsIn old) ids → n ≤ length ids → (id : TermId)
     → made ≡ take (length ids - n) ids ++ id ∷ [] → tree_at new id ≡ apply_tree f (trees_of (trees_at old (drop (length ids - n) ids))) → Joins (symbol_under g f) n (map (term_at g old) ids) (map (term_at g new) made)
@@ -168,6 +173,21 @@ parts_more g h table grown y ps new within hs i so_far x l e p means q =
 
 pub parts_within : (g h : Sig) → IsGrown g h → (ps new : List Part) → All (IsPartWithin g) ps → (p : Part) → IsPartWithin h p → new ≡ ps ++ p ∷ [] → All (IsPartWithin h) new
 parts_within g h grown ps new within p l q = subst (All (IsPartWithin h)) (sym q) (All-append (IsPartWithin h) ps (p ∷ []) (parts_within_on g h grown ps within) (All-cons (IsPartWithin h) p [] l (All-nil (IsPartWithin h))))
+
+-- the last part, and those in front of it
+pub last_within : (g : Sig) (all ps : List Part) (p : Part) → all ≡ ps ++ p ∷ [] → All (IsPartWithin g) all → IsPartWithin g p
+last_within g all ps p e h = by_front ps (subst (All (IsPartWithin g)) e h)
+  where
+    by_front : (qs : List Part) → All (IsPartWithin g) (qs ++ p ∷ []) → IsPartWithin g p
+    by_front [] k = All-head (IsPartWithin g) p [] k
+    by_front (q ∷ qs) k = by_front qs (All-tail (IsPartWithin g) q (qs ++ p ∷ []) k)
+
+pub fronts_within : (g : Sig) (all ps : List Part) (p : Part) → all ≡ ps ++ p ∷ [] → All (IsPartWithin g) all → All (IsPartWithin g) ps
+fronts_within g all ps p e h = by_front ps (subst (All (IsPartWithin g)) e h)
+  where
+    by_front : (qs : List Part) → All (IsPartWithin g) (qs ++ p ∷ []) → All (IsPartWithin g) qs
+    by_front [] k = All-nil (IsPartWithin g)
+    by_front (q ∷ qs) k = All-cons (IsPartWithin g) q qs (All-head (IsPartWithin g) q (qs ++ p ∷ []) k) (by_front qs (All-tail (IsPartWithin g) q (qs ++ p ∷ []) k))
 
 in_more : (old new : List Tree) → Extends old new → (id : TermId) → IsIn old id → IsIn new id
 in_more old new (more, e) id h = let long = length-append old more in let same : length new ≡ length (old ++ more) = ap length e in omega (arith, h, long, same)

@@ -1,11 +1,12 @@
 -- What parts of terms in code mean.
 use Rattle.std.specs.Prelude.{◌<◌, ℕ, List, [], ◌∷◌, map, length, pos}
+use Rattle.std.specs.List.{All}
 use Rattle.data_theory.specs.declared.ids.TermId.{TermId}
 use Rattle.data_theory.specs.Terms.{Term, variable}
 use Rattle.data_theory.specs.Terms as terms
 use Rattle.data_theory.specs.Signature.{Sig}
 use Rattle.data_theory.specs.IdTrees.{Tree}
-use Rattle.data_theory.specs.IdTerms.{symbol_under, term_under}
+use Rattle.data_theory.specs.IdTerms.{symbol_under, term_under, IsTreeWithin}
 use Rattle.term_pool.specs.HeadTrees.{tree_at}
 use Rattle.data_typing.specs.declared.making.Part.{Part}
 use Rattle.data_typing.specs.declared.making.Part.TheVariants as parts
@@ -39,3 +40,7 @@ term_at g ts id = term_under g (tree_at ts id)
 -- the parts make a term of these
 abbrev pub MakeOne : Sig → List Part → List Term → Type 0
 MakeOne g ps us = (t : Term) × Make (part_items g ps) us (t ∷ [])
+
+-- trees whose sorts and functions stand in one signature go on to trees of which that holds in another one
+abbrev pub KeepTrees : Sig → List Tree → Sig → List Tree → Type 0
+KeepTrees g ts h us = All (IsTreeWithin g) ts → All (IsTreeWithin h) us

@@ -13,7 +13,7 @@ ghost use Rattle.data_typing.specs.CodeWords.{scope_of};
 ghost use Rattle.data_typing.specs.Readings.{IsReadable};
 ghost use Rattle.data_typing.specs.Making.{wished};
 ghost use Rattle.data_typing.specs.CodeSteps.{wish_of};
-ghost use Rattle.data_typing.specs.CodeParts.{term_at};
+ghost use Rattle.data_typing.specs.CodeParts.{term_at, KeepTrees};
 ghost use Rattle.data_typing.specs.Contexts.{AreTablesOf, IsScopeOver, IsWantedOver, IsReadOver, IsReadingOf};
 
 use crate::expressions::read_expression;
@@ -42,6 +42,7 @@ pub fn term_of(
     requires wanted { IsWantedOver sig.old wanted }
     ensures means { IfOk result (λ o. (t : Typing) → IsReadingOf sig.old reading.now t → option_map (term_at sig.new pool.new.trees) o ≡ wished (wish_of wanted) t) }
     ensures within { IfOk result (λ o. IfSome o (IsIn pool.new.trees)) }
+    ensures trees { OnOk result (KeepTrees sig.old pool.old.trees sig.new pool.new.trees) }
     ensures none { IfOk result (λ o. o ≡ None → sig.new ≡ sig.old) }
     ensures added { AddsLists sig.old sig.new }
     ensures tables { OnOk result (AreTablesOf sig.new tables.new) }
@@ -84,6 +85,7 @@ pub fn elaborate(
     requires wanted { IsWantedOver sig.old wanted }
     ensures means { IfOk result (λ o. option_map (term_at sig.new pool.new.trees) o ≡ wished (wish_of wanted) (typing_in (vocabulary_of sig.old) (scope_of sig.old.texts scope.now) (bare_data (plain_data tree.now)))) }
     ensures within { IfOk result (λ o. IfSome o (IsIn pool.new.trees)) }
+    ensures trees { OnOk result (KeepTrees sig.old pool.old.trees sig.new pool.new.trees) }
     ensures none { IfOk result (λ o. o ≡ None → sig.new ≡ sig.old) }
     ensures added { AddsLists sig.old sig.new }
     ensures tables { OnOk result (AreTablesOf sig.new tables.new) }

@@ -5,7 +5,7 @@ ghost use Rattle.std.specs.List.{All, AllByRecursion};
 ghost use Rattle.data_theory.specs.declared.ids.FunId.{FunId};
 ghost use Rattle.data_theory.specs.Terms as terms;
 ghost use Rattle.data_theory.specs.Terms.{Symbol};
-ghost use Rattle.data_theory.specs.IdTerms.{symbol_under, term_under, IsGrown};
+ghost use Rattle.data_theory.specs.IdTerms.{symbol_under, term_under, IsGrown, IsTreeWithin};
 ghost use Rattle.term_pool.specs.HeadTrees.{head_tree, IsIn, Stands};
 ghost use Rattle.term_pool.specs.Pools.{Extends};
 ghost use Rattle.data_typing.specs.Typings.{least_sort};
@@ -13,7 +13,7 @@ ghost use Rattle.data_typing.specs.NamedSorts.{AreNamedSorts};
 ghost use Rattle.data_typing.specs.Making.{Joins, Turns, Make};
 ghost use Rattle.sort_table.specs.NamedSorts.{AddsLists};
 ghost use Rattle.data_typing.specs.CodeSteps.{item_of, items_of, IsStepWithin};
-ghost use Rattle.data_typing.specs.CodeParts.{part_item, part_items, needed, term_at, IsPartWithin, MakeOne};
+ghost use Rattle.data_typing.specs.CodeParts.{part_item, part_items, needed, term_at, IsPartWithin, MakeOne, KeepTrees};
 
 use crate::finding::function_number;
 use crate::steps::Step;
@@ -71,6 +71,7 @@ pub fn parts_of(
     requires named { AreNamedSorts sig.old named.now }
     requires there { AllByRecursion (IsStepWithin (length named.now) (length sig.old.functions)) steps.now }
     ensures mean { IfOk result (λ parts. part_items sig.new parts.items ≡ items_of (symbol_under sig.old) steps.now) }
+    ensures within { IfOk result (λ parts. All (IsPartWithin sig.new) parts.items) }
     ensures grown { IsGrown sig.old sig.new }
     ensures added { AddsLists sig.old sig.new }
 {
@@ -89,6 +90,7 @@ pub fn parts_of(
 fn numeral_head(sig: &Signature, value: u128) -> Head
     ensures means { term_under sig.now (head_tree result []) ≡ terms.numeral (least_sort value) (pos value) }
     ensures stands { Stands result [] }
+    ensures within { IsTreeWithin sig.now (head_tree result []) }
 {
     let _ = sig.next_sort();
     let number = Num {
@@ -111,7 +113,9 @@ fn push_leaf(
 ) -> Result<(), NoMemory>
     requires within { All (IsIn pool.old.trees) made.old.items }
     requires stands { Stands head [] }
+    requires there { IsTreeWithin sig.now (head_tree head []) }
     ensures within { OnOk result (All (IsIn pool.new.trees) made.new.items) }
+    ensures trees { OnOk result (KeepTrees sig.now pool.old.trees sig.now pool.new.trees) }
     ensures pushed { OnOk result (map (term_at sig.now pool.new.trees) made.new.items ≡ map (term_at sig.now pool.old.trees) made.old.items ++ term_under sig.now (head_tree head []) ∷ []) }
     ensures kept { Extends pool.old.trees pool.new.trees }
     ensures constants { pool.new.constants ≡ pool.old.constants }
@@ -132,7 +136,9 @@ fn join_last(
 ) -> Result<(), NoMemory>
     requires within { All (IsIn pool.old.trees) made.old.items }
     requires enough { count ≤ length made.old.items }
+    requires there { fun.0 < length sig.now.functions }
     ensures within { OnOk result (All (IsIn pool.new.trees) made.new.items) }
+    ensures trees { OnOk result (KeepTrees sig.now pool.old.trees sig.now pool.new.trees) }
     ensures joined { OnOk result (Joins (symbol_under sig.now fun) count (map (term_at sig.now pool.old.trees) made.old.items) (map (term_at sig.now pool.new.trees) made.new.items)) }
     ensures kept { Extends pool.old.trees pool.new.trees }
     ensures constants { pool.new.constants ≡ pool.old.constants }
@@ -154,7 +160,9 @@ fn put_part(
 ) -> Result<(), NoMemory>
     requires within { All (IsIn pool.old.trees) made.old.items }
     requires enough { needed part ≤ length made.old.items }
+    requires there { IsPartWithin sig.now part }
     ensures within { OnOk result (All (IsIn pool.new.trees) made.new.items) }
+    ensures trees { OnOk result (KeepTrees sig.now pool.old.trees sig.now pool.new.trees) }
     ensures turns { OnOk result (Turns (part_item sig.now part) (map (term_at sig.now pool.old.trees) made.old.items) (map (term_at sig.now pool.new.trees) made.new.items)) }
     ensures kept { Extends pool.old.trees pool.new.trees }
     ensures constants { pool.new.constants ≡ pool.old.constants }
@@ -173,9 +181,11 @@ pub fn made_term(
     pool: &mut Pool,
     parts: Vec<Part>,
 ) -> Result<TermId, NoMemory>
-    requires { MakeOne sig.now parts.items [] }
+    requires make { MakeOne sig.now parts.items [] }
+    requires there { All (IsPartWithin sig.now) parts.items }
     ensures means { IfOk result (λ term. Make (part_items sig.now parts.items) [] (term_at sig.now pool.new.trees term ∷ [])) }
     ensures within { IfOk result (λ term. IsIn pool.new.trees term) }
+    ensures trees { OnOk result (KeepTrees sig.now pool.old.trees sig.now pool.new.trees) }
     ensures kept { Extends pool.old.trees pool.new.trees }
     ensures constants { pool.new.constants ≡ pool.old.constants }
 {

@@ -30,3 +30,11 @@ pub mod DefinitionTexts
 pub mod InsideDeclarations
 pub mod TextSections
 pub mod WholeTexts
+pub mod CodeWords
+pub mod WordedTerms
+pub mod AddingPieces
+pub mod Outermosts
+pub mod CodeTerms
+pub mod NumeralPieces
+pub mod CodeForms
+pub mod CodeLists

@@ -21,3 +21,8 @@ pub mod FilledLinears
 pub mod DefinitionTexts
 pub mod TextSections
 pub mod WholeTexts
+pub mod Adding
+pub mod Wordings
+pub mod TermParts
+pub mod WordForms
+pub mod CodeWordings

@@ -4,4 +4,10 @@
 //! bodies: the contract of each is a law of these definitions, so that the crates above can cite it.
 #![tactic(auto)]
 
+mod forms;
 pub mod laws;
+mod numbers;
+mod term_writer;
+mod terms;
+mod tokens;
+mod wording;

@@ -28,7 +28,7 @@ use Rattle.sort_table.proofs.NewFunctions.{each_place, pair_at, are_new}
 use Rattle.sort_table.proofs.EnteringStructs.{struct_entries, struct_adds, keeps_with_struct}
 
 -- ---- names
-all_contained : {A : Type 0} (P : A → Type 0) (xs : List A) (x : A) → AllByRecursion P xs → Contains xs x → P x
+pub all_contained : {A : Type 0} (P : A → Type 0) (xs : List A) (x : A) → AllByRecursion P xs → Contains xs x → P x
 all_contained P [] x all (k, l, e) = let never : ⊥ = omega (arith, l) in absurd never
 all_contained P (y ∷ xs) x all (zero, l, e) = subst P e all.0
 all_contained P (y ∷ xs) x all (suc k, l, e) = all_contained P xs x all.1 (k, omega (arith, l), e)

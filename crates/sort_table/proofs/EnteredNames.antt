@@ -5,7 +5,7 @@ use Rattle.std.specs.List.{AllByRecursion}
 use Rattle.std.proofs.lemmas.List.{map-append, take_more}
 use denote.Ref.{Bor}
 use Rattle.data_theory.specs.declared.ids.NameId.{NameId}
-use Rattle.data_theory.specs.Names.{with_text}
+use Rattle.data_theory.specs.Names.{with_text, with_texts}
 use Rattle.sort_table.specs.Expressions.{Name}
 use Rattle.sort_table.specs.Built.{AreNamesOfAll}
 use Rattle.sort_table.proofs.NamedSignatures.{read_with}
@@ -34,6 +34,17 @@ next_name xs i x texts new ids more j l e are is there pushed =
     let rows : map (λ (t : Bor Name). t.now) (take (i + 1) xs) ≡ map (λ (t : Bor Name). t.now) (take i xs) ++ x.now ∷ [] =
     ap (map (λ (t : Bor Name). t.now)) (take_more xs i x l) ∙ (map-append (λ (t : Bor Name). t.now) (take i xs) (get_or xs i x ∷ []) ∙ ap (λ (t : Bor Name). map (λ (s : Bor Name). s.now) (take i xs) ++ t.now ∷ []) (sym e)) in
     subst (AreNamesOfAll new more) (sym rows) (names_more texts new (map (λ (t : Bor Name). t.now) (take i xs)) x.now ids more j are is there pushed)
+
+entered_both : (texts ts us : List (List ℕ)) → with_texts texts (ts ++ us) ≡ with_texts (with_texts texts ts) us
+entered_both texts [] us = refl
+entered_both texts (t ∷ ts) us = entered_both (with_text texts t) ts us
+
+pub next_text : (xs : List (Bor Name)) (i : ℕ) (x : Bor Name) (old texts new : List (List ℕ)) → i < length xs → x ≡ get_or xs i x → texts ≡ with_texts old (map (λ (t : Bor Name). t.now) (take i xs)) → new ≡ with_text texts x.now
+    → new ≡ with_texts old (map (λ (t : Bor Name). t.now) (take (i + 1) xs))
+next_text xs i x old texts new l e are is =
+    let rows : map (λ (t : Bor Name). t.now) (take (i + 1) xs) ≡ map (λ (t : Bor Name). t.now) (take i xs) ++ x.now ∷ [] =
+    ap (map (λ (t : Bor Name). t.now)) (take_more xs i x l) ∙ (map-append (λ (t : Bor Name). t.now) (take i xs) (get_or xs i x ∷ []) ∙ ap (λ (t : Bor Name). map (λ (s : Bor Name). s.now) (take i xs) ++ t.now ∷ []) (sym e)) in
+    is ∙ (ap (λ ts. with_text ts x.now) are ∙ (sym (entered_both old (map (λ (t : Bor Name). t.now) (take i xs)) (x.now ∷ [])) ∙ ap (with_texts old) (sym rows)))
 
 pub name_at : (P : Name → Type 0) (xs : List (Bor Name)) (i : ℕ) (x : Bor Name) → i < length xs → x ≡ get_or xs i x → AllByRecursion P (map (λ (t : Bor Name). t.now) xs) → P x.now
 name_at P [] i x l e all = absurd (omega (arith, l))

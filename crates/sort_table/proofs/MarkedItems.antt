@@ -6,12 +6,11 @@ use Rattle.std.proofs.lemmas.Option.{none-some, same_Some, slice_get_within}
 use Rattle.sort_table.specs.declared.flat_sorts.FlatSort.{FlatSort}
 use Rattle.sort_table.specs.Expressions.{Name}
 use Rattle.sort_table.specs.BareSorts.{SortExpression}
-use Rattle.sort_table.specs.SortMeanings.{Kind}
 use Rattle.sort_table.specs.Duplicates.{Item, a_sort, a_function, an_action, a_process, a_variable}
-use Rattle.sort_table.specs.FlatSorts.{flats_in}
+use Rattle.sort_table.specs.Domains.{Domains}
 use Rattle.sort_table.specs.Repeats.{Mark, Meets}
 use Rattle.sort_table.specs.BuiltInTests.{is_built_in}
-use Rattle.sort_table.specs.ItemMarks.{sorts_code, key, typed_key, named_key, same_mark, function_marks, action_name_mark, process_name_mark, action_marks, item_marks, items_marks, marks_from}
+use Rattle.sort_table.specs.ItemMarks.{key, named_key, same_mark, function_marks, action_name_mark, process_name_mark, action_marks, item_marks, items_marks, marks_from}
 
 -- ---- elements
 abbrev pub In : {A : Type 0} → List A → A → Type 0
@@ -119,36 +118,24 @@ before_in_two f (z ∷ xs) x y a b (inr h) g k = before_back (f z) (flat_map f x
 -- ---- tags: what keys spell
 pub data Tag : Type 0 where
   sort_tag : Name → Tag
-  function_tag : List FlatSort → Name → Tag
-  action_tag : List FlatSort → Name → Tag
+  function_tag : ℕ → Name → Tag
+  action_tag : ℕ → Name → Tag
   action_name_tag : Name → Tag
   process_tag : Name → Tag
   variable_tag : ℕ → Name → Tag
 
 abbrev key_of_tag : Tag → List ℕ
 key_of_tag (sort_tag n) = named_key 0 n
-key_of_tag (function_tag ss f) = typed_key 1 ss f
-key_of_tag (action_tag ss a) = typed_key 2 ss a
+key_of_tag (function_tag k f) = key 1 k f
+key_of_tag (action_tag k a) = key 2 k a
 key_of_tag (action_name_tag a) = named_key 3 a
 key_of_tag (process_tag p) = named_key 4 p
-key_of_tag (variable_tag k x) = key 5 k [] x
-
-abbrev with_sort : ℕ → ℕ → ℕ → List FlatSort × Name → List FlatSort × Name
-with_sort d k p r = (record { depth = d; kind = k; place = p } ∷ r.0, r.1)
-
-abbrev read_sorts : ℕ → List ℕ → List FlatSort × Name
-read_sorts zero r = ([], r)
-read_sorts (suc n) (d ∷ k ∷ p ∷ r) = with_sort d k p (read_sorts n r)
-read_sorts (suc n) _ = ([], [])
-
-sorts_read : (ss : List FlatSort) (n : Name) → read_sorts (length ss) (sorts_code ss ++ n) ≡ (ss, n)
-sorts_read [] n = refl
-sorts_read (s ∷ ss) n = ap (with_sort s.depth s.kind s.place) (sorts_read ss n)
+key_of_tag (variable_tag k x) = key 5 k x
 
 abbrev tag_of : List ℕ → Option Tag
 tag_of (zero ∷ g ∷ r) = Some (sort_tag r)
-tag_of (suc zero ∷ g ∷ r) = Some (function_tag (read_sorts g r).0 (read_sorts g r).1)
-tag_of (suc (suc zero) ∷ g ∷ r) = Some (action_tag (read_sorts g r).0 (read_sorts g r).1)
+tag_of (suc zero ∷ g ∷ r) = Some (function_tag g r)
+tag_of (suc (suc zero) ∷ g ∷ r) = Some (action_tag g r)
 tag_of (suc (suc (suc zero)) ∷ g ∷ r) = Some (action_name_tag r)
 tag_of (suc (suc (suc (suc zero))) ∷ g ∷ r) = Some (process_tag r)
 tag_of (suc (suc (suc (suc (suc zero)))) ∷ g ∷ r) = Some (variable_tag g r)
@@ -156,8 +143,8 @@ tag_of _ = None
 
 tag_read : (t : Tag) → tag_of (key_of_tag t) ≡ Some t
 tag_read (sort_tag n) = refl
-tag_read (function_tag ss f) = ap (λ (r : List FlatSort × Name). Some (function_tag r.0 r.1)) (sorts_read ss f)
-tag_read (action_tag ss a) = ap (λ (r : List FlatSort × Name). Some (action_tag r.0 r.1)) (sorts_read ss a)
+tag_read (function_tag k f) = refl
+tag_read (action_tag k a) = refl
 tag_read (action_name_tag a) = refl
 tag_read (process_tag p) = refl
 tag_read (variable_tag k x) = refl
@@ -166,19 +153,19 @@ same_tag : (s t : Tag) → key_of_tag s ≡ key_of_tag t → s ≡ t
 same_tag s t e = same_Some s t (sym (tag_read s) ∙ (ap tag_of e ∙ tag_read t))
 
 -- ---- what items leave and meet
-module _ (ks : List (Name × Kind)) (table : List FlatSort) where
+module _ (domain : Domains) where
   pub data LeavesTag : Item → Tag → Type 0 where
     sort_leaves : (n : Name) → LeavesTag (a_sort n) (sort_tag n)
-    function_leaves : (f : Name) (es : List SortExpression) (ss : List FlatSort) → flats_in ks table es ≡ Some ss → LeavesTag (a_function f es) (function_tag ss f)
-    action_leaves : (a : Name) (es : List SortExpression) (ss : List FlatSort) → flats_in ks table es ≡ Some ss → LeavesTag (an_action a es) (action_tag ss a)
+    function_leaves : (f : Name) (es : List SortExpression) (k : ℕ) (ss : List FlatSort) → domain es ≡ Some (k, ss) → LeavesTag (a_function f es) (function_tag k f)
+    action_leaves : (a : Name) (es : List SortExpression) (k : ℕ) (ss : List FlatSort) → domain es ≡ Some (k, ss) → LeavesTag (an_action a es) (action_tag k a)
     action_leaves_name : (a : Name) (es : List SortExpression) → LeavesTag (an_action a es) (action_name_tag a)
     process_leaves : (p : Name) → LeavesTag (a_process p) (process_tag p)
     variable_leaves : (k : ℕ) (x : Name) → LeavesTag (a_variable k x) (variable_tag k x)
 
   pub data MeetsTag : Item → Tag → Type 0 where
     sort_meets : (n : Name) → MeetsTag (a_sort n) (sort_tag n)
-    function_meets : (f : Name) (es : List SortExpression) (ss : List FlatSort) → flats_in ks table es ≡ Some ss → MeetsTag (a_function f es) (function_tag ss f)
-    action_meets : (a : Name) (es : List SortExpression) (ss : List FlatSort) → flats_in ks table es ≡ Some ss → MeetsTag (an_action a es) (action_tag ss a)
+    function_meets : (f : Name) (es : List SortExpression) (k : ℕ) (ss : List FlatSort) → domain es ≡ Some (k, ss) → MeetsTag (a_function f es) (function_tag k f)
+    action_meets : (a : Name) (es : List SortExpression) (k : ℕ) (ss : List FlatSort) → domain es ≡ Some (k, ss) → MeetsTag (an_action a es) (action_tag k a)
     action_meets_process : (a : Name) (es : List SortExpression) → MeetsTag (an_action a es) (process_tag a)
     process_meets : (p : Name) → MeetsTag (a_process p) (process_tag p)
     process_meets_action : (p : Name) → MeetsTag (a_process p) (action_name_tag p)
@@ -207,22 +194,22 @@ module _ (ks : List (Name × Kind)) (table : List FlatSort) where
   one_or_two_in true n = inl refl
   one_or_two_in false n = inl refl
 
-  tags_of : (i : ℕ) (x : Item) (m : Mark) → In (item_marks ks table i x) m → MarkTags i x m
+  tags_of : (i : ℕ) (x : Item) (m : Mark) → In (item_marks domain i x) m → MarkTags i x m
   tags_of i (a_sort n) m (inl e) = both_tags i (a_sort n) (sort_tag n) (sort_tag n) m (sort_leaves n) (sort_meets n) e
   tags_of i (a_sort n) m (inr h) = absurd h
-  tags_of i (a_function f es) m h = by_sorts (flats_in ks table es) refl h
+  tags_of i (a_function f es) m h = by_sorts (domain es) refl h
     where
-      by_sorts : (o : Option (List FlatSort)) → flats_in ks table es ≡ o → In (function_marks i o f) m → MarkTags i (a_function f es) m
+      by_sorts : (o : Option (ℕ × List FlatSort)) → domain es ≡ o → In (function_marks i o f) m → MarkTags i (a_function f es) m
       by_sorts None q g = absurd g
-      by_sorts (Some ss) q g = both_tags i (a_function f es) (function_tag ss f) (function_tag ss f) m (function_leaves f es ss q) (function_meets f es ss q) (in_one_or_two (is_built_in f ss) (same_mark i (typed_key 1 ss f)) m g)
-  tags_of i (an_action a es) m h = by_sorts (flats_in ks table es) refl h
+      by_sorts (Some (k, ss)) q g = both_tags i (a_function f es) (function_tag k f) (function_tag k f) m (function_leaves f es k ss q) (function_meets f es k ss q) (in_one_or_two (is_built_in f ss) (same_mark i (key 1 k f)) m g)
+  tags_of i (an_action a es) m h = by_sorts (domain es) refl h
     where
-      by_sorts : (o : Option (List FlatSort)) → flats_in ks table es ≡ o → In (action_marks i o a) m → MarkTags i (an_action a es) m
+      by_sorts : (o : Option (ℕ × List FlatSort)) → domain es ≡ o → In (action_marks i o a) m → MarkTags i (an_action a es) m
       by_sorts None q (inl e) = both_tags i (an_action a es) (action_name_tag a) (process_tag a) m (action_leaves_name a es) (action_meets_process a es) e
       by_sorts None q (inr g) = absurd g
-      by_sorts (Some ss) q (inl e) = both_tags i (an_action a es) (action_tag ss a) (action_tag ss a) m (action_leaves a es ss q) (action_meets a es ss q) e
-      by_sorts (Some ss) q (inr (inl e)) = both_tags i (an_action a es) (action_name_tag a) (process_tag a) m (action_leaves_name a es) (action_meets_process a es) e
-      by_sorts (Some ss) q (inr (inr g)) = absurd g
+      by_sorts (Some (k, ss)) q (inl e) = both_tags i (an_action a es) (action_tag k a) (action_tag k a) m (action_leaves a es k ss q) (action_meets a es k ss q) e
+      by_sorts (Some (k, ss)) q (inr (inl e)) = both_tags i (an_action a es) (action_name_tag a) (process_tag a) m (action_leaves_name a es) (action_meets_process a es) e
+      by_sorts (Some (k, ss)) q (inr (inr g)) = absurd g
   tags_of i (a_process p) m (inl e) = both_tags i (a_process p) (process_tag p) (process_tag p) m (process_leaves p) (process_meets p) e
   tags_of i (a_process p) m (inr (inl e)) = both_tags i (a_process p) (process_tag p) (action_name_tag p) m (process_leaves p) (process_meets_action p) e
   tags_of i (a_process p) m (inr (inr h)) = absurd h
@@ -232,46 +219,46 @@ module _ (ks : List (Name × Kind)) (table : List FlatSort) where
   -- a mark with this left key
   pub record LeftMark (i : ℕ) (x : Item) (t : Tag) : Type 0 where
     pub mark : Mark
-    pub there : In (item_marks ks table i x) mark
+    pub there : In (item_marks domain i x) mark
     pub left : mark.left ≡ key_of_tag t
     pub number : mark.number ≡ i
 
   pub record MetMark (i : ℕ) (x : Item) (t : Tag) : Type 0 where
     pub mark : Mark
-    pub there : In (item_marks ks table i x) mark
+    pub there : In (item_marks domain i x) mark
     pub met : mark.met ≡ key_of_tag t
     pub number : mark.number ≡ i
 
-  function_in : (i : ℕ) (f : Name) (es : List SortExpression) (ss : List FlatSort) → flats_in ks table es ≡ Some ss → In (item_marks ks table i (a_function f es)) (same_mark i (typed_key 1 ss f))
-  function_in i f es ss q = subst (λ o. In (function_marks i o f) (same_mark i (typed_key 1 ss f))) (sym q) (one_or_two_in (is_built_in f ss) (same_mark i (typed_key 1 ss f)))
+  function_in : (i : ℕ) (f : Name) (es : List SortExpression) (k : ℕ) (ss : List FlatSort) → domain es ≡ Some (k, ss) → In (item_marks domain i (a_function f es)) (same_mark i (key 1 k f))
+  function_in i f es k ss q = subst (λ o. In (function_marks i o f) (same_mark i (key 1 k f))) (sym q) (one_or_two_in (is_built_in f ss) (same_mark i (key 1 k f)))
 
-  name_in_action : (i : ℕ) (a : Name) (o : Option (List FlatSort)) → In (action_marks i o a) (action_name_mark i a)
+  name_in_action : (i : ℕ) (a : Name) (o : Option (ℕ × List FlatSort)) → In (action_marks i o a) (action_name_mark i a)
   name_in_action i a None = inl refl
-  name_in_action i a (Some ss) = inr (inl refl)
+  name_in_action i a (Some (k, ss)) = inr (inl refl)
 
   left_mark : (i : ℕ) (x : Item) (t : Tag) → LeavesTag x t → LeftMark i x t
   left_mark i _ _ (sort_leaves n) = record { mark = same_mark i (named_key 0 n); there = inl refl; left = refl; number = refl }
-  left_mark i _ _ (function_leaves f es ss q) = record { mark = same_mark i (typed_key 1 ss f); there = function_in i f es ss q; left = refl; number = refl }
-  left_mark i _ _ (action_leaves a es ss q) = record { mark = same_mark i (typed_key 2 ss a); there = subst (λ o. In (action_marks i o a) (same_mark i (typed_key 2 ss a))) (sym q) (inl refl); left = refl; number = refl }
-  left_mark i _ _ (action_leaves_name a es) = record { mark = action_name_mark i a; there = name_in_action i a (flats_in ks table es); left = refl; number = refl }
+  left_mark i _ _ (function_leaves f es k ss q) = record { mark = same_mark i (key 1 k f); there = function_in i f es k ss q; left = refl; number = refl }
+  left_mark i _ _ (action_leaves a es k ss q) = record { mark = same_mark i (key 2 k a); there = subst (λ o. In (action_marks i o a) (same_mark i (key 2 k a))) (sym q) (inl refl); left = refl; number = refl }
+  left_mark i _ _ (action_leaves_name a es) = record { mark = action_name_mark i a; there = name_in_action i a (domain es); left = refl; number = refl }
   left_mark i _ _ (process_leaves p) = record { mark = same_mark i (named_key 4 p); there = inl refl; left = refl; number = refl }
-  left_mark i _ _ (variable_leaves k x) = record { mark = same_mark i (key 5 k [] x); there = inl refl; left = refl; number = refl }
+  left_mark i _ _ (variable_leaves k x) = record { mark = same_mark i (key 5 k x); there = inl refl; left = refl; number = refl }
 
   met_mark : (i : ℕ) (x : Item) (t : Tag) → MeetsTag x t → MetMark i x t
   met_mark i _ _ (sort_meets n) = record { mark = same_mark i (named_key 0 n); there = inl refl; met = refl; number = refl }
-  met_mark i _ _ (function_meets f es ss q) = record { mark = same_mark i (typed_key 1 ss f); there = function_in i f es ss q; met = refl; number = refl }
-  met_mark i _ _ (action_meets a es ss q) = record { mark = same_mark i (typed_key 2 ss a); there = subst (λ o. In (action_marks i o a) (same_mark i (typed_key 2 ss a))) (sym q) (inl refl); met = refl; number = refl }
-  met_mark i _ _ (action_meets_process a es) = record { mark = action_name_mark i a; there = name_in_action i a (flats_in ks table es); met = refl; number = refl }
+  met_mark i _ _ (function_meets f es k ss q) = record { mark = same_mark i (key 1 k f); there = function_in i f es k ss q; met = refl; number = refl }
+  met_mark i _ _ (action_meets a es k ss q) = record { mark = same_mark i (key 2 k a); there = subst (λ o. In (action_marks i o a) (same_mark i (key 2 k a))) (sym q) (inl refl); met = refl; number = refl }
+  met_mark i _ _ (action_meets_process a es) = record { mark = action_name_mark i a; there = name_in_action i a (domain es); met = refl; number = refl }
   met_mark i _ _ (process_meets p) = record { mark = same_mark i (named_key 4 p); there = inl refl; met = refl; number = refl }
   met_mark i _ _ (process_meets_action p) = record { mark = process_name_mark i p; there = inr (inl refl); met = refl; number = refl }
-  met_mark i _ _ (variable_meets k x) = record { mark = same_mark i (key 5 k [] x); there = inl refl; met = refl; number = refl }
+  met_mark i _ _ (variable_meets k x) = record { mark = same_mark i (key 5 k x); there = inl refl; met = refl; number = refl }
 
   -- the first item leaves what the second one meets
   abbrev pub Share : Item → Item → Type 0
   Share x y = (t : Tag) × LeavesTag x t × MeetsTag y t
 
   -- the marks of two items meet
-  share_of_marks : (i j : ℕ) (x y : Item) (a b : Mark) → In (item_marks ks table i x) a → In (item_marks ks table j y) b → a.left ≡ b.met → Share x y
+  share_of_marks : (i j : ℕ) (x y : Item) (a b : Mark) → In (item_marks domain i x) a → In (item_marks domain j y) b → a.left ≡ b.met → Share x y
   share_of_marks i j x y a b h k e =
       let s : MarkTags i x a = tags_of i x a h in
       let t : MarkTags j y b = tags_of j y b k in
@@ -280,35 +267,35 @@ module _ (ks : List (Name × Kind)) (table : List FlatSort) where
 
   -- ---- within one item
   abbrev pub IsBuiltInItem : Item → Type 0
-  IsBuiltInItem x = (f : Name) × (es : List SortExpression) × (ss : List FlatSort) × (x ≡ a_function f es) × (flats_in ks table es ≡ Some ss) × (is_built_in f ss ≡ true)
+  IsBuiltInItem x = (f : Name) × (es : List SortExpression) × (k : ℕ) × (ss : List FlatSort) × (x ≡ a_function f es) × (domain es ≡ Some (k, ss)) × (is_built_in f ss ≡ true)
 
   head : List ℕ → ℕ
   head [] = 0
   head (k ∷ r) = k
 
-  itself : (i : ℕ) (x : Item) (a b : Mark) → Before (item_marks ks table i x) a b → a.left ≡ b.met → IsBuiltInItem x
+  itself : (i : ℕ) (x : Item) (a b : Mark) → Before (item_marks domain i x) a b → a.left ≡ b.met → IsBuiltInItem x
   unfolding head
   itself i (a_sort n) a b (inl (e, h)) q = absurd h
   itself i (a_sort n) a b (inr h) q = absurd h
-  itself i (a_function f es) a b h q = by_sorts (flats_in ks table es) refl h
+  itself i (a_function f es) a b h q = by_sorts (domain es) refl h
     where
-      by_test : (ss : List FlatSort) (t : Bool) → flats_in ks table es ≡ Some ss → is_built_in f ss ≡ t → Before (cond t (same_mark i (typed_key 1 ss f) ∷ same_mark i (typed_key 1 ss f) ∷ []) (same_mark i (typed_key 1 ss f) ∷ [])) a b → IsBuiltInItem (a_function f es)
-      by_test ss true r w g = (f, es, ss, refl, r, w)
-      by_test ss false r w (inl (e, g)) = absurd g
-      by_test ss false r w (inr g) = absurd g
+      by_test : (k : ℕ) (ss : List FlatSort) (t : Bool) → domain es ≡ Some (k, ss) → is_built_in f ss ≡ t → Before (cond t (same_mark i (key 1 k f) ∷ same_mark i (key 1 k f) ∷ []) (same_mark i (key 1 k f) ∷ [])) a b → IsBuiltInItem (a_function f es)
+      by_test k ss true r w g = (f, es, k, ss, refl, r, w)
+      by_test k ss false r w (inl (e, g)) = absurd g
+      by_test k ss false r w (inr g) = absurd g
 
-      by_sorts : (o : Option (List FlatSort)) → flats_in ks table es ≡ o → Before (function_marks i o f) a b → IsBuiltInItem (a_function f es)
+      by_sorts : (o : Option (ℕ × List FlatSort)) → domain es ≡ o → Before (function_marks i o f) a b → IsBuiltInItem (a_function f es)
       by_sorts None r g = absurd g
-      by_sorts (Some ss) r g = by_test ss (is_built_in f ss) r refl g
-  itself i (an_action c es) a b h q = by_sorts (flats_in ks table es) h
+      by_sorts (Some (k, ss)) r g = by_test k ss (is_built_in f ss) r refl g
+  itself i (an_action c es) a b h q = by_sorts (domain es) h
     where
-      by_sorts : (o : Option (List FlatSort)) → Before (action_marks i o c) a b → IsBuiltInItem (an_action c es)
+      by_sorts : (o : Option (ℕ × List FlatSort)) → Before (action_marks i o c) a b → IsBuiltInItem (an_action c es)
       by_sorts None (inl (e, g)) = absurd g
       by_sorts None (inr g) = absurd g
-      by_sorts (Some ss) (inl (e, inl g)) = let never : 2 ≡ 4 = ap (λ (m : Mark). head m.left) e ∙ (ap head q ∙ ap (λ (m : Mark). head m.met) (sym g)) in absurd (omega (arith, never))
-      by_sorts (Some ss) (inl (e, inr g)) = absurd g
-      by_sorts (Some ss) (inr (inl (e, g))) = absurd g
-      by_sorts (Some ss) (inr (inr g)) = absurd g
+      by_sorts (Some (k, ss)) (inl (e, inl g)) = let never : 2 ≡ 4 = ap (λ (m : Mark). head m.left) e ∙ (ap head q ∙ ap (λ (m : Mark). head m.met) (sym g)) in absurd (omega (arith, never))
+      by_sorts (Some (k, ss)) (inl (e, inr g)) = absurd g
+      by_sorts (Some (k, ss)) (inr (inl (e, g))) = absurd g
+      by_sorts (Some (k, ss)) (inr (inr g)) = absurd g
   itself i (a_process p) a b (inl (e, inl g)) q = let never : 4 ≡ 3 = ap (λ (m : Mark). head m.left) e ∙ (ap head q ∙ ap (λ (m : Mark). head m.met) (sym g)) in absurd (omega (arith, never))
   itself i (a_process p) a b (inl (e, inr g)) q = absurd g
   itself i (a_process p) a b (inr (inl (e, g))) q = absurd g
@@ -316,10 +303,10 @@ module _ (ks : List (Name × Kind)) (table : List FlatSort) where
   itself i (a_variable k x) a b (inl (e, h)) q = absurd h
   itself i (a_variable k x) a b (inr h) q = absurd h
 
-  built_in_twice : (i : ℕ) (f : Name) (es : List SortExpression) (ss : List FlatSort) → flats_in ks table es ≡ Some ss → is_built_in f ss ≡ true → Before (item_marks ks table i (a_function f es)) (same_mark i (typed_key 1 ss f)) (same_mark i (typed_key 1 ss f))
-  built_in_twice i f es ss q t =
-      subst (λ o. Before (function_marks i o f) (same_mark i (typed_key 1 ss f)) (same_mark i (typed_key 1 ss f))) (sym q)
-      (subst (λ b. Before (cond b (same_mark i (typed_key 1 ss f) ∷ same_mark i (typed_key 1 ss f) ∷ []) (same_mark i (typed_key 1 ss f) ∷ [])) (same_mark i (typed_key 1 ss f)) (same_mark i (typed_key 1 ss f))) (sym t) (inl (refl, inl refl)))
+  built_in_twice : (i : ℕ) (f : Name) (es : List SortExpression) (k : ℕ) (ss : List FlatSort) → domain es ≡ Some (k, ss) → is_built_in f ss ≡ true → Before (item_marks domain i (a_function f es)) (same_mark i (key 1 k f)) (same_mark i (key 1 k f))
+  built_in_twice i f es k ss q t =
+      subst (λ o. Before (function_marks i o f) (same_mark i (key 1 k f)) (same_mark i (key 1 k f))) (sym q)
+      (subst (λ b. Before (cond b (same_mark i (key 1 k f) ∷ same_mark i (key 1 k f) ∷ []) (same_mark i (key 1 k f) ∷ [])) (same_mark i (key 1 k f)) (same_mark i (key 1 k f))) (sym t) (inl (refl, inl refl)))
 
   -- ---- a list of items with one number
   abbrev pub RepeatsItself : List Item → Type 0
@@ -333,20 +320,20 @@ module _ (ks : List (Name × Kind)) (table : List FlatSort) where
     pub first : front.number ≡ i
     pub second : back.number ≡ j
 
-  items_repeat : (i : ℕ) (xs : List Item) (a b : Mark) → Before (items_marks ks table i xs) a b → a.left ≡ b.met → RepeatsItself xs
+  items_repeat : (i : ℕ) (xs : List Item) (a b : Mark) → Before (items_marks domain i xs) a b → a.left ≡ b.met → RepeatsItself xs
   items_repeat i xs a b h q = ⊎_elim
       (λ one. inr (one.0, one.1, itself i one.0 a b one.2 q))
       (λ two. inl (two.0, two.1, two.2, share_of_marks i i two.0 two.1 a b two.3 two.4 q))
-      (each_before (item_marks ks table i) xs a b h)
+      (each_before (item_marks domain i) xs a b h)
 
-  repeat_items : (i : ℕ) (xs : List Item) → RepeatsItself xs → MarksMeet (items_marks ks table i xs) i i
+  repeat_items : (i : ℕ) (xs : List Item) → RepeatsItself xs → MarksMeet (items_marks domain i xs) i i
   repeat_items i xs (inl (x, y, h, (t, l, m))) =
       let p : LeftMark i x t = left_mark i x t l in
       let q : MetMark i y t = met_mark i y t m in
-      record { front = p.mark; back = q.mark; before = before_in_two (item_marks ks table i) xs x y p.mark q.mark h p.there q.there; same = p.left ∙ sym q.met; first = p.number; second = q.number }
-  repeat_items i xs (inr (x, h, (f, es, ss, e, r, w))) =
-      let m : Mark = same_mark i (typed_key 1 ss f) in
-      record { front = m; back = m; before = before_in_one (item_marks ks table i) xs (a_function f es) m m (subst (In xs) e h) (built_in_twice i f es ss r w); same = refl; first = refl; second = refl }
+      record { front = p.mark; back = q.mark; before = before_in_two (item_marks domain i) xs x y p.mark q.mark h p.there q.there; same = p.left ∙ sym q.met; first = p.number; second = q.number }
+  repeat_items i xs (inr (x, h, (f, es, k, ss, e, r, w))) =
+      let m : Mark = same_mark i (key 1 k f) in
+      record { front = m; back = m; before = before_in_one (item_marks domain i) xs (a_function f es) m m (subst (In xs) e h) (built_in_twice i f es k ss r w); same = refl; first = refl; second = refl }
 
   -- ---- lists of items, numbered on
   pub record AgainInTwo (n : ℕ) (xss : List (List Item)) (i j : ℕ) : Type 0 where
@@ -382,9 +369,9 @@ module _ (ks : List (Name × Kind)) (table : List FlatSort) where
     pub x : Item
     pub its_list : slice_get xss a ≡ Some xs
     pub item : In xs x
-    pub mark : In (item_marks ks table (n + a) x) m
+    pub mark : In (item_marks domain (n + a) x) m
 
-  mark_number : (i : ℕ) (x : Item) (m : Mark) → In (item_marks ks table i x) m → m.number ≡ i
+  mark_number : (i : ℕ) (x : Item) (m : Mark) → In (item_marks domain i x) m → m.number ≡ i
   mark_number i x m h = (tags_of i x m h).number
 
   at_start : (n : ℕ) → n ≡ n + 0
@@ -393,37 +380,37 @@ module _ (ks : List (Name × Kind)) (table : List FlatSort) where
   further_on : (n a : ℕ) → suc n + a ≡ n + suc a
   further_on n a = omega arith
 
-  numbered : (n : ℕ) (xss : List (List Item)) (m : Mark) → In (marks_from ks table n xss) m → NumberedItem n xss m
+  numbered : (n : ℕ) (xss : List (List Item)) (m : Mark) → In (marks_from domain n xss) m → NumberedItem n xss m
   numbered n [] m h = absurd h
   numbered n (xs ∷ xss) m h = ⊎_elim
-      (λ here. let r = in_each (item_marks ks table n) xs m here in
-      record { a = 0; xs = xs; x = r.0; its_list = refl; item = r.1; mark = subst (λ (i : ℕ). In (item_marks ks table i r.0) m) (at_start n) r.2 })
+      (λ here. let r = in_each (item_marks domain n) xs m here in
+      record { a = 0; xs = xs; x = r.0; its_list = refl; item = r.1; mark = subst (λ (i : ℕ). In (item_marks domain i r.0) m) (at_start n) r.2 })
       (λ later. let r : NumberedItem (suc n) xss m = numbered (suc n) xss m later in
-      record { a = suc r.a; xs = r.xs; x = r.x; its_list = r.its_list; item = r.item; mark = subst (λ (i : ℕ). In (item_marks ks table i r.x) m) (further_on n r.a) r.mark })
-      (in_cases (items_marks ks table n xs) (marks_from ks table (suc n) xss) m h)
+      record { a = suc r.a; xs = r.xs; x = r.x; its_list = r.its_list; item = r.item; mark = subst (λ (i : ℕ). In (item_marks domain i r.x) m) (further_on n r.a) r.mark })
+      (in_cases (items_marks domain n xs) (marks_from domain (suc n) xss) m h)
 
-  number_there : (n : ℕ) (xss : List (List Item)) (a : ℕ) (xs : List Item) (x : Item) (m : Mark) → slice_get xss a ≡ Some xs → In xs x → In (item_marks ks table (n + a) x) m → In (marks_from ks table n xss) m
+  number_there : (n : ℕ) (xss : List (List Item)) (a : ℕ) (xs : List Item) (x : Item) (m : Mark) → slice_get xss a ≡ Some xs → In xs x → In (item_marks domain (n + a) x) m → In (marks_from domain n xss) m
   number_there n [] a xs x m q h k = absurd (none-some xs q)
   number_there n (zs ∷ xss) zero xs x m q h k =
-      in_front (items_marks ks table n zs) (marks_from ks table (suc n) xss) m
-      (each_in (item_marks ks table n) zs x m (subst (λ l. In l x) (sym (same_Some zs xs q)) h) (subst (λ (i : ℕ). In (item_marks ks table i x) m) (sym (at_start n)) k))
+      in_front (items_marks domain n zs) (marks_from domain (suc n) xss) m
+      (each_in (item_marks domain n) zs x m (subst (λ l. In l x) (sym (same_Some zs xs q)) h) (subst (λ (i : ℕ). In (item_marks domain i x) m) (sym (at_start n)) k))
   number_there n (zs ∷ xss) (suc a) xs x m q h k =
-      in_back (items_marks ks table n zs) (marks_from ks table (suc n) xss) m
-      (number_there (suc n) xss a xs x m q h (subst (λ (i : ℕ). In (item_marks ks table i x) m) (sym (further_on n a)) k))
+      in_back (items_marks domain n zs) (marks_from domain (suc n) xss) m
+      (number_there (suc n) xss a xs x m q h (subst (λ (i : ℕ). In (item_marks domain i x) m) (sym (further_on n a)) k))
 
-  pub again_of_marks : (n : ℕ) (xss : List (List Item)) (a b : Mark) → Before (marks_from ks table n xss) a b → a.left ≡ b.met → Again n xss a.number b.number
+  pub again_of_marks : (n : ℕ) (xss : List (List Item)) (a b : Mark) → Before (marks_from domain n xss) a b → a.left ≡ b.met → Again n xss a.number b.number
   again_of_marks n [] a b h q = absurd h
   again_of_marks n (xs ∷ xss) a b h q = ⊎_elim
       (λ here.
-      let in_a = before_in_first (items_marks ks table n xs) a b here in
-      let in_b = before_in_second (items_marks ks table n xs) a b here in
-      let p = in_each (item_marks ks table n) xs a in_a in
-      let r = in_each (item_marks ks table n) xs b in_b in
+      let in_a = before_in_first (items_marks domain n xs) a b here in
+      let in_b = before_in_second (items_marks domain n xs) a b here in
+      let p = in_each (item_marks domain n) xs a in_a in
+      let r = in_each (item_marks domain n) xs b in_b in
       inl (record { a = 0; xs = xs; its_list = refl; repeats = items_repeat n xs a b here q; first = mark_number n p.0 a p.2 ∙ at_start n; second = mark_number n r.0 b r.2 ∙ at_start n }))
       (⊎_elim
       (λ later. on (again_of_marks (suc n) xss a b later q))
-      (λ (across : In (items_marks ks table n xs) a × In (marks_from ks table (suc n) xss) b).
-      let p = in_each (item_marks ks table n) xs a across.0 in
+      (λ (across : In (items_marks domain n xs) a × In (marks_from domain (suc n) xss) b).
+      let p = in_each (item_marks domain n) xs a across.0 in
       let r : NumberedItem (suc n) xss b = numbered (suc n) xss b across.1 in
       inr (record {
         a = 0;
@@ -441,7 +428,7 @@ module _ (ks : List (Name × Kind)) (table : List FlatSort) where
         first = mark_number n p.0 a p.2 ∙ at_start n;
         second = mark_number (suc n + r.a) r.x b r.mark ∙ further_on n r.a;
       })))
-      (before_cases (items_marks ks table n xs) (marks_from ks table (suc n) xss) a b h)
+      (before_cases (items_marks domain n xs) (marks_from domain (suc n) xss) a b h)
     where
       before_in_first : {A : Type 0} (ms : List A) (x y : A) → Before ms x y → In ms x
       before_in_first [] x y g = absurd g
@@ -473,16 +460,16 @@ module _ (ks : List (Name × Kind)) (table : List FlatSort) where
       })
 
   -- ---- from there to marks
-  one_to_marks : (n : ℕ) (xss : List (List Item)) (a : ℕ) (xs : List Item) → slice_get xss a ≡ Some xs → RepeatsItself xs → MarksMeet (marks_from ks table n xss) (n + a) (n + a)
+  one_to_marks : (n : ℕ) (xss : List (List Item)) (a : ℕ) (xs : List Item) → slice_get xss a ≡ Some xs → RepeatsItself xs → MarksMeet (marks_from domain n xss) (n + a) (n + a)
   one_to_marks n [] a xs q h = absurd (none-some xs q)
   one_to_marks n (zs ∷ xss) zero xs q h =
-      let r : MarksMeet (items_marks ks table n zs) n n = repeat_items n zs (subst RepeatsItself (sym (same_Some zs xs q)) h) in
-      record { front = r.front; back = r.back; before = before_front (items_marks ks table n zs) (marks_from ks table (suc n) xss) r.front r.back r.before; same = r.same; first = r.first ∙ at_start n; second = r.second ∙ at_start n }
+      let r : MarksMeet (items_marks domain n zs) n n = repeat_items n zs (subst RepeatsItself (sym (same_Some zs xs q)) h) in
+      record { front = r.front; back = r.back; before = before_front (items_marks domain n zs) (marks_from domain (suc n) xss) r.front r.back r.before; same = r.same; first = r.first ∙ at_start n; second = r.second ∙ at_start n }
   one_to_marks n (zs ∷ xss) (suc a) xs q h =
-      let r : MarksMeet (marks_from ks table (suc n) xss) (suc n + a) (suc n + a) = one_to_marks (suc n) xss a xs q h in
-      record { front = r.front; back = r.back; before = before_back (items_marks ks table n zs) (marks_from ks table (suc n) xss) r.front r.back r.before; same = r.same; first = r.first ∙ further_on n a; second = r.second ∙ further_on n a }
+      let r : MarksMeet (marks_from domain (suc n) xss) (suc n + a) (suc n + a) = one_to_marks (suc n) xss a xs q h in
+      record { front = r.front; back = r.back; before = before_back (items_marks domain n zs) (marks_from domain (suc n) xss) r.front r.back r.before; same = r.same; first = r.first ∙ further_on n a; second = r.second ∙ further_on n a }
 
-  two_to_marks : (n : ℕ) (xss : List (List Item)) (a b : ℕ) (xs ys : List Item) (x y : Item) → a < b → slice_get xss a ≡ Some xs → slice_get xss b ≡ Some ys → In xs x → In ys y → Share x y → MarksMeet (marks_from ks table n xss) (n + a) (n + b)
+  two_to_marks : (n : ℕ) (xss : List (List Item)) (a b : ℕ) (xs ys : List Item) (x y : Item) → a < b → slice_get xss a ≡ Some xs → slice_get xss b ≡ Some ys → In xs x → In ys y → Share x y → MarksMeet (marks_from domain n xss) (n + a) (n + b)
   two_to_marks n [] a b xs ys x y l q r h k s = absurd (none-some xs q)
   two_to_marks n (zs ∷ xss) a zero xs ys x y l q r h k s = absurd (omega (arith, l))
   two_to_marks n (zs ∷ xss) zero (suc b) xs ys x y l q r h k (t, lt, mt) =
@@ -491,31 +478,31 @@ module _ (ks : List (Name × Kind)) (table : List FlatSort) where
       record {
         front = p.mark;
         back = g.mark;
-        before = before_across (items_marks ks table n zs) (marks_from ks table (suc n) xss) p.mark g.mark
-            (each_in (item_marks ks table n) zs x p.mark (subst (λ l. In l x) (sym (same_Some zs xs q)) h) p.there)
+        before = before_across (items_marks domain n zs) (marks_from domain (suc n) xss) p.mark g.mark
+            (each_in (item_marks domain n) zs x p.mark (subst (λ l. In l x) (sym (same_Some zs xs q)) h) p.there)
             (number_there (suc n) xss b ys y g.mark r k g.there);
         same = p.left ∙ sym g.met;
         first = p.number ∙ at_start n;
         second = g.number ∙ further_on n b;
       }
   two_to_marks n (zs ∷ xss) (suc a) (suc b) xs ys x y l q r h k s =
-      let w : MarksMeet (marks_from ks table (suc n) xss) (suc n + a) (suc n + b) = two_to_marks (suc n) xss a b xs ys x y (omega (arith, l)) q r h k s in
-      record { front = w.front; back = w.back; before = before_back (items_marks ks table n zs) (marks_from ks table (suc n) xss) w.front w.back w.before; same = w.same; first = w.first ∙ further_on n a; second = w.second ∙ further_on n b }
+      let w : MarksMeet (marks_from domain (suc n) xss) (suc n + a) (suc n + b) = two_to_marks (suc n) xss a b xs ys x y (omega (arith, l)) q r h k s in
+      record { front = w.front; back = w.back; before = before_back (items_marks domain n zs) (marks_from domain (suc n) xss) w.front w.back w.before; same = w.same; first = w.first ∙ further_on n a; second = w.second ∙ further_on n b }
 
-  pub marks_of_again : (n : ℕ) (xss : List (List Item)) (i j : ℕ) → Again n xss i j → MarksMeet (marks_from ks table n xss) i j
-  marks_of_again n xss i j (inl o) = let r : MarksMeet (marks_from ks table n xss) (n + o.a) (n + o.a) = one_to_marks n xss o.a o.xs o.its_list o.repeats in
+  pub marks_of_again : (n : ℕ) (xss : List (List Item)) (i j : ℕ) → Again n xss i j → MarksMeet (marks_from domain n xss) i j
+  marks_of_again n xss i j (inl o) = let r : MarksMeet (marks_from domain n xss) (n + o.a) (n + o.a) = one_to_marks n xss o.a o.xs o.its_list o.repeats in
       record { front = r.front; back = r.back; before = r.before; same = r.same; first = r.first ∙ sym o.first; second = r.second ∙ sym o.second }
-  marks_of_again n xss i j (inr t) = let r : MarksMeet (marks_from ks table n xss) (n + t.a) (n + t.b) = two_to_marks n xss t.a t.b t.xs t.ys t.x t.y t.less t.first_list t.second_list t.first_item t.second_item t.share in
+  marks_of_again n xss i j (inr t) = let r : MarksMeet (marks_from domain n xss) (n + t.a) (n + t.b) = two_to_marks n xss t.a t.b t.xs t.ys t.x t.y t.less t.first_list t.second_list t.first_item t.second_item t.share in
       record { front = r.front; back = r.back; before = r.before; same = r.same; first = r.first ∙ sym t.first; second = r.second ∙ sym t.second }
 
-  pub again_of_meets : (xss : List (List Item)) (i j : ℕ) → Meets (marks_from ks table 1 xss) (length (marks_from ks table 1 xss)) i j → Again 1 xss i j
+  pub again_of_meets : (xss : List (List Item)) (i j : ℕ) → Meets (marks_from domain 1 xss) (length (marks_from domain 1 xss)) i j → Again 1 xss i j
   again_of_meets xss i j (q, y, l, there, number, (p, x, less, here, left, first)) =
       subst (λ (k : ℕ). Again 1 xss k j) first (subst (λ (k : ℕ). Again 1 xss x.number k) number
-      (again_of_marks 1 xss x y (before_of_reads (marks_from ks table 1 xss) p q x y less here there) left))
+      (again_of_marks 1 xss x y (before_of_reads (marks_from domain 1 xss) p q x y less here there) left))
 
-  pub meets_of_again : (xss : List (List Item)) (i j : ℕ) → Again 1 xss i j → Meets (marks_from ks table 1 xss) (length (marks_from ks table 1 xss)) i j
+  pub meets_of_again : (xss : List (List Item)) (i j : ℕ) → Again 1 xss i j → Meets (marks_from domain 1 xss) (length (marks_from domain 1 xss)) i j
   meets_of_again xss i j h =
-      let ms : List Mark = marks_from ks table 1 xss in
+      let ms : List Mark = marks_from domain 1 xss in
       let r : MarksMeet ms i j = marks_of_again 1 xss i j h in
       let at = reads_of_before ms r.front r.back r.before in
       (at.1, r.back, slice_get_within ms at.1 r.back at.4, at.4, r.second, (at.0, r.front, at.2, at.3, r.same, r.first))

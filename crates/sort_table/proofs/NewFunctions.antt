@@ -51,7 +51,7 @@ pair_at Q [] (z ∷ ys) j y all h = absurd all
 pair_at Q (x ∷ xs) [] j y all h = absurd all
 
 -- a function without a word stands among the declared ones
-declared_place : (fs : List Function) (k i : ℕ) (h : Function) → slice_get fs i ≡ Some h → h.word ≡ None → (j : ℕ) × (slice_get (declared_from k fs) j ≡ Some (record { 0 = k + i }))
+pub declared_place : (fs : List Function) (k i : ℕ) (h : Function) → slice_get fs i ≡ Some h → h.word ≡ None → (j : ℕ) × (slice_get (declared_from k fs) j ≡ Some (record { 0 = k + i }))
 declared_place [] k i h at none = absurd (none-some h at)
 declared_place (f ∷ fs) k zero h at none = by_word f.word (ap (λ (x : Function). x.word) (same_Some f h at) ∙ none)
   where

@@ -2,14 +2,14 @@
 use Rattle.std.proofs.Common.{◌≡◌, ◌<◌, ◌+◌, ◌⊎◌, inl, inr, ℕ, zero, suc, List, [], ◌∷◌, ◌++◌, length, map, refl, ap, sym, ◌∙◌, subst, arith}
 use Rattle.std.specs.Prelude.{Some, slice_get}
 use Rattle.std.specs.List.{Contains, flat_map}
-use Rattle.std.proofs.lemmas.List.{append-nil}
+use Rattle.std.proofs.lemmas.List.{append-nil, map-append}
 use Rattle.std.proofs.lemmas.Option.{none-some, same_Some, slice_get_within}
 use Rattle.data_theory.specs.Places.{HaveOnePlace}
 use Rattle.data_theory.proofs.PlaceLemmas.{read_front, read_behind, contains_read}
 use Rattle.sort_table.specs.Expressions.{Name}
 use Rattle.sort_table.specs.BareSorts.{SortExpression}
 use Rattle.sort_table.specs.BareDeclarations.{Declaration, sorts, alias, struct, constructors, mappings, variables, equation, actions, process, initial, Section, declarations_in}
-use Rattle.sort_table.specs.SortMeanings.{UnderNames, under_names, actions_by, actions_in}
+use Rattle.sort_table.specs.SortMeanings.{Kind, alone, kinds_by, kinds_in, UnderNames, under_names, actions_by, actions_in}
 use Rattle.sort_table.specs.TextFunctions.{Named, functions_by, functions_in}
 use Rattle.sort_table.specs.Duplicates.{Item, a_sort, a_function, a_variable, an_action, a_process, function_item, items_of, all_items, SameSorts, IsAgain, sort_again, function_again, action_again, two_of_them, within_one, built_in, NothingAgain}
 use Rattle.sort_table.specs.Vocabularies.{EachPair}
@@ -38,7 +38,7 @@ read_either (z ∷ xs) ys (suc i) x at = step (read_either xs ys i x at)
     step (inl old) = inl old
     step (inr (j, e, here)) = inr (j, omega (arith, e), here)
 
-mapped_at : {A B : Type 0} (f : A → B) (xs : List A) (i : ℕ) (x : A) → slice_get xs i ≡ Some x → slice_get (map f xs) i ≡ Some (f x)
+pub mapped_at : {A B : Type 0} (f : A → B) (xs : List A) (i : ℕ) (x : A) → slice_get xs i ≡ Some x → slice_get (map f xs) i ≡ Some (f x)
 mapped_at f [] i x h = absurd (none-some x h)
 mapped_at f (y ∷ xs) zero x h = ap (λ z. Some (f z)) (same_Some y x h)
 mapped_at f (y ∷ xs) (suc i) x h = mapped_at f xs i x h
@@ -182,6 +182,57 @@ has_struct k (actions as_ es) = nothing_of a_sort (map (λ a. an_action a es) as
 has_struct k (process p vs body) = nothing_of a_sort (a_process p ∷ [])
 has_struct k (initial body) = nothing_of a_sort []
 
+-- ---- sort names
+abbrev names_by : Declaration → List Name
+names_by (sorts ns) = ns
+names_by (alias n e) = n ∷ []
+names_by (struct n cs) = n ∷ []
+names_by (constructors fs es to) = []
+names_by (mappings fs es to) = []
+names_by (variables vs) = []
+names_by (equation c l r) = []
+names_by (actions as_ es) = []
+names_by (process p vs body) = []
+names_by (initial body) = []
+
+has_names : (k : ℕ) (d : Declaration) → HasPart a_sort (items_of k d) (names_by d)
+has_names k (sorts ns) = all_of a_sort ns
+has_names k (alias n e) = all_of a_sort (n ∷ [])
+has_names k (struct n cs) = has_struct k (struct n cs)
+has_names k (constructors fs es to) = nothing_of a_sort (items_of k (constructors fs es to))
+has_names k (mappings fs es to) = nothing_of a_sort (items_of k (mappings fs es to))
+has_names k (variables vs) = nothing_of a_sort (map (λ (v : Name × SortExpression). a_variable k v.0) vs)
+has_names k (equation c l r) = nothing_of a_sort []
+has_names k (actions as_ es) = nothing_of a_sort (map (λ a. an_action a es) as_)
+has_names k (process p vs body) = nothing_of a_sort (a_process p ∷ [])
+has_names k (initial body) = nothing_of a_sort []
+
+abbrev pub names_of_kinds : List (Name × Kind) → List Name
+names_of_kinds ks = map (λ (r : Name × Kind). r.0) ks
+
+names_alone : (ns : List Name) → names_of_kinds (map (λ n. (n, alone)) ns) ≡ ns
+names_alone [] = refl
+names_alone (n ∷ ns) = ap (λ xs. n ∷ xs) (names_alone ns)
+
+names_declared : (d : Declaration) → names_of_kinds (kinds_by d) ≡ names_by d
+names_declared (sorts ns) = names_alone ns
+names_declared (alias n e) = refl
+names_declared (struct n cs) = refl
+names_declared (constructors fs es to) = refl
+names_declared (mappings fs es to) = refl
+names_declared (variables vs) = refl
+names_declared (equation c l r) = refl
+names_declared (actions as_ es) = refl
+names_declared (process p vs body) = refl
+names_declared (initial body) = refl
+
+all_names : (ds : List Declaration) → names_of_kinds (kinds_in ds) ≡ flat_map names_by ds
+all_names [] = refl
+all_names (d ∷ ds) =
+    let here = names_declared d in
+    let rest = all_names ds in
+    map-append (λ (r : Name × Kind). r.0) (kinds_by d) (kinds_in ds) ∙ (λ i. here i ++ rest i)
+
 -- ---- what is asked
 module _ (ss : List Section) (none : NothingAgain ss) where
   abbrev u : UnderNames
@@ -209,3 +260,9 @@ module _ (ss : List Section) (none : NothingAgain ss) where
   -- no struct is declared twice
   pub structs_differ : HaveOnePlace (structs_in (declarations_in ss))
   structs_differ i j n a b = at_one_place a_sort struct_name has_struct ss none i j n n a b (sort_again n) (sort_again n)
+
+  -- no sort name is declared twice
+  pub kinds_differ : HaveOnePlace (names_of_kinds (kinds_in (declarations_in ss)))
+  kinds_differ i j n a b =
+      let all = all_names (declarations_in ss) in
+      at_one_place a_sort names_by has_names ss none i j n n (ap (λ xs. slice_get xs i) (sym all) ∙ a) (ap (λ xs. slice_get xs j) (sym all) ∙ b) (sort_again n) (sort_again n)

@@ -1,7 +1,7 @@
 -- Marks that a loop puts behind others.
 use Rattle.std.proofs.Common.{◌≡◌, ◌<◌, ◌+◌, ◌∙◌, ℕ, zero, suc, List, [], ◌∷◌, ◌++◌, length, refl, arith, take, get_or, sym, ap, append_assoc}
 use Rattle.sort_table.specs.declared.flat_sorts.FlatSort.{FlatSort}
-use Rattle.sort_table.specs.ItemMarks.{sorts_code}
+use Rattle.sort_table.specs.Domains.{sorts_code}
 use Rattle.sort_table.proofs.Searches.{IsListed, listed_more}
 
 pub pushed : {A B : Type 0} (h : List A → List B) (f : A → List B) (is : IsListed h f) (xs : List A) (i : ℕ) (x : A) (old cur new : List B) → i < length xs → x ≡ get_or xs i x → cur ≡ old ++ h (take i xs) → new ≡ cur ++ f x

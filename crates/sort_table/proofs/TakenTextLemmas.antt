@@ -34,7 +34,7 @@ name_there ns m = by_test (list_any (λ (k : NameId). m.0 == k.0) ns) refl
     by_test true is = name_among ns m is
     by_test false is = contains_after ns (m ∷ []) m (zero, omega arith, refl)
 
-only_name : (ns : List NameId) (m n : NameId) → Contains (with_name ns m) n → Contains ns n ⊎ (m ≡ n)
+pub only_name : (ns : List NameId) (m n : NameId) → Contains (with_name ns m) n → Contains ns n ⊎ (m ≡ n)
 only_name ns m n c = by_test (list_any (λ (k : NameId). m.0 == k.0) ns) c
   where
     last : Contains (m ∷ []) n → m ≡ n

@@ -69,12 +69,12 @@ stands_of_twice (v ∷ vs) t = ⊎_elim
 
 -- ---- by marks
 variable_mark : Name × SortExpression → Mark
-variable_mark v = same_mark 0 (key 5 0 [] v.0)
+variable_mark v = same_mark 0 (key 5 0 v.0)
 
 marks_are : (vs : Variables) → marks_of_variables 0 0 vs ≡ map variable_mark vs
 unfolding variable_mark
 marks_are [] = refl
-marks_are (v ∷ vs) = ap (λ ms. same_mark 0 (key 5 0 [] v.0) ∷ ms) (marks_are vs)
+marks_are (v ∷ vs) = ap (λ ms. same_mark 0 (key 5 0 v.0) ∷ ms) (marks_are vs)
 
 read_marked : (vs : Variables) (p : ℕ) (m : Mark) → slice_get (map variable_mark vs) p ≡ Some m → (v : Name × SortExpression) × (slice_get vs p ≡ Some v) × (variable_mark v ≡ m)
 read_marked [] p m h = absurd (none-some m h)

@@ -45,6 +45,9 @@ pub mod WorkedTrees
 pub mod Repeats
 pub mod FlatSorts
 pub mod BuiltInTests
+pub mod Domains
 pub mod ItemMarks
 pub mod RepeatedVariables
 pub mod PlacedDeclarations
+pub mod PlacedSections
+pub mod TextSignatures

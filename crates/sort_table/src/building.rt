@@ -1,6 +1,6 @@
 //! The signature of a text's declarations, or why they are refused.
 
-ghost use Rattle.std.specs.Prelude.{◌≡◌, [], map, IfOk, IfErr, OnOk};
+ghost use Rattle.std.specs.Prelude.{◌≡◌, [], IfOk, IfErr, OnOk};
 ghost use Rattle.std.specs.List.{AllByRecursion};
 ghost use Rattle.std.specs.Str.{IsUtf8};
 ghost use Rattle.mcrl2_syntax.specs.Declarations.{spec_of};
@@ -10,13 +10,15 @@ ghost use Rattle.sort_table.specs.UnknownSorts.{AllAreKnown};
 ghost use Rattle.sort_table.specs.SortCycles.{NoCycle};
 ghost use Rattle.sort_table.specs.Duplicates.{NothingAgain};
 ghost use Rattle.sort_table.specs.Identifiers.{identifiers_in};
-ghost use Rattle.sort_table.specs.DeclaredNames.{AreNamesOf};
-ghost use Rattle.sort_table.specs.Built.{IsBuilt, IsDeclared, IsFaultOf, AreNamesOfAll};
+ghost use Rattle.sort_table.specs.PlacedSections.{IsPlaced};
+ghost use Rattle.sort_table.specs.Built.{IsBuilt, IsFaultOf};
 
 use crate::duplicates::first_duplicate;
 use crate::empty_sorts::empty_sort;
+use crate::entered_texts::enter_all;
 use crate::sort_cycles::sort_cycle;
 use crate::sort_declaring::enter_bytes;
+use crate::text_signatures::declared_signature;
 use crate::unknown_sorts::unknown_sort;
 use data_theory::{NameId, Names, NoMemory, Signature};
 use mcrl2_syntax::Spec;
@@ -51,7 +53,8 @@ impl From<NoMemory> for SortFault {
 }
 
 /// The signature of what a specification declares: its sorts, functions and actions, over a table of texts with every identifier
-/// of the specification. The given table moves into it, and an empty one stays behind.
+/// of the specification. The given table moves into it, and an empty one stays behind. Each declaration stands in a section of its own
+/// word, and the identifiers are text, as in what `parse` gives.
 ///
 /// The time is of the order of n log n for n declarations.
 ///
@@ -61,7 +64,8 @@ impl From<NoMemory> for SortFault {
 /// has constructors and no finite value. `names` then has the text of each name that the fault lists. `NoMemory` comes only where
 /// memory runs out. The rules are those of the mCRL2 language reference, data types.
 pub fn build(alloc: Global, spec: &Spec, names: &mut Names) -> Result<Signature, SortFault>
-    requires { AllByRecursion IsUtf8 (identifiers_in (spec_of spec.now)) }
+    requires placed { IsPlaced (spec_of spec.now) }
+    requires text { AllByRecursion IsUtf8 (identifiers_in (spec_of spec.now)) }
     ensures built { IfOk result (λ signature. IsBuilt (spec_of spec.now) signature) }
     ensures emptied { OnOk result (names.new ≡ []) }
     ensures refused { IfErr result (λ fault. IsFaultOf (spec_of spec.now) names.new fault) }
@@ -84,6 +88,7 @@ fn inhabited_signature(
     spec: &Spec,
     names: &mut Names,
 ) -> Result<Signature, SortFault>
+    requires placed { IsPlaced (spec_of spec.now) }
     requires text { AllByRecursion IsUtf8 (identifiers_in (spec_of spec.now)) }
     requires known { AllAreKnown (declarations_of_text spec.now) }
     requires no_cycle { NoCycle (declarations_of_text spec.now) }
@@ -105,35 +110,4 @@ fn inhabited_signature(
             Err(SortFault::NoMemory)
         }
     }
-}
-
-/// Enters texts that are given by their bytes.
-fn enter_all(alloc: Global, names: &mut Names, texts: &[&[u8]]) -> Result<Vec<NameId>, NoMemory>
-    requires { AllByRecursion IsUtf8 (map (λ text. text.now) texts.now) }
-    ensures { IfOk result (λ ids. AreNamesOfAll names.new ids.items (map (λ text. text.now) texts.now)) }
-{
-    let mut ids = Vec::new(alloc);
-    for text in texts {
-        ids.push(enter_bytes(names, text)?)?;
-    }
-    Ok(ids)
-}
-
-/// A signature with what a specification declares, with the ids of the declared sort names that are no aliases, in the order of the
-/// text.
-///
-/// This stands in for what is to make it, and finds no memory.
-fn declared_signature(
-    alloc: Global,
-    spec: &Spec,
-    names: Names,
-) -> Result<(Signature, Vec<NameId>), NoMemory>
-    requires text { AllByRecursion IsUtf8 (identifiers_in (spec_of spec.now)) }
-    requires known { AllAreKnown (declarations_of_text spec.now) }
-    requires no_cycle { NoCycle (declarations_of_text spec.now) }
-    requires once { NothingAgain (bare_sections (spec_of spec.now)) }
-    ensures declared { IfOk result (λ built. IsDeclared (spec_of spec.now) built.0) }
-    ensures names { IfOk result (λ built. AreNamesOf built.0 built.1.items (declarations_of_text spec.now)) }
-{
-    Err(NoMemory)
 }

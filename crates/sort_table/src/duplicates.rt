@@ -5,13 +5,14 @@ ghost use Rattle.sort_table.specs.DeclarationTrees.{declarations_of_text};
 ghost use Rattle.sort_table.specs.UnknownSorts.{AllAreKnown};
 ghost use Rattle.sort_table.specs.SortCycles.{NoCycle};
 ghost use Rattle.sort_table.specs.Duplicates.{all_items, NothingAgain, IsDuplicate};
-ghost use Rattle.sort_table.specs.IndexedKinds.{kinds_of_index};
+ghost use Rattle.sort_table.specs.Domains.{domains_by};
 ghost use Rattle.sort_table.specs.Repeats.{marks_of};
 ghost use Rattle.sort_table.specs.ItemMarks.{marks_from};
 ghost use Rattle.sort_table.specs.PlacedDeclarations.{all_placed, section_items, sections_of_text};
 
 use crate::declaration_lists::declaration_list;
-use crate::flat_sorts::{FlatTable, flat_table};
+use crate::domains::{DomainTable, domain_table};
+use crate::flat_sorts::flat_table;
 use crate::item_entries::add_declaration;
 use crate::repeated_variables::repeated_variables;
 use crate::repeats::{Entry, first_repeat, lesser};
@@ -25,8 +26,8 @@ use std::alloc::Global;
 ///
 /// What may be declared once: a sort name; a function name with sorts, where the built-in functions count over any sort; an action
 /// name with sorts; a process name; a name as action or as process; a variable in one list of parameters or of sum variables, or in one
-/// `var` section. Sorts are compared through aliases. The time is n log n in the length of the text, where each name of a declaration
-/// counts with its sorts. The rules are those of the mCRL2 language reference, without overloaded process names.
+/// `var` section. Sorts are compared through aliases. Lists of sorts are numbered, so that the time is n log n in
+/// the length of the text. The rules are those of the mCRL2 language reference, without overloaded process names.
 ///
 /// # Errors
 ///
@@ -39,7 +40,8 @@ pub fn first_duplicate(alloc: Global, spec: &Spec) -> Result<Option<(usize, usiz
     let placed = placed_declarations(alloc, spec)?;
     let declarations = declaration_list(alloc, spec)?;
     let index = sort_index(alloc, declarations.as_slice())?;
-    let table = flat_table(alloc, index)?;
+    let flats = flat_table(alloc, index)?;
+    let table = domain_table(alloc, flats, declarations.as_slice())?;
     let entries = declared_entries(alloc, &table, placed.as_slice())?;
     let items = first_repeat(alloc, entries.as_slice())?;
     let variables = repeated_variables(alloc, declarations.as_slice())?;
@@ -79,10 +81,10 @@ fn place_section<'a>(
 /// The entries of what these declarations declare.
 fn declared_entries<'a>(
     alloc: Global,
-    table: &FlatTable<'a>,
+    table: &DomainTable<'a>,
     placed: &[(usize, &'a Decl)],
 ) -> Result<Vec<Entry>, NoMemory>
-    ensures { IfOk result (λ entries. marks_of entries.items ≡ marks_from (kinds_of_index table.now.index) table.now.sorts.items 1 (all_placed placed.now)) }
+    ensures { IfOk result (λ entries. marks_of entries.items ≡ marks_from (domains_by table.now) 1 (all_placed placed.now)) }
 {
     let mut entries = Vec::new(alloc);
     let mut number = 0;

@@ -14,6 +14,7 @@ ghost use Rattle.sort_table.specs.Refusals.{RefusalsAreSingle, SoundDeclarations
 ghost use Rattle.sort_table.specs.SignatureGrowth.{GrownSignaturesHaveMore};
 ghost use Rattle.sort_table.specs.Growth.{VocabulariesGrow, TextsGrow};
 ghost use Rattle.sort_table.specs.WorkedTrees.{TreesAreBare};
+ghost use Rattle.sort_table.specs.PlacedSections.{SpelledSpecsArePlaced};
 ghost use Rattle.sort_table.specs.Worked.{ATextHasVocabulariesInAnyNumbering};
 
 /// Worked trees and their bare ones: spans and brackets fall away.
@@ -86,4 +87,9 @@ pub fn same_sorts_are_those_of_a_vocabulary()
 /// The identifiers of a specification that tokens spell are text.
 pub fn identifiers_are_text()
     ensures { (spec : PlainSpec) → IsSpecOfWords spec → AllByRecursion IsUtf8 (identifiers_in spec) }
+{}
+
+/// In a specification that tokens spell, each declaration stands in a section of its word.
+pub fn spelled_specs_are_placed()
+    ensures { SpelledSpecsArePlaced }
 {}

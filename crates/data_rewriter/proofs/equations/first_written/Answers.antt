@@ -9,7 +9,7 @@ use Rattle.term_pool.specs.Bindings.{listed_terms}
 use Rattle.data_rewriter.specs.declared.tables.Rule.{Rule}
 use Rattle.data_rewriter.specs.Standing.{IsTerm, StandsFor, term_at}
 use Rattle.data_rewriter.specs.FirstLines.{IsConditionMade}
-use Rattle.data_rewriter.specs.States.{IsRule}
+use Rattle.data_rewriter.specs.Written.{IsRule}
 use Rattle.data_rewriter.specs.FirstRules.{put_by, IsMatched, IsFirstRule}
 use Rattle.data_rewriter.proofs.StateMoves.{at_rule}
 use Rattle.data_rewriter.proofs.WrittenRules.{none_written, found_written, has_head, read_rule, listed_in}

@@ -1,6 +1,4 @@
-use Rattle.std.proofs.Common.{◌≡◌, ◌<◌, ◌-◌, ◌+◌, suc, ℕ, length, sym, subst, arith, rules}
-use Rattle.data_theory.specs.declared.ids.TermId.{TermId}
-use Rattle.data_theory.specs.declared.ids.FunId.{FunId}
+use Rattle.std.proofs.Common.{◌-◌, ◌+◌, ℕ, sym, subst, arith}
 use Rattle.data_theory.specs.Terms.{conjunction}
 use Rattle.data_rewriter.specs.Standing.{StandsFor}
 use Rattle.term_pool.proofs.NodeTrees.{extends_on}

@@ -1,4 +1,4 @@
-use Rattle.std.proofs.Common.{◌≡◌, ◌-◌, List}
+use Rattle.std.proofs.Common.{◌-◌, List}
 use Rattle.std.specs.List.{All}
 use Rattle.data_theory.specs.Terms.{Sort}
 use Rattle.data_theory.specs.Signature.{Sig}

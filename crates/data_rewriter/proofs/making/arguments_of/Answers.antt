@@ -2,7 +2,7 @@ use Rattle.std.proofs.Common.{◌≡◌, ◌<◌, List, sym, subst, ap, ◌∙�
 use Rattle.std.specs.List.{All}
 use Rattle.std.proofs.lemmas.List.Elements.{All-weaker}
 use Rattle.data_theory.specs.declared.ids.TermId.{TermId}
-use Rattle.term_pool.specs.HeadTrees.{IsIn, AreIn}
+use Rattle.term_pool.specs.HeadTrees.{IsIn}
 use Rattle.data_rewriter.specs.Standing.{IsTerm, listed_at, terms_of}
 use Rattle.data_rewriter.proofs.Standings.{arguments_are, all_arguments}
 use Rattle.data_rewriter.proofs.making.arguments_of.Goals as goal

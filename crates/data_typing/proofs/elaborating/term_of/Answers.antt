@@ -14,6 +14,7 @@ use Rattle.data_typing.specs.CodeSteps.{wish_of, AreSteps, IsStepWithin, AreSome
 use Rattle.data_typing.specs.CodeParts.{term_at}
 use Rattle.data_typing.specs.Within.{AreNodesWithin}
 use Rattle.data_typing.proofs.MakingLemmas.{ready, wanted_made}
+use Rattle.data_typing.proofs.TreesWithin.{kept_over_growth}
 use Rattle.data_typing.proofs.elaborating.term_of.Goals as goal
 
 pub parts_of-requires : goal.parts_of-requires
@@ -28,8 +29,8 @@ parts_of-requires c =
       there = subst (AllByRecursion (IsStepWithin (length c.as_slice-3.result.now) (length g.functions))) (sym c.as_slice-4.ensures.value) (subst (λ n. AllByRecursion (IsStepWithin n (length g.functions)) c.in-Some.steps.items) (sym many) steps);
     }
 
-pub made_term-requires : goal.made_term-requires
-made_term-requires c =
+pub made_term-requires-clause-make : goal.made_term-requires-clause-make
+made_term-requires-clause-make c =
     let y = symbol_under c.args.sig.now in
     let want : Option Term = wished (wish_of c.args.wanted) (typing_at (node_typings y c.as_slice.result.now) c.args.reading.now.at) in
     ready y c.parts_of.new.sig want c.in-Some.steps.items c.as_slice-4.result.now c.as_slice-4.ensures.value c.in_ok-parts.parts.items c.in_ok-parts.ensures.mean
@@ -56,3 +57,6 @@ returns-clause-means c = λ t is.
     (subst (λ (o : Option (Vec Step Global)). AreSteps y (option_map (λ (v : Vec Step Global). v.items) o) want) c.in-Some.is (c.in_ok-steps.ensures.steps y))
     (term_at c.parts_of.new.sig c.made_term.new.pool.trees c.in_ok-term.term) c.in_ok-term.ensures.means
     ∙ ap (λ (ns : List Node). wished (wish_of c.args.wanted) (typing_at (node_typings y ns) c.args.reading.now.at)) c.as_slice.ensures.value ∙ ap (wished (wish_of c.args.wanted)) is.typing
+
+pub returns-clause-trees : goal.returns-clause-trees
+returns-clause-trees c = λ all. c.in_ok-term.ensures.trees (kept_over_growth c.args.sig.now c.parts_of.new.sig c.parts_of.ensures.grown c.args.pool.now.trees all)

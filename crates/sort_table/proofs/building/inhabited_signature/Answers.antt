@@ -10,6 +10,9 @@ use Rattle.sort_table.proofs.FirstEmpty.{text_within}
 use Rattle.sort_table.proofs.NamedSignatures.{text_read}
 use Rattle.sort_table.proofs.building.inhabited_signature.Goals as goal
 
+pub declared_signature-requires : goal.declared_signature-requires
+declared_signature-requires c = record { placed = c.requires.placed; text = c.requires.text; known = c.requires.known; round = c.requires.no_cycle; once = c.requires.once }
+
 pub returns-in-Ok-None-clause-built : goal.returns-in-Ok-None-clause-built
 returns-in-Ok-None-clause-built c =
     let ds = declarations_of_text c.args.spec.now in

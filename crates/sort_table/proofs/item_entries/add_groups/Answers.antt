@@ -13,11 +13,11 @@ use Rattle.sort_table.proofs.item_entries.add_groups.Goals as goal
 
 behind : (i k : ℕ) (vs ws : Variables) → marks_of_variables i k (vs ++ ws) ≡ marks_of_variables i k vs ++ marks_of_variables i k ws
 behind i k [] ws = refl
-behind i k (v ∷ vs) ws = ap (λ ms. same_mark i (key 5 k [] v.0) ∷ ms) (behind i k vs ws)
+behind i k (v ∷ vs) ws = ap (λ ms. same_mark i (key 5 k v.0) ∷ ms) (behind i k vs ws)
 
 of_words : (i k : ℕ) (e : SortExpression) (ws : List Word) → marks_of_variables i k (map (λ (w : PlainWord). (w.bytes, e)) (map word_of ws)) ≡ marks_of_names i k ws
 of_words i k e [] = refl
-of_words i k e (w ∷ ws) = ap (λ ms. same_mark i (key 5 k [] w.bytes.items) ∷ ms) (of_words i k e ws)
+of_words i k e (w ∷ ws) = ap (λ ms. same_mark i (key 5 k w.bytes.items) ∷ ms) (of_words i k e ws)
 
 listed : (i k : ℕ) → IsListed (marks_of_groups i k) (λ (g : VarGroup). marks_of_names i k g.names.items)
 listed i k = record {

@@ -1,8 +1,9 @@
 use Rattle.std.proofs.Common.{◌≡◌, ◌++◌, take}
 use Rattle.std.specs.Prelude.{option_map}
+use Rattle.sort_table.specs.Domains.{domain_under}
 use Rattle.sort_table.specs.Repeats.{marks_of}
 use Rattle.sort_table.specs.ItemMarks.{marks_of_projections}
 use Rattle.sort_table.proofs.item_entries.add_projections.Given as goal
 
 abbrev pub invariant-loop-constructor : goal.invariant-loop-constructor
-invariant-loop-constructor l = marks_of l.entries.items ≡ marks_of l.fn.entries.items ++ marks_of_projections l.number (option_map (λ list. list.items) l.sorts) (take l.constructor-index l.constructors)
+invariant-loop-constructor l = marks_of l.entries.items ≡ marks_of l.fn.entries.items ++ marks_of_projections l.number (option_map domain_under l.domain) (take l.constructor-index l.constructors)

@@ -3,6 +3,7 @@ use Rattle.std.specs.Prelude.{option_map}
 use Rattle.mcrl2_syntax.specs.declared.declaration.Constructor.{Constructor}
 use Rattle.mcrl2_syntax.specs.Declarations.{some_word}
 use Rattle.sort_table.specs.BareDeclarations.{bare_word}
+use Rattle.sort_table.specs.Domains.{domain_under}
 use Rattle.sort_table.specs.Repeats.{marks_of}
 use Rattle.sort_table.specs.ItemMarks.{marks_of_recognisers, where_marked}
 use Rattle.sort_table.proofs.PushedMarks.{pushed}
@@ -10,5 +11,5 @@ use Rattle.sort_table.proofs.item_entries.add_recognisers.Goals as goal
 
 pub loop-constructor-preserved : goal.loop-constructor-preserved
 loop-constructor-preserved c =
-    pushed (marks_of_recognisers c.args.number (option_map (λ list. list.items) c.args.sorts.now)) (λ (d : Constructor). where_marked c.args.number (option_map (λ list. list.items) c.args.sorts.now) (bare_word (some_word d.recogniser))) (record { of_none = refl; of_more = λ x xs. refl }) c.args.constructors.now c.loop-constructor.constructor-index c.constructor-item.result
+    pushed (marks_of_recognisers c.args.number (option_map domain_under c.args.domain.now)) (λ (d : Constructor). where_marked c.args.number (option_map domain_under c.args.domain.now) (bare_word (some_word d.recogniser))) (record { of_none = refl; of_more = λ x xs. refl }) c.args.constructors.now c.loop-constructor.constructor-index c.constructor-item.result
     (marks_of c.args.entries.now.items) (marks_of c.loop-constructor.entries.items) (marks_of c.add_named.new.entries.items) c.loop-constructor-test.true c.constructor-item.is c.loop-constructor.invariant c.in_ok-add_named.ensures

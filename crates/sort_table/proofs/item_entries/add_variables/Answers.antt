@@ -7,5 +7,5 @@ use Rattle.sort_table.proofs.item_entries.add_variables.Goals as goal
 
 pub loop-name-preserved : goal.loop-name-preserved
 loop-name-preserved c =
-    pushed (marks_of_names c.args.number c.args.section) (λ (w : Word). same_mark c.args.number (key 5 c.args.section [] w.bytes.items) ∷ []) (record { of_none = refl; of_more = λ x xs. refl }) c.args.names.now c.loop-name.name-index c.name-item.result
+    pushed (marks_of_names c.args.number c.args.section) (λ (w : Word). same_mark c.args.number (key 5 c.args.section w.bytes.items) ∷ []) (record { of_none = refl; of_more = λ x xs. refl }) c.args.names.now c.loop-name.name-index c.name-item.result
     (marks_of c.args.entries.now.items) (marks_of c.loop-name.entries.items) (marks_of c.add_variable.new.entries.items) c.loop-name-test.true c.name-item.is c.loop-name.invariant c.in_ok-add_variable.ensures
