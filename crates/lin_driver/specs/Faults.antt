@@ -3,10 +3,12 @@ use Rattle.mcrl2_lexer.specs.declared.token.LexFault.{LexFault}
 use Rattle.mcrl2_lexer.specs.declared.token.LexFault.TheVariants as lex
 use Rattle.mcrl2_parser.specs.declared.faults.ParseFault.{ParseFault}
 use Rattle.mcrl2_parser.specs.declared.faults.ParseFault.TheVariants as parse
+use Rattle.sort_table.specs.declared.building.SortFault.{SortFault}
+use Rattle.sort_table.specs.declared.building.SortFault.TheVariants as sort
 use Rattle.lin_driver.specs.declared.fault.PlainFault.{PlainFault}
 use Rattle.lin_driver.specs.declared.fault.PlainFault.TheVariants as plain
 use Rattle.lin_driver.specs.declared.fault.LinFault.{LinFault}
-use Rattle.lin_driver.specs.declared.fault.LinFault.TheVariants.{Lex, Parse, NotBuilt, NoMemory}
+use Rattle.lin_driver.specs.declared.fault.LinFault.TheVariants.{Lex, Parse, Sort, NotBuilt, NoMemory}
 
 abbrev pub fault_of_lex : LexFault → LinFault
 fault_of_lex lex.NoMemory = NoMemory
@@ -20,6 +22,13 @@ fault_of_parse (parse.Syntax number) = Parse (parse.Syntax number)
 fault_of_parse (parse.TooDeep number) = Parse (parse.TooDeep number)
 fault_of_parse parse.NoInit = Parse parse.NoInit
 fault_of_parse (parse.TwoInits number) = Parse (parse.TwoInits number)
+
+abbrev pub fault_of_sort : SortFault → LinFault
+fault_of_sort sort.NoMemory = NoMemory
+fault_of_sort (sort.UnknownSort number name) = Sort (sort.UnknownSort number name)
+fault_of_sort (sort.SortCycle names) = Sort (sort.SortCycle names)
+fault_of_sort (sort.Duplicate first second) = Sort (sort.Duplicate first second)
+fault_of_sort (sort.EmptySort name) = Sort (sort.EmptySort name)
 
 abbrev pub fault_of_plain : PlainFault → LinFault
 fault_of_plain plain.NotBuilt = NotBuilt

@@ -1,19 +1,22 @@
 //! Why there is no linear process for a text.
 ghost use Rattle.std.specs.Prelude.{◌≡◌};
-ghost use Rattle.lin_driver.specs.Faults.{fault_of_lex, fault_of_parse, fault_of_plain};
+ghost use Rattle.lin_driver.specs.Faults.{fault_of_lex, fault_of_parse, fault_of_plain, fault_of_sort};
 ghost use Rattle.lin_driver.specs.declared.fault.PlainFault.TheVariants.{NoMemory};
 
 use mcrl2_lexer::LexFault;
 use mcrl2_parser::ParseFault;
+use sort_table::SortFault;
 use std::alloc::{AllocError, AllocFailed};
 
 /// Why there is no linear process for a text, in the order in which causes are looked for.
-#[derive(Clone, Copy, Debug, PartialEq, Eq)]
+#[derive(Debug, Drop)]
 pub enum LinFault {
     /// The text has no tokens that are all accepted.
     Lex(LexFault),
     /// The tokens have no declarations that are all accepted.
     Parse(ParseFault),
+    /// What the declarations declare has a fault. Its names stand in the table of texts that was handed in.
+    Sort(SortFault),
     /// The text hasn't the first form.
     NotBuilt,
     /// No memory was left.
@@ -38,6 +41,17 @@ impl From<ParseFault> for LinFault {
         match fault {
             ParseFault::NoMemory => LinFault::NoMemory,
             _ => LinFault::Parse(fault),
+        }
+    }
+}
+
+impl From<SortFault> for LinFault {
+    ghost from_gives = { λ sort fault. fault ≡ fault_of_sort sort };
+
+    fn from(fault: SortFault) -> Self {
+        match fault {
+            SortFault::NoMemory => LinFault::NoMemory,
+            fault => LinFault::Sort(fault),
         }
     }
 }

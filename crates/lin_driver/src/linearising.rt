@@ -1,18 +1,19 @@
 //! The linear process of a text, as a text.
-ghost use Rattle.std.specs.Prelude.{◌≡◌, ◌≢◌, IfErr, IfOk, IsErrOf, All, count_by, length};
+ghost use Rattle.std.specs.Prelude.{◌≡◌, ◌≢◌, IfErr, IfOk, IsErrOf, All, length};
 ghost use Rattle.mcrl2_lexer.specs.Lexing.{HasTokens, SpansRise};
 ghost use Rattle.mcrl2_lexer.specs.Tokens.{IsToken, slice_of};
 ghost use Rattle.mcrl2_lexer.specs.declared.token.LexFault.{LexFault};
 ghost use Rattle.mcrl2_syntax.specs.Declarations.{PlainSpec};
-ghost use Rattle.mcrl2_syntax.specs.SpelledDeclarations.{SpellsSpec};
-ghost use Rattle.mcrl2_parser.specs.Declarations.{declarations_of};
-ghost use Rattle.mcrl2_parser.specs.Faults.{HasFault, IsSound, is_init};
+ghost use Rattle.mcrl2_parser.specs.Faults.{HasFault};
 ghost use Rattle.mcrl2_parser.specs.declared.faults.ParseFault.{ParseFault};
+ghost use Rattle.sort_table.specs.BareDeclarations.{bare_sections};
+ghost use Rattle.sort_table.specs.Refusals.{IsSoundlyDeclared};
+ghost use Rattle.sort_table.specs.declared.building.SortFault.{SortFault};
 ghost use Rattle.process_terms.specs.Headline.{StandsFor};
 ghost use Rattle.process_terms.specs.Systems.{System};
 ghost use Rattle.lin_driver.specs.FirstForm.{HasFirstForm, IsFirstForm};
 ghost use Rattle.lin_driver.specs.Linearised.{IsLinearisedTo};
-ghost use Rattle.lin_driver.specs.Refusals.{IsRefusedWith};
+ghost use Rattle.lin_driver.specs.Refusals.{HasSortFault, IsParsedAs, IsRefusedWith};
 
 use crate::fault::{LinFault, PlainFault};
 use crate::fresh::fresh_names;
@@ -20,8 +21,10 @@ use crate::naming::declared_names;
 use crate::numbering::numbering;
 use crate::printing::print;
 use crate::reading::read_system;
+use data_theory::Names;
 use mcrl2_lexer::{Token, Tokens, lex};
 use mcrl2_parser::parse;
+use sort_table::build;
 use std::alloc::Global;
 
 /// The linear process of a text of the first form, printed.
@@ -33,31 +36,36 @@ use std::alloc::Global;
 /// # Errors
 ///
 /// `Lex` where the text has no tokens that are accepted, `Parse` where one of its declarations nests too deeply or spells none,
-/// or where not exactly one is in an `init` section, and `NotBuilt` for every other text that hasn't the first form. So a text
-/// is refused exactly where it hasn't the first form.
-pub fn plain(alloc: Global, text: &[u8]) -> Result<Vec<u8>, LinFault>
+/// or where not exactly one is in an `init` section, `Sort` where what they declare has a fault, and `NotBuilt` for every other
+/// text that hasn't the first form. So a text is refused exactly where it hasn't the first form. `names`, which is to be empty,
+/// then has the text of each name that the fault lists.
+pub fn plain(alloc: Global, text: &[u8], names: &mut Names) -> Result<Vec<u8>, LinFault>
     ensures linearised { IfOk result (λ printed. IsLinearisedTo text.now printed.items) }
     ensures headline { IfOk result (λ printed. (system : System) → IsFirstForm text.now system → StandsFor system printed.items) }
-    ensures refused { IfErr result (λ fault. fault ≢ LinFault.NoMemory → IsRefusedWith text.now fault) }
+    ensures refused { IfErr result (λ fault. fault ≢ LinFault.NoMemory → IsRefusedWith text.now names.new fault) }
     ensures no_first_form { IfErr result (λ fault. fault ≢ LinFault.NoMemory → ¬ (HasFirstForm text.now)) }
 {
     let tokens = lex(alloc, text)?;
     match linearise(alloc, text, tokens.list()) {
         Ok(printed) => Ok(printed),
         Err(PlainFault::NoMemory) => Err(LinFault::NoMemory),
-        Err(PlainFault::NotBuilt) => Err(why_not_built(alloc, &tokens)),
+        Err(PlainFault::NotBuilt) => Err(why_not_built(alloc, &tokens, names)),
     }
 }
 
 /// Why tokens that haven't the first form are refused: their declarations' fault, where they have one.
-fn why_not_built(alloc: Global, tokens: &Tokens) -> LinFault
+fn why_not_built(alloc: Global, tokens: &Tokens, names: &mut Names) -> LinFault
+    requires tokens { HasTokens tokens.now.text tokens.now.list }
     ensures parse { (fault : ParseFault) → result ≡ LinFault.Parse fault → HasFault tokens.now.text tokens.now.list fault }
-    ensures spelled { result ≡ LinFault.NotBuilt → (spec : PlainSpec) × SpellsSpec tokens.now.text spec tokens.now.list }
-    ensures sound { result ≡ LinFault.NotBuilt → All (IsSound tokens.now.text tokens.now.list) (declarations_of tokens.now.list) }
-    ensures one_init { result ≡ LinFault.NotBuilt → count_by is_init (declarations_of tokens.now.list) ≡ 1 }
+    ensures sort { (fault : SortFault) → result ≡ LinFault.Sort fault → HasSortFault tokens.now.text names.new fault }
+    ensures sound { result ≡ LinFault.NotBuilt → (spec : PlainSpec) × IsParsedAs tokens.now.text spec × IsSoundlyDeclared (bare_sections spec) }
     ensures no_lex { (fault : LexFault) → result ≢ LinFault.Lex fault }
 {
-    match parse(alloc, tokens) {
+    let spec = match parse(alloc, tokens) {
+        Ok(spec) => spec,
+        Err(fault) => return fault.into(),
+    };
+    match build(alloc, &spec, names) {
         Ok(_) => LinFault::NotBuilt,
         Err(fault) => fault.into(),
     }

@@ -1,2 +1,3 @@
 pub mod EndLines
+pub mod FaultNames
 pub mod Told

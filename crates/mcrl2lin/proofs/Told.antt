@@ -23,15 +23,16 @@ of_loaded text_of words file bytes P is told holds =
     (on_told (text_of file) (λ text. bytes ≡ text) P (λ text same. subst P same holds) told)
 
 -- a stop for a fault of the bytes that were loaded has its cause in the text asked for
-pub has_cause : (text_of : List ℕ → Option (List ℕ)) (words : List (List ℕ)) (file bytes : List ℕ) (fault : LinFault) (stop : Stop) → file_asked words ≡ Some file
-    → IfSome (text_of file) (λ text. bytes ≡ text) → length bytes ≤ MAX_TEXT_LEN → (fault ≢ lin.NoMemory → IsRefusedWith bytes fault)
-    → (fault ≢ lin.NoMemory → HasFirstForm bytes → ⊥) → IsStopFor fault stop → HasCause stop (text_asked text_of words)
-has_cause text_of words file bytes fault Words asked told short refused none is = absurd is
-has_cause text_of words file bytes fault ReadFault asked told short refused none is = absurd is
-has_cause text_of words file bytes fault TooLong asked told short refused none is = absurd is
-has_cause text_of words file bytes fault (Refused line) asked told short refused none is = record {
+pub has_cause : (text_of : List ℕ → Option (List ℕ)) (words : List (List ℕ)) (file bytes : List ℕ) (texts : List (List ℕ)) (fault : LinFault) (stop : Stop) → file_asked words ≡ Some file
+    → IfSome (text_of file) (λ text. bytes ≡ text) → length bytes ≤ MAX_TEXT_LEN → (fault ≢ lin.NoMemory → IsRefusedWith bytes texts fault)
+    → (fault ≢ lin.NoMemory → HasFirstForm bytes → ⊥) → IsStopFor texts fault stop → HasCause stop (text_asked text_of words)
+has_cause text_of words file bytes texts fault Words asked told short refused none is = absurd is
+has_cause text_of words file bytes texts fault ReadFault asked told short refused none is = absurd is
+has_cause text_of words file bytes texts fault TooLong asked told short refused none is = absurd is
+has_cause text_of words file bytes texts fault (Refused line) asked told short refused none is = record {
+  texts = texts;
   fault = fault;
   says = is.1;
-  due = of_loaded text_of words file bytes (λ text. (length text ≤ MAX_TEXT_LEN) × IsRefusedWith text fault × (¬ (HasFirstForm text))) asked told (short, refused is.0, none is.0);
+  due = of_loaded text_of words file bytes (λ text. (length text ≤ MAX_TEXT_LEN) × IsRefusedWith text texts fault × (¬ (HasFirstForm text))) asked told (short, refused is.0, none is.0);
 }
-has_cause text_of words file bytes fault NoMemory asked told short refused none is = tt
+has_cause text_of words file bytes texts fault NoMemory asked told short refused none is = tt

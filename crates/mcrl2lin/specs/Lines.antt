@@ -1,9 +1,13 @@
 -- The lines of the error output.
-use Rattle.std.specs.Prelude.{ℕ, List, ◌++◌, codes, decimal}
+use Rattle.std.specs.Prelude.{◌<◌, ℕ, List, [], ◌∷◌, ◌++◌, codes, decimal, get_or, length}
+use Rattle.std.specs.List.{AllByRecursion, flat_map}
+use Rattle.data_theory.specs.declared.ids.NameId.{NameId}
 use Rattle.mcrl2_lexer.specs.declared.token.LexFault.{LexFault}
 use Rattle.mcrl2_lexer.specs.declared.token.LexFault.TheVariants as lex
 use Rattle.mcrl2_parser.specs.declared.faults.ParseFault.{ParseFault}
 use Rattle.mcrl2_parser.specs.declared.faults.ParseFault.TheVariants as parse
+use Rattle.sort_table.specs.declared.building.SortFault.{SortFault}
+use Rattle.sort_table.specs.declared.building.SortFault.TheVariants as sort
 use Rattle.lin_driver.specs.declared.fault.LinFault.{LinFault}
 use Rattle.lin_driver.specs.declared.fault.LinFault.TheVariants as lin
 use Rattle.mcrl2lin.specs.declared.stop.Stop.{Stop}
@@ -32,12 +36,43 @@ parse_line parse.NoInit = codes "refused 6 NoInit\n"
 parse_line (parse.TwoInits number) = numbered (codes "refused 7 TwoInits ") number
 parse_line parse.NoMemory = no_memory_line
 
--- the line that refuses a text with that fault
-abbrev pub refusal_line : LinFault → List ℕ
-refusal_line (lin.Lex fault) = lex_line fault
-refusal_line (lin.Parse fault) = parse_line fault
-refusal_line lin.NotBuilt = codes "refused 90 NotBuilt\n"
-refusal_line lin.NoMemory = no_memory_line
+-- the text of a name
+abbrev pub text_of : List (List ℕ) → NameId → List ℕ
+text_of texts name = get_or texts name.0 []
+
+-- a detail of a refusal that isn't its last one, or that stands behind another
+abbrev pub spaced : List ℕ → List ℕ
+spaced detail = codes " " ++ detail
+
+abbrev pub sort_line : List (List ℕ) → SortFault → List ℕ
+sort_line texts (sort.UnknownSort number name) = codes "refused 8 UnknownSort" ++ spaced (decimal number) ++ spaced (text_of texts name) ++ codes "\n"
+sort_line texts (sort.SortCycle names) = codes "refused 9 SortCycle" ++ flat_map (λ (n : NameId). spaced (text_of texts n)) names.items ++ codes "\n"
+sort_line texts (sort.Duplicate first second) = codes "refused 10 Duplicate" ++ spaced (decimal first) ++ spaced (decimal second) ++ codes "\n"
+sort_line texts (sort.EmptySort name) = codes "refused 11 EmptySort" ++ spaced (text_of texts name) ++ codes "\n"
+sort_line texts sort.NoMemory = no_memory_line
+
+-- the line that refuses a text with that fault, whose names stand among these texts
+abbrev pub refusal_line : List (List ℕ) → LinFault → List ℕ
+refusal_line texts (lin.Lex fault) = lex_line fault
+refusal_line texts (lin.Parse fault) = parse_line fault
+refusal_line texts (lin.Sort fault) = sort_line texts fault
+refusal_line texts lin.NotBuilt = codes "refused 90 NotBuilt\n"
+refusal_line texts lin.NoMemory = no_memory_line
+
+-- these names have a text
+abbrev pub AreNamed : List (List ℕ) → List NameId → Type 0
+AreNamed texts = AllByRecursion (λ (n : NameId). n.0 < length texts)
+
+-- the names that a fault lists
+abbrev pub names_of_sort_fault : SortFault → List NameId
+names_of_sort_fault (sort.UnknownSort number name) = name ∷ []
+names_of_sort_fault (sort.SortCycle names) = names.items
+names_of_sort_fault (sort.EmptySort name) = name ∷ []
+names_of_sort_fault _ = []
+
+abbrev pub names_of_fault : LinFault → List NameId
+names_of_fault (lin.Sort fault) = names_of_sort_fault fault
+names_of_fault _ = []
 
 abbrev pub line_of : Stop → List ℕ
 line_of Words = codes "usage: mcrl2lin TASK FILE [--trace FILE] [--method M] [--fuel N] [--bound N] [--seed N] [--depth N]\n"

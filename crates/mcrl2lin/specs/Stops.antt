@@ -18,19 +18,20 @@ stop_of_load load.ReadFault = ReadFault
 stop_of_load load.TooLong = TooLong
 stop_of_load load.NoMemory = NoMemory
 
--- the stop is a refusal for that fault, or want of memory
-abbrev pub IsStopFor : LinFault → Stop → Type 0
-IsStopFor fault Words = ⊥
-IsStopFor fault ReadFault = ⊥
-IsStopFor fault TooLong = ⊥
-IsStopFor fault (Refused line) = (fault ≢ lin.NoMemory) × (line.items ≡ refusal_line fault)
-IsStopFor fault NoMemory = ⊤
+-- the stop is a refusal for that fault, whose names stand among these texts, or want of memory
+abbrev pub IsStopFor : List (List ℕ) → LinFault → Stop → Type 0
+IsStopFor texts fault Words = ⊥
+IsStopFor texts fault ReadFault = ⊥
+IsStopFor texts fault TooLong = ⊥
+IsStopFor texts fault (Refused line) = (fault ≢ lin.NoMemory) × (line.items ≡ refusal_line texts fault)
+IsStopFor texts fault NoMemory = ⊤
 
 -- the line refuses the text, where that is told, for the fault that it has
 pub record IsRefusal (text : Option (List ℕ)) (line : List ℕ) : Type 0 where
+  pub texts : List (List ℕ)
   pub fault : LinFault
-  pub says : line ≡ refusal_line fault
-  pub due : IfSome text (λ bytes. (length bytes ≤ MAX_TEXT_LEN) × IsRefusedWith bytes fault × (¬ (HasFirstForm bytes)))
+  pub says : line ≡ refusal_line texts fault
+  pub due : IfSome text (λ bytes. (length bytes ≤ MAX_TEXT_LEN) × IsRefusedWith bytes texts fault × (¬ (HasFirstForm bytes)))
 
 -- a stop that refuses has its cause in the text, where that is told
 abbrev pub HasCause : Stop → Option (List ℕ) → Type 0

@@ -1,20 +1,26 @@
 //! The lines that refuse a text.
-ghost use Rattle.std.specs.Prelude.{◌≡◌, ◌++◌, codes, decimal, IfOk};
-ghost use Rattle.mcrl2lin.specs.Lines.{refusal_line, lex_line, parse_line};
+ghost use Rattle.std.specs.Prelude.{◌≡◌, ◌<◌, ◌++◌, codes, decimal, IfOk, OnOk, length, string_bytes};
+ghost use Rattle.std.specs.List.{flat_map};
+ghost use Rattle.data_theory.specs.declared.ids.NameId.{NameId};
+ghost use Rattle.mcrl2lin.specs.Lines.{AreNamed, lex_line, names_of_fault, names_of_sort_fault, parse_line, refusal_line, sort_line, spaced, text_of};
 
+use data_theory::{NameId, Names};
 use itoa::Buffer;
 use lin_driver::LinFault;
 use mcrl2_lexer::LexFault;
 use mcrl2_parser::ParseFault;
+use sort_table::SortFault;
 use std::alloc::{AllocError, Global};
 
 /// The line that refuses a text with that fault.
-pub fn refusal(alloc: Global, fault: LinFault) -> Result<Vec<u8>, AllocError>
-    ensures { IfOk result (λ line. line.items ≡ refusal_line fault) }
+pub fn refusal(alloc: Global, names: &Names, fault: &LinFault) -> Result<Vec<u8>, AllocError>
+    requires { AreNamed names.now (names_of_fault fault.now) }
+    ensures { IfOk result (λ line. line.items ≡ refusal_line names.now fault.now) }
 {
     match fault {
-        LinFault::Lex(fault) => lex_refusal(alloc, fault),
-        LinFault::Parse(fault) => parse_refusal(alloc, fault),
+        LinFault::Lex(fault) => lex_refusal(alloc, *fault),
+        LinFault::Parse(fault) => parse_refusal(alloc, *fault),
+        LinFault::Sort(fault) => sort_refusal(alloc, names, fault),
         LinFault::NotBuilt => Vec::from_slice(alloc, b"refused 90 NotBuilt\n"),
         LinFault::NoMemory => Vec::from_slice(alloc, b"no memory\n"),
     }
@@ -43,6 +49,36 @@ fn parse_refusal(alloc: Global, fault: ParseFault) -> Result<Vec<u8>, AllocError
     }
 }
 
+fn sort_refusal(alloc: Global, names: &Names, fault: &SortFault) -> Result<Vec<u8>, AllocError>
+    requires { AreNamed names.now (names_of_sort_fault fault.now) }
+    ensures { IfOk result (λ line. line.items ≡ sort_line names.now fault.now) }
+{
+    let mut line = Vec::new(alloc);
+    match fault {
+        SortFault::UnknownSort(number, name) => {
+            line.extend_from_slice(b"refused 8 UnknownSort")?;
+            push_number(&mut line, *number)?;
+            push_name(&mut line, names, *name)?;
+        }
+        SortFault::SortCycle(cycle) => {
+            line.extend_from_slice(b"refused 9 SortCycle")?;
+            push_names(&mut line, names, cycle)?;
+        }
+        SortFault::Duplicate(first, second) => {
+            line.extend_from_slice(b"refused 10 Duplicate")?;
+            push_number(&mut line, *first)?;
+            push_number(&mut line, *second)?;
+        }
+        SortFault::EmptySort(name) => {
+            line.extend_from_slice(b"refused 11 EmptySort")?;
+            push_name(&mut line, names, *name)?;
+        }
+        SortFault::NoMemory => line.extend_from_slice(b"no memory")?,
+    }
+    line.extend_from_slice(b"\n")?;
+    Ok(line)
+}
+
 /// A line with a number at its end.
 fn numbered(alloc: Global, start: &[u8], number: usize) -> Result<Vec<u8>, AllocError>
     ensures { IfOk result (λ line. line.items ≡ start.now ++ decimal number ++ codes "\n") }
@@ -52,4 +88,33 @@ fn numbered(alloc: Global, start: &[u8], number: usize) -> Result<Vec<u8>, Alloc
     line.extend_from_slice(buffer.format(number).as_bytes())?;
     line.extend_from_slice(b"\n")?;
     Ok(line)
+}
+
+/// Puts a number behind a line, after a space.
+fn push_number(line: &mut Vec<u8>, number: usize) -> Result<(), AllocError>
+    ensures { OnOk result (line.new.items ≡ line.old.items ++ spaced (decimal number)) }
+{
+    let mut buffer = Buffer::new();
+    line.extend_from_slice(b" ")?;
+    line.extend_from_slice(buffer.format(number).as_bytes())
+}
+
+/// Puts the text of a name behind a line, after a space.
+fn push_name(line: &mut Vec<u8>, names: &Names, name: NameId) -> Result<(), AllocError>
+    requires { name.0 < length names.now }
+    ensures { OnOk result (line.new.items ≡ line.old.items ++ spaced (text_of names.now name)) }
+{
+    line.extend_from_slice(b" ")?;
+    line.extend_from_slice(names.text(name).as_bytes())
+}
+
+/// Puts the texts of names behind a line, each after a space.
+fn push_names(line: &mut Vec<u8>, names: &Names, list: &[NameId]) -> Result<(), AllocError>
+    requires { AreNamed names.now list.now }
+    ensures { OnOk result (line.new.items ≡ line.old.items ++ flat_map (λ (n : NameId). spaced (text_of names.now n)) list.now) }
+{
+    for name in list {
+        push_name(line, names, *name)?;
+    }
+    Ok(())
 }

@@ -1,9 +1,10 @@
 //! Why the program writes no linear process, and how it says so.
 ghost use Rattle.std.specs.Prelude.{◌≡◌};
-ghost use Rattle.mcrl2lin.specs.Lines.{line_of};
+ghost use Rattle.mcrl2lin.specs.Lines.{AreNamed, line_of, names_of_fault};
 ghost use Rattle.mcrl2lin.specs.Stops.{IsStopFor, stop_of_load};
 
 use crate::refusal::refusal;
+use data_theory::Names;
 use lin_driver::LinFault;
 use mcrl2_text::LoadFault;
 use std::alloc::Global;
@@ -36,14 +37,15 @@ impl From<LoadFault> for Stop {
 }
 
 impl Stop {
-    /// The stop for a text with that fault.
-    pub fn for_fault(alloc: Global, fault: LinFault) -> Stop
-        ensures { IsStopFor fault result }
+    /// The stop for a text with that fault, whose names stand in the table.
+    pub fn for_fault(alloc: Global, names: &Names, fault: &LinFault) -> Stop
+        requires { AreNamed names.now (names_of_fault fault.now) }
+        ensures { IsStopFor names.now fault.now result }
     {
-        if fault == LinFault::NoMemory {
+        if matches!(fault, LinFault::NoMemory) {
             return Stop::NoMemory;
         }
-        match refusal(alloc, fault) {
+        match refusal(alloc, names, fault) {
             Ok(line) => Stop::Refused(line),
             Err(_) => Stop::NoMemory,
         }

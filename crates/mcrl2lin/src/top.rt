@@ -12,6 +12,7 @@ ghost use Rattle.mcrl2lin.specs.Stops.{HasCause, status_of_stop};
 
 use crate::command::file_of;
 use crate::stop::Stop;
+use data_theory::Names;
 use lin_driver::plain;
 use mcrl2_text::{MAX_TEXT_LEN, Shelf, Sink, load, write_all};
 use std::alloc::Global;
@@ -103,9 +104,10 @@ fn linearised<H: Shelf>(alloc: Global, words: &[String], shelf: &mut H) -> Resul
 {
     let file = file_of(words).ok_or(Stop::Words)?;
     let text = load(alloc, shelf, file)?;
-    match plain(alloc, &text) {
+    let mut names = Names::new(alloc);
+    match plain(alloc, &text, &mut names) {
         Ok(printed) => Ok(printed),
-        Err(fault) => Err(Stop::for_fault(alloc, fault)),
+        Err(fault) => Err(Stop::for_fault(alloc, &names, &fault)),
     }
 }
 

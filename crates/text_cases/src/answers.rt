@@ -3,6 +3,7 @@
 use crate::process_forms::push_actions;
 use crate::spec_forms::{push_places, push_spec, section_text};
 use crate::texts::{push_printed, text_of};
+use data_theory::Names;
 use lin_driver::plain;
 use mcrl2_lexer::{Tokens, lex, numeral_value};
 use mcrl2_parser::{declarations, level, parse, parse_label};
@@ -81,7 +82,7 @@ fn label_text(alloc: Global, line: &[u8]) -> Result<Vec<u8>, AllocError> {
 
 /// The text of the linear process that is made for a text.
 fn linear_text(alloc: Global, text: &[u8]) -> Result<Vec<u8>, AllocError> {
-    match plain(alloc, text) {
+    match plain(alloc, text, &mut Names::new(alloc)) {
         Ok(printed) => {
             let mut out = Vec::new(alloc);
             push_printed(&mut out, &printed)?;
