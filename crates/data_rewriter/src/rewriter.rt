@@ -1,6 +1,6 @@
 //! Rewriters.
 
-ghost use Rattle.std.specs.Prelude.{◌≡◌, List, IfOk, Ok, Some};
+ghost use Rattle.std.specs.Prelude.{◌≡◌, List, IfOk, IsOk, Ok, Some};
 ghost use Rattle.data_rewriter.specs.declared.machine.Normal.TheVariants.{Done};
 ghost use Rattle.data_rewriter.specs.Stored.{AreCovered};
 ghost use Rattle.data_theory.specs.declared.ids.TermId.{TermId};
@@ -130,6 +130,7 @@ impl<F: Fn(NumOp, Num, Num) -> Option<Num>> Rewriter<F> {
         ensures rules { number_rules self.new ≡ number_rules self.old }
         ensures fits { (sig : Sig) (own : List Equation) → Fits self.old sig own pool.old.trees → IsTerm sig pool.old.trees term → Fits self.new sig own pool.new.trees }
         ensures pairs { (sig : Sig) (own : List Equation) → Fits self.old sig own pool.old.trees → IsTerm sig pool.old.trees term → AreCovered own → (t u : TermId) → stored_form self.old t ≡ Some u → stored_form self.new t ≡ Some u }
+        ensures stored { (u : TermId) → stored_form self.old term ≡ Some u → IsOk result × (fuel.new ≡ fuel.old) }
         ensures says { IfOk result (λ r. (sig : Sig) (own : List Equation) → Fits self.old sig own pool.old.trees → IsTerm sig pool.old.trees term → IsDecision sig own pool.old.trees pool.new.trees term fuel.old fuel.new r) }
     {
         let normal = self.normalise(pool, term, fuel)?;

@@ -71,11 +71,23 @@ impl<F: Fn(NumOp, Num, Num) -> Option<Num>> Simplifier for ByRewriter<F> {
 pub struct AsIs;
 
 impl Simplifier for AsIs {
+    ghost use Rattle.std.specs.Prelude.{◌≡◌, ◌↔◌, Ok};
+
     ghost fits = { λ s sig own ts. Unit {0} };
 
     ghost simple = { λ s sig own t. Unit {0} };
 
-    fn simplify(&mut self, _pool: &mut Pool, term: TermId) -> Result<TermId, NoMemory> {
+    // Behind the first two clauses stand the trait's, with this block's members.
+    /// The term itself. It takes no memory.
+    fn simplify(&mut self, pool: &mut Pool, term: TermId) -> Result<TermId, NoMemory>
+        ensures answers { result ≡ Ok term }
+        ensures untouched { pool.new ≡ pool.old }
+        ensures kept { Extends pool.old.trees pool.new.trees }
+        ensures fitting { (sig : Sig) (own : List Equation) → Unit {0} → IsTerm sig pool.old.trees term → Unit {0} }
+        ensures simplified { IfOk result (λ answer. (sig : Sig) (own : List Equation) → Unit {0} → IsTerm sig pool.old.trees term → IsSimplified sig own pool.old.trees pool.new.trees term answer) }
+        ensures reached { IfOk result (λ answer. (sig : Sig) (own : List Equation) → Unit {0} → IsTerm sig pool.old.trees term → Unit {0}) }
+        ensures same { (sig : Sig) (own : List Equation) (t : Term) → Unit {0} ↔ Unit {0} }
+    {
         Ok(term)
     }
 

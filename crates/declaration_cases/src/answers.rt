@@ -1,13 +1,18 @@
 //! What is said of the declarations of a text.
 
-ghost use Rattle.sort_table.specs.DeclarationTrees.{declarations_of_text};
-ghost use Rattle.sort_table.specs.UnknownSorts.{AllAreKnown};
-ghost use Rattle.sort_table.specs.SortCycles.{NoCycle};
+ghost use Rattle.std.specs.Str.{IsUtf8};
+ghost use Rattle.std.specs.List.{AllByRecursion};
+ghost use Rattle.mcrl2_syntax.specs.Declarations.{spec_of};
+ghost use Rattle.sort_table.specs.PlacedSections.{IsPlaced};
+ghost use Rattle.sort_table.specs.Identifiers.{identifiers_in};
 
+use crate::letters::letter;
+use crate::signature_texts::signature_text;
+use data_theory::Names;
 use mcrl2_lexer::lex;
 use mcrl2_parser::parse;
 use mcrl2_syntax::Spec;
-use sort_table::{first_duplicate, sort_cycle, unknown_sort};
+use sort_table::{SortFault, build};
 use std::alloc::{AllocError, Global};
 
 /// The answer to a line.
@@ -24,50 +29,39 @@ pub fn answer(alloc: Global, line: &str) -> Result<Vec<u8>, AllocError> {
     spec_text(alloc, &spec)
 }
 
-/// The first fault of a specification's declarations.
-fn spec_text(alloc: Global, spec: &Spec) -> Result<Vec<u8>, AllocError> {
-    match unknown_sort(alloc, spec) {
-        Ok(Some((number, name))) => {
-            let mut out = b"unknown sort ".to_vec(alloc)?;
-            out.extend_from_slice(name)?;
-            let place = format!(in alloc; " in declaration {number}")?;
-            out.extend_from_slice(place.as_bytes())?;
-            Ok(out)
-        }
-        Ok(None) => cycle_text(alloc, spec),
-        Err(_) => b"no memory".to_vec(alloc),
+/// The first fault of a specification's declarations, or their signature.
+fn spec_text(alloc: Global, spec: &Spec) -> Result<Vec<u8>, AllocError>
+    requires placed { IsPlaced (spec_of spec.now) }
+    requires text { AllByRecursion IsUtf8 (identifiers_in (spec_of spec.now)) }
+{
+    let mut names = Names::new(alloc);
+    match build(alloc, spec, &mut names) {
+        Ok(signature) => signature_text(alloc, &signature),
+        Err(fault) => fault_text(alloc, &names, &fault),
     }
 }
 
-/// The first cycle of a specification's sort definitions, where its sort names are declared.
-fn cycle_text(alloc: Global, spec: &Spec) -> Result<Vec<u8>, AllocError>
-    requires { AllAreKnown (declarations_of_text spec.now) }
-{
-    match sort_cycle(alloc, spec) {
-        Ok(Some(names)) => {
-            let mut out = b"sort cycle".to_vec(alloc)?;
-            for name in &names {
-                out.push(b' ')?;
-                out.extend_from_slice(name)?;
+/// A fault.
+fn fault_text(alloc: Global, names: &Names, fault: &SortFault) -> Result<Vec<u8>, AllocError> {
+    let mut out = String::new(alloc);
+    match fault {
+        SortFault::UnknownSort(number, name) => {
+            let name = letter(names, *name);
+            write!(out, "unknown sort {name} in declaration {number}")?;
+        }
+        SortFault::SortCycle(cycle) => {
+            out.push_str("sort cycle")?;
+            for name in cycle {
+                out.push(' ')?;
+                out.push_str(letter(names, *name))?;
             }
-            Ok(out)
         }
-        Ok(None) => duplicate_text(alloc, spec),
-        Err(_) => b"no memory".to_vec(alloc),
-    }
-}
-
-/// What a specification declares twice, where its sort names are declared and no definitions of sorts go round.
-fn duplicate_text(alloc: Global, spec: &Spec) -> Result<Vec<u8>, AllocError>
-    requires known { AllAreKnown (declarations_of_text spec.now) }
-    requires no_cycle { NoCycle (declarations_of_text spec.now) }
-{
-    match first_duplicate(alloc, spec) {
-        Ok(Some((first, second))) => {
-            let text = format!(in alloc; "duplicate {first} {second}")?;
-            text.as_bytes().to_vec(alloc)
+        SortFault::Duplicate(first, second) => write!(out, "duplicate {first} {second}")?,
+        SortFault::EmptySort(name) => {
+            out.push_str("empty sort ")?;
+            out.push_str(letter(names, *name))?;
         }
-        Ok(None) => b"no fault".to_vec(alloc),
-        Err(_) => b"no memory".to_vec(alloc),
+        SortFault::NoMemory => out.push_str("no memory")?,
     }
+    out.as_bytes().to_vec(alloc)
 }
