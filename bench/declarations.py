@@ -125,7 +125,7 @@ KINDS = {
     "structs, one name": recognisers,
     "constructors": constructors,
     "fields": fields,
-    "cons": lambda count: "sort S; " + each("cons", "c@: S -> S")(count),
+    "cons": lambda count: "sort S; cons d: S; " + each("cons", "c@: S -> S")(count),
     "cons, together": lambda count: "sort S; " + together("cons", "c", ": S")(count),
     "maps": each("map", "f@: Nat # Nat -> Nat"),
     "maps, together": together("map", "f", ": Nat # Nat -> Nat"),
