@@ -30,6 +30,7 @@ PROGRAM = """#!/bin/bash
 case "$1 ${2-}" in
 'linearise '*) cat -- "$2" 2> /dev/null || { echo 'read fault' >&2; exit 3; } ;;
 'stack '*) ulimit -S -s; ulimit -H -s ;;
+'refuse '*) head -n 1 -- "$2" >&2; exit 1 ;;
 'ask '*) read -r line; echo "got $line"; echo heard >&2; exit "$2" ;;
 'wait '*) echo "$$"; exec sleep 60 ;;
 *) printf '%s\\n' usage "$#" "$@" >&2; exit 2 ;;
@@ -125,13 +126,8 @@ def first_start(place):
     same((ran.returncode, ran.stdout, ran.stderr, place.calls()), (0, "act a;\n", "", []))
 
 
-def terminal(place, columns=40, longest=39):
-    """One line, written over, of which nothing is left but that the build is done."""
-    main, side = pty.openpty()
-    fcntl.ioctl(side, termios.TIOCSWINSZ, struct.pack("HHHH", 24, columns, 0, 0))
-    child = place.start("ask", "0", env={"RT_SLOW": "2.5"}, stdin=side, stdout=side, stderr=side)
-    os.close(side)
-    os.write(main, b"words\n")
+def read_all(main):
+    """What a terminal shows until it is closed."""
     said = b""
     while True:
         try:
@@ -141,8 +137,19 @@ def terminal(place, columns=40, longest=39):
         said += more
         if not more:
             break
+    return said.decode()
+
+
+def terminal(place, columns=40, longest=39):
+    """One line, written over, of which nothing is left but that the build is done."""
+    main, side = pty.openpty()
+    fcntl.ioctl(side, termios.TIOCSWINSZ, struct.pack("HHHH", 24, columns, 0, 0))
+    child = place.start("ask", "0", env={"RT_SLOW": "2.5"}, stdin=side, stdout=side, stderr=side)
+    os.close(side)
+    os.write(main, b"words\n")
+    said = read_all(main)
     same(child.wait(), 0)
-    said = said.decode().replace("words\r\n", "", 1)
+    said = said.replace("words\r\n", "", 1)
     rows = said.split("\r\n")
     shown = [it for it in rows[0].split("\r\x1b[K") if it]
     assert sum("crate 2 of 3, high" in it for it in shown) >= 3, shown
@@ -455,6 +462,28 @@ def unreadable(place):
     same((ran.returncode, ran.stderr), (0, ""))
 
 
+def refused(place):
+    """On a terminal a refusal has a further line, with line and column of a place; elsewhere it has none."""
+    place.example()
+    page = place.top / "docs" / "REFUSALS.md"
+    text = place.folder / "a text"
+    for line, said in (
+        ("refused 1 BadByte 25", f"line 2, column 5; see 1 in {page}"),
+        ("refused 3 OutOfProfile 0", f"line 1, column 1; see 3 in {page}"),
+        ("refused 2 NumeralTooLarge 36", f"line 3, column 2; see 2 in {page}"),
+        ("refused 6 NoInit", f"see 6 in {page}"),
+        ("refused 12 UnknownName 3 b", f"see 12 in {page}"),
+    ):
+        text.write_text(f"{line}\nabc $\n b\n")
+        ran = place.run("refuse", str(text))
+        same((ran.returncode, ran.stdout, ran.stderr), (1, "", f"{line}\n"))
+        main, side = pty.openpty()
+        child = place.start("refuse", str(text), stderr=side)
+        os.close(side)
+        same((child.communicate()[0], child.returncode), ("", 1))
+        same(read_all(main), f"{line}\r\nmcrl2lin: {said}\r\n")
+
+
 TRIES = [
     first_start,
     terminal,
@@ -478,6 +507,7 @@ TRIES = [
     waits_for_a_failure,
     answers,
     unreadable,
+    refused,
 ]
 
 
