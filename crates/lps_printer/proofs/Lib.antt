@@ -44,3 +44,7 @@ pub mod CodeNexts
 pub mod Truths
 pub mod CodeSummands
 pub mod CodeDefinitions
+mod AddingTokens
+mod CopiedTrees
+mod CopiedLines
+mod AddingSections

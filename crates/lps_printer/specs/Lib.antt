@@ -28,3 +28,7 @@ pub mod WordForms
 pub mod CodeWordings
 pub mod TextWordings
 pub mod CodeProcesses
+pub mod TreeTokens
+pub mod CopiedPlaces
+pub mod CopiedSections
+pub mod AddingSections

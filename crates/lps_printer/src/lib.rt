@@ -4,6 +4,11 @@
 //! bodies: the contract of each is a law of these definitions, so that the crates above can cite it.
 #![tactic(auto)]
 
+mod copied_data;
+mod copied_declarations;
+mod copied_parts;
+mod copied_sections;
+mod copied_tokens;
 mod definitions;
 mod forms;
 mod labels;
