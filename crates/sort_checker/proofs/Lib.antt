@@ -52,3 +52,8 @@ pub mod ParameterLists
 pub mod SortsByName
 pub mod FreeParts
 pub mod CallArguments
+pub mod TypedArguments
+pub mod TypedValues
+pub mod TypedSorts
+pub mod TypedParts
+pub mod WholeVocabularies

@@ -39,3 +39,5 @@ pub mod VariableScopes
 pub mod ParameterTables
 pub mod TextContexts
 pub mod FreeTrees
+pub mod TypedTrees
+pub mod FoundFaults
