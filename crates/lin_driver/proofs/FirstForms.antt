@@ -7,9 +7,9 @@ use Rattle.mcrl2_lexer.specs.declared.kind.Kind.TheVariants.{Identifier, Comma, 
 use Rattle.mcrl2_lexer.specs.declared.token.Token.{Token}
 use Rattle.mcrl2_lexer.specs.Lexing.{SpansRise}
 use Rattle.mcrl2_lexer.specs.Tokens.{IsToken, slice_of}
-use Rattle.process_terms.specs.Headline.{AreIdentifiers}
+use Rattle.lin_driver.specs.Headline.{AreIdentifiers}
 use Rattle.process_terms.specs.Names.{Name}
-use Rattle.process_terms.specs.Systems.{Summand, Equation, System, EachHasSummand}
+use Rattle.lin_driver.specs.Systems.{Summand, Equation, System, EachHasSummand}
 use Rattle.lin_driver.specs.FirstForm.{SpellsName, SpellsList, SpellsSummand, SpellsEquation, SpellsEquations, SpellsSystem}
 use Rattle.lin_driver.specs.FirstForm.SpellsName.{identifier}
 use Rattle.lin_driver.specs.FirstForm.SpellsList.{last_item, more_items}

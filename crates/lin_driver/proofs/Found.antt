@@ -4,9 +4,9 @@ use Rattle.std.specs.Prelude.{Contains, bytes_eq, find, position}
 use Rattle.std.specs.List.{position_or_len}
 use Rattle.std.proofs.lemmas.Bool.Decides.{nat_tests}
 use Rattle.process_terms.specs.Names.{Name}
-use Rattle.process_terms.specs.Systems.{Equation}
-use Rattle.process_terms.proofs.Lists.{In, in_contains, same_bytes}
-use Rattle.process_terms.proofs.Lists.In.{here, there}
+use Rattle.lin_driver.specs.Systems.{Equation}
+use Rattle.lin_driver.proofs.SystemLists.{In, in_contains, same_bytes}
+use Rattle.lin_driver.proofs.SystemLists.In.{here, there}
 use Rattle.lin_driver.specs.PlainSystems.{plain_equation}
 use Rattle.lin_driver.specs.declared.system.Equation as code
 use Rattle.lin_driver.proofs.Meets.{bytes_eq-sym}

@@ -5,8 +5,8 @@ use Rattle.std.proofs.lemmas.List.Folds.{list_any-append}
 use Rattle.std.proofs.lemmas.Fmt.{decimal_injective}
 use Rattle.process_terms.specs.Names.{Name}
 use Rattle.data_theory.specs.Fresh.{candidate}
-use Rattle.process_terms.specs.Fresh.{IsFresh}
-use Rattle.process_terms.proofs.Lists.{In, here, there, in_contains}
+use Rattle.lin_driver.specs.Fresh.{IsFresh}
+use Rattle.lin_driver.proofs.SystemLists.{In, here, there, in_contains}
 use Rattle.lin_driver.specs.Naming.{is_among}
 use Rattle.lin_driver.proofs.Mapped.{is_among-Contains}
 

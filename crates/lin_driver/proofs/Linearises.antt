@@ -4,13 +4,13 @@ use Rattle.std.specs.Prelude.{codes, IfOk}
 use Rattle.mcrl2_lexer.specs.declared.token.Token.{Token}
 use Rattle.mcrl2_lexer.specs.Lexing.{HasTokens}
 use Rattle.mcrl2_lexer.proofs.Single.{tokens_once}
-use Rattle.process_terms.proofs.Standing.{headline}
-use Rattle.process_terms.specs.Fresh.{IsFresh, taken_at_start}
-use Rattle.process_terms.specs.Headline.{StandsFor}
-use Rattle.process_terms.specs.Numbering.{IsNumbering}
-use Rattle.process_terms.specs.Printed.{printed}
+use Rattle.lin_driver.proofs.Standing.{headline}
+use Rattle.lin_driver.specs.Fresh.{IsFresh, taken_at_start}
+use Rattle.lin_driver.specs.Headline.{StandsFor}
+use Rattle.lin_driver.specs.Numbering.{IsNumbering}
+use Rattle.lin_driver.specs.Printed.{printed}
 use Rattle.process_terms.specs.Names.{Name}
-use Rattle.process_terms.specs.Systems.{System, IsWellNamed}
+use Rattle.lin_driver.specs.Systems.{System, IsWellNamed}
 use Rattle.lin_driver.specs.FirstForm.{HasFirstForm, IsFirstForm, SpellsSystem}
 use Rattle.lin_driver.specs.Linearised.{IsLinearisedTo}
 use Rattle.lin_driver.proofs.FirstForms.{AreTokens, acts_identifiers, each_has_summand}

@@ -3,7 +3,7 @@ use Rattle.std.proofs.Common.{◌≡◌, ◌≢◌, ◌⊎◌, inl, inr, ℕ, Li
 use Rattle.mcrl2_lexer.specs.declared.kind.Kind.{Kind}
 use Rattle.mcrl2_lexer.specs.declared.kind.Kind.TheVariants.{Init}
 use Rattle.mcrl2_lexer.specs.declared.token.Token.{Token}
-use Rattle.process_terms.specs.Systems.{Equation}
+use Rattle.lin_driver.specs.Systems.{Equation}
 use Rattle.lin_driver.specs.FirstForm.{SpellsList, SpellsEquation, SpellsEquations}
 use Rattle.lin_driver.specs.FirstForm.SpellsName.{identifier}
 use Rattle.lin_driver.specs.FirstForm.SpellsEquation.{equation}

@@ -5,10 +5,10 @@ use Rattle.std.proofs.lemmas.List.Folds.{list_any-append}
 use Rattle.std.proofs.lemmas.Slice.Eq.{bytes_eq-Decides}
 use Rattle.std.proofs.lemmas.Grind.{common_steps}
 use Rattle.process_terms.specs.Names.{Name}
-use Rattle.process_terms.specs.Numbering.{first_occurrences}
-use Rattle.process_terms.proofs.Lists.{Apart, In, in_append, in_filter, bytes_tell}
-use Rattle.process_terms.proofs.Lists.Apart.{no_name, one_more}
-use Rattle.process_terms.proofs.Lists.In.{here, there}
+use Rattle.lin_driver.specs.Numbering.{first_occurrences}
+use Rattle.lin_driver.proofs.SystemLists.{Apart, In, in_append, in_filter, bytes_tell}
+use Rattle.lin_driver.proofs.SystemLists.Apart.{no_name, one_more}
+use Rattle.lin_driver.proofs.SystemLists.In.{here, there}
 use Rattle.lin_driver.specs.Meeting.{met_name, met_with}
 use Rattle.lin_driver.specs.Naming.{is_among}
 

@@ -9,12 +9,12 @@ use Rattle.std.proofs.lemmas.List.Elements.{filter_map-append}
 use Rattle.std.proofs.lemmas.List.{get_or_append_left, map-append, take-append-le, take_all}
 use Rattle.std.proofs.lemmas.List.Sums.{fold-append}
 use Rattle.process_terms.specs.Names.{Name}
-use Rattle.process_terms.specs.Systems.{Summand, Equation, System, IsWellNamed, equation_names}
-use Rattle.process_terms.specs.Numbering.{IsNumbering, calls_of, summands_of}
-use Rattle.process_terms.proofs.Lists.{Apart, In, contains_in, in_contains}
-use Rattle.process_terms.proofs.Lists.Apart.{no_name, one_more}
-use Rattle.process_terms.proofs.Lists.In.{here, there}
-use Rattle.process_terms.proofs.Numbered.{has_summand}
+use Rattle.lin_driver.specs.Systems.{Summand, Equation, System, IsWellNamed, equation_names}
+use Rattle.lin_driver.specs.Numbering.{IsNumbering, calls_of, summands_of}
+use Rattle.lin_driver.proofs.SystemLists.{Apart, In, contains_in, in_contains}
+use Rattle.lin_driver.proofs.SystemLists.Apart.{no_name, one_more}
+use Rattle.lin_driver.proofs.SystemLists.In.{here, there}
+use Rattle.lin_driver.proofs.Numbered.{has_summand}
 use Rattle.lin_driver.specs.Meeting.{met_name, met_with}
 use Rattle.lin_driver.specs.Naming.{is_among}
 use Rattle.lin_driver.specs.PlainSystems.{plain_summand}

@@ -4,8 +4,8 @@ use Rattle.std.specs.Prelude.{find, option_and_then}
 use Rattle.std.specs.List.{position_from, position_or_len}
 use Rattle.std.proofs.lemmas.Iterator.Adapters.{position_from-zero}
 use Rattle.process_terms.specs.Names.{Name}
-use Rattle.process_terms.specs.Systems.{Equation, System, equation_names}
-use Rattle.process_terms.specs.Numbering.{number_of, equation_of, summands_in, summands_of}
+use Rattle.lin_driver.specs.Systems.{Equation, System, equation_names}
+use Rattle.lin_driver.specs.Numbering.{number_of, equation_of, summands_in, summands_of}
 use Rattle.std.proofs.lemmas.List.{length-map}
 use Rattle.lin_driver.proofs.Found.{place_is, find-position}
 use Rattle.lin_driver.proofs.Meets.{bytes_eq-sym}

@@ -4,7 +4,7 @@ use Rattle.std.proofs.lemmas.List.{map-append}
 use Rattle.mcrl2_lexer.specs.declared.kind.Kind.TheVariants.{Comma, Semicolon, Plus, Dot}
 use Rattle.mcrl2_lexer.specs.declared.token.Token.{Token}
 use Rattle.process_terms.specs.Names.{Name}
-use Rattle.process_terms.specs.Systems.{Summand}
+use Rattle.lin_driver.specs.Systems.{Summand}
 use Rattle.lin_driver.specs.FirstForm.{SpellsName, SpellsSummand}
 use Rattle.lin_driver.specs.FirstForm.SpellsSummand.{action_alone, action_and_call}
 use Rattle.lin_driver.proofs.Lists.{IsOnlyItem}

@@ -3,7 +3,7 @@ use Rattle.std.proofs.Common.{◌≡◌, ℕ, List, [], ◌∷◌, sym, ap, ◌�
 use Rattle.mcrl2_lexer.specs.declared.kind.Kind.TheVariants.{Comma, Semicolon, Plus, Equals, Proc}
 use Rattle.mcrl2_lexer.specs.declared.token.Token.{Token}
 use Rattle.process_terms.specs.Names.{Name}
-use Rattle.process_terms.specs.Systems.{Summand, Equation, System}
+use Rattle.lin_driver.specs.Systems.{Summand, Equation, System}
 use Rattle.lin_driver.specs.FirstForm.{SpellsName, SpellsList, SpellsSummand, SpellsEquation, SpellsEquations, SpellsSystem}
 use Rattle.lin_driver.specs.FirstForm.SpellsEquation.{equation}
 use Rattle.lin_driver.specs.FirstForm.SpellsSystem.{system}

@@ -3,10 +3,10 @@ use Rattle.std.proofs.Common.{Bor, ◌≡◌, ℕ, ◌-◌, ◌≤◌, Bool, tru
 use Rattle.std.proofs.lemmas.List.{take_all}
 use Rattle.std.proofs.lemmas.List.Folds.{flat_map-map}
 use Rattle.process_terms.specs.Names.{Name}
-use Rattle.process_terms.specs.Systems.{System}
-use Rattle.process_terms.specs.LinearProcess as linear
-use Rattle.process_terms.specs.LinearProcess.{with_control, linear_summands}
-use Rattle.process_terms.specs.Printed.{listed, parameter_text, summand_text, summands_text, start_text, printed}
+use Rattle.lin_driver.specs.Systems.{System}
+use Rattle.lin_driver.specs.LinearProcess as linear
+use Rattle.lin_driver.specs.LinearProcess.{with_control, linear_summands}
+use Rattle.lin_driver.specs.Printed.{listed, parameter_text, summand_text, summands_text, start_text, printed}
 use Rattle.lin_driver.specs.declared.printing.LinearSummand.{LinearSummand}
 use Rattle.lin_driver.specs.LinearSummands.{summand_by_order, conditional_summand}
 

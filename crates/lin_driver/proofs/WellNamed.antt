@@ -11,10 +11,10 @@ use Rattle.std.proofs.lemmas.Grind.{common_steps}
 use Rattle.std.proofs.lemmas.List.Folds.{list_all-map}
 use Rattle.std.proofs.lemmas.List.Quantifiers.{all_pairs_push}
 use Rattle.process_terms.specs.Names.{Name}
-use Rattle.process_terms.specs.Systems.{Summand, Equation, System, IsWellNamed, equation_names}
-use Rattle.process_terms.proofs.Lists.Apart.{one_more}
-use Rattle.process_terms.proofs.Lists.In.{here, there}
-use Rattle.process_terms.proofs.Lists.{Apart, In, apart, apart_append, apart_back, apart_front, contains_in, in_back, in_contains, pairs_apart}
+use Rattle.lin_driver.specs.Systems.{Summand, Equation, System, IsWellNamed, equation_names}
+use Rattle.lin_driver.proofs.SystemLists.Apart.{one_more}
+use Rattle.lin_driver.proofs.SystemLists.In.{here, there}
+use Rattle.lin_driver.proofs.SystemLists.{Apart, In, apart, apart_append, apart_back, apart_front, contains_in, in_back, in_contains, pairs_apart}
 use Rattle.lin_driver.specs.Naming.{AreDistinct, are_used, is_among, is_none_or_among, uses_names}
 use Rattle.lin_driver.specs.PlainSystems as plain
 use Rattle.lin_driver.specs.declared.system.Equation as code

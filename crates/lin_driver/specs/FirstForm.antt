@@ -6,7 +6,7 @@ use Rattle.mcrl2_lexer.specs.declared.token.Token.{Token}
 use Rattle.mcrl2_lexer.specs.Tokens.{slice_of}
 use Rattle.mcrl2_lexer.specs.Lexing.{HasTokens}
 use Rattle.process_terms.specs.Names.{Name}
-use Rattle.process_terms.specs.Systems.{Summand, Equation, System, IsWellNamed}
+use Rattle.lin_driver.specs.Systems.{Summand, Equation, System, IsWellNamed}
 
 -- Each relation says what a front of the tokens spells, and which tokens stand behind that front.
 

@@ -1,7 +1,7 @@
 -- What the code's linear summands say: those of the definitions.
 use Rattle.std.specs.Prelude.{List, Some}
 use Rattle.process_terms.specs.Names.{Name}
-use Rattle.process_terms.specs.LinearProcess as linear
+use Rattle.lin_driver.specs.LinearProcess as linear
 use Rattle.lin_driver.specs.declared.printing.LinearSummand.{LinearSummand}
 
 -- a summand under the condition that the parameter has its number

@@ -1,10 +1,10 @@
 -- The linear process of a text of the first form, as it is printed.
 use Rattle.std.specs.Prelude.{◌≡◌, ℕ, List, ◌∷◌, codes}
 use Rattle.process_terms.specs.Names.{Name}
-use Rattle.process_terms.specs.Systems.{System}
-use Rattle.process_terms.specs.Numbering.{IsNumbering}
-use Rattle.process_terms.specs.Fresh.{IsFresh, taken_at_start}
-use Rattle.process_terms.specs.Printed.{printed}
+use Rattle.lin_driver.specs.Systems.{System}
+use Rattle.lin_driver.specs.Numbering.{IsNumbering}
+use Rattle.lin_driver.specs.Fresh.{IsFresh, taken_at_start}
+use Rattle.lin_driver.specs.Printed.{printed}
 use Rattle.lin_driver.specs.FirstForm.{IsFirstForm}
 
 -- The equations of the text's system are numbered in the order in which they are met. The process has the first free name

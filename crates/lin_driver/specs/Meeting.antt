@@ -1,7 +1,7 @@
 -- Names that are met one after the other.
 use Rattle.std.specs.Prelude.{List, [], ◌∷◌, ◌++◌, fold, filter_map, if◌then◌else◌}
 use Rattle.process_terms.specs.Names.{Name}
-use Rattle.process_terms.specs.Systems.{Summand, Equation}
+use Rattle.lin_driver.specs.Systems.{Summand, Equation}
 use Rattle.lin_driver.specs.Naming.{is_among}
 
 -- the names met, with one more where it is new

@@ -2,7 +2,7 @@
 use Rattle.std.specs.Prelude.{◌≢◌, ◌&&◌, Bool, true, not, List, AllPairs, Option, None, Some, bytes_eq}
 use Rattle.std.specs.List.{list_all, list_any}
 use Rattle.process_terms.specs.Names.{Name}
-use Rattle.process_terms.specs.Systems.{Summand, Equation, System, equation_names}
+use Rattle.lin_driver.specs.Systems.{Summand, Equation, System, equation_names}
 
 -- no two of the names are equal
 abbrev pub AreDistinct : List Name → Type 0

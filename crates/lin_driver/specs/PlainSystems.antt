@@ -1,7 +1,7 @@
 -- What the code's systems say: those of the definitions.
 use Rattle.std.specs.Prelude.{map, option_map}
 use Rattle.process_terms.specs.Names.{Name}
-use Rattle.process_terms.specs.Systems as plain
+use Rattle.lin_driver.specs.Systems as plain
 use Rattle.lin_driver.specs.declared.system.Summand.{Summand}
 use Rattle.lin_driver.specs.declared.system.Equation.{Equation}
 use Rattle.lin_driver.specs.declared.system.System.{System}

@@ -1,10 +1,11 @@
 //! Why there is no linear process for a text.
 ghost use Rattle.std.specs.Prelude.{◌≡◌};
-ghost use Rattle.lin_driver.specs.Faults.{fault_of_lex, fault_of_parse, fault_of_plain, fault_of_sort};
+ghost use Rattle.lin_driver.specs.Faults.{fault_of_lex, fault_of_parse, fault_of_plain, fault_of_sort, fault_of_type};
 ghost use Rattle.lin_driver.specs.declared.fault.PlainFault.TheVariants.{NoMemory};
 
 use mcrl2_lexer::LexFault;
 use mcrl2_parser::ParseFault;
+use sort_checker::TypeFault;
 use sort_table::SortFault;
 use std::alloc::{AllocError, AllocFailed};
 
@@ -17,6 +18,8 @@ pub enum LinFault {
     Parse(ParseFault),
     /// What the declarations declare has a fault. Its names stand in the table of texts that was handed in.
     Sort(SortFault),
+    /// The text is ill typed. The name stands in the table of texts that was handed in.
+    Type(TypeFault),
     /// The text hasn't the first form.
     NotBuilt,
     /// No memory was left.
@@ -52,6 +55,17 @@ impl From<SortFault> for LinFault {
         match fault {
             SortFault::NoMemory => LinFault::NoMemory,
             fault => LinFault::Sort(fault),
+        }
+    }
+}
+
+impl From<TypeFault> for LinFault {
+    ghost from_gives = { λ typed fault. fault ≡ fault_of_type typed };
+
+    fn from(fault: TypeFault) -> Self {
+        match fault {
+            TypeFault::NoMemory => LinFault::NoMemory,
+            fault => LinFault::Type(fault),
         }
     }
 }

@@ -4,7 +4,7 @@ ghost use Rattle.std.specs.List.{list_any};
 ghost use Rattle.std.specs.String.{string_bytes};
 ghost use Rattle.data_theory.specs.FirstNames.{reserved_words};
 ghost use Rattle.data_theory.specs.Fresh.{candidate};
-ghost use Rattle.process_terms.specs.Fresh.{IsFresh, built_in_names, taken_at_start};
+ghost use Rattle.lin_driver.specs.Fresh.{IsFresh, built_in_names, taken_at_start};
 ghost use Rattle.lin_driver.specs.Naming.{is_among};
 
 use crate::fault::PlainFault;

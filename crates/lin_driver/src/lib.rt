@@ -1,8 +1,10 @@
 //! From the bytes of a specification to the bytes of its linear process.
 #![tactic(auto)]
 
+pub mod examples;
 mod fault;
 mod fresh;
+pub mod laws;
 mod linearising;
 mod name_set;
 mod naming;

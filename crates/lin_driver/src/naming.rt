@@ -2,8 +2,8 @@
 ghost use Rattle.std.specs.Prelude.{◌≡◌, ◌&&◌, List, ℕ, map, not, IfOk, IsErrOf};
 ghost use Rattle.std.specs.List.{list_all};
 ghost use Rattle.process_terms.specs.Names.{Name};
-ghost use Rattle.process_terms.specs.Systems.{IsWellNamed, equation_names};
-ghost use Rattle.process_terms.specs.Systems as plain;
+ghost use Rattle.lin_driver.specs.Systems.{IsWellNamed, equation_names};
+ghost use Rattle.lin_driver.specs.Systems as plain;
 ghost use Rattle.lin_driver.specs.Naming.{AreDistinct, is_among, uses_names};
 ghost use Rattle.lin_driver.specs.PlainSystems.{plain_summand, plain_equation, plain_system};
 

@@ -1,7 +1,7 @@
 //! The order in which the equations of a system are met.
 ghost use Rattle.std.specs.Prelude.{◌≡◌, ◌<◌, ◌^◌, length, Contains, IfErr, IfOk, OnOk, Some};
-ghost use Rattle.process_terms.specs.Numbering.{IsNumbering, equation_of};
-ghost use Rattle.process_terms.specs.Systems.{IsWellNamed, equation_names};
+ghost use Rattle.lin_driver.specs.Numbering.{IsNumbering, equation_of};
+ghost use Rattle.lin_driver.specs.Systems.{IsWellNamed, equation_names};
 ghost use Rattle.lin_driver.specs.Meeting.{calls_in, met_with};
 ghost use Rattle.lin_driver.specs.PlainSystems.{plain_equation, plain_system};
 

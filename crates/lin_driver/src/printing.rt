@@ -1,12 +1,12 @@
 //! The bytes of a linear process.
 ghost use Rattle.std.specs.Prelude.{◌≡◌, ◌^◌, ◌++◌, ◌<◌, map, length, codes, decimal, flat_map, Some, IfOk, IfErr, OnOk, option_map, option_and_then};
 ghost use Rattle.std.specs.Option.{option_copied};
-ghost use Rattle.process_terms.specs.Systems.{equation_names};
-ghost use Rattle.process_terms.specs.Numbering as plain;
-ghost use Rattle.process_terms.specs.Numbering.{number_of};
-ghost use Rattle.process_terms.specs.LinearProcess as linear;
-ghost use Rattle.process_terms.specs.LinearProcess.{with_control, linear_summands};
-ghost use Rattle.process_terms.specs.Printed.{listed, parameter_text, condition_text, next_text, summand_text, summands_text, start_text, printed};
+ghost use Rattle.lin_driver.specs.Systems.{equation_names};
+ghost use Rattle.lin_driver.specs.Numbering as plain;
+ghost use Rattle.lin_driver.specs.Numbering.{number_of};
+ghost use Rattle.lin_driver.specs.LinearProcess as linear;
+ghost use Rattle.lin_driver.specs.LinearProcess.{with_control, linear_summands};
+ghost use Rattle.lin_driver.specs.Printed.{listed, parameter_text, condition_text, next_text, summand_text, summands_text, start_text, printed};
 ghost use Rattle.lin_driver.specs.PlainSystems.{plain_system, plain_summand};
 ghost use Rattle.lin_driver.specs.LinearSummands.{summand_by_order, conditional_summand};
 

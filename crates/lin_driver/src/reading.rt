@@ -3,7 +3,7 @@ ghost use Rattle.std.specs.Prelude.{◌≡◌, ◌≢◌, ◌<◌, ◌∷◌, []
 ghost use Rattle.mcrl2_lexer.specs.declared.kind.Kind.TheVariants.{Comma, Semicolon, Dot, Plus};
 ghost use Rattle.mcrl2_lexer.specs.declared.token.Token.{Token};
 ghost use Rattle.process_terms.specs.Names.{Name};
-ghost use Rattle.process_terms.specs.Systems as plain;
+ghost use Rattle.lin_driver.specs.Systems as plain;
 ghost use Rattle.lin_driver.specs.FirstForm.{SpellsName, SpellsList, SpellsSummand, SpellsEquation, SpellsEquations, SpellsSystem};
 ghost use Rattle.lin_driver.specs.PlainSystems.{plain_summand, plain_equation, plain_system};
 ghost use Rattle.lin_driver.specs.Spans.{AreWithin};

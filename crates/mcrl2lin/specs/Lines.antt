@@ -8,6 +8,8 @@ use Rattle.mcrl2_parser.specs.declared.faults.ParseFault.{ParseFault}
 use Rattle.mcrl2_parser.specs.declared.faults.ParseFault.TheVariants as parse
 use Rattle.sort_table.specs.declared.building.SortFault.{SortFault}
 use Rattle.sort_table.specs.declared.building.SortFault.TheVariants as sort
+use Rattle.sort_checker.specs.declared.elaborating.TypeFault.{TypeFault}
+use Rattle.sort_checker.specs.declared.elaborating.TypeFault.TheVariants as type
 use Rattle.lin_driver.specs.declared.fault.LinFault.{LinFault}
 use Rattle.lin_driver.specs.declared.fault.LinFault.TheVariants as lin
 use Rattle.mcrl2lin.specs.declared.stop.Stop.{Stop}
@@ -51,11 +53,25 @@ sort_line texts (sort.Duplicate first second) = codes "refused 10 Duplicate" ++ 
 sort_line texts (sort.EmptySort name) = codes "refused 11 EmptySort" ++ spaced (text_of texts name) ++ codes "\n"
 sort_line texts sort.NoMemory = no_memory_line
 
+-- a refusal with a number and a name
+abbrev pub named : List ℕ → ℕ → List ℕ → List ℕ
+named start number name = start ++ spaced (decimal number) ++ spaced name ++ codes "\n"
+
+abbrev pub type_line : List (List ℕ) → TypeFault → List ℕ
+type_line texts (type.UnknownName number name) = named (codes "refused 12 UnknownName") number (text_of texts name)
+type_line texts (type.Untyped number) = numbered (codes "refused 13 Untyped ") number
+type_line texts (type.FreeVariable number name) = named (codes "refused 14 FreeVariable") number (text_of texts name)
+type_line texts (type.VariableLeft number) = numbered (codes "refused 15 VariableLeft ") number
+type_line texts (type.CommShape number) = numbered (codes "refused 16 CommShape ") number
+type_line texts (type.RenameTwice number name) = named (codes "refused 17 RenameTwice") number (text_of texts name)
+type_line texts type.NoMemory = no_memory_line
+
 -- the line that refuses a text with that fault, whose names stand among these texts
 abbrev pub refusal_line : List (List ℕ) → LinFault → List ℕ
 refusal_line texts (lin.Lex fault) = lex_line fault
 refusal_line texts (lin.Parse fault) = parse_line fault
 refusal_line texts (lin.Sort fault) = sort_line texts fault
+refusal_line texts (lin.Type fault) = type_line texts fault
 refusal_line texts lin.NotBuilt = codes "refused 90 NotBuilt\n"
 refusal_line texts lin.NoMemory = no_memory_line
 
@@ -70,8 +86,15 @@ names_of_sort_fault (sort.SortCycle names) = names.items
 names_of_sort_fault (sort.EmptySort name) = name ∷ []
 names_of_sort_fault _ = []
 
+abbrev pub names_of_type_fault : TypeFault → List NameId
+names_of_type_fault (type.UnknownName number name) = name ∷ []
+names_of_type_fault (type.FreeVariable number name) = name ∷ []
+names_of_type_fault (type.RenameTwice number name) = name ∷ []
+names_of_type_fault _ = []
+
 abbrev pub names_of_fault : LinFault → List NameId
 names_of_fault (lin.Sort fault) = names_of_sort_fault fault
+names_of_fault (lin.Type fault) = names_of_type_fault fault
 names_of_fault _ = []
 
 abbrev pub line_of : Stop → List ℕ

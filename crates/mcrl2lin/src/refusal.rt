@@ -2,13 +2,14 @@
 ghost use Rattle.std.specs.Prelude.{◌≡◌, ◌<◌, ◌++◌, codes, decimal, IfOk, OnOk, length, string_bytes};
 ghost use Rattle.std.specs.List.{flat_map};
 ghost use Rattle.data_theory.specs.declared.ids.NameId.{NameId};
-ghost use Rattle.mcrl2lin.specs.Lines.{AreNamed, lex_line, names_of_fault, names_of_sort_fault, parse_line, refusal_line, sort_line, spaced, text_of};
+ghost use Rattle.mcrl2lin.specs.Lines.{AreNamed, lex_line, named, names_of_fault, names_of_sort_fault, names_of_type_fault, parse_line, refusal_line, sort_line, spaced, text_of, type_line};
 
 use data_theory::{NameId, Names};
 use itoa::Buffer;
 use lin_driver::LinFault;
 use mcrl2_lexer::LexFault;
 use mcrl2_parser::ParseFault;
+use sort_checker::TypeFault;
 use sort_table::SortFault;
 use std::alloc::{AllocError, Global};
 
@@ -21,6 +22,7 @@ pub fn refusal(alloc: Global, names: &Names, fault: &LinFault) -> Result<Vec<u8>
         LinFault::Lex(fault) => lex_refusal(alloc, *fault),
         LinFault::Parse(fault) => parse_refusal(alloc, *fault),
         LinFault::Sort(fault) => sort_refusal(alloc, names, fault),
+        LinFault::Type(fault) => type_refusal(alloc, names, fault),
         LinFault::NotBuilt => Vec::from_slice(alloc, b"refused 90 NotBuilt\n"),
         LinFault::NoMemory => Vec::from_slice(alloc, b"no memory\n"),
     }
@@ -75,6 +77,45 @@ fn sort_refusal(alloc: Global, names: &Names, fault: &SortFault) -> Result<Vec<u
         }
         SortFault::NoMemory => line.extend_from_slice(b"no memory")?,
     }
+    line.extend_from_slice(b"\n")?;
+    Ok(line)
+}
+
+fn type_refusal(alloc: Global, names: &Names, fault: &TypeFault) -> Result<Vec<u8>, AllocError>
+    requires { AreNamed names.now (names_of_type_fault fault.now) }
+    ensures { IfOk result (λ line. line.items ≡ type_line names.now fault.now) }
+{
+    match fault {
+        TypeFault::UnknownName(number, name) => {
+            named(alloc, b"refused 12 UnknownName", *number, names, *name)
+        }
+        TypeFault::Untyped(number) => numbered(alloc, b"refused 13 Untyped ", *number),
+        TypeFault::FreeVariable(number, name) => {
+            named(alloc, b"refused 14 FreeVariable", *number, names, *name)
+        }
+        TypeFault::VariableLeft(number) => numbered(alloc, b"refused 15 VariableLeft ", *number),
+        TypeFault::CommShape(number) => numbered(alloc, b"refused 16 CommShape ", *number),
+        TypeFault::RenameTwice(number, name) => {
+            named(alloc, b"refused 17 RenameTwice", *number, names, *name)
+        }
+        TypeFault::NoMemory => Vec::from_slice(alloc, b"no memory\n"),
+    }
+}
+
+/// A line with a number and a name at its end.
+fn named(
+    alloc: Global,
+    start: &[u8],
+    number: usize,
+    names: &Names,
+    name: NameId,
+) -> Result<Vec<u8>, AllocError>
+    requires { name.0 < length names.now }
+    ensures { IfOk result (λ line. line.items ≡ named start.now number (text_of names.now name)) }
+{
+    let mut line = Vec::from_slice(alloc, start)?;
+    push_number(&mut line, number)?;
+    push_name(&mut line, names, name)?;
     line.extend_from_slice(b"\n")?;
     Ok(line)
 }

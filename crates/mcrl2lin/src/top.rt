@@ -2,8 +2,8 @@
 ghost use Rattle.std.specs.Prelude.{◌≡◌, ◌≢◌, ◌≤◌, ◌<◌, ◌⊎◌, ◌↔◌, ◌++◌, List, ℕ, Some, None, IfErr, IfOk, IfSome, IsErrOf, length, map, string_bytes};
 ghost use Rattle.mcrl2_text.specs.Bytes.{TakesPrefix};
 ghost use Rattle.mcrl2_text.specs.Faults.{Rose};
-ghost use Rattle.process_terms.specs.Headline.{StandsFor};
-ghost use Rattle.process_terms.specs.Systems.{System};
+ghost use Rattle.lin_driver.specs.Headline.{StandsFor};
+ghost use Rattle.lin_driver.specs.Systems.{System};
 ghost use Rattle.lin_driver.specs.FirstForm.{HasFirstForm, IsFirstForm};
 ghost use Rattle.lin_driver.specs.Linearised.{IsLinearisedTo};
 ghost use Rattle.mcrl2lin.specs.Commands.{file_asked, text_asked};

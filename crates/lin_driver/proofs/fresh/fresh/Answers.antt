@@ -1,5 +1,5 @@
 use Rattle.std.proofs.Common.{◌∙◌, ◌++◌, ap, map, arith, List, ℕ, Bor, ◌≤◌, ◌^◌}
-use Rattle.process_terms.specs.Fresh.{taken_at_start}
+use Rattle.lin_driver.specs.Fresh.{taken_at_start}
 use Rattle.lin_driver.specs.Naming.{is_among}
 use Rattle.lin_driver.proofs.FreeNames.{first_free, one_more_taken, fewer_left, next_number}
 use Rattle.lin_driver.proofs.fresh.fresh.Goals as goal

@@ -1,5 +1,5 @@
 use Rattle.std.proofs.Common.{◌-◌, ◌++◌, map, length}
-use Rattle.process_terms.specs.Fresh.{taken_at_start}
+use Rattle.lin_driver.specs.Fresh.{taken_at_start}
 use Rattle.lin_driver.proofs.FreeNames.{AreTakenBelow}
 use Rattle.lin_driver.proofs.fresh.fresh.Given as goal
 

@@ -1,5 +1,5 @@
 use Rattle.std.proofs.Common.{◌∙◌, sym, map, bytes_eq, List, ℕ, Bor}
-use Rattle.process_terms.specs.Fresh.{taken_at_start}
+use Rattle.lin_driver.specs.Fresh.{taken_at_start}
 use Rattle.lin_driver.proofs.Mapped.{list_any-map}
 use Rattle.lin_driver.proofs.FreeNames.{among_front, among_back}
 use Rattle.lin_driver.proofs.fresh.is_taken.Goals as goal

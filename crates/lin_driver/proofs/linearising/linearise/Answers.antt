@@ -1,11 +1,11 @@
 use Rattle.std.proofs.Common.{arith, ◌≡◌, ◌∷◌, List, length, sym, subst, ◌∙◌, string_bytes}
 use Rattle.std.proofs.lemmas.Grind.{common_steps}
 use Rattle.std.specs.Prelude.{codes}
-use Rattle.process_terms.specs.Fresh.{IsFresh, taken_at_start}
-use Rattle.process_terms.specs.Headline.{StandsFor}
-use Rattle.process_terms.specs.Printed.{printed}
+use Rattle.lin_driver.specs.Fresh.{IsFresh, taken_at_start}
+use Rattle.lin_driver.specs.Headline.{StandsFor}
+use Rattle.lin_driver.specs.Printed.{printed}
 use Rattle.process_terms.specs.Names.{Name}
-use Rattle.process_terms.specs.Systems.{System}
+use Rattle.lin_driver.specs.Systems.{System}
 use Rattle.lin_driver.specs.FirstForm.{IsFirstForm}
 use Rattle.lin_driver.specs.Linearised.{IsLinearisedTo}
 use Rattle.lin_driver.specs.PlainSystems.{plain_system}

@@ -1,6 +1,6 @@
 use Rattle.std.proofs.Common.{◌≡◌, ◌∙◌, sym, subst, map, true, false, rules, arith}
 use Rattle.std.proofs.lemmas.Grind.{common_steps}
-use Rattle.process_terms.specs.Systems.{equation_names}
+use Rattle.lin_driver.specs.Systems.{equation_names}
 use Rattle.lin_driver.specs.Naming.{AreDistinct}
 use Rattle.lin_driver.specs.PlainSystems.{plain_system}
 use Rattle.lin_driver.specs.declared.system.Equation.{Equation}

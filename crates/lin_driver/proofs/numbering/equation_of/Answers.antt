@@ -1,5 +1,5 @@
 use Rattle.std.proofs.Common.{rules, ◌≡◌, Some, get_or, ap, sym, ◌∙◌, position, bytes_eq}
-use Rattle.process_terms.specs.Systems.{equation_names}
+use Rattle.lin_driver.specs.Systems.{equation_names}
 use Rattle.lin_driver.specs.PlainSystems.{plain_equation, plain_system}
 use Rattle.lin_driver.specs.declared.system.Equation.{Equation}
 use Rattle.lin_driver.proofs.Found.{equation_at, place_found}

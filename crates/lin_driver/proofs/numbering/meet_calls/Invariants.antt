@@ -1,6 +1,6 @@
 use Rattle.std.proofs.Common.{◌≡◌, map, take}
 use Rattle.std.specs.Prelude.{filter_map}
-use Rattle.process_terms.specs.Systems.{Summand}
+use Rattle.lin_driver.specs.Systems.{Summand}
 use Rattle.lin_driver.specs.Meeting.{met_with}
 use Rattle.lin_driver.specs.PlainSystems.{plain_summand}
 use Rattle.lin_driver.proofs.numbering.meet_calls.Given as goal

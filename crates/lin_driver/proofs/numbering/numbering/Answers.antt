@@ -2,8 +2,8 @@ use Rattle.std.proofs.Common.{rules, arith, ◌≡◌, ◌<◌, ◌≤◌, lengt
 use Rattle.std.proofs.lemmas.Grind.{common_steps}
 use Rattle.std.specs.Prelude.{filter_map}
 use Rattle.process_terms.specs.Names.{Name}
-use Rattle.process_terms.specs.Systems.{Summand, equation_names}
-use Rattle.process_terms.specs.Numbering.{calls_of, summands_in}
+use Rattle.lin_driver.specs.Systems.{Summand, equation_names}
+use Rattle.lin_driver.specs.Numbering.{calls_of, summands_in}
 use Rattle.lin_driver.specs.Meeting.{met_with}
 use Rattle.lin_driver.specs.PlainSystems.{plain_equation, plain_system}
 use Rattle.lin_driver.proofs.MetOrder.{MetSoFar, met_all, met_bounded, met_more, met_start, name_among}

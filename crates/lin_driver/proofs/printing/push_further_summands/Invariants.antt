@@ -1,6 +1,6 @@
 use Rattle.std.proofs.Common.{◌≡◌, ◌++◌, take, flat_map, codes}
 use Rattle.std.specs.Option.{option_copied}
-use Rattle.process_terms.specs.Printed.{summand_text}
+use Rattle.lin_driver.specs.Printed.{summand_text}
 use Rattle.lin_driver.specs.LinearSummands.{conditional_summand}
 use Rattle.lin_driver.proofs.printing.push_further_summands.Given as goal
 

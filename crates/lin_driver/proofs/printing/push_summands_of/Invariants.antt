@@ -1,5 +1,5 @@
 use Rattle.std.proofs.Common.{◌≡◌, ◌++◌, take, map}
-use Rattle.process_terms.specs.LinearProcess as linear
+use Rattle.lin_driver.specs.LinearProcess as linear
 use Rattle.lin_driver.specs.PlainSystems.{plain_summand}
 use Rattle.lin_driver.specs.LinearSummands.{summand_by_order}
 use Rattle.lin_driver.proofs.printing.push_summands_of.Given as goal

@@ -1,5 +1,5 @@
 use Rattle.std.proofs.Common.{◌≡◌, ◌+◌, ◌++◌, drop, map}
-use Rattle.process_terms.specs.LinearProcess.{linear_summands}
+use Rattle.lin_driver.specs.LinearProcess.{linear_summands}
 use Rattle.lin_driver.specs.PlainSystems.{plain_system}
 use Rattle.lin_driver.specs.LinearSummands.{summand_by_order}
 use Rattle.lin_driver.proofs.printing.summands_in_order.Given as goal

@@ -1,5 +1,5 @@
 use Rattle.std.proofs.Common.{◌≡◌, ◌∙◌, sym, ap, map, Some, position, bytes_eq}
-use Rattle.process_terms.specs.Systems.{equation_names}
+use Rattle.lin_driver.specs.Systems.{equation_names}
 use Rattle.lin_driver.specs.PlainSystems.{plain_summand, plain_system}
 use Rattle.lin_driver.proofs.Numbers.{summands_of-at, summands_of-none}
 use Rattle.lin_driver.proofs.printing.summands_of.Goals as goal

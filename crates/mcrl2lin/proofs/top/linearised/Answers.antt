@@ -1,6 +1,6 @@
 use Rattle.std.proofs.Common.{rules, ◌≡◌, Some, map, string_bytes}
-use Rattle.process_terms.specs.Headline.{StandsFor}
-use Rattle.process_terms.specs.Systems.{System}
+use Rattle.lin_driver.specs.Headline.{StandsFor}
+use Rattle.lin_driver.specs.Systems.{System}
 use Rattle.lin_driver.specs.FirstForm.{IsFirstForm}
 use Rattle.mcrl2lin.specs.Commands.{file_asked}
 use Rattle.mcrl2lin.proofs.Told.{has_cause, of_loaded}

@@ -1,8 +1,8 @@
 use Rattle.std.proofs.Common.{rules, ◌≡◌, ◌≤◌, ◌++◌, ℕ, List, Some, IfSome, length, map, string_bytes}
 use Rattle.mcrl2_text.specs.Faults.{Rose}
 use Rattle.mcrl2_text.specs.declared.loading.TheConstants.{MAX_TEXT_LEN}
-use Rattle.process_terms.specs.Headline.{StandsFor}
-use Rattle.process_terms.specs.Systems.{System}
+use Rattle.lin_driver.specs.Headline.{StandsFor}
+use Rattle.lin_driver.specs.Systems.{System}
 use Rattle.lin_driver.specs.FirstForm.{IsFirstForm}
 use Rattle.mcrl2lin.specs.Ends.{EndsWell}
 use Rattle.mcrl2lin.specs.declared.top.Status.TheVariants.{Done}

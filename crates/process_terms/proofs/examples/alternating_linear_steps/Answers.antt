@@ -1,8 +1,0 @@
-use Rattle.process_terms.proofs.SmallSystems.{at_one, at_two}
-use Rattle.process_terms.proofs.examples.alternating_linear_steps.Goals as goal
-
-pub returns-clause-at_one : goal.returns-clause-at_one
-returns-clause-at_one c = at_one
-
-pub returns-clause-at_two : goal.returns-clause-at_two
-returns-clause-at_two c = at_two

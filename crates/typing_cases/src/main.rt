@@ -1,0 +1,25 @@
+//! Says of small texts what they elaborate to, for the table in `stdin` and `stdout`.
+//!
+//! A line of the input is a text. For each the program prints a line: the declaration that is at fault, or the equations, the definitions
+//! and the `init` that the text stands for, each cast written, with functions in front of their arguments. A numeral has its sort behind it,
+//! and so has an empty list. Calls have square brackets. A line that begins with `%` is a heading, and its own answer. Names of sorts
+//! are letters.
+#![tactic(auto)]
+
+mod answers;
+mod counts;
+mod shown_processes;
+mod shown_terms;
+
+use answers::answer;
+use std::io::{self, Write};
+
+fn main(rt: HostRuntime) -> io::Result<()> {
+    let mut out = rt.stdout();
+    for line in rt.lines(rt.alloc()) {
+        let mut answer = answer(rt.alloc(), line?.as_str())?;
+        answer.push(b'\n')?;
+        out.write_all(&answer)?;
+    }
+    Ok(())
+}
