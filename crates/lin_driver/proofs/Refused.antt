@@ -19,7 +19,7 @@ use Rattle.lin_driver.specs.FirstForm.{HasFirstForm}
 use Rattle.lin_driver.specs.Faults.{fault_of_lex}
 use Rattle.lin_driver.specs.Refusals.{HasSortFault, HasTypeFault, IsParsedAs, IsRefusedWith}
 use Rattle.lin_driver.specs.declared.fault.LinFault.{LinFault}
-use Rattle.lin_driver.specs.declared.fault.LinFault.TheVariants.{Lex, Parse, Sort, Type, NotBuilt, NoMemory}
+use Rattle.lin_driver.specs.declared.fault.LinFault.TheVariants.{Lex, Parse, Sort, «Type», NotBuilt, NoMemory}
 
 -- a text whose tokens have a fault hasn't the first form
 pub lex_no_first_form : {T : Type 0} (text : List ℕ) (fault : LexFault) (result : Result T LinFault) → (fault ≢ lex.NoMemory → lexing.HasFault text fault)
@@ -32,14 +32,14 @@ lex_no_first_form text fault (Err given) has is = λ no_want form.
 pub refused_with : (text its_text : List ℕ) (texts : List (List ℕ)) (tokens : List Token) (fault : LinFault) → its_text ≡ text → HasTokens text tokens → (HasFirstForm text → ⊥)
     → ((parse : ParseFault) → fault ≡ Parse parse → parsing.HasFault its_text tokens parse)
     → ((sort : SortFault) → fault ≡ Sort sort → HasSortFault its_text texts sort)
-    → ((typed : TypeFault) → fault ≡ Type typed → HasTypeFault its_text texts typed)
+    → ((typed : TypeFault) → fault ≡ «Type» typed → HasTypeFault its_text texts typed)
     → (fault ≡ NotBuilt → (spec : PlainSpec) × IsParsedAs its_text spec × (v : FullVocabulary) × IsWellTyped v (bare_sections spec))
     → ((lex : LexFault) → fault ≢ Lex lex) → fault ≢ NoMemory → IsRefusedWith text texts fault
 refused_with text its_text texts tokens (Lex fault) same has none parse sort typed sound no_lex no_want = absurd (no_lex fault refl)
 refused_with text its_text texts tokens (Parse fault) same has none parse sort typed sound no_lex no_want =
     record { tokens = tokens; has_tokens = has; has_fault = subst (λ (x : List ℕ). parsing.HasFault x tokens fault) same (parse fault refl) }
 refused_with text its_text texts tokens (Sort fault) same has none parse sort typed sound no_lex no_want = subst (λ (x : List ℕ). HasSortFault x texts fault) same (sort fault refl)
-refused_with text its_text texts tokens (Type fault) same has none parse sort typed sound no_lex no_want = subst (λ (x : List ℕ). HasTypeFault x texts fault) same (typed fault refl)
+refused_with text its_text texts tokens («Type» fault) same has none parse sort typed sound no_lex no_want = subst (λ (x : List ℕ). HasTypeFault x texts fault) same (typed fault refl)
 refused_with text its_text texts tokens NotBuilt same has none parse sort typed sound no_lex no_want =
     let known = sound refl in
     record { spec = known.0; parsed = subst (λ (x : List ℕ). IsParsedAs x known.0) same known.1; vocabulary = known.2.0; well_typed = known.2.1; no_first_form = none }

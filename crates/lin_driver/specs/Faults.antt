@@ -10,7 +10,7 @@ use Rattle.sort_checker.specs.declared.elaborating.TypeFault.TheVariants as type
 use Rattle.lin_driver.specs.declared.fault.PlainFault.{PlainFault}
 use Rattle.lin_driver.specs.declared.fault.PlainFault.TheVariants as plain
 use Rattle.lin_driver.specs.declared.fault.LinFault.{LinFault}
-use Rattle.lin_driver.specs.declared.fault.LinFault.TheVariants.{Lex, Parse, Sort, Type, NotBuilt, NoMemory}
+use Rattle.lin_driver.specs.declared.fault.LinFault.TheVariants.{Lex, Parse, Sort, «Type», NotBuilt, NoMemory}
 
 abbrev pub fault_of_lex : LexFault → LinFault
 fault_of_lex lex.NoMemory = NoMemory
@@ -34,12 +34,12 @@ fault_of_sort (sort.EmptySort name) = Sort (sort.EmptySort name)
 
 abbrev pub fault_of_type : TypeFault → LinFault
 fault_of_type type.NoMemory = NoMemory
-fault_of_type (type.UnknownName number name) = Type (type.UnknownName number name)
-fault_of_type (type.Untyped number) = Type (type.Untyped number)
-fault_of_type (type.FreeVariable number name) = Type (type.FreeVariable number name)
-fault_of_type (type.VariableLeft number) = Type (type.VariableLeft number)
-fault_of_type (type.CommShape number) = Type (type.CommShape number)
-fault_of_type (type.RenameTwice number name) = Type (type.RenameTwice number name)
+fault_of_type (type.UnknownName number name) = «Type» (type.UnknownName number name)
+fault_of_type (type.Untyped number) = «Type» (type.Untyped number)
+fault_of_type (type.FreeVariable number name) = «Type» (type.FreeVariable number name)
+fault_of_type (type.VariableLeft number) = «Type» (type.VariableLeft number)
+fault_of_type (type.CommShape number) = «Type» (type.CommShape number)
+fault_of_type (type.RenameTwice number name) = «Type» (type.RenameTwice number name)
 
 abbrev pub fault_of_plain : PlainFault → LinFault
 fault_of_plain plain.NotBuilt = NotBuilt

@@ -21,7 +21,7 @@ use Rattle.sort_checker.specs.declared.elaborating.TypeFault.{TypeFault}
 use Rattle.sort_checker.specs.declared.elaborating.TypeFault.TheVariants as type
 use Rattle.lin_driver.specs.FirstForm.{HasFirstForm}
 use Rattle.lin_driver.specs.declared.fault.LinFault.{LinFault}
-use Rattle.lin_driver.specs.declared.fault.LinFault.TheVariants.{Lex, Parse, Sort, Type, NotBuilt, NoMemory}
+use Rattle.lin_driver.specs.declared.fault.LinFault.TheVariants.{Lex, Parse, Sort, «Type», NotBuilt, NoMemory}
 
 -- the text has tokens, and their declarations have the fault
 pub record HasParseFault (text : List ℕ) (fault : ParseFault) : Type 0 where
@@ -66,6 +66,6 @@ abbrev pub IsRefusedWith : List ℕ → List (List ℕ) → LinFault → Type 0
 IsRefusedWith text texts (Lex fault) = lexing.HasFault text fault
 IsRefusedWith text texts (Parse fault) = HasParseFault text fault
 IsRefusedWith text texts (Sort fault) = HasSortFault text texts fault
-IsRefusedWith text texts (Type fault) = HasTypeFault text texts fault
+IsRefusedWith text texts («Type» fault) = HasTypeFault text texts fault
 IsRefusedWith text texts NotBuilt = IsNotBuilt text
 IsRefusedWith text texts NoMemory = ⊥

@@ -67,7 +67,7 @@ fn why_not_built(alloc: Global, tokens: &Tokens, names: &mut Names) -> LinFault
     requires tokens { HasTokens tokens.now.text tokens.now.list }
     ensures parse { (fault : ParseFault) → result ≡ LinFault.Parse fault → HasFault tokens.now.text tokens.now.list fault }
     ensures sort { (fault : SortFault) → result ≡ LinFault.Sort fault → HasSortFault tokens.now.text names.new fault }
-    ensures typed { (fault : TypeFault) → result ≡ LinFault.Type fault → HasTypeFault tokens.now.text names.new fault }
+    ensures typed { (fault : TypeFault) → result ≡ LinFault.«Type» fault → HasTypeFault tokens.now.text names.new fault }
     ensures sound { result ≡ LinFault.NotBuilt → (spec : PlainSpec) × IsParsedAs tokens.now.text spec × (v : FullVocabulary) × IsWellTyped v (bare_sections spec) }
     ensures no_lex { (fault : LexFault) → result ≢ LinFault.Lex fault }
 {
@@ -87,7 +87,7 @@ fn why_ill_typed(alloc: Global, spec: &Spec, signature: Signature, names: &mut N
     requires words { IsSpecOfWords (spec_of spec.now) }
     requires start { HasOneStart (bare_sections (spec_of spec.now)) }
     requires built { IsBuilt (spec_of spec.now) signature }
-    ensures typed { (fault : TypeFault) → result ≡ LinFault.Type fault → (g : Sig) × (g.texts ≡ names.new) × IsTypeFaultOf (spec_of spec.now) g fault }
+    ensures typed { (fault : TypeFault) → result ≡ LinFault.«Type» fault → (g : Sig) × (g.texts ≡ names.new) × IsTypeFaultOf (spec_of spec.now) g fault }
     ensures sound { result ≡ LinFault.NotBuilt → (v : FullVocabulary) × IsWellTyped v (bare_sections (spec_of spec.now)) }
     ensures no_lex { (fault : LexFault) → result ≢ LinFault.Lex fault }
     ensures no_parse { (fault : ParseFault) → result ≢ LinFault.Parse fault }

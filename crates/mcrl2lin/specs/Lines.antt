@@ -71,7 +71,7 @@ abbrev pub refusal_line : List (List ℕ) → LinFault → List ℕ
 refusal_line texts (lin.Lex fault) = lex_line fault
 refusal_line texts (lin.Parse fault) = parse_line fault
 refusal_line texts (lin.Sort fault) = sort_line texts fault
-refusal_line texts (lin.Type fault) = type_line texts fault
+refusal_line texts (lin.«Type» fault) = type_line texts fault
 refusal_line texts lin.NotBuilt = codes "refused 90 NotBuilt\n"
 refusal_line texts lin.NoMemory = no_memory_line
 
@@ -94,7 +94,7 @@ names_of_type_fault _ = []
 
 abbrev pub names_of_fault : LinFault → List NameId
 names_of_fault (lin.Sort fault) = names_of_sort_fault fault
-names_of_fault (lin.Type fault) = names_of_type_fault fault
+names_of_fault (lin.«Type» fault) = names_of_type_fault fault
 names_of_fault _ = []
 
 abbrev pub line_of : Stop → List ℕ
