@@ -28,3 +28,4 @@ pub mod Standing
 pub mod SystemLists
 pub mod Taking
 pub mod WellNamed
+pub mod OneStart
