@@ -15,7 +15,7 @@ use Rattle.data_theory.specs.Sorts.{SortInfo, kind_of}
 use Rattle.data_theory.specs.Table.{bool_sort}
 use Rattle.data_theory.specs.Signature.{Sig}
 use Rattle.data_theory.specs.IdTables.{IsTable}
-use Rattle.data_theory.specs.IdSorts.{meaning_of}
+use Rattle.data_theory.specs.IdSorts.{meaning_of, IsDeclaredKind}
 use Rattle.data_theory.specs.IdTerms.{sort_under}
 use Rattle.data_theory.proofs.IdSortLemmas.{read_within}
 use Rattle.data_theory.proofs.IdSymbolLemmas.{read_sort}
@@ -34,10 +34,10 @@ pub adds_sort : {a b : List ℕ} {e f : SortExpression} (gap : List ℕ) → e �
 adds_sort {a = a} {b = b} gap q p = subst (λ x. Adds a b (λ rest. print_sort x gap rest)) q p
 
 -- ---- sorts
-pub sort_named : (g : Sig) (n : TextNames) → NamesSorts g n → (s : SortId) (x : NameId) (bytes : List ℕ) → s.0 < length g.sorts → IfSome (slice_get g.sorts s.0) (λ (i : SortInfo). i.name ≡ Some x) → slice_get g.texts x.0 ≡ Some bytes → bytes ≡ n.sort (sort_place g s)
-sort_named g n k s x bytes l h t =
+pub sort_named : (g : Sig) (n : TextNames) → NamesSorts g n → (s : SortId) (x : NameId) (bytes : List ℕ) → s.0 < length g.sorts → IfSome (slice_get g.sorts s.0) (λ (i : SortInfo). IsDeclaredKind i.kind) → IfSome (slice_get g.sorts s.0) (λ (i : SortInfo). i.name ≡ Some x) → slice_get g.texts x.0 ≡ Some bytes → bytes ≡ n.sort (sort_place g s)
+sort_named g n k s x bytes l d h t =
     let y = read_within g.sorts s.0 l in
-    let named = k.named s y.0 x y.1 (at_entry (λ (i : SortInfo). i.name ≡ Some x) (slice_get g.sorts s.0) y.0 y.1 h) in
+    let named = k.named s y.0 x y.1 (at_entry (λ (i : SortInfo). IsDeclaredKind i.kind) (slice_get g.sorts s.0) y.0 y.1 d) (at_entry (λ (i : SortInfo). i.name ≡ Some x) (slice_get g.sorts s.0) y.0 y.1 h) in
     let same : Some bytes ≡ Some (n.sort (sort_place g s)) = sym t ∙ named in
     cc
 

@@ -50,7 +50,7 @@ module _ (c : code.ProcessWriter) (t : TextWording) (s : Summand) (here : IsIn c
       ap (λ o. print_when o r.first r.others r.next gap rest) (sym (condition_by false e))
 
 -- ---- sums
-variables_meant : (c : code.ProcessWriter) (t : TextWording) (vs : List VarId) → All (IsVariable c.terms.sig.now) vs → map (variable_by c.terms.sig.now t.names) vs ≡ map (variable_written t.names) (map (bound_at (entries_by c)) vs)
+pub variables_meant : (c : code.ProcessWriter) (t : TextWording) (vs : List VarId) → All (IsVariable c.terms.sig.now) vs → map (variable_by c.terms.sig.now t.names) vs ≡ map (variable_written t.names) (map (bound_at (entries_by c)) vs)
 variables_meant c t [] a = refl
 variables_meant c t (v ∷ vs) a =
     let g = c.terms.sig.now in

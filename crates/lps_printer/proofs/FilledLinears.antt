@@ -17,7 +17,7 @@ use Rattle.lps_printer.specs.WrittenProcesses.{TextNames}
 use Rattle.lps_printer.specs.FilledLinears.{Constants, filled_terms, filled_label, empty_equation, HasEquations, FilledLinearsAreEqual}
 
 -- only `[]` is written so
-empty_manner : (f : Symbol) (s : Sort) → manner f ≡ no_elements s → f ≡ empty s
+pub empty_manner : (f : Symbol) (s : Sort) → manner f ≡ no_elements s → f ≡ empty s
 empty_manner (empty r) s h = let same : r ≡ s = cc in ap empty same
 empty_manner truth s h = absurd cc
 empty_manner falsity s h = absurd cc
@@ -44,7 +44,7 @@ empty_manner (rtail r) s h = absurd cc
 empty_manner (membership r) s h = absurd cc
 empty_manner (function k) s h = absurd cc
 
-no_arguments : (g : Data) (vs : List Sort) (ts : Terms) → HaveSorts g vs ts [] → ts ≡ terms.none
+pub no_arguments : (g : Data) (vs : List Sort) (ts : Terms) → HaveSorts g vs ts [] → ts ≡ terms.none
 no_arguments g vs terms.none h = refl
 no_arguments g vs (terms.more t ts) h = absurd h
 

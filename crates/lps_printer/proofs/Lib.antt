@@ -48,3 +48,12 @@ mod AddingTokens
 mod CopiedTrees
 mod CopiedLines
 mod AddingSections
+pub mod NameTables
+pub mod SignatureNames
+pub mod NoConstants
+pub mod AddedConstants
+pub mod NeededConstants
+pub mod NeededTexts
+pub mod ConstantWording
+pub mod FittingParts
+pub mod PrintedTexts

@@ -1,5 +1,5 @@
 -- What processes are worded with in code.
-use Rattle.std.specs.Prelude.{◌≡◌, ℕ, Bool, true, false, List, [], ◌∷◌, length, map, drop, Option, option_map, IfSome, Vec}
+use Rattle.std.specs.Prelude.{◌≡◌, ℕ, Bool, true, false, List, [], ◌∷◌, ◌++◌, length, map, drop, Option, option_map, IfSome, Vec}
 use Rattle.std.specs.Global.{Global}
 use Rattle.std.specs.List.{All}
 use Rattle.data_theory.specs.declared.ids.TermId.{TermId}
@@ -10,16 +10,18 @@ use Rattle.process_terms.specs.Meanings.{Entries, bound_at, term_at, action_of, 
 use Rattle.process_terms.specs.SignatureEntries.{entries_of}
 use Rattle.lps_core.specs.Fitting.{IsVariable, IsActionOf}
 use Rattle.lps_core.specs.declared.linears.Summand.{Summand}
-use Rattle.lps_core.specs.PlainLinears.{PlainSummand, plain_summand, summand_of}
+use Rattle.lps_core.specs.PlainLinears.{PlainSummand, PlainLinear, plain_summand, summand_of, linear_of, initial_of}
 use Rattle.lps_printer.specs.declared.process_writer.ProcessWriter as code
-use Rattle.lps_printer.specs.Pieces.{Piece}
+use Rattle.lps_printer.specs.Pieces.{Piece, bytes_of}
 use Rattle.lps_printer.specs.PrintedProcesses as printed_
 use Rattle.lps_printer.specs.SummandLayout.{print_action, print_bars, print_assignment, print_assignments, print_when}
-use Rattle.lps_printer.specs.FilledLinears.{filled_terms, filled_action, filled_label, filled_summand}
+use Rattle.lps_printer.specs.FilledLinears.{filled_terms, filled_action, filled_label, filled_summand, filled_linear}
 use Rattle.lps_printer.specs.WrittenProcesses.{TextNames, action_written, first_written, others_written, assignments_written, next_written, summand_written}
 use Rattle.lps_printer.specs.Adding.{Adds}
 use Rattle.lps_printer.specs.CodeWordings.{IsTermBy}
 use Rattle.lps_printer.specs.DefinitionTexts.{start_action}
+use Rattle.lps_printer.specs.TextSections.{print_sections}
+use Rattle.lps_printer.specs.WholeTexts.{linear_sections}
 use Rattle.lps_printer.specs.TextWordings.{TextWording, variable_by, IsTextWordedBy}
 
 abbrev pub IsTextWording : code.ProcessWriter → TextWording → Type 0
@@ -102,3 +104,10 @@ summands_by c t ss = map (summand_by c t) (map plain_summand ss)
 -- the call with its initial terms
 abbrev pub start_by : code.ProcessWriter → TextWording → List TermId → printed_.Action
 start_by c t ids = start_action t.names (filled_terms t.constant t.names true (map (term_at (entries_by c)) ids))
+
+-- ---- sections
+-- the bytes go on by the sections of the process and its start behind a gap, up to the end of the text
+abbrev pub AddsLinear : code.ProcessWriter → PlainLinear → List ℕ → List ℕ → List ℕ → Type 0
+AddsLinear c l gap old new =
+    (t : TextWording) → IsTextWording c t → t.names.process ≡ c.process.now
+    → old ++ bytes_of (print_sections gap (linear_sections [] t.names (filled_linear t.constant t.names (linear_of (entries_by c) l)) (filled_terms t.constant t.names true (initial_of (entries_by c) l)))) (10 ∷ []) ≡ new

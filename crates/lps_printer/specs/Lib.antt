@@ -32,3 +32,7 @@ pub mod TreeTokens
 pub mod CopiedPlaces
 pub mod CopiedSections
 pub mod AddingSections
+pub mod SignatureNames
+pub mod AddedConstants
+pub mod NeededConstants
+pub mod PrintedTexts

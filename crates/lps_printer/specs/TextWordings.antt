@@ -10,7 +10,7 @@ use Rattle.data_theory.specs.Terms.{Sort}
 use Rattle.data_theory.specs.Sorts.{SortInfo}
 use Rattle.data_theory.specs.Keys.{Key}
 use Rattle.data_theory.specs.Signature.{Sig}
-use Rattle.data_theory.specs.IdSorts.{constructions}
+use Rattle.data_theory.specs.IdSorts.{constructions, IsDeclaredKind}
 use Rattle.data_theory.specs.IdTerms.{sort_under}
 use Rattle.lps_core.specs.Fitting.{sort_of_variable}
 use Rattle.lps_printer.specs.PrintedProcesses as printed_
@@ -33,7 +33,7 @@ sort_place g s = length (constructions (take s.0 g.sorts))
 
 -- the declared sorts have their first names
 pub record NamesSorts (g : Sig) (n : TextNames) : Type 0 where
-  pub named : (s : SortId) (i : SortInfo) (x : NameId) → slice_get g.sorts s.0 ≡ Some i → i.name ≡ Some x → slice_get g.texts x.0 ≡ Some (n.sort (sort_place g s))
+  pub named : (s : SortId) (i : SortInfo) (x : NameId) → slice_get g.sorts s.0 ≡ Some i → IsDeclaredKind i.kind → i.name ≡ Some x → slice_get g.texts x.0 ≡ Some (n.sort (sort_place g s))
 
 -- the variables have their names
 pub record NamesVariables (g : Sig) (n : TextNames) : Type 0 where

@@ -14,7 +14,7 @@ use process_terms::{Action, Label};
 
 impl ProcessWriter<'_> {
     /// Whether the name of an action is declared once.
-    fn is_declared_once(&self, act: ActId) -> bool
+    pub(crate) fn is_declared_once(&self, act: ActId) -> bool
         ensures { result ≡ get_or self.now.once.now act.0 false }
     {
         match self.once.get(act.0) {

@@ -4,6 +4,7 @@
 //! bodies: the contract of each is a law of these definitions, so that the crates above can cite it.
 #![tactic(auto)]
 
+mod constants;
 mod copied_data;
 mod copied_declarations;
 mod copied_parts;
@@ -13,12 +14,17 @@ mod definitions;
 mod forms;
 mod labels;
 pub mod laws;
+mod needs;
 mod next_terms;
 mod numbers;
+mod printing;
 mod process_writer;
 mod sorts;
 mod summands;
+mod tables;
 mod term_writer;
 mod terms;
 mod tokens;
 mod wording;
+
+pub use printing::print_label;
