@@ -1,0 +1,12 @@
+mod EqualLinears
+mod FilledLinears
+mod OneComponents
+mod TakenNames
+mod GrownModels
+mod ColumnActions
+mod ModelLinears
+mod Linearised
+mod SortedTerms
+mod SmallNumerals
+mod SignatureSorts
+mod ElaboratedModels
