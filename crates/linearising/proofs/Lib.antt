@@ -4,6 +4,8 @@ mod OneComponents
 mod TakenNames
 mod GrownModels
 mod ColumnActions
+mod ColumnNames
+mod CopiedParts
 mod ModelLinears
 mod Linearised
 mod SortedTerms

@@ -114,6 +114,7 @@ from_the_component g h ts us m c l sg grow fits k leads =
       grown = leads.grown;
       actions = leads.actions;
       fits = leads.fits;
+      params = leads.params;
       names = leads.names;
       link = Then Same leads.link;
       bisimilar = λ th on con. then_good th Same leads.link (process_of eh m) (component_process eh m c) (linear_state eh l) (start th on con) (leads.bisimilar th on con);

@@ -42,7 +42,7 @@ pub record IsLinearised (text : List ℕ) (spec : PlainSpec) (g : Sig) (ts : Lis
 
 -- The bytes have a specification with the declarations of the given one and at most what may be added, over the vocabulary of a signature
 -- that has grown. It is a linear text, of a linear process that is provably equal to the one in code.
-pub record IsPrinted (spec : PlainSpec) (g : Sig) (ts : List Tree) (l : PlainLinear) (printed : List ℕ) : Type 0 where
+pub record ReadsBack (spec : PlainSpec) (g : Sig) (ts : List Tree) (l : PlainLinear) (printed : List ℕ) : Type 0 where
   pub signature : Sig
   pub stands : IsSignature signature
   pub grown : IsGrown g signature
@@ -73,4 +73,4 @@ WhatIsLedToStandsForTheText =
 -- and what is printed for that one stands for the text, too
 abbrev pub WhatIsPrintedStandsForTheText : Type 0
 WhatIsPrintedStandsForTheText =
-    (text printed : List ℕ) (spec : PlainSpec) (g : Sig) (ts : List Tree) (l : PlainLinear) → IsLinearised text spec g ts l → IsPrinted spec g ts l printed → StandsFor text printed
+    (text printed : List ℕ) (spec : PlainSpec) (g : Sig) (ts : List Tree) (l : PlainLinear) → IsLinearised text spec g ts l → ReadsBack spec g ts l printed → StandsFor text printed

@@ -25,6 +25,7 @@ use Rattle.proc_unfold.specs.Unfolded.{IsComponentOf}
 use Rattle.greibach.specs.ComponentForms.{IsFormOf}
 use Rattle.greibach.specs.PlainForms.{PlainForm}
 use Rattle.greibach.specs.Scopes.{HaveOwnVariables, HasSequentialBodies, BindsItsVariablesOnce}
+use Rattle.regular_encoder.specs.FormColumns.{ParamsHaveOwnNames}
 use Rattle.regular_encoder.specs.Refusals.{IsFirstWithTwoCalls}
 use Rattle.linearising.specs.OneComponents.{HasParallelOperator}
 use Rattle.linearising.specs.declared.fault.ModelFault.{ModelFault}
@@ -68,6 +69,7 @@ pub record LeadsToLinear (g : Sig) (p : Process) (h : Sig) (us : List Tree) (l :
   pub grown : IsGrown g h
   pub actions : h.actions ≡ g.actions
   pub fits : Fits h us l
+  pub params : ParamsHaveOwnNames h l.params
   pub names : HaveOwnNames h l
   pub link : Link
   pub bisimilar : IsGoodOver h link p (linear_state (entries_of h us) l)

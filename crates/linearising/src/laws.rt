@@ -28,3 +28,10 @@ ghost use Rattle.linearising.specs.FilledLinears.{FilledLinearsServe};
 pub fn filled_linears_serve()
     ensures { FilledLinearsServe }
 {}
+
+ghost use Rattle.linearising.specs.CopiedParts.{WhatIsCopiedHasAllParts};
+
+/// The sections that are copied have all declarations of data and all equations of a specification.
+pub fn what_is_copied_has_all_parts()
+    ensures { WhatIsCopiedHasAllParts }
+{}

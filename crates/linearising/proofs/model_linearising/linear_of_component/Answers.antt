@@ -14,10 +14,13 @@ use Rattle.lps_core.specs.PlainLinears.{plain_linear}
 use Rattle.lps_core.proofs.NamedSums.{names_then}
 use Rattle.lps_core.proofs.NamingLoops.{fresh_names, fresh_within}
 use Rattle.lps_core.proofs.PoolTrees.{extends_itself, extends_on}
-use Rattle.greibach.specs.PlainForms.{plain_form}
+use Rattle.greibach.specs.PlainForms.{plain_equation, plain_form}
 use Rattle.greibach.proofs.GrownFits.{both_by_names}
 use Rattle.regular_encoder.proofs.InhabitedColumns.{still_inhabited}
 use Rattle.linearising.proofs.GrownModels.{model_grows, component_grows}
+use Rattle.std.proofs.Common.{◌<◌, arith, length}
+use Rattle.std.proofs.lemmas.List.{length-map}
+use Rattle.linearising.proofs.ColumnNames.{encoding_has_own_names}
 use Rattle.linearising.proofs.ColumnActions.{encoding_keeps_actions}
 use Rattle.linearising.proofs.ModelLinears.{component_leads, encoding_refused}
 use Rattle.linearising.proofs.model_linearising.linear_of_component.Goals as goal
@@ -134,6 +137,9 @@ returns-clause-linear c =
     let m = plain_model c.args.guarded.now.model.now in
     let k = plain_component c.args.component.now in
     let f = plain_form c.in_ok-form.form in
+    let long = length-map c.in_ok-form.form.equations.items plain_equation in
+    let small = c.in_ok-form.form.equations.ok.0 in
+    let few : length f.equations < 340282366920938463463374607431768211456 = omega (arith, small, long) in
     let made = plain_linear c.in_ok-linear.linear in
     let named = plain_linear c.in_ok-named.named in
     let sh = c.name_sums.ensures.grown.stands in
@@ -149,6 +155,7 @@ returns-clause-linear c =
       grown = gh;
       actions = c.name_sums.ensures.grown.actions ∙ encoding_keeps_actions d e c.normal_form.new.pool c.encode.new.pool f made c.in_ok-linear.ensures.encoded ∙ gd.actions;
       fits = c.in_ok-named.ensures.fits;
+      params = encoding_has_own_names d e h c.normal_form.new.pool c.encode.new.pool f made named gd.stands c.in_ok-linear.ensures.stands c.in_ok-form.ensures.fits few c.in_ok-linear.ensures.encoded c.in_ok-linear.ensures.fits c.name_sums.ensures.grown c.in_ok-named.ensures.named.params;
       names = c.in_ok-named.ensures.names;
       link = leads.link;
       bisimilar = leads.good;
