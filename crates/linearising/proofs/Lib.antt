@@ -1,0 +1,14 @@
+mod EqualLinears
+mod FilledLinears
+mod OneComponents
+mod TakenNames
+mod GrownModels
+mod ColumnActions
+mod ColumnNames
+mod CopiedParts
+mod ModelLinears
+mod Linearised
+mod SortedTerms
+mod SmallNumerals
+mod SignatureSorts
+mod ElaboratedModels

@@ -1,0 +1,10 @@
+pub mod EqualLinears
+pub mod FilledLinears
+pub mod OneComponents
+pub mod TakenNames
+pub mod Faults
+pub mod ModelLinears
+pub mod Headline
+pub mod Linearised
+pub mod ElaboratedModels
+pub mod CopiedParts

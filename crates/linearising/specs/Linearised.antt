@@ -1,0 +1,76 @@
+-- A linear process in code that stands for a text, what is printed for it, and that the printed text then stands for the text.
+use Rattle.std.specs.Prelude.{◌≡◌, ℕ, List}
+use Rattle.data_theory.specs.Terms.{Sort, Term}
+use Rattle.data_theory.specs.Declarations.{NoSortIsEmpty}
+use Rattle.data_theory.specs.Signature.{Sig}
+use Rattle.data_theory.specs.WholeSignatures.{IsSignature}
+use Rattle.data_theory.specs.IdData.{data_meant}
+use Rattle.data_theory.specs.IdTrees.{Tree}
+use Rattle.data_theory.specs.IdTerms.{IsGrown}
+use Rattle.mcrl2_syntax.specs.Declarations.{PlainSpec}
+use Rattle.sort_table.specs.Growth.{More, with_more}
+use Rattle.sort_table.specs.SignatureVocabularies.{vocabulary_of}
+use Rattle.sort_checker.specs.FullVocabularies.{FullVocabulary}
+use Rattle.process_terms.specs.Theories.{Theory, Equals, AreOfSorts}
+use Rattle.process_terms.specs.Processes.{Process}
+use Rattle.process_terms.specs.PlainProcesses.{PlainModel}
+use Rattle.process_terms.specs.Meanings.{process_of}
+use Rattle.process_terms.specs.SignatureEntries.{entries_of, BothGrow}
+use Rattle.bisim_laws.specs.LinearProcesses.{Linear, sorts, state_of, IsLinear, IsWellSorted, IsLinearText}
+use Rattle.bisim_laws.specs.Links.{Link}
+use Rattle.lps_core.specs.Fitting.{Fits}
+use Rattle.lps_core.specs.GoingOn.{IsGoodOver}
+use Rattle.lps_core.specs.PlainLinears.{PlainLinear, linear_of, initial_of, linear_state}
+use Rattle.proc_unfold.specs.FittingModels.{ModelFits}
+use Rattle.linearising.specs.ModelLinears.{LeadsToLinear}
+use Rattle.linearising.specs.EqualLinears.{AreEqualLinears}
+use Rattle.linearising.specs.Headline.{Specifies, AddsOnly, StandsFor}
+
+-- The text has this specification. The signature has its vocabulary and more behind it, and a link leads from the text's process to
+-- the linear process, over every theory that goes on from the signature.
+pub record IsLinearised (text : List ℕ) (spec : PlainSpec) (g : Sig) (ts : List Tree) (l : PlainLinear) : Type 0 where
+  pub vocabulary : FullVocabulary
+  pub theory : Theory
+  pub process : Process
+  pub specifies : Specifies text vocabulary theory process
+  pub spec_is : specifies.spec ≡ spec
+  pub stands : IsSignature g
+  pub numbers : (m : More) × (vocabulary_of g ≡ with_more vocabulary.declared m)
+  pub fits : Fits g ts l
+  pub link : Link
+  pub bisimilar : IsGoodOver g link process (linear_state (entries_of g ts) l)
+
+-- The bytes have a specification with the declarations of the given one and at most what may be added, over the vocabulary of a signature
+-- that has grown. It is a linear text, of a linear process that is provably equal to the one in code.
+pub record ReadsBack (spec : PlainSpec) (g : Sig) (ts : List Tree) (l : PlainLinear) (printed : List ℕ) : Type 0 where
+  pub signature : Sig
+  pub stands : IsSignature signature
+  pub grown : IsGrown g signature
+  pub actions : signature.actions ≡ g.actions
+  pub inhabited : NoSortIsEmpty (data_meant signature)
+  pub vocabulary : FullVocabulary
+  pub declared : vocabulary.declared ≡ vocabulary_of signature
+  pub theory : Theory
+  pub linear : Linear
+  pub initial : List Term
+  pub specifies : Specifies printed vocabulary theory (state_of linear initial)
+  pub adds_only : AddsOnly spec specifies.spec
+  pub is_linear_text : IsLinearText theory (state_of linear initial)
+  pub is_linear : IsLinear linear
+  pub variable_sorts : List Sort
+  pub is_sorted : IsWellSorted theory.declared variable_sorts linear
+  pub of_sorts : AreOfSorts theory (sorts linear.params) initial
+  pub equal : AreEqualLinears theory (linear_of (entries_of g ts) l) linear
+  pub starts_equal : Equals theory (initial_of (entries_of g ts) l) initial
+
+-- ---- the laws
+-- the linear process to which the process of a text leads stands for the text
+abbrev pub WhatIsLedToStandsForTheText : Type 0
+WhatIsLedToStandsForTheText =
+    (text : List ℕ) (v : FullVocabulary) (th : Theory) (g h : Sig) (ts us : List Tree) (m : PlainModel) (l : PlainLinear) → (s : Specifies text v th (process_of (entries_of g ts) m)) → v.declared ≡ vocabulary_of g
+    → IsSignature g → ModelFits g ts m → BothGrow g h ts us → LeadsToLinear g (process_of (entries_of h us) m) h us l → IsLinearised text s.spec h us l
+
+-- and what is printed for that one stands for the text, too
+abbrev pub WhatIsPrintedStandsForTheText : Type 0
+WhatIsPrintedStandsForTheText =
+    (text printed : List ℕ) (spec : PlainSpec) (g : Sig) (ts : List Tree) (l : PlainLinear) → IsLinearised text spec g ts l → ReadsBack spec g ts l printed → StandsFor text printed

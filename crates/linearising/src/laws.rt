@@ -1,0 +1,37 @@
+//! Laws of the way from a text to its printed text. The functions do nothing: each contract is a law.
+
+ghost use Rattle.linearising.specs.EqualLinears.{EqualLinearsAreGood};
+
+/// Linear processes with provably equal data are bisimilar.
+pub fn equal_linears_are_good()
+    ensures { EqualLinearsAreGood }
+{}
+
+ghost use Rattle.linearising.specs.Linearised.{WhatIsLedToStandsForTheText, WhatIsPrintedStandsForTheText};
+
+/// The linear process to which a text's process leads stands for the text, and so does what is printed for that one.
+pub fn what_is_printed_stands_for_the_text()
+    ensures led_to { WhatIsLedToStandsForTheText }
+    ensures printed { WhatIsPrintedStandsForTheText }
+{}
+
+ghost use Rattle.linearising.specs.ElaboratedModels.{WhatElaboratesCanBeLinear};
+
+/// A specification for which a well-typed text stands can be linearised.
+pub fn what_elaborates_can_be_linear()
+    ensures { WhatElaboratesCanBeLinear }
+{}
+
+ghost use Rattle.linearising.specs.FilledLinears.{FilledLinearsServe};
+
+/// With constants in the place of empty lists a linear process is equal to itself, where each constant has its equation.
+pub fn filled_linears_serve()
+    ensures { FilledLinearsServe }
+{}
+
+ghost use Rattle.linearising.specs.CopiedParts.{WhatIsCopiedHasAllParts};
+
+/// The sections that are copied have all declarations of data and all equations of a specification.
+pub fn what_is_copied_has_all_parts()
+    ensures { WhatIsCopiedHasAllParts }
+{}

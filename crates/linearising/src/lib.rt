@@ -1,0 +1,15 @@
+//! From a specification in code to its linear process, and from there to the text that is printed for it.
+//!
+//! What the printed text is to the text stands in `specs/Headline.antt`, which is to be read first, and in plain words in
+//! `docs/definitions/linearising.md`. The functions of [`laws`] have empty bodies: the contract of each is a law, so that the
+//! crates above can cite it.
+#![tactic(auto)]
+
+mod fault;
+pub mod laws;
+mod model_linearising;
+mod one_component;
+mod variable_names;
+
+pub use fault::ModelFault;
+pub use model_linearising::linear_of;
