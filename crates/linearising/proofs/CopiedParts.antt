@@ -15,7 +15,7 @@ use Rattle.sort_checker.specs.Systems.{equation_under, equations_in}
 use Rattle.linearising.specs.Headline.{data_by, data_in}
 use Rattle.linearising.specs.CopiedParts.{kept_sections, CopiesKeepParts, WhatIsCopiedHasAllParts}
 
-flat_append : {A B : Type 0} (f : A → List B) (xs ys : List A) → flat_map f (xs ++ ys) ≡ flat_map f xs ++ flat_map f ys
+pub flat_append : {A B : Type 0} (f : A → List B) (xs ys : List A) → flat_map f (xs ++ ys) ≡ flat_map f xs ++ flat_map f ys
 flat_append f [] ys = refl
 flat_append f (x ∷ xs) ys = ap (λ zs. f x ++ zs) (flat_append f xs ys) ∙ sym (append_assoc (f x) (flat_map f xs) (flat_map f ys))
 
@@ -40,19 +40,19 @@ is_var Eqn = false
 is_var Proc = false
 is_var Init = false
 
-abbrev Placed : SectionWord → List PlainDecl → Type 0
+abbrev pub Placed : SectionWord → List PlainDecl → Type 0
 Placed w ds = AllByRecursion (λ (d : PlainDecl). word_of_declaration d ≡ w) ds
 
-abbrev data_of : List PlainDecl → List Declaration
+abbrev pub data_of : List PlainDecl → List Declaration
 data_of ds = flat_map data_by (map bare_declaration ds)
 
-abbrev vars_of : List PlainDecl → Variables
+abbrev pub vars_of : List PlainDecl → Variables
 vars_of ds = flat_map variables_by (map bare_declaration ds)
 
-abbrev under : ScopedDeclaration → List WrittenEquation
+abbrev pub under : ScopedDeclaration → List WrittenEquation
 under d = equation_under d.variables d.declaration
 
-abbrev eqs_of : Variables → List PlainDecl → List WrittenEquation
+abbrev pub eqs_of : Variables → List PlainDecl → List WrittenEquation
 eqs_of xs ds = flat_map under (map (λ (d : Declaration). record { variables = xs; declaration = d }) (map bare_declaration ds))
 
 other_word : (f : SectionWord → Bool) (v w : SectionWord) → v ≡ w → f w ≡ false → f v ≡ true → ⊥
@@ -107,17 +107,17 @@ no_eqs xs [] w h k = refl
 no_eqs xs (d ∷ ds) w h k = ap₂ (λ ys zs. ys ++ zs) (no_eqs_by xs d w h.0 k) (no_eqs xs ds w h.1 k)
 
 -- ---- a section that isn't copied, and one that is
-record Dropped (w : SectionWord) (ds : List PlainDecl) (behind : List PlainSection) : Type 0 where
-  no_data_there : data_of ds ≡ []
-  no_eqs_there : (ys : Variables) → eqs_of ys ds ≡ []
-  no_vars_there : gives_scope behind ≡ true → vars_of ds ≡ []
-  no_scope : (is_equations w && is_some_list ds) ≡ true → ⊥
+pub record Dropped (w : SectionWord) (ds : List PlainDecl) (behind : List PlainSection) : Type 0 where
+  pub no_data_there : data_of ds ≡ []
+  pub no_eqs_there : (ys : Variables) → eqs_of ys ds ≡ []
+  pub no_vars_there : gives_scope behind ≡ true → vars_of ds ≡ []
+  pub no_scope : (is_equations w && is_some_list ds) ≡ true → ⊥
 
 second_true : (a b : Bool) → (a && b) ≡ true → b ≡ true
 second_true true b h = h
 second_true false b h = cc
 
-dropped : (w : SectionWord) (ds : List PlainDecl) (behind : List PlainSection) → Placed w ds → (is_some_list ds && word_is_copied w behind) ≡ false → Dropped w ds behind
+pub dropped : (w : SectionWord) (ds : List PlainDecl) (behind : List PlainSection) → Placed w ds → (is_some_list ds && word_is_copied w behind) ≡ false → Dropped w ds behind
 dropped w [] behind h k = record { no_data_there = refl; no_eqs_there = λ ys. refl; no_vars_there = λ g. refl; no_scope = λ g. let never : false ≡ true = second_true (is_equations w) false g in cc }
 dropped Sort (d ∷ ds) behind h k = absurd cc
 dropped Cons (d ∷ ds) behind h k = absurd cc
@@ -133,9 +133,9 @@ dropped Var (d ∷ ds) behind h k = record {
 dropped Proc (d ∷ ds) behind h k = record { no_data_there = no_data (d ∷ ds) Proc h refl; no_eqs_there = λ ys. no_eqs ys (d ∷ ds) Proc h refl; no_vars_there = λ g. no_vars (d ∷ ds) Proc h refl; no_scope = λ g. cc }
 dropped Init (d ∷ ds) behind h k = record { no_data_there = no_data (d ∷ ds) Init h refl; no_eqs_there = λ ys. no_eqs ys (d ∷ ds) Init h refl; no_vars_there = λ g. no_vars (d ∷ ds) Init h refl; no_scope = λ g. cc }
 
-record Kept (w : SectionWord) (ds : List PlainDecl) (behind : List PlainSection) : Type 0 where
-  same_eqs : (xs ys : Variables) → ((is_equations w && is_some_list ds) ≡ true → xs ≡ ys) → eqs_of xs ds ≡ eqs_of ys ds
-  vars_or_scope : (vars_of ds ≡ []) ⊎ (gives_scope behind ≡ true)
+pub record Kept (w : SectionWord) (ds : List PlainDecl) (behind : List PlainSection) : Type 0 where
+  pub same_eqs : (xs ys : Variables) → ((is_equations w && is_some_list ds) ≡ true → xs ≡ ys) → eqs_of xs ds ≡ eqs_of ys ds
+  pub vars_or_scope : (vars_of ds ≡ []) ⊎ (gives_scope behind ≡ true)
 
 without_eqs : (w : SectionWord) (ds : List PlainDecl) (xs ys : Variables) → Placed w ds → is_equations w ≡ false → eqs_of xs ds ≡ eqs_of ys ds
 without_eqs w ds xs ys h k = no_eqs xs ds w h k ∙ sym (no_eqs ys ds w h k)
@@ -144,7 +144,7 @@ first_true : (a b : Bool) → (a && b) ≡ true → a ≡ true
 first_true true b h = refl
 first_true false b h = cc
 
-kept : (w : SectionWord) (ds : List PlainDecl) (behind : List PlainSection) → Placed w ds → (is_some_list ds && word_is_copied w behind) ≡ true → Kept w ds behind
+pub kept : (w : SectionWord) (ds : List PlainDecl) (behind : List PlainSection) → Placed w ds → (is_some_list ds && word_is_copied w behind) ≡ true → Kept w ds behind
 kept Sort ds behind h k = record { same_eqs = λ xs ys e. without_eqs Sort ds xs ys h refl; vars_or_scope = inl (no_vars ds Sort h refl) }
 kept Cons ds behind h k = record { same_eqs = λ xs ys e. without_eqs Cons ds xs ys h refl; vars_or_scope = inl (no_vars ds Cons h refl) }
 kept Map ds behind h k = record { same_eqs = λ xs ys e. without_eqs Map ds xs ys h refl; vars_or_scope = inl (no_vars ds Map h refl) }

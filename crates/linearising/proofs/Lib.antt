@@ -6,6 +6,7 @@ mod GrownModels
 mod ColumnActions
 mod ColumnNames
 mod CopiedParts
+mod AddedParts
 mod ModelLinears
 mod Linearised
 mod SortedTerms

@@ -8,3 +8,4 @@ pub mod Headline
 pub mod Linearised
 pub mod ElaboratedModels
 pub mod CopiedParts
+pub mod AddedParts

@@ -35,3 +35,10 @@ ghost use Rattle.linearising.specs.CopiedParts.{WhatIsCopiedHasAllParts};
 pub fn what_is_copied_has_all_parts()
     ensures { WhatIsCopiedHasAllParts }
 {}
+
+ghost use Rattle.linearising.specs.AddedParts.{WhatMayBeAddedAddsOnly};
+
+/// A specification that has the copied sections of another, what may be added to it, and a process, adds only what is allowed.
+pub fn what_may_be_added_adds_only()
+    ensures { WhatMayBeAddedAddsOnly }
+{}
