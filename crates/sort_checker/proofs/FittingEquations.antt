@@ -33,7 +33,7 @@ use Rattle.sort_checker.proofs.VariableWords.{variable_is_word}
 use Rattle.sort_checker.proofs.FittingElaborations.{inner_sorts}
 
 -- what holds of each variable in scope
-inside : {v : Vocabulary} {scope inner : Scope} {xs : Variables} {bs : List processes.Bound} (P : ℕ → Sort → Type 0) → AllByRecursion (λ (b : Bound). P b.number b.sort) scope → AllByRecursion (λ (b : processes.Bound). P b.var b.sort) bs
+pub inside : {v : Vocabulary} {scope inner : Scope} {xs : Variables} {bs : List processes.Bound} (P : ℕ → Sort → Type 0) → AllByRecursion (λ (b : Bound). P b.number b.sort) scope → AllByRecursion (λ (b : processes.Bound). P b.var b.sort) bs
     → Binds v scope xs inner bs → AllByRecursion (λ (b : Bound). P b.number b.sort) inner
 inside P h k binds_none = h
 inside P h k (binds_more e f bs) = inside P (k.0, h) k.1 bs
@@ -42,7 +42,7 @@ both_hold : {A : Type 0} (P Q : A → Type 0) (xs : List A) → AllByRecursion P
 both_hold P Q [] h k = tt
 both_hold P Q (x ∷ xs) h k = ((h.0, k.0), both_hold P Q xs h.1 k.1)
 
-rows_hold : (P : Bound → Type 0) (scope : Scope) → AllByRecursion P scope → AllByRecursion (λ (r : Name × Bound). P r.1) (map bound_row scope)
+pub rows_hold : (P : Bound → Type 0) (scope : Scope) → AllByRecursion P scope → AllByRecursion (λ (r : Name × Bound). P r.1) (map bound_row scope)
 rows_hold P [] h = tt
 rows_hold P (b ∷ scope) h = (h.0, rows_hold P scope h.1)
 

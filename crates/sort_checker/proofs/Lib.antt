@@ -57,3 +57,15 @@ pub mod TypedValues
 pub mod TypedSorts
 pub mod TypedParts
 pub mod WholeVocabularies
+pub mod EquationSides
+pub mod SettledParts
+pub mod EquationsHere
+pub mod MadeEquations
+pub mod ListedDeclarations
+pub mod ListedProcesses
+pub mod MadeDefinitions
+pub mod FaultNames
+pub mod OtherDeclarations
+pub mod WholeModels
+pub mod TextParts
+pub mod SortedTrees

@@ -46,7 +46,7 @@ all_alike ns e s is [] = refl
 all_alike ns e s is (w ∷ ws) = ap₂ (λ (o : Option Sort) (ps : Parameters). option_to_list (option_map (λ r. (w.bytes, r)) o) ++ ps) is (all_alike ns e s is ws)
 
 -- ---- where all sorts are known
-all_sorted : (ns : List (Name × Sort)) (xs : Variables) (ps : Parameters) → parameters_in ns xs ≡ Some ps → sorted_variables ns xs ≡ ps
+pub all_sorted : (ns : List (Name × Sort)) (xs : Variables) (ps : Parameters) → parameters_in ns xs ≡ Some ps → sorted_variables ns xs ≡ ps
 all_sorted ns [] ps e = same_Some [] ps e
 all_sorted ns (x ∷ xs) ps e = of_sort (all_sorted ns xs) (sort_in ns x.1) refl (parameters_in ns xs) refl e
   where

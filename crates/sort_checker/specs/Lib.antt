@@ -41,3 +41,8 @@ pub mod TextContexts
 pub mod FreeTrees
 pub mod TypedTrees
 pub mod FoundFaults
+pub mod ElaboratedTexts
+pub mod TextProcesses
+pub mod FaultNames
+pub mod TextModels
+pub mod SortedTrees

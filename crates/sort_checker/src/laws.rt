@@ -9,6 +9,8 @@ ghost use Rattle.sort_checker.specs.ClosingLaws.{ElaborationsCloseAlike};
 ghost use Rattle.sort_checker.specs.FittingBodies.{WhatElaboratesFits, DefinitionsFit, EquationsFit};
 ghost use Rattle.sort_checker.specs.GrowthLaws.{ProcessesStayAlike, DefinitionsStayAlike, EquationsStayAlike};
 ghost use Rattle.sort_checker.specs.SoundTexts.{SoundProcessesElaborate, SoundDefinitionsElaborate, ElaboratedProcessesAreSound, ElaboratedEquationsAreSound};
+ghost use Rattle.sort_checker.specs.SortedTrees.{SortedTermsHaveSortedTrees};
+ghost use Rattle.sort_checker.specs.TextModels.{BuiltSignaturesAreOfTheirTexts};
 ghost use Rattle.sort_checker.specs.WholeTexts.{WellTypedTextsElaborate, SoundTextsHaveVocabularies};
 ghost use Rattle.sort_checker.specs.WorkedFaults.{TheseHaveFaults};
 ghost use Rattle.sort_checker.specs.WorkedElaborations.{TheseElaborate};
@@ -105,4 +107,14 @@ pub fn actions_are_found_by_numbers()
 /// Variables and list sorts come behind what was there, and change nothing in the vocabulary.
 pub fn additions_change_nothing()
     ensures { AdditionsChangeNothing }
+{}
+
+/// The signature that was built for a text is one of it, and stays so as variables and list sorts are added.
+pub fn built_signatures_are_of_their_texts()
+    ensures { BuiltSignaturesAreOfTheirTexts }
+{}
+
+/// A tree over a signature whose term has a sort of it has that sort itself.
+pub fn sorted_terms_have_sorted_trees()
+    ensures { SortedTermsHaveSortedTrees }
 {}

@@ -1,9 +1,13 @@
 //! The declarations of a specification, each with those of the section in front.
 
-ghost use Rattle.std.specs.Prelude.{◌≡◌, ◌++◌, map, IfOk, OnOk};
+ghost use Rattle.std.specs.Prelude.{◌≡◌, ◌++◌, List, map, IfOk, OnOk};
+ghost use Rattle.std.specs.List.{AllByRecursion};
 ghost use Rattle.mcrl2_syntax.specs.Declarations.{spec_of};
 ghost use Rattle.sort_table.specs.BareDeclarations.{bare_sections};
+ghost use Rattle.sort_table.specs.Expressions.{Name};
 ghost use Rattle.sort_checker.specs.Parts.{scoped_declarations};
+ghost use Rattle.sort_checker.specs.ReadyTrees.{AreReadyDeclarations, AreReadySections};
+ghost use Rattle.sort_checker.specs.ElaboratedTexts.{IsReadyScoped};
 ghost use Rattle.sort_checker.specs.ScopedTrees.{scoped_items, scoped_under};
 
 use data_theory::NoMemory;
@@ -26,7 +30,8 @@ pub(crate) fn scoped_list<'a>(
     alloc: Global,
     spec: &'a Spec,
 ) -> Result<Vec<ScopedDecl<'a>>, NoMemory>
-    ensures { IfOk result (λ list. scoped_items list.items ≡ scoped_declarations (bare_sections (spec_of spec.now))) }
+    ensures items { IfOk result (λ list. scoped_items list.items ≡ scoped_declarations (bare_sections (spec_of spec.now))) }
+    ensures ready { IfOk result (λ list. (texts : List Name) → AreReadySections texts spec.now.sections.items → AllByRecursion (IsReadyScoped texts) list.items) }
 {
     let mut list = Vec::new(alloc);
     let mut before: &'a [Decl] = &[];
@@ -43,7 +48,8 @@ fn add_section<'a>(
     before: &'a [Decl],
     declarations: &'a [Decl],
 ) -> Result<(), NoMemory>
-    ensures { OnOk result (scoped_items list.new.items ≡ scoped_items list.old.items ++ scoped_under before.now declarations.now) }
+    ensures items { OnOk result (scoped_items list.new.items ≡ scoped_items list.old.items ++ scoped_under before.now declarations.now) }
+    ensures ready { OnOk result ((texts : List Name) → AreReadyDeclarations texts before.now → AreReadyDeclarations texts declarations.now → AllByRecursion (IsReadyScoped texts) list.old.items → AllByRecursion (IsReadyScoped texts) list.new.items) }
 {
     for declaration in declarations {
         list.push(ScopedDecl {

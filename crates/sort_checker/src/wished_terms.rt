@@ -14,6 +14,7 @@ ghost use Rattle.sort_table.specs.Vocabularies.{Vocabulary};
 ghost use Rattle.sort_checker.specs.Additions.{GoesOn};
 ghost use Rattle.sort_checker.specs.ElaboratedParts.{IsTerm};
 ghost use Rattle.sort_checker.specs.CodeContexts.{IsReady, SeesData, CanCheck, IsWished};
+ghost use Rattle.sort_checker.specs.ElaboratedTexts.{HasTermHere, IsTermHere};
 
 use data_theory::{NoMemory, Signature, TermId};
 use data_typing::elaborating::elaborate;
@@ -51,6 +52,35 @@ pub(crate) fn wished_term(
     Ok(term)
 }
 
+/// The term of an expression that has one, at the sort that it infers or at the one that is wanted.
+///
+/// # Errors
+///
+/// `NoMemory` where there is none for the term.
+pub(crate) fn typed_term(
+    alloc: Global,
+    sig: &mut Signature,
+    pool: &mut Pool,
+    tables: &mut SortTables,
+    scope: &Scope,
+    tree: &DataTree,
+    wanted: Wanted,
+) -> Result<TermId, NoMemory>
+    requires ready { IsReady sig.old pool.old tables.old scope.now }
+    requires tree { IsDataOfWords (plain_data tree.now) }
+    requires wanted { IsWantedOver sig.old wanted }
+    requires typed { HasTermHere sig.old scope.now (λ v variables. wished (wish_of wanted) (typing_in v variables (bare_data (plain_data tree.now)))) }
+    ensures kept { GoesOn sig.old pool.old sig.new pool.new }
+    ensures ready { OnOk result (IsReady sig.new pool.new tables.new scope.now) }
+    ensures means { IfOk result (IsTermHere sig.old scope.now (λ v variables. wished (wish_of wanted) (typing_in v variables (bare_data (plain_data tree.now)))) sig.new pool.new) }
+{
+    let found = wished_term(alloc, sig, pool, tables, scope, tree, wanted)?;
+    let Some(term) = found else {
+        unreachable!();
+    };
+    Ok(term)
+}
+
 /// The term of a condition, which is typed.
 ///
 /// # Errors
@@ -75,9 +105,5 @@ pub(crate) fn condition_term(
         depth: 0,
         base: Base::Bool,
     };
-    let found = wished_term(alloc, sig, pool, tables, scope, tree, Wanted::At(truth))?;
-    let Some(term) = found else {
-        unreachable!();
-    };
-    Ok(term)
+    typed_term(alloc, sig, pool, tables, scope, tree, Wanted::At(truth))
 }

@@ -22,7 +22,7 @@ returns-then-branch c = λ v declared.
     ∙ (sym (numbered scoped_item test 1 c.as_slice-declaration-items.result.now c.loop-declaration.declaration-index c.declaration-item.result c.loop-declaration-test.true c.declaration-item.is c.loop-declaration.invariant.none
     (sym c.in_ok-fault_in_declaration.ensures ∙ c.if-branch.true))
     ∙ (ap (λ (ds : List ScopedDecl). number_from test 1 (scoped_items ds)) c.as_slice-declaration-items.ensures.value
-    ∙ (ap (number_from test 1) c.in_ok-declarations.ensures
+    ∙ (ap (number_from test 1) c.in_ok-declarations.ensures.items
     ∙ ap (λ (w : Vocabulary). number_from (λ (d : ScopedDeclaration). list_any (has_comm_fault w) (operators_of d.declaration)) 1 (scoped_declarations (bare_sections (spec_of c.args.spec.now)))) (sym declared))))
 
 pub loop-declaration-preserved : goal.loop-declaration-preserved

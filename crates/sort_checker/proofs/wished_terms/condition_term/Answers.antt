@@ -1,14 +1,4 @@
-use Rattle.data_theory.specs.Terms.{boolean}
-use Rattle.mcrl2_syntax.specs.DataTrees.{plain_data}
-use Rattle.sort_table.specs.BareData.{bare_data}
-use Rattle.data_typing.specs.Meanings.{typing_in}
-use Rattle.sort_checker.proofs.WhatStays.{some_is_found, the_found}
 use Rattle.sort_checker.proofs.wished_terms.condition_term.Goals as goal
 
-pub unreachable-requires : goal.unreachable-requires
-unreachable-requires c =
-    let t = c.requires.typed in
-    some_is_found c.wished_term.new.sig c.wished_term.new.pool _ t.term t.checks c.in_ok-found.found c.in_default.is (c.in_ok-found.ensures.means t.vocabulary t.scope t.sees)
-
-pub returns-clause-means : goal.returns-clause-means
-returns-clause-means c = λ v variables sees. the_found c.wished_term.new.sig c.wished_term.new.pool ((typing_in v variables (bare_data (plain_data c.args.tree.now))).checks boolean) c.in_ok-found.found c.in-Some.term c.in-Some.is (c.in_ok-found.ensures.means v variables sees)
+pub typed_term-requires-clause-typed : goal.typed_term-requires-clause-typed
+typed_term-requires-clause-typed c = let t = c.requires.typed in record { vocabulary = t.vocabulary; scope = t.scope; sees = t.sees; term = t.term; is = t.checks }
