@@ -52,3 +52,9 @@ pub mod ParameterLists
 pub mod SortsByName
 pub mod FreeParts
 pub mod CallArguments
+pub mod SortedGroups
+pub mod ReadTerms
+pub mod FirstActions
+pub mod LabelParts
+pub mod CallTables
+pub mod AssignedLists

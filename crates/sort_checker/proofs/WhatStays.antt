@@ -2,6 +2,7 @@
 use Rattle.std.proofs.Common.{◌≡◌, ◌<◌, ℕ, zero, suc, List, [], ◌∷◌, ◌++◌, map, length, get_or, refl, sym, subst, ap, ◌∙◌, arith, length-append}
 use Rattle.std.specs.Prelude.{Option, Some, None, option_map}
 use Rattle.std.specs.List.{All}
+use Rattle.std.proofs.lemmas.Option.{same_Some}
 use Rattle.std.proofs.lemmas.List.{length-map}
 use Rattle.std.proofs.lemmas.List.Elements.{All-weaker}
 use Rattle.data_theory.specs.declared.ids.TermId.{TermId}
@@ -31,8 +32,8 @@ use Rattle.process_terms.specs.SignatureEntries.{entries_of}
 use Rattle.sort_checker.specs.declared.process_tables.ProcessTable.{ProcessTable}
 use Rattle.sort_checker.specs.FullVocabularies.{FullVocabulary}
 use Rattle.sort_checker.specs.Additions.{AddsVariables, GoesOn}
-use Rattle.sort_checker.specs.ElaboratedParts.{IsTerm, IsBody, AreBodies}
-use Rattle.sort_checker.specs.CodeContexts.{IsNumbered, IsReady, SeesData, Sees, IsWished, no_term, the_term}
+use Rattle.sort_checker.specs.ElaboratedParts.{IsTerm, AreTerms, IsBody, AreBodies}
+use Rattle.sort_checker.specs.CodeContexts.{IsNumbered, IsReady, SeesData, Sees, IsWished, no_term, the_term, AreWished, no_terms, the_terms}
 use Rattle.sort_checker.proofs.Adding.{goes_then, signature_stays, it_is_grown, vocabulary_stays, texts_stay}
 
 -- ---- the vocabulary and the variables in scope
@@ -117,3 +118,12 @@ ready_on g p t bs h q u ready added tables keep =
       scope = scope_stays g h bs grown ready.scope;
       numbers = All-weaker (IsNumbered g) (IsNumbered h) (λ b is. omega (arith, long, same, is)) bs ready.numbers;
     }
+
+-- several terms that were wished
+pub all_found : (g : Sig) (p : PoolContents) (want : Option (List Term)) (found : Option (List TermId)) (ids : List TermId) → found ≡ Some ids → AreWished g p want found → (ts : List Term) × (want ≡ Some ts) × AreTerms g p ids ts
+all_found g p want _ ids is (no_terms e) = cc
+all_found g p want _ ids is (the_terms {ids = js} ts e stand) = (ts, e, subst (λ ks. AreTerms g p ks ts) (same_Some js ids is) stand)
+
+pub none_found : (g : Sig) (p : PoolContents) (want : Option (List Term)) (found : Option (List TermId)) → found ≡ None → AreWished g p want found → want ≡ None
+none_found g p want _ none (no_terms e) = e
+none_found g p want _ none (the_terms ts e stand) = cc

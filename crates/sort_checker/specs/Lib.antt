@@ -39,3 +39,6 @@ pub mod VariableScopes
 pub mod ParameterTables
 pub mod TextContexts
 pub mod FreeTrees
+pub mod SortedActions
+pub mod ReadArguments
+pub mod ElaboratedLabels

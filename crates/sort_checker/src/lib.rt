@@ -5,12 +5,16 @@
 #![tactic(auto)]
 
 mod action_tables;
+mod argument_readings;
 mod argument_terms;
+mod assigned_terms;
 mod binders;
+mod chosen_actions;
 mod comm_shapes;
 mod data_names;
 mod free_variables;
 mod known_names;
+mod labels;
 pub mod laws;
 mod left_sides;
 mod name_numbers;
@@ -20,6 +24,7 @@ mod renamings;
 mod scope_names;
 mod scoped_declarations;
 mod sort_numbers;
+mod sorted_actions;
 mod stops;
 mod text_contexts;
 mod unknown_names;
