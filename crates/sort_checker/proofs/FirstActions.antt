@@ -17,7 +17,9 @@ use Rattle.process_terms.specs.Labels.{Action}
 use Rattle.sort_table.specs.Expressions.{Name, Expression}
 use Rattle.sort_table.specs.Vocabularies.{Vocabulary}
 use Rattle.data_typing.specs.declared.scope.Bound.{Bound}
+use Rattle.data_typing.specs.declared.nodes.Reading.{Reading}
 use Rattle.data_typing.specs.CodeWords.{scope_of}
+use Rattle.data_typing.specs.Contexts.{IsRead}
 use Rattle.data_typing.specs.Meanings.{Scope, typing_in}
 use Rattle.sort_checker.specs.CodeContexts.{SeesData}
 use Rattle.sort_table.specs.NamedLists.{all_named}
@@ -177,3 +179,10 @@ none_was_chosen g x ts _ e (the_choice us is a) = cc
 pub action_seen : (g : Sig) (bs : List Bound) (v : Vocabulary) (s : Scope) → SeesData g bs v s → (x : Name) (es : List Expression)
     → action_of x (map (typing_in v s) es) (all_named x v.actions) ≡ action_of x (map (typing_in (vocabulary_of g) (scope_of g.texts bs)) es) (all_named x (vocabulary_of g).actions)
 action_seen g bs v s sees x es = ap₂ (λ (w : Vocabulary) (r : Scope). action_of x (map (typing_in w r) es) (all_named x w.actions)) sees.vocabulary sees.variables
+
+-- what was read is sound
+pub all_were_read : (g : Sig) (rs : List Reading) (ts : List Typing) → AreReadings g rs ts → AllByRecursion IsRead rs
+all_were_read g [] [] read = tt
+all_were_read g [] (t ∷ ts) read = absurd read
+all_were_read g (r ∷ rs) [] read = absurd read
+all_were_read g (r ∷ rs) (t ∷ ts) read = (read.0.over.read, all_were_read g rs ts read.1)

@@ -58,3 +58,8 @@ pub mod FirstActions
 pub mod LabelParts
 pub mod CallTables
 pub mod AssignedLists
+pub mod TypedArguments
+pub mod TypedValues
+pub mod TypedSorts
+pub mod TypedParts
+pub mod WholeVocabularies

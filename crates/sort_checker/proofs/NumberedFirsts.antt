@@ -1,11 +1,11 @@
 -- Searches for the first declaration with a fault.
-use Rattle.std.proofs.Common.{◌≡◌, ◌<◌, ◌≤◌, ◌+◌, ℕ, zero, suc, List, [], ◌∷◌, ◌++◌, length, map, take, drop, get_or, refl, ap, ap₂, sym, ◌∙◌, arith}
+use Rattle.std.proofs.Common.{◌≡◌, ◌<◌, ◌≤◌, ◌+◌, ℕ, zero, suc, Bool, cond, List, [], ◌∷◌, ◌++◌, length, map, take, drop, get_or, refl, ap, ap₂, sym, ◌∙◌, arith}
 use Rattle.std.specs.Prelude.{Option, Some, None, option_map}
 use Rattle.std.specs.Option.{option_or}
 use Rattle.std.proofs.lemmas.Option.{none-some}
 use Rattle.std.proofs.lemmas.List.{take_more, map-append}
 use Rattle.std.proofs.Math.Seq.{drop-cons}
-use Rattle.sort_checker.specs.Refusals.{first_from}
+use Rattle.sort_checker.specs.Refusals.{first_from, number_from}
 
 -- in front of place i nothing is found, and there something is
 pub found_at : {D C A : Type 0} (g : C → D) (f : D → Option A) (k : ℕ) (cs : List C) (i : ℕ) (c : C) (a : A) → i < length cs → c ≡ get_or cs i c → first_from f k (map g (take i cs)) ≡ None → f (g c) ≡ Some a
@@ -69,3 +69,9 @@ pub from_cut : {D C A : Type 0} (g : C → D) (f : D → Option A) (k : ℕ) (cs
     → first_from f k (map g (drop i cs)) ≡ option_or (option_map (λ a. (k, a)) (f (g c))) (first_from f (suc k) (map g (drop (i + 1) cs)))
 from_cut {C = C} g f k cs i c l e =
     let next : suc i ≡ i + 1 = omega arith in ap (λ (xs : List C). first_from f k (map g xs)) (drop-cons cs i c l ∙ ap₂ (λ (x : C) (n : ℕ). x ∷ drop n cs) (sym e) next)
+
+-- the same for a test
+pub numbers_cut : {D C : Type 0} (g : C → D) (t : D → Bool) (k : ℕ) (cs : List C) (i : ℕ) (c : C) → i < length cs → c ≡ get_or cs i c
+    → number_from t k (map g (drop i cs)) ≡ cond (t (g c)) (Some k) (number_from t (suc k) (map g (drop (i + 1) cs)))
+numbers_cut {C = C} g t k cs i c l e =
+    let next : suc i ≡ i + 1 = omega arith in ap (λ (xs : List C). number_from t k (map g xs)) (drop-cons cs i c l ∙ ap₂ (λ (x : C) (n : ℕ). x ∷ drop n cs) (sym e) next)

@@ -50,6 +50,12 @@ holds_along f P [] all i x l e = let never : ⊥ = omega (arith, l) in absurd ne
 holds_along f P (y ∷ xs) all zero x l e = subst (λ z. AllByRecursion P (f z)) (sym e) (all_front P (f y) (flat_map f xs) all)
 holds_along f P (y ∷ xs) all (suc i) x l e = holds_along f P xs (all_back P (f y) (flat_map f xs) all) i x (omega (arith, l)) e
 
+-- and through a function
+pub holds_along_mapped : {A B C : Type 0} (g : A → B) (f : B → List C) (P : C → Type 0) (xs : List A) → AllByRecursion P (flat_map f (map g xs)) → (i : ℕ) (x : A) → i < length xs → x ≡ get_or xs i x → AllByRecursion P (f (g x))
+holds_along_mapped g f P [] all i x l e = let never : ⊥ = omega (arith, l) in absurd never
+holds_along_mapped g f P (y ∷ xs) all zero x l e = subst (λ z. AllByRecursion P (f (g z))) (sym e) (all_front P (f (g y)) (flat_map f (map g xs)) all)
+holds_along_mapped g f P (y ∷ xs) all (suc i) x l e = holds_along_mapped g f P xs (all_back P (f (g y)) (flat_map f (map g xs)) all) i x (omega (arith, l)) e
+
 pub mapped_all : {A B : Type 0} (f : A → B) (P : B → Type 0) (xs : List A) → AllByRecursion P (map f xs) → AllByRecursion (λ x. P (f x)) xs
 mapped_all f P [] all = tt
 mapped_all f P (x ∷ xs) all = (all.0, mapped_all f P xs all.1)

@@ -37,7 +37,7 @@ pub cond_both : {A B : Type 0} {R : A → B → Type 0} (b : Bool) {o o' : Optio
 cond_both true h k = h
 cond_both false h k = k
 
-same_some : {A B : Type 0} {R : A → B → Type 0} {o : Option A} {p : Option B} → Both R o p → is_some o ≡ is_some p
+pub same_some : {A B : Type 0} {R : A → B → Type 0} {o : Option A} {p : Option B} → Both R o p → is_some o ≡ is_some p
 same_some neither = refl
 same_some (both r) = refl
 

@@ -1,5 +1,5 @@
 -- The actions of a signature as elaborating takes them, one after the other.
-use Rattle.std.proofs.Common.{◌≡◌, ◌≢◌, ◌<◌, ◌+◌, ◌==◌, ℕ, zero, suc, Bool, true, false, cond, List, [], ◌∷◌, ◌++◌, length, map, take, get_or, slice_set, refl, sym, subst, ap, ap₂, ◌∙◌, arith}
+use Rattle.std.proofs.Common.{◌≡◌, ◌≢◌, ◌<◌, ◌≤◌, ◌+◌, ◌==◌, ℕ, zero, suc, Bool, true, false, cond, List, [], ◌∷◌, ◌++◌, length, map, take, get_or, slice_set, refl, sym, subst, ap, ap₂, ◌∙◌, arith}
 use Rattle.std.specs.Prelude.{Some, Vec, bytes_eq, slice_get, option_map}
 use Rattle.std.specs.Global.{Global}
 use Rattle.std.specs.List.{AllByRecursion}
@@ -46,6 +46,15 @@ pub group_at : (gs : List Group) (k : ℕ) (v : Group) → k < length gs → v �
 group_at [] k v l e = let never : ⊥ = omega (arith, l) in absurd never
 group_at (g ∷ gs) zero v l e = ap (λ (w : Group). w.items) (sym e)
 group_at (g ∷ gs) (suc k) v l e = group_at gs k v (omega (arith, l)) e
+
+pub no_group : (gs : List Group) (k : ℕ) → length gs ≤ k → actions_at gs k ≡ []
+no_group [] k l = none_there k
+  where
+    none_there : (n : ℕ) → actions_at [] n ≡ []
+    none_there zero = refl
+    none_there (suc n) = refl
+no_group (g ∷ gs) zero l = let never : ⊥ = omega (arith, l) in absurd never
+no_group (g ∷ gs) (suc k) l = no_group gs k (omega (arith, l))
 
 -- one action more in one group
 set_here : (gs : List Group) (k : ℕ) (w : Group) → k < length gs → actions_at (slice_set gs k w) k ≡ w.items

@@ -1,7 +1,8 @@
 -- The stops of a process term have its parts and its operators.
-use Rattle.std.proofs.Common.{◌≡◌, ◌<◌, ◌+◌, ◌-◌, ℕ, suc, drop, get_or, List, [], ◌∷◌, ◌++◌, map, length, take, refl, sym, ap, ap₂, ◌∙◌, append_assoc, append-nil, arith, length-append}
-use Rattle.std.specs.List.{flat_map}
+use Rattle.std.proofs.Common.{◌≡◌, ◌<◌, ◌+◌, ◌-◌, ◌&&◌, ℕ, suc, Bool, drop, get_or, List, [], ◌∷◌, ◌++◌, map, length, take, refl, sym, ap, ap₂, ◌∙◌, append_assoc, append-nil, arith, length-append}
+use Rattle.std.specs.List.{flat_map, list_all}
 use Rattle.std.proofs.lemmas.Grind.{flat_map-append}
+use Rattle.std.proofs.lemmas.List.Folds.{list_all-append}
 use Rattle.std.proofs.Math.Seq.{drop-cons}
 use Rattle.process_terms.specs.Processes.{Around, allow, block, hide, rename, comm}
 use Rattle.sort_table.specs.BareProcesses as bare
@@ -96,3 +97,7 @@ pub first_along_cut : {B : Type 0} (f : ScopedPart → Option B) (xs : Variables
     → first_of f (scoped_along xs (stops_of (drop i ss))) ≡ option_or (first_of f (part_at xs (stop_of s))) (first_of f (scoped_along (variables_behind xs (stop_of s)) (stops_of (drop (i + 1) ss))))
 first_along_cut f xs ss i s l e =
     ap (first_of f) (scoped_cut_at xs ss i s l e) ∙ first_append f (part_at xs (stop_of s)) (scoped_along (variables_behind xs (stop_of s)) (stops_of (drop (i + 1) ss)))
+
+pub all_along_cut : (p : ScopedPart → Bool) (xs : Variables) (ss : List StopTree) (i : ℕ) (s : StopTree) → i < length ss → s ≡ get_or ss i s
+    → list_all p (scoped_along xs (stops_of (drop i ss))) ≡ (list_all p (part_at xs (stop_of s)) && list_all p (scoped_along (variables_behind xs (stop_of s)) (stops_of (drop (i + 1) ss))))
+all_along_cut p xs ss i s l e = ap (list_all p) (scoped_cut_at xs ss i s l e) ∙ list_all-append p (part_at xs (stop_of s)) (scoped_along (variables_behind xs (stop_of s)) (stops_of (drop (i + 1) ss)))

@@ -109,10 +109,10 @@ module _ (v : FullVocabulary) where
         by_kind (Some k) e = (sorts.named n).1 (stand n k e)
         by_kind None e = let f = none_found (λ m. not (is_declared all m)) n [] h in let never : true ≡ false = ap (λ (o : Option Kind). not (is_some o)) (sym e) ∙ f.0 in cc
 
-    none_in_front : (xs ys : List Name) → find (λ n. not (is_declared all n)) (xs ++ ys) ≡ None → (find (λ n. not (is_declared all n)) xs ≡ None) × (find (λ n. not (is_declared all n)) ys ≡ None)
+    pub none_in_front : (xs ys : List Name) → find (λ n. not (is_declared all n)) (xs ++ ys) ≡ None → (find (λ n. not (is_declared all n)) xs ≡ None) × (find (λ n. not (is_declared all n)) ys ≡ None)
     none_in_front xs ys h = neither_of (find (λ n. not (is_declared all n)) xs) (find (λ n. not (is_declared all n)) ys) (sym (find-append (λ n. not (is_declared all n)) xs ys) ∙ h)
 
-    have_sorts : (xs : Variables) → find (λ n. not (is_declared all n)) (names_of_variables xs) ≡ None → HaveSorts v.declared xs
+    pub have_sorts : (xs : Variables) → find (λ n. not (is_declared all n)) (names_of_variables xs) ≡ None → HaveSorts v.declared xs
     have_sorts [] h = tt
     have_sorts (x ∷ xs) h = let r = none_in_front (name_in x.1) (names_of_variables xs) h in (sort_there x.1 r.0, have_sorts xs r.1)
 

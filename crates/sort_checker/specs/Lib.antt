@@ -42,3 +42,5 @@ pub mod FreeTrees
 pub mod SortedActions
 pub mod ReadArguments
 pub mod ElaboratedLabels
+pub mod TypedTrees
+pub mod FoundFaults

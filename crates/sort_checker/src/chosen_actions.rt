@@ -77,11 +77,10 @@ pub(crate) fn chosen_action<'s>(
     let Some(number) = sig.names().find(text_of(name.bytes.as_slice())) else {
         return Ok(None);
     };
-    let Some(group) = actions.groups.get(number.0) else {
+    if number.0 >= actions.groups.len() {
         return Ok(None);
-    };
-    let _ = sig.next_sort();
-    let group = group.as_slice();
+    }
+    let group = actions.groups[number.0].as_slice();
     let readings = readings_of(alloc, sig, tables, scope, arguments)?;
     let way = Way::Exactly;
     if let Some(action) = first_fitting(readings.as_slice(), group, way)? {

@@ -36,7 +36,7 @@ ghost use Rattle.sort_checker.specs.VariableScopes.{HasInScope};
 use crate::data_names::data_identifiers;
 use crate::left_sides::{number_behind, section_names};
 use crate::name_numbers::NameNumbers;
-use crate::parameter_tables::Parameter;
+use crate::parameter_tables::{Parameter, parameter_name};
 use crate::stops::{PartTree, StopTree, stops};
 use crate::text_contexts::{TextContext, text_context};
 use crate::variable_scopes::{VariableScope, empty_scope, enter_groups, pass_stop};
@@ -148,14 +148,6 @@ fn is_left_out<'a>(
     ensures { (xs : Variables) (ds : List Assignment) → HasInScope sig.now xs scope.now → HasAssigned ds names.now → result ≡ is_left_out (scope_of (vocabulary_of sig.now) xs) (assigned ds) (parameter_of sig.now parameter) }
 {
     names.get(parameter_name(sig, parameter)).is_none() && !is_taken_from(sig, scope, parameter)
-}
-
-/// The name of a parameter.
-fn parameter_name<'a>(sig: &'a Signature, parameter: Parameter) -> &'a [u8]
-    requires { IsParameterOver sig.now parameter }
-    ensures { result.now ≡ text_under sig.now parameter.name }
-{
-    sig.names().text(parameter.name).as_bytes()
 }
 
 /// The first of these parameters to which nothing is assigned and which isn't in scope.

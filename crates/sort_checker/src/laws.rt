@@ -9,7 +9,7 @@ ghost use Rattle.sort_checker.specs.ClosingLaws.{ElaborationsCloseAlike};
 ghost use Rattle.sort_checker.specs.FittingBodies.{WhatElaboratesFits, DefinitionsFit, EquationsFit};
 ghost use Rattle.sort_checker.specs.GrowthLaws.{ProcessesStayAlike, DefinitionsStayAlike, EquationsStayAlike};
 ghost use Rattle.sort_checker.specs.SoundTexts.{SoundProcessesElaborate, SoundDefinitionsElaborate, ElaboratedProcessesAreSound, ElaboratedEquationsAreSound};
-ghost use Rattle.sort_checker.specs.WholeTexts.{WellTypedTextsElaborate};
+ghost use Rattle.sort_checker.specs.WholeTexts.{WellTypedTextsElaborate, SoundTextsHaveVocabularies};
 ghost use Rattle.sort_checker.specs.WorkedFaults.{TheseHaveFaults};
 ghost use Rattle.sort_checker.specs.WorkedElaborations.{TheseElaborate};
 ghost use Rattle.sort_checker.specs.WorkedWholeTexts.{TheWholeTextIsWellTyped};
@@ -90,6 +90,11 @@ pub fn what_elaborates_has_no_fault()
 /// The equations, definitions and `init` of a well-typed text elaborate.
 pub fn well_typed_texts_elaborate()
     ensures { WellTypedTextsElaborate }
+{}
+
+/// A text whose declarations are sound has a full vocabulary over a signature of what it declares.
+pub fn sound_texts_have_vocabularies()
+    ensures { SoundTextsHaveVocabularies }
 {}
 
 /// An action of a signature's vocabulary is found by the numbers of its sorts.

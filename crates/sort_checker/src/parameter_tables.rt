@@ -7,7 +7,7 @@ ghost use Rattle.mcrl2_syntax.specs.ProcessParts.{var_group_of};
 ghost use Rattle.sort_table.specs.BareDeclarations.{bare_sections, declarations_in};
 ghost use Rattle.sort_table.specs.BareProcesses.{bare_variables, bare_group};
 ghost use Rattle.sort_table.specs.DeclarationTrees.{declaration_of};
-ghost use Rattle.sort_table.specs.SignatureVocabularies.{vocabulary_of};
+ghost use Rattle.sort_table.specs.SignatureVocabularies.{text_under, vocabulary_of};
 ghost use Rattle.data_typing.specs.Contexts.{AreTablesOf};
 ghost use Rattle.sort_checker.specs.FullVocabularies.{Written, process_by, processes_in};
 ghost use Rattle.sort_checker.specs.ParameterTables.{sorted_variables, parameters_of, IsParameterOver, parameters_under, HasProcesses};
@@ -26,6 +26,14 @@ use std::collections::BTreeMap;
 pub(crate) struct Parameter {
     pub(crate) name: NameId,
     pub(crate) sort: FlatSort,
+}
+
+/// The name of a parameter.
+pub(crate) fn parameter_name<'a>(sig: &'a Signature, parameter: Parameter) -> &'a [u8]
+    requires { IsParameterOver sig.now parameter }
+    ensures { result.now ≡ text_under sig.now parameter.name }
+{
+    sig.names().text(parameter.name).as_bytes()
 }
 
 /// Under the name of each process its parameters. It is ordered, so that no choice of names makes a look-up slow.
