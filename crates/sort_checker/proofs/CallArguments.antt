@@ -117,7 +117,7 @@ argument_has_none v s ps es i x e l is m at none =
     let other = at_image (λ (t : DataTree). bare_data (plain_data t)) (typing_in v s) es i e m at in
     one_has_none checked (sorts_of ps) (typings_of v s es) i (flat_sort x.sort) (typing_in v s (bare_data (plain_data e))) one.0 other.0 one.1 other.1 none
 
-images_long : {A B C : Type 0} (f : A → B) (h : B → C) (xs : List A) → length (map h (map f xs)) ≡ length xs
+pub images_long : {A B C : Type 0} (f : A → B) (h : B → C) (xs : List A) → length (map h (map f xs)) ≡ length xs
 images_long f h [] = refl
 images_long f h (x ∷ xs) = ap suc (images_long f h xs)
 

@@ -75,13 +75,13 @@ module _ (how : Sort → Typing → Option Term) (ts : List Typing) where
 
   pub first_is : (x : Name) (as_ : List SortedAction) (a : SortedAction) → first_taken how ts as_ ≡ Some a → IsFirst x as_ a
   first_is x [] a e = absurd (none-some a e)
-  first_is x (b ∷ as_) a e = by_terms (all_at how (sorts_of b) ts) refl e
+  first_is x (b ∷ as_) a e = by_terms (first_is x as_ a) (all_at how (sorts_of b) ts) refl e
     where
-      by_terms : (o : Option Terms) → all_at how (sorts_of b) ts ≡ o → option_or (option_map (λ (us : Terms). b) o) (first_taken how ts as_) ≡ Some a → IsFirst x (b ∷ as_) a
-      by_terms None q f =
-          let r = first_is x as_ a f in
+      by_terms : (first_taken how ts as_ ≡ Some a → IsFirst x as_ a) → (o : Option Terms) → all_at how (sorts_of b) ts ≡ o → option_or (option_map (λ (us : Terms). b) o) (first_taken how ts as_) ≡ Some a → IsFirst x (b ∷ as_) a
+      by_terms later None q f =
+          let r = later f in
           record { terms = r.terms; has = r.has; first = ap (λ o. option_or (option_map (λ us. record { name = x; sorts = sorts_of b; args = list_of us }) o) (first_of (action_at x how ts) (map sorts_of as_))) q ∙ r.first }
-      by_terms (Some us) q f =
+      by_terms later (Some us) q f =
           let same : b ≡ a = same_Some b a f in
           record {
             terms = list_of us;
@@ -92,20 +92,20 @@ module _ (how : Sort → Typing → Option Term) (ts : List Typing) where
 
   pub none_chosen : (x : Name) (as_ : List SortedAction) → first_taken how ts as_ ≡ None → first_of (action_at x how ts) (map sorts_of as_) ≡ None
   none_chosen x [] e = refl
-  none_chosen x (b ∷ as_) e = by_terms (all_at how (sorts_of b) ts) refl e
+  none_chosen x (b ∷ as_) e = by_terms (none_chosen x as_) (all_at how (sorts_of b) ts) refl e
     where
-      by_terms : (o : Option Terms) → all_at how (sorts_of b) ts ≡ o → option_or (option_map (λ (us : Terms). b) o) (first_taken how ts as_) ≡ None → first_of (action_at x how ts) (map sorts_of (b ∷ as_)) ≡ None
-      by_terms None q f = ap (λ o. option_or (option_map (λ us. record { name = x; sorts = sorts_of b; args = list_of us }) o) (first_of (action_at x how ts) (map sorts_of as_))) q ∙ none_chosen x as_ f
-      by_terms (Some us) q f = absurd (none-some b (sym f))
+      by_terms : (first_taken how ts as_ ≡ None → first_of (action_at x how ts) (map sorts_of as_) ≡ None) → (o : Option Terms) → all_at how (sorts_of b) ts ≡ o → option_or (option_map (λ (us : Terms). b) o) (first_taken how ts as_) ≡ None → first_of (action_at x how ts) (map sorts_of (b ∷ as_)) ≡ None
+      by_terms later None q f = ap (λ o. option_or (option_map (λ us. record { name = x; sorts = sorts_of b; args = list_of us }) o) (first_of (action_at x how ts) (map sorts_of as_))) q ∙ later f
+      by_terms later (Some us) q f = absurd (none-some b (sym f))
 
   -- it is one of them
   pub one_taken : (P : SortedAction → Type 0) (as_ : List SortedAction) (a : SortedAction) → AllByRecursion P as_ → first_taken how ts as_ ≡ Some a → P a
   one_taken P [] a all e = absurd (none-some a e)
-  one_taken P (b ∷ as_) a all e = by_terms (all_at how (sorts_of b) ts) e
+  one_taken P (b ∷ as_) a all e = by_terms (one_taken P as_ a all.1) (all_at how (sorts_of b) ts) e
     where
-      by_terms : (o : Option Terms) → option_or (option_map (λ (us : Terms). b) o) (first_taken how ts as_) ≡ Some a → P a
-      by_terms None f = one_taken P as_ a all.1 f
-      by_terms (Some us) f = subst P (same_Some b a f) all.0
+      by_terms : (first_taken how ts as_ ≡ Some a → P a) → (o : Option Terms) → option_or (option_map (λ (us : Terms). b) o) (first_taken how ts as_) ≡ Some a → P a
+      by_terms later None f = later f
+      by_terms later (Some us) f = subst P (same_Some b a f) all.0
 
 -- ---- in one way or the other
 module _ (x : Name) (ts : List Typing) (as_ : List SortedAction) (sss : List (List Sort)) (are : map sorts_of as_ ≡ sss) where

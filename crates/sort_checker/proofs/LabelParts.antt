@@ -1,5 +1,5 @@
 -- Labels and calls by their parts.
-use Rattle.std.proofs.Common.{◌≡◌, ◌<◌, ◌+◌, ℕ, zero, suc, List, [], ◌∷◌, ◌++◌, length, map, take, get_or, refl, sym, subst, ap, ap₂, ◌∙◌, arith}
+use Rattle.std.proofs.Common.{◌≡◌, ◌<◌, ◌+◌, ℕ, zero, suc, true, List, [], ◌∷◌, ◌++◌, length, map, take, get_or, refl, sym, subst, ap, ap₂, ◌∙◌, arith}
 use Rattle.std.specs.Prelude.{Option, Some, None, option_map, option_and_then, slice_get, Vec}
 use Rattle.std.specs.Global.{Global}
 use Rattle.std.specs.List.{All, AllByRecursion}
@@ -14,6 +14,7 @@ use Rattle.mcrl2_syntax.specs.declared.word.Span.{Span}
 use Rattle.mcrl2_syntax.specs.declared.word.Word.{Word}
 use Rattle.mcrl2_syntax.specs.DataTrees.{plain_data}
 use Rattle.mcrl2_syntax.specs.ProcessParts.{plain_action}
+use Rattle.data_theory.specs.declared.ids.ProcId.{ProcId}
 use Rattle.data_theory.specs.declared.ids.TermId.{TermId}
 use Rattle.data_theory.specs.Keys.{Key}
 use Rattle.data_theory.specs.Signature.{Sig}
@@ -24,8 +25,11 @@ use Rattle.process_terms.specs.Labels as written
 use Rattle.process_terms.specs.Labels.{Label}
 use Rattle.process_terms.specs.Meanings as code
 use Rattle.process_terms.specs.Meanings.{ActionEntry, term_at, HasAction, HasTerm}
-use Rattle.process_terms.specs.PlainProcesses as code
-use Rattle.process_terms.specs.PlainProcesses.{PlainAction, PlainProcess}
+use Rattle.process_terms.specs.PlainProcesses as plain
+use Rattle.process_terms.specs.PlainProcesses.{PlainAction, PlainProcess, plain_label, plain_process, plain_process_step}
+use Rattle.process_terms.specs.declared.labels.Label as labels
+use Rattle.process_terms.specs.declared.processes.Proc.TheVariants as procs
+use Rattle.process_terms.specs.declared.processes.Proc.TheFolds.{fold-roll-Proc}
 use Rattle.process_terms.specs.Processes.{Body, written_act, written_call}
 use Rattle.process_terms.specs.SignatureEntries.{entries_of, action_entry}
 use Rattle.sort_table.specs.BareProcesses as bare
@@ -122,11 +126,19 @@ labelled_more g o h p before xs ys m x a pushed are is = record {
       ap (map (code.action_of (entries_of k q.trees))) pushed ∙ (map-append (code.action_of (entries_of k q.trees)) xs (x ∷ []) ∙ ap₂ (λ (n : Label) (b : written.Action). n ++ b ∷ []) (are.means k q (goes_then g o h p k q before on)) (is.means k q on));
 }
 
-pub act_made : (g : Sig) (p : PoolContents) (xs : List PlainAction) (m : Label) → IsLabel g p xs m → IsBody g p (code.act xs) (written_act m)
-act_made g p xs m are = record { there = λ h q on. are.there h q on; means = λ h q on. ap written_act (are.means h q on) }
+pub act_step : (m : labels.Label) → plain_process (procs.Act m) ≡ plain.act (plain_label m)
+act_step m = ap plain_process (sym (procs.rolls-Act m)) ∙ fold-roll-Proc PlainProcess plain_process_step _
 
-pub call_made : (g : Sig) (p : PoolContents) (k : ℕ) (ids : List TermId) (ts : List Term) → AreTerms g p ids ts → IsBody g p (code.call (record { 0 = k }) ids) (written_call k ts)
-call_made g p k ids ts are = record { there = λ h q on. are.there h q on; means = λ h q on. ap (written_call k) (are.means h q on) }
+pub call_step : (x : ProcId) (ids : Vec TermId Global) → plain_process (procs.Call x ids) ≡ plain.call x ids.items
+call_step x ids = ap plain_process (sym (procs.rolls-Call x ids)) ∙ fold-roll-Proc PlainProcess plain_process_step _
+
+pub act_made : (g : Sig) (p : PoolContents) (l : labels.Label) (m : Label) → IsLabel g p (plain_label l) m → IsBody g p (plain_process (procs.Act l)) (written_act m)
+act_made g p l m are =
+    subst (λ (x : PlainProcess). IsBody g p x (written_act m)) (sym (act_step l)) (record { there = λ h q on. are.there h q on; means = λ h q on. ap written_act (are.means h q on) })
+
+pub call_made : (g : Sig) (p : PoolContents) (k : ℕ) (ids : Vec TermId Global) (ts : List Term) → AreTerms g p ids.items ts → IsBody g p (plain_process (procs.Call (record { 0 = k }) ids)) (written_call k ts)
+call_made g p k ids ts are =
+    subst (λ (x : PlainProcess). IsBody g p x (written_call k ts)) (sym (call_step (record { 0 = k }) ids)) (record { there = λ h q on. are.there h q on; means = λ h q on. ap (written_call k) (are.means h q on) })
 
 -- ---- what elaborates
 module _ (v : FullVocabulary) (s : Scope) where
@@ -156,13 +168,13 @@ module _ (v : FullVocabulary) (s : Scope) where
   pub several_labelled : (as_ : List Action) (b : Body) → ¬ (length as_ ≡ 1) → Elaborates v s (bare.acts as_) b → (m : Label) × (label_in v.declared s as_ ≡ Some m)
   several_labelled as_ b several e = by_acts ((m : Label) × (label_in v.declared s as_ ≡ Some m)) as_ b e (λ m l. (m, l)) (λ x es one is. absurd (several (ap length one)))
 
+  abbrev IsSingleCall : List Action → Type 0
+  IsSingleCall (act y ds ∷ []) = IsCall y ds
+  IsSingleCall _ = Unit {0}
+
   -- a name with arguments is an action or a call
   pub one_elaborates : (P : Type 0) (x : Name) (es : List Expression) (b : Body) → Elaborates v s (bare.acts (act x es ∷ [])) b → ((a : written.Action) → action_in v.declared s x es ≡ Some a → P) → (IsCall x es → P) → P
   one_elaborates P x es b e f k = by_acts P (act x es ∷ []) b e (λ m l. let p = parts v.declared s (action_in v.declared s x es) (Some []) m l in f p.first p.here) (λ y ds one is. k (subst (λ (as_ : List Action). IsSingleCall as_) (sym one) is))
-    where
-      abbrev IsSingleCall : List Action → Type 0
-      IsSingleCall (act y ds ∷ []) = IsCall y ds
-      IsSingleCall _ = Unit {0}
 
   pub action_elaborates : (x : Name) (es : List Expression) (a : written.Action) → action_in v.declared s x es ≡ Some a → Elaborates v s (bare.acts (act x es ∷ [])) (written_act (a ∷ []))
   action_elaborates x es a e = label (join v.declared s (action_in v.declared s x es) (Some []) a [] e refl)
@@ -189,9 +201,9 @@ module _ (v : FullVocabulary) (s : Scope) (x : Name) (es : List Expression) (g :
   call_elaborates _ c e (no_call n) = cc
   call_elaborates _ c e (the_call {c = d} k ps ts f a is) = subst (IsElaborated v s (bare.acts (act x es ∷ [])) g p) (same_Some d c e) (record { body = written_call k ts; elaborates = call_in_order f a; stands = is })
 
-  pub no_call_found : (o : Option PlainProcess) → o ≡ None → IsWishedCall v s x es g p o → ¬ (IsCall v s x es)
-  no_call_found _ e (no_call n) is = absurd (none-some is.terms (sym (n is.place is.parameters is.process) ∙ is.arguments))
-  no_call_found _ e (the_call k ps ts f a is) = cc
+  pub no_call_found : (o : Option PlainProcess) → o ≡ None → IsWishedCall v s x es g p o → IsCall v s x es → ⊥
+  no_call_found _ e (no_call n) is = none-some is.terms (sym (n is.place is.parameters is.process) ∙ is.arguments)
+  no_call_found _ e (the_call k ps ts f a stands) is = cc
 
 -- ---- trees of actions
 pub named_bare : (span : Span) (w : Word) (ds : Vec DataTree Global) → bare_action (plain_action (trees.Named span w ds)) ≡ act w.bytes.items (bare_trees ds.items)
@@ -213,3 +225,19 @@ module _ (v : Vocabulary) (s : Scope) (ts : List ActionTree) (i : ℕ) (t : Acti
   no_label_here x es is none =
       label_has_none v s (map bare_action (map plain_action ts)) i x es
       (slice_get-map bare_action (map plain_action ts) i ∙ (ap (option_map bare_action) (slice_get-map plain_action ts i ∙ ap (option_map plain_action) (slice_get_read ts (length ts) i t refl inside at)) ∙ ap (λ (b : Action). Some b) is)) none
+
+pub tau_bare : (t : ActionTree) → ((span : Span) (w : Word) (ds : Vec DataTree Global) → t ≡ trees.Named span w ds → ⊥) → bare_action (plain_action t) ≡ tau
+tau_bare (trees.Tau span) other = refl
+tau_bare (trees.Named span w ds) other = absurd (other span w ds refl)
+
+pub single_bare : (ts : List ActionTree) → length ts ≡ 1 → (t : ActionTree) → t ≡ get_or ts 0 t → map bare_action (map plain_action ts) ≡ bare_action (plain_action t) ∷ []
+single_bare [] one t at = let never : ⊥ = omega (arith, one) in absurd never
+single_bare (u ∷ []) one t at = ap (λ (x : ActionTree). bare_action (plain_action x) ∷ []) (sym at)
+single_bare (u ∷ w ∷ ts) one t at = let never : ⊥ = omega (arith, one) in absurd never
+
+-- what is assigned, where the process of the name has these parameters
+pub assigned_here : (v : FullVocabulary) (s : Scope) (x : Name) (ds : List (Name × Expression)) → IsAssigned v s x ds → (k : ℕ) (ps : Parameters) → process_named v x ≡ Some (k, ps)
+    → (are_assignments ps ds ≡ true) × (ts : List Term) × (assigned_in v.declared s ps ds ≡ Some ts)
+assigned_here v s x ds is k ps found =
+    let same : is.parameters ≡ ps = ap (λ (r : ℕ × Parameters). r.1) (same_Some (is.place, is.parameters) (k, ps) (sym is.process ∙ found)) in
+    (ap (λ (qs : Parameters). are_assignments qs ds) (sym same) ∙ is.assignments, is.terms, ap (λ (qs : Parameters). assigned_in v.declared s qs ds) (sym same) ∙ is.values)

@@ -22,8 +22,8 @@ read_expression-requires-clause-tree c = data_are_readable (plain_data c.tree-it
 pub loop-tree-preserved : goal.loop-tree-preserved
 loop-tree-preserved c =
     let g = c.args.sig.now in
-    let how : List Typing = map (typing_in (vocabulary_of g) (scope_of g.texts c.args.scope.now)) (bare_trees (take c.loop-tree.tree-index c.args.trees.now)) in
+    let hows : List Typing = map (typing_in (vocabulary_of g) (scope_of g.texts c.args.scope.now)) (bare_trees (take c.loop-tree.tree-index c.args.trees.now)) in
     let one : Typing = typing_in (vocabulary_of g) (scope_of g.texts c.args.scope.now) (bare_data (plain_data c.tree-item.result)) in
     subst (λ (ts : List Typing). AreReadings g c.push.new.self.items ts)
     (sym (one_more_read (λ (t : DataTree). bare_data (plain_data t)) (typing_in (vocabulary_of g) (scope_of g.texts c.args.scope.now)) c.args.trees.now c.loop-tree.tree-index c.tree-item.result c.loop-tree-test.true c.tree-item.is))
-    (subst (λ (rs : List Reading). AreReadings g rs (how ++ one ∷ [])) (sym c.in_ok-push.ensures.items) (pairs_pushed (IsReadingOf g) c.loop-tree.list.items how _ one c.loop-tree.invariant c.in_ok-read_expression.ensures))
+    (subst (λ (rs : List Reading). AreReadings g rs (hows ++ one ∷ [])) (sym c.in_ok-push.ensures.items) (pairs_pushed (IsReadingOf g) c.loop-tree.list.items hows _ one c.loop-tree.invariant c.in_ok-read_expression.ensures))

@@ -31,13 +31,13 @@ returns-in_default c =
     choice_by_text g x ts c.names.ensures.stands
     (λ among. c.in_default.ensures.found (subst (λ ns. Contains ns c.text_of.result.now) (sym c.names.ensures.texts) (subst (Contains g.texts) (sym (c.text_of.ensures ∙ c.as_slice.ensures.value)) among)))
 
-pub returns-then-number-groups : goal.returns-then-number-groups
-returns-then-number-groups c =
+pub returns-then-number-len : goal.returns-then-number-len
+returns-then-number-len c =
     let g = c.args.sig.now in
     let x = c.args.name.now.bytes.items in
     let ts = map (typing_in (vocabulary_of g) (scope_of g.texts c.args.scope.now)) (bare_trees c.args.arguments.now) in
     let there = ap (λ ns. slice_get ns c.in-Some.number.0) (sym c.names.ensures.texts) ∙ (c.in-Some.ensures.found ∙ ap Some (c.text_of.ensures ∙ c.as_slice.ensures.value)) in
-    choice_of_none g x ts (actions_at c.args.actions.now.groups.items c.in-Some.number.0) (c.requires.actions c.in-Some.number.0 x there) (no_group c.args.actions.now.groups.items c.in-Some.number.0 c.if-number-groups.true)
+    choice_of_none g x ts (actions_at c.args.actions.now.groups.items c.in-Some.number.0) (c.requires.actions c.in-Some.number.0 x there) (no_group c.args.actions.now.groups.items c.in-Some.number.0 (let l = c.if-number-len.true in let n = c.len.ensures in omega (arith, l, n)))
 
 pub first_fitting-requires : goal.first_fitting-requires
 first_fitting-requires c =
@@ -53,7 +53,7 @@ returns-in-Some-2 c =
     let n = c.in-Some.number.0 in
     let there = ap (λ ns. slice_get ns n) (sym c.names.ensures.texts) ∙ (c.in-Some.ensures.found ∙ ap Some (c.text_of.ensures ∙ c.as_slice.ensures.value)) in
     let group = actions_at c.args.actions.now.groups.items n in
-    let same : c.as_slice-group.result.now ≡ group = c.as_slice-group.ensures.value ∙ sym (group_at c.args.actions.now.groups.items n c.index.result.now (let l = c.if-number-groups.false in omega (arith, l)) c.index.ensures) in
+    let same : c.as_slice-group.result.now ≡ group = c.as_slice-group.ensures.value ∙ sym (group_at c.args.actions.now.groups.items n c.index.result.now (let l = c.if-number-len.false in let n = c.len.ensures in omega (arith, l, n)) c.index.ensures) in
     let read = subst (λ (rs : List Reading). AreReadings g rs ts) (sym c.as_slice-2.ensures.value) c.in_ok-readings.ensures in
     choice_exactly g x ts group (c.requires.actions n x there) _ refl c.in_ok-readings.ensures
     (ap (first_taken exactly ts) (sym same) ∙ (sym (c.in_ok-action.ensures g ts read) ∙ ap (option_map (λ (a : Bor SortedAction). a.now)) c.in-Some-2.is))
@@ -72,7 +72,7 @@ returns-in-Some-3 c =
     let n = c.in-Some.number.0 in
     let there = ap (λ ns. slice_get ns n) (sym c.names.ensures.texts) ∙ (c.in-Some.ensures.found ∙ ap Some (c.text_of.ensures ∙ c.as_slice.ensures.value)) in
     let group = actions_at c.args.actions.now.groups.items n in
-    let same : c.as_slice-group.result.now ≡ group = c.as_slice-group.ensures.value ∙ sym (group_at c.args.actions.now.groups.items n c.index.result.now (let l = c.if-number-groups.false in omega (arith, l)) c.index.ensures) in
+    let same : c.as_slice-group.result.now ≡ group = c.as_slice-group.ensures.value ∙ sym (group_at c.args.actions.now.groups.items n c.index.result.now (let l = c.if-number-len.false in let n = c.len.ensures in omega (arith, l, n)) c.index.ensures) in
     let read = subst (λ (rs : List Reading). AreReadings g rs ts) (sym c.as_slice-2.ensures.value) c.in_ok-readings.ensures in
     let again = subst (λ (rs : List Reading). AreReadings g rs ts) (sym c.as_slice-3.ensures.value) c.in_ok-readings.ensures in
     choice_fitting g x ts group (c.requires.actions n x there) _ refl c.in_ok-readings.ensures
@@ -87,7 +87,7 @@ returns c =
     let n = c.in-Some.number.0 in
     let there = ap (λ ns. slice_get ns n) (sym c.names.ensures.texts) ∙ (c.in-Some.ensures.found ∙ ap Some (c.text_of.ensures ∙ c.as_slice.ensures.value)) in
     let group = actions_at c.args.actions.now.groups.items n in
-    let same : c.as_slice-group.result.now ≡ group = c.as_slice-group.ensures.value ∙ sym (group_at c.args.actions.now.groups.items n c.index.result.now (let l = c.if-number-groups.false in omega (arith, l)) c.index.ensures) in
+    let same : c.as_slice-group.result.now ≡ group = c.as_slice-group.ensures.value ∙ sym (group_at c.args.actions.now.groups.items n c.index.result.now (let l = c.if-number-len.false in let n = c.len.ensures in omega (arith, l, n)) c.index.ensures) in
     let read = subst (λ (rs : List Reading). AreReadings g rs ts) (sym c.as_slice-2.ensures.value) c.in_ok-readings.ensures in
     let again = subst (λ (rs : List Reading). AreReadings g rs ts) (sym c.as_slice-3.ensures.value) c.in_ok-readings.ensures in
     choice_neither g x ts group (c.requires.actions n x there)
