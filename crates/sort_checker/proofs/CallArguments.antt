@@ -35,14 +35,14 @@ module _ (how : Sort → Typing → Option Term) where
   abbrev pub Fill : List Sort → List Typing → List Term → Type 0
   Fill ss ts us = option_map list_of (all_at how ss ts) ≡ Some us
 
-  record IsFirst (o : Option Term) (r : Option Terms) (us : List Term) : Type 0 where
-    first : Term
-    rest : List Term
-    here : o ≡ Some first
-    behind : option_map list_of r ≡ Some rest
-    are : us ≡ first ∷ rest
+  pub record IsFirst (o : Option Term) (r : Option Terms) (us : List Term) : Type 0 where
+    pub first : Term
+    pub rest : List Term
+    pub here : o ≡ Some first
+    pub behind : option_map list_of r ≡ Some rest
+    pub are : us ≡ first ∷ rest
 
-  parts : (o : Option Term) (r : Option Terms) (us : List Term) → option_map list_of (option_and_then (λ u. option_map (terms.more u) r) o) ≡ Some us → IsFirst o r us
+  pub parts : (o : Option Term) (r : Option Terms) (us : List Term) → option_map list_of (option_and_then (λ u. option_map (terms.more u) r) o) ≡ Some us → IsFirst o r us
   parts None r us e = absurd (none-some us e)
   parts (Some u) None us e = absurd (none-some us e)
   parts (Some u) (Some xs) us e = record { first = u; rest = list_of xs; here = refl; behind = refl; are = sym (same_Some (u ∷ list_of xs) us e) }
@@ -117,7 +117,7 @@ argument_has_none v s ps es i x e l is m at none =
     let other = at_image (λ (t : DataTree). bare_data (plain_data t)) (typing_in v s) es i e m at in
     one_has_none checked (sorts_of ps) (typings_of v s es) i (flat_sort x.sort) (typing_in v s (bare_data (plain_data e))) one.0 other.0 one.1 other.1 none
 
-images_long : {A B C : Type 0} (f : A → B) (h : B → C) (xs : List A) → length (map h (map f xs)) ≡ length xs
+pub images_long : {A B C : Type 0} (f : A → B) (h : B → C) (xs : List A) → length (map h (map f xs)) ≡ length xs
 images_long f h [] = refl
 images_long f h (x ∷ xs) = ap suc (images_long f h xs)
 

@@ -107,7 +107,7 @@ assigned_more ds i a old new k name l e is before put n =
     by_test false = refl
 
 -- ---- variables by name
-same_name : (texts : List Name) → AreDifferent texts → (i j : ℕ) → i < length texts → j < length texts → bytes_eq (get_or texts i []) (get_or texts j []) ≡ (i == j)
+pub same_name : (texts : List Name) → AreDifferent texts → (i j : ℕ) → i < length texts → j < length texts → bytes_eq (get_or texts i []) (get_or texts j []) ≡ (i == j)
 same_name texts differ i j l m =
     both_tell (bytes_eq (get_or texts i []) (get_or texts j [])) (i == j)
     (λ e. let same : get_or texts i [] ≡ get_or texts j [] = (bytes_eq-Decides (get_or texts i []) (get_or texts j [])).0 e in eq-eqb i j (differ i j (get_or texts j []) (slice_get-get_or texts i [] l ∙ ap Some same) (slice_get-get_or texts j [] m)))
@@ -123,7 +123,7 @@ bound_if : (texts : List Name) (c : Bool) (b : code.Bound) (o : Option code.Boun
 bound_if texts true b o p e = refl
 bound_if texts false b o p e = e
 
-found_in_code : (g : Sig) → AreDifferent g.texts → (n : NameId) → n.0 < length g.texts → (bs : List code.Bound) → IsScopeOver g bs → (sc : Scope) (o : Option code.Bound) → first_named (text_under g n) (map bound_row sc) ≡ option_map (bound_of g.texts) o
+pub found_in_code : (g : Sig) → AreDifferent g.texts → (n : NameId) → n.0 < length g.texts → (bs : List code.Bound) → IsScopeOver g bs → (sc : Scope) (o : Option code.Bound) → first_named (text_under g n) (map bound_row sc) ≡ option_map (bound_of g.texts) o
     → first_named (text_under g n) (map bound_row (code_words.scope_behind g.texts sc bs)) ≡ option_map (bound_of g.texts) (found_behind n o bs)
 found_in_code g differ n l [] over sc o e = e
 found_in_code g differ n l (b ∷ bs) over sc o e =

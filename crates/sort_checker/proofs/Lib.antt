@@ -52,6 +52,12 @@ pub mod ParameterLists
 pub mod SortsByName
 pub mod FreeParts
 pub mod CallArguments
+pub mod SortedGroups
+pub mod ReadTerms
+pub mod FirstActions
+pub mod LabelParts
+pub mod CallTables
+pub mod AssignedLists
 pub mod TypedArguments
 pub mod TypedValues
 pub mod TypedSorts

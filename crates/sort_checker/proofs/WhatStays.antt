@@ -3,6 +3,7 @@ use Rattle.std.proofs.Common.{◌≡◌, ◌<◌, ℕ, zero, suc, List, [], ◌�
 use Rattle.std.specs.Prelude.{Option, Some, None, option_map, slice_get, Vec}
 use Rattle.std.specs.Global.{Global}
 use Rattle.std.specs.List.{All, AllByRecursion}
+use Rattle.std.proofs.lemmas.Option.{same_Some}
 use Rattle.std.proofs.lemmas.List.{length-map}
 use Rattle.std.proofs.lemmas.List.Elements.{All-weaker}
 use Rattle.data_theory.specs.declared.ids.TermId.{TermId}
@@ -34,8 +35,9 @@ use Rattle.sort_checker.specs.declared.process_tables.Parameter.{Parameter}
 use Rattle.sort_checker.specs.declared.process_tables.ProcessTable.{ProcessTable}
 use Rattle.sort_checker.specs.FullVocabularies.{FullVocabulary}
 use Rattle.sort_checker.specs.Additions.{AddsVariables, GoesOn}
-use Rattle.sort_checker.specs.ElaboratedParts.{IsTerm, IsBody, AreBodies}
-use Rattle.sort_checker.specs.CodeContexts.{IsParameterOver, IsTableOver, IsNumbered, IsReady, SeesData, Sees, IsWished, no_term, the_term}
+use Rattle.sort_checker.specs.ElaboratedParts.{IsTerm, AreTerms, IsBody, AreBodies}
+use Rattle.sort_checker.specs.CodeContexts.{IsParameterOver, IsTableOver, IsNumbered, IsReady, SeesData, Sees, IsWished, no_term, the_term, AreWished, no_terms, the_terms}
+use Rattle.sort_checker.proofs.SortedGroups.{actions_on}
 use Rattle.sort_checker.proofs.Adding.{goes_then, signature_stays, it_is_grown, vocabulary_stays, texts_stay}
 
 -- ---- the vocabulary and the variables in scope
@@ -122,7 +124,7 @@ ready_on g p t bs h q u ready added tables keep =
     }
 
 pub table_on : (g : Sig) (p : PoolContents) (h : Sig) (q : PoolContents) → IsSignature g → GoesOn g p h q → (t : ProcessTable) → IsTableOver g t → IsTableOver h t
-table_on g p h q signature on t over = record { places = over.places; parameters = rows_on t.parameters.items over.parameters }
+table_on g p h q signature on t over = record { places = over.places; parameters = rows_on t.parameters.items over.parameters; actions = actions_on g p h q signature on t.actions over.actions }
   where
     row_on : (ps : List Parameter) → AllByRecursion (IsParameterOver g) ps → AllByRecursion (IsParameterOver h) ps
     row_on [] all = tt
@@ -134,3 +136,12 @@ table_on g p h q signature on t over = record { places = over.places; parameters
     rows_on : (rows : List (Vec Parameter Global)) → AllByRecursion (λ (ps : Vec Parameter Global). AllByRecursion (IsParameterOver g) ps.items) rows → AllByRecursion (λ (ps : Vec Parameter Global). AllByRecursion (IsParameterOver h) ps.items) rows
     rows_on [] all = tt
     rows_on (ps ∷ rows) all = (row_on ps.items all.0, rows_on rows all.1)
+
+-- several terms that were wished
+pub all_found : (g : Sig) (p : PoolContents) (want : Option (List Term)) (found : Option (List TermId)) (ids : List TermId) → found ≡ Some ids → AreWished g p want found → (ts : List Term) × (want ≡ Some ts) × AreTerms g p ids ts
+all_found g p want _ ids is (no_terms e) = cc
+all_found g p want _ ids is (the_terms {ids = js} ts e stand) = (ts, e, subst (λ ks. AreTerms g p ks ts) (same_Some js ids is) stand)
+
+pub none_found : (g : Sig) (p : PoolContents) (want : Option (List Term)) (found : Option (List TermId)) → found ≡ None → AreWished g p want found → want ≡ None
+none_found g p want _ none (no_terms e) = e
+none_found g p want _ none (the_terms ts e stand) = cc

@@ -29,6 +29,7 @@ use Rattle.data_typing.specs.Contexts.{AreTablesOf, IsScopeOver, IsFlatOver}
 use Rattle.sort_checker.specs.declared.process_tables.Parameter.{Parameter}
 use Rattle.sort_checker.specs.declared.process_tables.ProcessTable.{ProcessTable}
 use Rattle.sort_checker.specs.NameNumbers.{number_under}
+use Rattle.sort_checker.specs.SortedActions.{AreActionsOf}
 use Rattle.sort_checker.specs.FullVocabularies.{Parameters, FullVocabulary, process_named}
 use Rattle.sort_checker.specs.Elaborations.{Elaborates, AllElaborate}
 use Rattle.sort_checker.specs.Scopes.{Binds}
@@ -49,10 +50,11 @@ process_in t x = option_map (λ k. (k, parameters_at t k)) (number_under t.place
 abbrev pub IsParameterOver : Sig → Parameter → Type 0
 IsParameterOver g p = (slice_get g.texts p.number.0 ≡ Some p.name.now) × IsFlatOver g p.sort
 
--- each process has its parameters, and they are over the signature
+-- each process has its parameters, and they are over the signature; the actions are those of the signature
 pub record IsTableOver (g : Sig) (t : ProcessTable) : Type 0 where
   pub places : (x : Name) (k : ℕ) → number_under t.places x ≡ Some k → k < length t.parameters.items
   pub parameters : AllByRecursion (λ (ps : Vec Parameter Global). AllByRecursion (IsParameterOver g) ps.items) t.parameters.items
+  pub actions : AreActionsOf g t.actions
 
 -- ---- what is there
 -- the variable has its number

@@ -39,6 +39,9 @@ pub mod VariableScopes
 pub mod ParameterTables
 pub mod TextContexts
 pub mod FreeTrees
+pub mod SortedActions
+pub mod ReadArguments
+pub mod ElaboratedLabels
 pub mod TypedTrees
 pub mod FoundFaults
 pub mod ElaboratedTexts

@@ -5,8 +5,11 @@
 #![tactic(auto)]
 
 mod action_tables;
+mod argument_readings;
 mod argument_terms;
+mod assigned_terms;
 mod binders;
+mod chosen_actions;
 mod comm_shapes;
 mod data_names;
 mod definitions;
@@ -14,6 +17,7 @@ mod elaborating;
 mod equation_elaborating;
 mod free_variables;
 mod known_names;
+mod labels;
 pub mod laws;
 mod left_sides;
 mod name_numbers;
@@ -24,6 +28,7 @@ mod renamings;
 mod scope_names;
 mod scoped_declarations;
 mod sort_numbers;
+mod sorted_actions;
 mod stops;
 mod table_building;
 mod text_contexts;
