@@ -52,3 +52,10 @@ pub mod ParameterLists
 pub mod SortsByName
 pub mod FreeParts
 pub mod CallArguments
+pub mod ProcessTreeForms
+pub mod CodeForms
+pub mod OperatorNumbers
+pub mod ElaboratedForms
+pub mod ElaboratedInside
+pub mod ElaboratedInCode
+pub mod TreeSizes

@@ -1,7 +1,8 @@
 -- What elaborating in code stands on and what it has made stay as more is added.
 use Rattle.std.proofs.Common.{◌≡◌, ◌<◌, ℕ, zero, suc, List, [], ◌∷◌, ◌++◌, map, length, get_or, refl, sym, subst, ap, ◌∙◌, arith, length-append}
-use Rattle.std.specs.Prelude.{Option, Some, None, option_map}
-use Rattle.std.specs.List.{All}
+use Rattle.std.specs.Prelude.{Option, Some, None, option_map, slice_get, Vec}
+use Rattle.std.specs.Global.{Global}
+use Rattle.std.specs.List.{All, AllByRecursion}
 use Rattle.std.proofs.lemmas.List.{length-map}
 use Rattle.std.proofs.lemmas.List.Elements.{All-weaker}
 use Rattle.data_theory.specs.declared.ids.TermId.{TermId}
@@ -23,16 +24,18 @@ use Rattle.data_typing.specs.CodeParts as typed
 use Rattle.data_typing.specs.CodeParts.{KeepTrees}
 use Rattle.data_typing.specs.Contexts.{AreTablesOf}
 use Rattle.data_typing.specs.Meanings.{Scope}
-use Rattle.data_typing.proofs.Contexts.{scope_stays}
+use Rattle.data_typing.proofs.Contexts.{scope_stays, flat_stays}
 use Rattle.process_terms.specs.Processes.{Body}
 use Rattle.process_terms.specs.PlainProcesses.{PlainProcess}
 use Rattle.process_terms.specs.Meanings.{term_at}
 use Rattle.process_terms.specs.SignatureEntries.{entries_of}
+use Rattle.sort_table.specs.Expressions.{Name}
+use Rattle.sort_checker.specs.declared.process_tables.Parameter.{Parameter}
 use Rattle.sort_checker.specs.declared.process_tables.ProcessTable.{ProcessTable}
 use Rattle.sort_checker.specs.FullVocabularies.{FullVocabulary}
 use Rattle.sort_checker.specs.Additions.{AddsVariables, GoesOn}
 use Rattle.sort_checker.specs.ElaboratedParts.{IsTerm, IsBody, AreBodies}
-use Rattle.sort_checker.specs.CodeContexts.{IsNumbered, IsReady, SeesData, Sees, IsWished, no_term, the_term}
+use Rattle.sort_checker.specs.CodeContexts.{IsParameterOver, IsTableOver, IsNumbered, IsReady, SeesData, Sees, IsWished, no_term, the_term}
 use Rattle.sort_checker.proofs.Adding.{goes_then, signature_stays, it_is_grown, vocabulary_stays, texts_stay}
 
 -- ---- the vocabulary and the variables in scope
@@ -117,3 +120,17 @@ ready_on g p t bs h q u ready added tables keep =
       scope = scope_stays g h bs grown ready.scope;
       numbers = All-weaker (IsNumbered g) (IsNumbered h) (λ b is. omega (arith, long, same, is)) bs ready.numbers;
     }
+
+pub table_on : (g : Sig) (p : PoolContents) (h : Sig) (q : PoolContents) → IsSignature g → GoesOn g p h q → (t : ProcessTable) → IsTableOver g t → IsTableOver h t
+table_on g p h q signature on t over = record { places = over.places; parameters = rows_on t.parameters.items over.parameters }
+  where
+    row_on : (ps : List Parameter) → AllByRecursion (IsParameterOver g) ps → AllByRecursion (IsParameterOver h) ps
+    row_on [] all = tt
+    row_on (x ∷ ps) all = (
+      (subst (λ (ts : List Name). slice_get ts x.number.0 ≡ Some x.name.now) (sym (texts_stay g h signature on.added)) all.0.0, flat_stays g h (it_is_grown g h signature on.added) x.sort all.0.1),
+      row_on ps all.1,
+    )
+
+    rows_on : (rows : List (Vec Parameter Global)) → AllByRecursion (λ (ps : Vec Parameter Global). AllByRecursion (IsParameterOver g) ps.items) rows → AllByRecursion (λ (ps : Vec Parameter Global). AllByRecursion (IsParameterOver h) ps.items) rows
+    rows_on [] all = tt
+    rows_on (ps ∷ rows) all = (row_on ps.items all.0, rows_on rows all.1)

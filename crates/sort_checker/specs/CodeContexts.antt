@@ -1,5 +1,5 @@
 -- What elaborating in code stands on: the vocabulary and the variables in scope that it has, and what holds of them.
-use Rattle.std.specs.Prelude.{◌≡◌, ◌<◌, ◌++◌, ℕ, List, [], map, length, get_or, Option, Some, None, option_map, Vec}
+use Rattle.std.specs.Prelude.{◌≡◌, ◌<◌, ◌++◌, ℕ, List, [], map, length, get_or, slice_get, Option, Some, None, option_map, Vec}
 use Rattle.std.specs.List.{All, AllByRecursion, Contains}
 use Rattle.std.specs.Global.{Global}
 use Rattle.mcrl2_syntax.specs.declared.word.Word.{Word}
@@ -25,7 +25,7 @@ use Rattle.data_typing.specs.declared.sort_tables.SortTables.{SortTables}
 use Rattle.data_typing.specs.CodeWords.{scope_of}
 use Rattle.data_typing.specs.FlatSorts.{flat_sort}
 use Rattle.data_typing.specs.Meanings.{Scope, ChecksAs}
-use Rattle.data_typing.specs.Contexts.{AreTablesOf, IsScopeOver}
+use Rattle.data_typing.specs.Contexts.{AreTablesOf, IsScopeOver, IsFlatOver}
 use Rattle.sort_checker.specs.declared.process_tables.Parameter.{Parameter}
 use Rattle.sort_checker.specs.declared.process_tables.ProcessTable.{ProcessTable}
 use Rattle.sort_checker.specs.NameNumbers.{number_under}
@@ -44,6 +44,15 @@ parameters_at t k = map parameter_of (get_or (map (λ (ps : Vec Parameter Global
 -- the process of a name, as its place with its parameters
 abbrev pub process_in : ProcessTable → Name → Option (ℕ × Parameters)
 process_in t x = option_map (λ k. (k, parameters_at t k)) (number_under t.places x)
+
+-- a parameter's name has its number, and its sort is one of the signature's data
+abbrev pub IsParameterOver : Sig → Parameter → Type 0
+IsParameterOver g p = (slice_get g.texts p.number.0 ≡ Some p.name.now) × IsFlatOver g p.sort
+
+-- each process has its parameters, and they are over the signature
+pub record IsTableOver (g : Sig) (t : ProcessTable) : Type 0 where
+  pub places : (x : Name) (k : ℕ) → number_under t.places x ≡ Some k → k < length t.parameters.items
+  pub parameters : AllByRecursion (λ (ps : Vec Parameter Global). AllByRecursion (IsParameterOver g) ps.items) t.parameters.items
 
 -- ---- what is there
 -- the variable has its number

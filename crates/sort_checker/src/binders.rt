@@ -2,19 +2,19 @@
 
 ghost use Rattle.std.specs.Prelude.{◌≡◌, ◌<◌, ◌∷◌, [], Some, length, map, take, IfOk, OnOk};
 ghost use Rattle.std.specs.List.{AllByRecursion, Contains};
-ghost use Rattle.data_theory.specs.Terms.{Sort};
 ghost use Rattle.data_theory.specs.IdTerms.{sort_under};
 ghost use Rattle.mcrl2_syntax.specs.Words.{word_of};
-ghost use Rattle.mcrl2_syntax.specs.SortTrees.{plain_sort};
 ghost use Rattle.mcrl2_syntax.specs.ProcessParts.{var_group_of};
 ghost use Rattle.mcrl2_syntax.specs.TreeWords.{IsName, AreNames, IsGroupOfWords};
 ghost use Rattle.sort_table.specs.BareProcesses.{bare_names, bare_group, bare_variables};
-ghost use Rattle.sort_table.specs.BareSorts.{SortExpression, bare_sort};
+ghost use Rattle.sort_table.specs.BareSorts.{SortExpression};
 ghost use Rattle.sort_table.specs.NamedSorts.{sort_names_of};
+ghost use Rattle.sort_table.specs.SignatureVocabularies.{vocabulary_of};
 ghost use Rattle.sort_table.specs.Vocabularies.{sort_in};
 ghost use Rattle.sort_checker.specs.Additions.{GoesOn};
 ghost use Rattle.sort_checker.specs.NumberedWords.{StandIn};
-ghost use Rattle.sort_checker.specs.CodeContexts.{words_at, IsReady, AreBound, EnterBehind};
+ghost use Rattle.sort_checker.specs.CodeContexts.{words_at, VariablesStand, IsReady, AreBound, EnterBehind};
+ghost use Rattle.sort_checker.specs.SoundTexts.{HaveSorts};
 
 use crate::sort_numbers::sort_number;
 use crate::word_numbers::word_number;
@@ -86,12 +86,15 @@ fn enter_group(
 ) -> Result<(), NoMemory>
     requires ready { IsReady sig.old pool.now tables.old scope.old }
     requires group { IsGroupOfWords (var_group_of group.now) }
-    requires there { StandIn sig.old (bare_names (map word_of group.now.names.items)) }
-    requires sort { (s : Sort) × (sort_in (sort_names_of sig.old) (bare_sort (plain_sort group.now.sort)) ≡ Some s) }
+    requires there { VariablesStand sig.old (bare_group (var_group_of group.now)) }
+    requires sorts { HaveSorts (vocabulary_of sig.old) (bare_group (var_group_of group.now)) }
     ensures kept { GoesOn sig.old pool.now sig.new pool.now }
     ensures ready { OnOk result (IsReady sig.new pool.now tables.new scope.new) }
     ensures bound { OnOk result (EnterBehind sig.old scope.old variables.old.items (bare_group (var_group_of group.now)) sig.new scope.new variables.new.items) }
 {
+    if group.names.is_empty() {
+        return Ok(());
+    }
     let sort = sort_number(sig, &group.sort)?;
     go_on(sig, tables)?;
     enter_words(
@@ -120,8 +123,8 @@ pub(crate) fn enter_groups(
 ) -> Result<Vec<VarId>, NoMemory>
     requires ready { IsReady sig.old pool.now tables.old scope.old }
     requires groups { AllByRecursion IsGroupOfWords (map var_group_of groups.now) }
-    requires there { AllByRecursion (λ g. StandIn sig.old (bare_names (map word_of g.names.items))) groups.now }
-    requires sorts { AllByRecursion (λ g. (s : Sort) × (sort_in (sort_names_of sig.old) (bare_sort (plain_sort g.sort)) ≡ Some s)) groups.now }
+    requires there { VariablesStand sig.old (bare_variables (map var_group_of groups.now)) }
+    requires sorts { HaveSorts (vocabulary_of sig.old) (bare_variables (map var_group_of groups.now)) }
     ensures kept { GoesOn sig.old pool.now sig.new pool.now }
     ensures ready { OnOk result (IsReady sig.new pool.now tables.new scope.new) }
     ensures bound { IfOk result (λ ids. AreBound sig.old scope.old (bare_variables (map var_group_of groups.now)) sig.new scope.new ids.items) }

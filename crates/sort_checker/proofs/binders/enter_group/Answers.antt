@@ -1,4 +1,5 @@
-use Rattle.std.proofs.Common.{map, sym, subst, ◌∙◌}
+use Rattle.std.proofs.Common.{◌≡◌, ◌<◌, map, length, sym, subst, ◌∙◌, arith, rules}
+use Rattle.std.proofs.lemmas.Grind.{common_steps}
 use Rattle.std.proofs.lemmas.Result.{on_ok_weaker}
 use Rattle.mcrl2_syntax.specs.Words.{word_of}
 use Rattle.mcrl2_syntax.specs.SortTrees.{plain_sort}
@@ -7,9 +8,23 @@ use Rattle.sort_table.specs.BareProcesses.{bare_names}
 use Rattle.sort_table.specs.BareSorts.{bare_sort}
 use Rattle.sort_checker.specs.NumberedWords.{StandIn}
 use Rattle.sort_checker.specs.CodeContexts.{words_at, EnterBehind}
-use Rattle.sort_checker.proofs.Adding.{goes_then}
-use Rattle.sort_checker.proofs.EnteringGroups.{lists_alone, ready_with_lists, stand_still, sorts_still, enter_before}
+use Rattle.sort_table.specs.SignatureVocabularies.{vocabulary_of}
+use Rattle.sort_checker.proofs.Adding.{goes_nowhere, goes_then}
+use Rattle.sort_checker.proofs.EnteringGroups.{lists_alone, ready_with_lists, stand_still, sorts_still, enter_before, words_stand, words_have, none_enter}
 use Rattle.sort_checker.proofs.binders.enter_group.Goals as goal
+
+pub returns-then-is_empty-clause-kept : goal.returns-then-is_empty-clause-kept
+returns-then-is_empty-clause-kept c = goes_nowhere c.args.sig.now c.args.pool.now
+
+pub returns-then-is_empty-clause-bound : goal.returns-then-is_empty-clause-bound
+returns-then-is_empty-clause-bound c =
+    let none : length c.args.group.now.names.items ≡ 0 = first_of (search rules, grind (arith, common_steps)) in
+    none_enter c.args.sig.now c.args.scope.now c.args.variables.now.items (bare_sort (plain_sort c.args.group.now.sort)) c.args.group.now.names.items none
+
+pub sort_number-requires-clause-sort : goal.sort_number-requires-clause-sort
+sort_number-requires-clause-sort c =
+    let some : 0 < length c.args.group.now.names.items = first_of (search rules, grind (arith, common_steps)) in
+    words_have (vocabulary_of c.args.sig.now) (bare_sort (plain_sort c.args.group.now.sort)) c.args.group.now.names.items some c.requires.sorts
 
 pub go_on-requires : goal.go_on-requires
 go_on-requires c = (c.args.sig.now, c.requires.ready.tables, c.in_ok-sort.ensures.added)
@@ -23,7 +38,8 @@ enter_words-requires-clause-names c = subst (λ ws. AreNames (map word_of ws)) (
 pub enter_words-requires-clause-there : goal.enter_words-requires-clause-there
 enter_words-requires-clause-there c =
     subst (λ ws. StandIn c.sort_number.new.sig (bare_names (map word_of ws))) (sym c.as_slice.ensures.value)
-    (stand_still c.args.sig.now c.requires.ready.signature c.args.pool.now c.sort_number.new.sig (lists_alone c.args.sig.now c.args.pool.now c.sort_number.new.sig c.sort_number.ensures.added) (bare_names (map word_of c.args.group.now.names.items)) c.requires.there)
+    (stand_still c.args.sig.now c.requires.ready.signature c.args.pool.now c.sort_number.new.sig (lists_alone c.args.sig.now c.args.pool.now c.sort_number.new.sig c.sort_number.ensures.added) (bare_names (map word_of c.args.group.now.names.items))
+    (words_stand c.args.sig.now (bare_sort (plain_sort c.args.group.now.sort)) c.args.group.now.names.items c.requires.there))
 
 pub returns-in_err-sort-clause-kept : goal.returns-in_err-sort-clause-kept
 returns-in_err-sort-clause-kept c = lists_alone c.args.sig.now c.args.pool.now c.sort_number.new.sig c.sort_number.ensures.added

@@ -1,23 +1,21 @@
 use Rattle.std.proofs.Common.{◌≡◌, ◌∙◌, ℕ, List, [], map, take, ap, sym, subst, arith, length}
-use Rattle.std.specs.Prelude.{Some}
+use Rattle.std.specs.Prelude.{Some, Contains}
 use Rattle.std.proofs.Math.Seq.{take-length}
 use Rattle.data_theory.specs.Terms.{Sort}
-use Rattle.mcrl2_syntax.specs.Words.{word_of}
-use Rattle.mcrl2_syntax.specs.SortTrees.{plain_sort}
 use Rattle.mcrl2_syntax.specs.ProcessParts.{var_group_of}
 use Rattle.mcrl2_syntax.specs.TreeWords.{IsGroupOfWords}
 use Rattle.mcrl2_syntax.specs.declared.process_tree.VarGroup.{VarGroup}
-use Rattle.sort_table.specs.BareProcesses.{bare_names, bare_variables}
-use Rattle.sort_table.specs.BareSorts.{bare_sort}
-use Rattle.sort_table.specs.NamedSorts.{sort_names_of}
+use Rattle.sort_table.specs.BareProcesses.{bare_group, bare_variables}
+use Rattle.sort_table.specs.BareSorts.{SortExpression}
+use Rattle.sort_table.specs.Expressions.{Name}
+use Rattle.sort_table.specs.SignatureVocabularies.{vocabulary_of}
 use Rattle.sort_table.specs.Vocabularies.{sort_in}
-use Rattle.sort_checker.specs.NumberedWords.{StandIn}
 use Rattle.sort_checker.specs.CodeContexts.{AreBound, EnterBehind}
 use Rattle.sort_checker.proofs.Adding.{goes_nowhere, goes_then}
-use Rattle.sort_checker.proofs.ReadLists.{at_one, at_mapped}
+use Rattle.sort_checker.proofs.ReadLists.{at_mapped}
 use Rattle.sort_checker.proofs.Binding.{enter_none}
 use Rattle.sort_checker.proofs.EnteringWords.{next_group}
-use Rattle.sort_checker.proofs.EnteringGroups.{stand_still, has_still, all_entered}
+use Rattle.sort_checker.proofs.EnteringGroups.{variables_still, have_still, group_part, all_entered}
 use Rattle.sort_checker.proofs.binders.enter_groups.Goals as goal
 
 pub loop-group-init : goal.loop-group-init
@@ -32,13 +30,13 @@ enter_group-requires-clause-group c = at_mapped IsGroupOfWords var_group_of c.ar
 
 pub enter_group-requires-clause-there : goal.enter_group-requires-clause-there
 enter_group-requires-clause-there c =
-    stand_still c.args.sig.now c.requires.ready.signature c.args.pool.now c.loop-group.sig c.loop-group.invariant.kept (bare_names (map word_of c.group-item.result.names.items))
-    (at_one (λ (x : VarGroup). StandIn c.args.sig.now (bare_names (map word_of x.names.items))) c.args.groups.now c.loop-group.group-index c.group-item.result c.loop-group-test.true c.group-item.is c.requires.there)
+    variables_still c.args.sig.now c.requires.ready.signature c.args.pool.now c.loop-group.sig c.loop-group.invariant.kept (bare_group (var_group_of c.group-item.result))
+    (group_part (λ (x : Name × SortExpression). Contains c.args.sig.now.texts x.0) c.args.groups.now c.loop-group.group-index c.group-item.result c.loop-group-test.true c.group-item.is c.requires.there)
 
-pub enter_group-requires-clause-sort : goal.enter_group-requires-clause-sort
-enter_group-requires-clause-sort c =
-    has_still c.args.sig.now c.requires.ready.signature c.args.pool.now c.loop-group.sig c.loop-group.invariant.kept (bare_sort (plain_sort c.group-item.result.sort))
-    (at_one (λ (x : VarGroup). (s : Sort) × (sort_in (sort_names_of c.args.sig.now) (bare_sort (plain_sort x.sort)) ≡ Some s)) c.args.groups.now c.loop-group.group-index c.group-item.result c.loop-group-test.true c.group-item.is c.requires.sorts)
+pub enter_group-requires-clause-sorts : goal.enter_group-requires-clause-sorts
+enter_group-requires-clause-sorts c =
+    have_still c.args.sig.now c.requires.ready.signature c.args.pool.now c.loop-group.sig c.loop-group.invariant.kept (bare_group (var_group_of c.group-item.result))
+    (group_part (λ (x : Name × SortExpression). (s : Sort) × (sort_in (vocabulary_of c.args.sig.now).sort_names x.1 ≡ Some s)) c.args.groups.now c.loop-group.group-index c.group-item.result c.loop-group-test.true c.group-item.is c.requires.sorts)
 
 pub returns-in_err-enter_group-clause-kept : goal.returns-in_err-enter_group-clause-kept
 returns-in_err-enter_group-clause-kept c = goes_then c.args.sig.now c.args.pool.now c.loop-group.sig c.args.pool.now c.enter_group.new.sig c.args.pool.now c.loop-group.invariant.kept c.enter_group.ensures.kept

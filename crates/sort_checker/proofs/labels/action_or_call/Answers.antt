@@ -1,0 +1,5 @@
+use Rattle.sort_checker.proofs.Adding.{goes_nowhere}
+use Rattle.sort_checker.proofs.labels.action_or_call.Goals as goal
+
+pub returns-clause-kept : goal.returns-clause-kept
+returns-clause-kept c = goes_nowhere c.args.sig.now c.args.pool.now
