@@ -90,7 +90,7 @@ module _ (g : Sig) (signature : IsSignature g) (x : Variable) (name : x.name.0 <
           by_list (v ∷ vs) = by_list vs
 
 -- ---- one variable
-read_text : (ts : List Name) (i : ℕ) (x : Name) → slice_get ts i ≡ Some x → get_or ts i [] ≡ x
+pub read_text : (ts : List Name) (i : ℕ) (x : Name) → slice_get ts i ≡ Some x → get_or ts i [] ≡ x
 read_text [] i x h = absurd (none-some x h)
 read_text (t ∷ ts) zero x h = same_Some t x h
 read_text (t ∷ ts) (suc i) x h = read_text ts i x h

@@ -225,7 +225,7 @@ pub bound_sorts : {v : Vocabulary} {scope inner : Scope} {xs : Variables} {bs : 
 bound_sorts binds_none = tt
 bound_sorts (binds_more {s = s} is f bs) = ((s, is), bound_sorts bs)
 
-same_itself : (scope : Scope) → SameNames scope scope
+pub same_itself : (scope : Scope) → SameNames scope scope
 same_itself [] = same_none
 same_itself (b ∷ scope) = same_more (same_itself scope)
 

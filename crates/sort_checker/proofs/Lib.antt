@@ -75,3 +75,10 @@ pub mod OtherDeclarations
 pub mod WholeModels
 pub mod TextParts
 pub mod SortedTrees
+pub mod ProcessTreeForms
+pub mod CodeForms
+pub mod OperatorNumbers
+pub mod ElaboratedForms
+pub mod ElaboratedInside
+pub mod ElaboratedInCode
+pub mod TreeSizes

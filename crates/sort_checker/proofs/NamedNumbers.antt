@@ -16,7 +16,7 @@ use Rattle.sort_table.specs.NamedSorts.{sort_names_of}
 use Rattle.sort_table.specs.SignatureVocabularies.{text_under, sort_name_under}
 use Rattle.sort_table.proofs.Choices.{chosen}
 
-text_contained : (ts : List Name) (i : ℕ) → i < length ts → Contains ts (get_or ts i [])
+pub text_contained : (ts : List Name) (i : ℕ) → i < length ts → Contains ts (get_or ts i [])
 text_contained [] i l = let never : ⊥ = omega (arith, l) in absurd never
 text_contained (t ∷ ts) zero l = (0, omega arith, refl)
 text_contained (t ∷ ts) (suc i) l = let c = text_contained ts i (omega (arith, l)) in let k = c.1 in (suc c.0, omega (arith, k), c.2)

@@ -21,6 +21,7 @@ ghost use Rattle.sort_checker.specs.TextProcesses.{ListsProcesses};
 use crate::name_numbers::NameNumbers;
 use crate::process_tables::{Parameter, ProcessTable};
 use crate::scoped_declarations::ScopedDecl;
+use crate::sorted_actions::sorted_actions;
 use crate::variable_sorts::{name_number, sort_of};
 use data_theory::{NoMemory, Signature};
 use data_typing::sort_tables::SortTables;
@@ -124,9 +125,11 @@ pub(crate) fn process_table<'a>(
     ensures lists { IfOk result (ListsProcesses sig.now (processes_in (declarations_listed list.now))) }
     ensures over { IfOk result (IsTableOver sig.now) }
 {
+    let actions = sorted_actions(alloc, sig, tables)?;
     let mut table = ProcessTable {
         places: NameNumbers::new(alloc),
         parameters: Vec::new(alloc),
+        actions,
     };
     for item in list {
         add_process(alloc, sig, tables, &mut table, item.declaration)?;

@@ -42,7 +42,7 @@ parameters_of-requires-clause-ready c =
 pub returns-clause-lists : goal.returns-clause-lists
 returns-clause-lists c = λ ws lists.
     let written : Name → Written = λ n. record { name = n; parameters = bare_variables (map var_group_of c.in-Proc.groups.items); body = bare_process (plain_process c.in-Proc.field-3.value) } in
-    let new : ProcessTable = record { places = c.put_first.new.places; parameters = c.push.new.self } in
+    let new : ProcessTable = record { places = c.put_first.new.places; parameters = c.push.new.self; actions = c.args.table.now.actions } in
     let name : Name = c.as_slice-name.result.now in
     let count : c.len-number.result ≡ length c.args.table.now.parameters.items = omega (arith, c.len-number.ensures, c.args.table.now.parameters.ok.0) in
     let put : (x : Name) → number_under c.put_first.new.places x ≡ option_or (number_under c.args.table.now.places x) (cond (bytes_eq name x) (Some (length c.args.table.now.parameters.items)) None)
@@ -67,4 +67,5 @@ returns-clause-over c = λ over.
       parameters =
           subst (AllByRecursion (λ (ps : Vec Parameter Global). AllByRecursion (IsParameterOver c.args.sig.now) ps.items)) (sym c.in_ok-push.ensures.items)
           (all_both (λ (ps : Vec Parameter Global). AllByRecursion (IsParameterOver c.args.sig.now) ps.items) c.args.table.now.parameters.items (c.in_ok-parameters.parameters ∷ []) over.parameters (c.in_ok-parameters.ensures.over, tt));
+      actions = over.actions;
     }

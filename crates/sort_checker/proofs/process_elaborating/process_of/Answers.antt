@@ -1,5 +1,0 @@
-use Rattle.sort_checker.proofs.Adding.{goes_nowhere}
-use Rattle.sort_checker.proofs.process_elaborating.process_of.Goals as goal
-
-pub returns-clause-kept : goal.returns-clause-kept
-returns-clause-kept c = goes_nowhere c.args.sig.now c.args.pool.now
