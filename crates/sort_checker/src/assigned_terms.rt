@@ -119,7 +119,16 @@ pub(crate) fn assigned_terms<'a>(
     let places = assigned_places(alloc, assignments)?;
     let mut terms = Vec::new(alloc);
     for parameter in parameters {
-        let found = parameter_term(alloc, sig, pool, tables, scope, &places, assignments, parameter)?;
+        let found = parameter_term(
+            alloc,
+            sig,
+            pool,
+            tables,
+            scope,
+            &places,
+            assignments,
+            parameter,
+        )?;
         let Some(term) = found else {
             return Ok(None);
         };

@@ -84,11 +84,19 @@ pub(crate) fn chosen_action<'s>(
     let readings = readings_of(alloc, sig, tables, scope, arguments)?;
     let way = Way::Exactly;
     if let Some(action) = first_fitting(readings.as_slice(), group, way)? {
-        return Ok(Some(Chosen { action, way, readings }));
+        return Ok(Some(Chosen {
+            action,
+            way,
+            readings,
+        }));
     }
     let way = Way::Checked;
     match first_fitting(readings.as_slice(), group, way)? {
-        Some(action) => Ok(Some(Chosen { action, way, readings })),
+        Some(action) => Ok(Some(Chosen {
+            action,
+            way,
+            readings,
+        })),
         None => Ok(None),
     }
 }

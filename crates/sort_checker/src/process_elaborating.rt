@@ -58,25 +58,102 @@ pub(crate) fn process_of<'a>(
 {
     match tree {
         ProcTree::Delta(_) => Ok(Proc::Delta),
-        ProcTree::Action(action) => action_or_call(alloc, sig, pool, tables, scope, processes, action),
-        ProcTree::Multi(_, actions) => multi_action(alloc, sig, pool, tables, scope, processes, actions.as_slice()),
+        ProcTree::Action(action) => action_or_call(
+            alloc, sig, pool, tables, scope, processes, action,
+        ),
+        ProcTree::Multi(_, actions) => multi_action(
+            alloc,
+            sig,
+            pool,
+            tables,
+            scope,
+            processes,
+            actions.as_slice(),
+        ),
         ProcTree::Call(_, name, assignments) => {
-            call_by_name(alloc, sig, pool, tables, scope, processes, name, assignments.as_slice())
+            call_by_name(
+                alloc,
+                sig,
+                pool,
+                tables,
+                scope,
+                processes,
+                name,
+                assignments.as_slice(),
+            )
         }
-        ProcTree::Brackets(_, inner) => process_of(alloc, sig, pool, tables, scope, processes, inner),
-        ProcTree::Allow(_, sets, inner) => allow_of(alloc, sig, pool, tables, scope, processes, sets.as_slice(), inner),
-        ProcTree::Block(_, names, inner) => block_of(alloc, sig, pool, tables, scope, processes, names.as_slice(), inner),
-        ProcTree::Hide(_, names, inner) => hide_of(alloc, sig, pool, tables, scope, processes, names.as_slice(), inner),
+        ProcTree::Brackets(_, inner) => process_of(
+            alloc, sig, pool, tables, scope, processes, inner,
+        ),
+        ProcTree::Allow(_, sets, inner) => allow_of(
+            alloc,
+            sig,
+            pool,
+            tables,
+            scope,
+            processes,
+            sets.as_slice(),
+            inner,
+        ),
+        ProcTree::Block(_, names, inner) => block_of(
+            alloc,
+            sig,
+            pool,
+            tables,
+            scope,
+            processes,
+            names.as_slice(),
+            inner,
+        ),
+        ProcTree::Hide(_, names, inner) => hide_of(
+            alloc,
+            sig,
+            pool,
+            tables,
+            scope,
+            processes,
+            names.as_slice(),
+            inner,
+        ),
         ProcTree::Rename(_, renamings, inner) => {
-            rename_of(alloc, sig, pool, tables, scope, processes, renamings.as_slice(), inner)
+            rename_of(
+                alloc,
+                sig,
+                pool,
+                tables,
+                scope,
+                processes,
+                renamings.as_slice(),
+                inner,
+            )
         }
-        ProcTree::Comm(_, rules, inner) => comm_of(alloc, sig, pool, tables, scope, processes, rules.as_slice(), inner),
+        ProcTree::Comm(_, rules, inner) => comm_of(
+            alloc,
+            sig,
+            pool,
+            tables,
+            scope,
+            processes,
+            rules.as_slice(),
+            inner,
+        ),
         ProcTree::Sequence(_, parts) => {
             let parts = processes_of(alloc, sig, pool, tables, scope, processes, parts.as_slice())?;
             Ok(Proc::Seq(parts))
         }
-        ProcTree::Sum(_, groups, inner) => sum_of(alloc, sig, pool, tables, scope, processes, groups.as_slice(), inner),
-        ProcTree::When(_, condition, then) => when_of(alloc, sig, pool, tables, scope, processes, then, condition),
+        ProcTree::Sum(_, groups, inner) => sum_of(
+            alloc,
+            sig,
+            pool,
+            tables,
+            scope,
+            processes,
+            groups.as_slice(),
+            inner,
+        ),
+        ProcTree::When(_, condition, then) => when_of(
+            alloc, sig, pool, tables, scope, processes, then, condition,
+        ),
         ProcTree::Either(_, condition, then, other) => {
             let condition = condition_term(alloc, sig, pool, tables, scope, condition)?;
             let then = boxed_process(alloc, sig, pool, tables, scope, processes, then)?;

@@ -337,23 +337,22 @@ processes_of-loop-part-init t c =
     }
 
 pub processes_of-process_of-requires : goal.processes_of-process_of-requires
-processes_of-process_of-requires t c =
+processes_of-process_of-requires t c = (
+  omega (arith, c.decreases, most_at the_size c.args.parts.now c.loop-part.part-index c.part-item.result c.loop-part-test.true c.part-item.is),
+  (
+    c.loop-part.invariant.ready,
     (
-      omega (arith, c.decreases, most_at the_size c.args.parts.now c.loop-part.part-index c.part-item.result c.loop-part-test.true c.part-item.is),
+      table_on c.args.sig.now c.args.pool.now c.loop-part.sig c.loop-part.pool c.requires.ready.signature c.loop-part.invariant.kept c.args.processes.now c.requires.table,
       (
-        c.loop-part.invariant.ready,
+        part_words c.args.parts.now c.loop-part.part-index c.part-item.result c.loop-part-test.true c.part-item.is c.requires.words,
         (
-          table_on c.args.sig.now c.args.pool.now c.loop-part.sig c.loop-part.pool c.requires.ready.signature c.loop-part.invariant.kept c.args.processes.now c.requires.table,
-          (
-            part_words c.args.parts.now c.loop-part.part-index c.part-item.result c.loop-part-test.true c.part-item.is c.requires.words,
-            (
-              names_on c.args.sig.now c.loop-part.sig (texts_stay c.args.sig.now c.loop-part.sig c.requires.ready.signature c.loop-part.invariant.kept.added) (bare_one c.part-item.result) (part_names c.args.sig.now c.args.parts.now c.loop-part.part-index c.part-item.result c.loop-part-test.true c.part-item.is c.requires.names),
-              subst (λ bs. CanElaborate c.loop-part.sig c.args.processes.now bs (bare_one c.part-item.result)) (sym c.loop-part.invariant.scope) (can_after c.args.sig.now c.args.pool.now c.loop-part.sig c.loop-part.pool c.requires.ready.signature c.loop-part.invariant.kept c.args.processes.now c.args.scope.now (bare_one c.part-item.result) (can_part c.args.sig.now c.args.processes.now c.args.scope.now c.args.parts.now c.loop-part.part-index c.part-item.result c.loop-part-test.true c.part-item.is c.requires.elaborates)),
-            ),
-          ),
+          names_on c.args.sig.now c.loop-part.sig (texts_stay c.args.sig.now c.loop-part.sig c.requires.ready.signature c.loop-part.invariant.kept.added) (bare_one c.part-item.result) (part_names c.args.sig.now c.args.parts.now c.loop-part.part-index c.part-item.result c.loop-part-test.true c.part-item.is c.requires.names),
+          subst (λ bs. CanElaborate c.loop-part.sig c.args.processes.now bs (bare_one c.part-item.result)) (sym c.loop-part.invariant.scope) (can_after c.args.sig.now c.args.pool.now c.loop-part.sig c.loop-part.pool c.requires.ready.signature c.loop-part.invariant.kept c.args.processes.now c.args.scope.now (bare_one c.part-item.result) (can_part c.args.sig.now c.args.processes.now c.args.scope.now c.args.parts.now c.loop-part.part-index c.part-item.result c.loop-part-test.true c.part-item.is c.requires.elaborates)),
         ),
       ),
-    )
+    ),
+  ),
+)
 
 pub processes_of-returns-in_err-process_of-clause-kept : goal.processes_of-returns-in_err-process_of-clause-kept
 processes_of-returns-in_err-process_of-clause-kept t c =
