@@ -1,11 +1,17 @@
 //! What is said of a text.
 
-use crate::signatures::signature_of;
-use data_theory::{NoMemory, Signature};
+ghost use Rattle.std.specs.List.{All, Contains};
+ghost use Rattle.mcrl2_syntax.specs.Declarations.{spec_of};
+ghost use Rattle.mcrl2_syntax.specs.TreeWords.{IsSpecOfWords};
+ghost use Rattle.sort_table.specs.Identifiers.{identifiers_in};
+ghost use Rattle.sort_table.specs.PlacedSections.{IsPlaced};
+
+use data_theory::{Names, Signature};
 use mcrl2_lexer::lex;
 use mcrl2_parser::parse;
 use mcrl2_syntax::Spec;
-use sort_checker::{comm_shape, renamed_twice, unknown_name, variable_left};
+use sort_checker::{FoundFault, ill_typed};
+use sort_table::build;
 use std::alloc::{AllocError, Global};
 
 /// The answer to a line.
@@ -19,40 +25,53 @@ pub fn answer(alloc: Global, line: &str) -> Result<Vec<u8>, AllocError> {
     let Ok(spec) = parse(alloc, &tokens) else {
         return b"no tree".to_vec(alloc);
     };
-    let Ok(sig) = signature_of(alloc, &spec) else {
-        return b"no memory".to_vec(alloc);
-    };
-    match fault(alloc, &sig, &spec) {
-        Ok(text) => Ok(text),
+    spec_text(alloc, &spec)
+}
+
+/// The first fault of a specification, over the signature that is built of it.
+fn spec_text(alloc: Global, spec: &Spec) -> Result<Vec<u8>, AllocError>
+    requires words { IsSpecOfWords (spec_of spec.now) }
+    requires placed { IsPlaced (spec_of spec.now) }
+{
+    let mut names = Names::new(alloc);
+    match build(alloc, spec, &mut names) {
+        Ok(sig) => typed_text(alloc, &sig, spec),
+        Err(_) => b"refused declarations".to_vec(alloc),
+    }
+}
+
+/// The first fault of a specification over a signature.
+fn typed_text(alloc: Global, sig: &Signature, spec: &Spec) -> Result<Vec<u8>, AllocError>
+    requires words { IsSpecOfWords (spec_of spec.now) }
+    requires entered { All (Contains sig.now.texts) (identifiers_in (spec_of spec.now)) }
+{
+    match ill_typed(alloc, sig, spec) {
+        Ok(Some(fault)) => fault_text(alloc, fault),
+        Ok(None) => b"no fault".to_vec(alloc),
         Err(_) => b"no memory".to_vec(alloc),
     }
 }
 
-/// The first fault of a text.
-fn fault(alloc: Global, sig: &Signature, spec: &Spec) -> Result<Vec<u8>, NoMemory> {
-    if let Some((number, name)) = unknown_name(alloc, sig, spec)? {
-        return named(alloc, "12 unknown", number, name);
+/// A fault.
+fn fault_text<'a>(alloc: Global, fault: FoundFault<'a>) -> Result<Vec<u8>, AllocError> {
+    match fault {
+        FoundFault::UnknownName(number, name) => named(alloc, "12 unknown", number, name),
+        FoundFault::Untyped(number) => numbered(alloc, "13 untyped", number),
+        FoundFault::FreeVariable(number, name) => named(alloc, "14 free", number, name),
+        FoundFault::VariableLeft(number) => numbered(alloc, "15 variable left", number),
+        FoundFault::CommShape(number) => numbered(alloc, "16 shape of comm", number),
+        FoundFault::RenameTwice(number, name) => named(alloc, "17 renamed twice", number, name),
     }
-    if let Some(number) = variable_left(alloc, spec)? {
-        return numbered(alloc, "15 variable left", number);
-    }
-    if let Some(number) = comm_shape(alloc, sig, spec)? {
-        return numbered(alloc, "16 shape of comm", number);
-    }
-    if let Some((number, name)) = renamed_twice(alloc, spec)? {
-        return named(alloc, "17 renamed twice", number, name);
-    }
-    Ok(b"no fault".to_vec(alloc)?)
 }
 
 /// A fault with the number of its declaration.
-fn numbered(alloc: Global, fault: &str, number: usize) -> Result<Vec<u8>, NoMemory> {
+fn numbered(alloc: Global, fault: &str, number: usize) -> Result<Vec<u8>, AllocError> {
     let text = format!(in alloc; "{fault} in {number}")?;
-    Ok(text.as_bytes().to_vec(alloc)?)
+    text.as_bytes().to_vec(alloc)
 }
 
 /// A fault with the number of its declaration, and a name.
-fn named(alloc: Global, fault: &str, number: usize, name: &[u8]) -> Result<Vec<u8>, NoMemory> {
+fn named(alloc: Global, fault: &str, number: usize, name: &[u8]) -> Result<Vec<u8>, AllocError> {
     let mut out = numbered(alloc, fault, number)?;
     out.extend_from_slice(b": ")?;
     out.extend_from_slice(name)?;

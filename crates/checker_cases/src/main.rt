@@ -1,12 +1,11 @@
 //! Says of small texts which fault of typing they have, for the table in `stdin` and `stdout`.
 //!
-//! A line of the input is a text. For each the program prints a line: the first of the faults 12 and 15 to 17 that the text has, with the
-//! number of the declaration and the name, or else `no fault`. A line that begins with `%` is a heading, and its own answer. The
-//! signature has the actions over built-in sorts and the names of mappings alone.
+//! A line of the input is a text. For each the program prints a line: the first of the faults 12 to 17 that the text has, with the number
+//! of the declaration and the name where the fault has one, or else `no fault`. A text whose declarations are refused already is told by
+//! `refused declarations`. A line that begins with `%` is a heading, and its own answer.
 #![tactic(auto)]
 
 mod answers;
-mod signatures;
 
 use answers::answer;
 use std::io::{self, Write};
