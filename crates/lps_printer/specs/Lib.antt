@@ -36,3 +36,4 @@ pub mod SignatureNames
 pub mod AddedConstants
 pub mod NeededConstants
 pub mod PrintedTexts
+pub mod NeedLaws
