@@ -48,3 +48,6 @@ mod AddingTokens
 mod CopiedTrees
 mod CopiedLines
 mod AddingSections
+mod AddedFunctions
+mod AddedSections
+mod AddedStructs

@@ -32,3 +32,4 @@ pub mod TreeTokens
 pub mod CopiedPlaces
 pub mod CopiedSections
 pub mod AddingSections
+pub mod AddedDeclarations

@@ -4,6 +4,10 @@
 //! bodies: the contract of each is a law of these definitions, so that the crates above can cite it.
 #![tactic(auto)]
 
+mod added;
+mod added_functions;
+mod added_sections;
+mod added_structs;
 mod copied_data;
 mod copied_declarations;
 mod copied_parts;
