@@ -59,3 +59,6 @@ pub mod FittingParts
 pub mod PrintedTexts
 pub mod NilsAmong
 pub mod ConstantNils
+mod AddedFunctions
+mod AddedSections
+mod AddedStructs

@@ -37,3 +37,4 @@ pub mod AddedConstants
 pub mod NeededConstants
 pub mod PrintedTexts
 pub mod NeedLaws
+pub mod AddedDeclarations
