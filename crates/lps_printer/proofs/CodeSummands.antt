@@ -71,7 +71,7 @@ with_sums c t s v vs a e gap rest =
     ap (λ us. print_sum (map (variable_by c.terms.sig.now t.names) us) r.condition r.first r.others r.next gap rest) e
     ∙ ap (λ xs. print_sum xs r.condition r.first r.others r.next gap rest) (variables_meant c t s.sums.items a)
 
-pub parted : (xs : List VarId) (d : VarId) → 0 < length xs → get_or xs 0 d ∷ take (length xs - 1) (drop 1 xs) ≡ xs
+pub parted : {A : Type 0} (xs : List A) (d : A) → 0 < length xs → get_or xs 0 d ∷ take (length xs - 1) (drop 1 xs) ≡ xs
 parted [] d l = absurd (omega (arith, l))
 parted (x ∷ xs) d l =
     let count : suc (length xs) - 1 ≡ length xs = omega arith in

@@ -37,7 +37,7 @@ use Rattle.lps_printer.proofs.NeededConstants.{same_nil}
 use Rattle.lps_printer.proofs.SignatureNames.{function_names_stand, text_is_worded}
 
 -- ---- the functions that are added
-abbrev IsPlain : Function → Type 0
+abbrev pub IsPlain : Function → Type 0
 IsPlain f = f.word ≡ None
 
 pub record HasNew (g h : Sig) (n : ℕ) : Type 0 where
@@ -59,7 +59,7 @@ each_new g k (s ∷ ss) (adds {h = h} one rest) =
       plain = All-cons IsPlain f r.news refl r.plain;
     }
 
-each_grows : (g h : Sig) (ss : List SortId) → AddsEach g ss h → IsGrown g h
+pub each_grows : (g h : Sig) (ss : List SortId) → AddsEach g ss h → IsGrown g h
 each_grows g h [] none_left = grown_itself g
 each_grows g k (s ∷ ss) (adds {h = h} one rest) = growth_after_growth_is_growth g h k (constant_grows g h s one) (each_grows h k ss rest)
 
@@ -72,7 +72,7 @@ constants_grow g h [] e = grown_as g h g e (grown_itself g)
 constants_grow g h (s ∷ ss) run = growth_after_growth_is_growth g (with_taken g (codes "nil")) h (with_a_text_it_is_grown g (codes "nil")) (each_grows (with_taken g (codes "nil")) h (s ∷ ss) run)
 
 -- ---- their places among the declared ones
-all_counted : (fs : List Function) (k i : ℕ) → All IsPlain fs → i ≤ length fs → length (declared_from k (take i fs)) ≡ i
+pub all_counted : (fs : List Function) (k i : ℕ) → All IsPlain fs → i ≤ length fs → length (declared_from k (take i fs)) ≡ i
 all_counted fs k zero a l = refl
 all_counted [] k (suc i) a l = absurd (omega (arith, l))
 all_counted (f ∷ fs) k (suc i) a l =
@@ -84,7 +84,7 @@ taken_behind [] ys i = ap (λ n. take n ys) (let z : 0 + i ≡ i = omega arith i
 taken_behind (x ∷ xs) ys i = ap (λ n. take n (x ∷ xs ++ ys)) (let z : suc (length xs) + i ≡ suc (length xs + i) = omega arith in z) ∙ ap (λ zs. x ∷ zs) (taken_behind xs ys i)
 
 module _ (g h : Sig) (n : ℕ) (new : HasNew g h n) where
-  new_place : (i : ℕ) → i < n → place_of h (record { 0 = length g.functions + i }) ≡ length (declared_from 0 g.functions) + i
+  pub new_place : (i : ℕ) → i < n → place_of h (record { 0 = length g.functions + i }) ≡ length (declared_from 0 g.functions) + i
   new_place i l =
       let low : i ≤ length new.news = omega (arith, l, new.many) in
       ap (λ fs. length (declared_from 0 (take (length g.functions + i) fs))) new.behind

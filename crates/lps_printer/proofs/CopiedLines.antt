@@ -44,7 +44,7 @@ all_lines [] = refl
 all_lines (d ∷ ds) = ap₂ (λ (ps : List Piece) (pss : List (List Piece)). ps ∷ pss) (first_is (declaration_tokens d [])) (further_lines ds)
 
 -- ---- a declaration with its semicolon
-bytes_both : (ps qs : List Piece) (end : List ℕ) → bytes_of (ps ++ qs) end ≡ bytes_of ps (bytes_of qs end)
+pub bytes_both : (ps qs : List Piece) (end : List ℕ) → bytes_of (ps ++ qs) end ≡ bytes_of ps (bytes_of qs end)
 bytes_both [] qs end = refl
 bytes_both (p ∷ ps) qs end = ap (λ (x : List ℕ). p.gap ++ (p.bytes ++ x)) (bytes_both ps qs end)
 

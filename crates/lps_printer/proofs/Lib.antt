@@ -57,3 +57,8 @@ pub mod NeededTexts
 pub mod ConstantWording
 pub mod FittingParts
 pub mod PrintedTexts
+pub mod NilsAmong
+pub mod ConstantNils
+mod AddedFunctions
+mod AddedSections
+mod AddedStructs

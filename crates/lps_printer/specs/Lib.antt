@@ -36,3 +36,5 @@ pub mod SignatureNames
 pub mod AddedConstants
 pub mod NeededConstants
 pub mod PrintedTexts
+pub mod NeedLaws
+pub mod AddedDeclarations

@@ -9,6 +9,7 @@ ghost use Rattle.lps_printer.specs.FilledLinears.{FilledLinearsAreEqual};
 ghost use Rattle.lps_printer.specs.FittingNames.{NamesThatFitRead};
 ghost use Rattle.lps_printer.specs.LinearBack.{LinearProcessesElaborateBack};
 ghost use Rattle.lps_printer.specs.NamedSummands.{SummandsSpellBack};
+ghost use Rattle.lps_printer.specs.NeedLaws.{AddedConstantsAreNils, ListedNilsAreThose, WhatIsMetIsFound};
 ghost use Rattle.lps_printer.specs.Pieces.{PiecesLex};
 ghost use Rattle.lps_printer.specs.PrintedSystems.{PrintedSystemsAreLinear};
 ghost use Rattle.lps_printer.specs.SummandTexts.{SummandTextsElaborate};
@@ -101,4 +102,15 @@ pub fn section_texts_spell_back()
 /// The text of a linear process spells the sections in front, and the process and its start behind.
 pub fn whole_texts_spell_back()
     ensures { WholeTextsSpellBack }
+{}
+
+/// The empty lists that are listed are those that stand in open places, and each sort that is met is found.
+pub fn needed_constants_are_found()
+    ensures listed { ListedNilsAreThose }
+    ensures found { WhatIsMetIsFound }
+{}
+
+/// The constants that are added are mappings without arguments into the lists that they stand for.
+pub fn added_constants_are_nils()
+    ensures { AddedConstantsAreNils }
 {}

@@ -5,6 +5,10 @@
 #![tactic(auto)]
 
 mod constants;
+mod added;
+mod added_functions;
+mod added_sections;
+mod added_structs;
 mod copied_data;
 mod copied_declarations;
 mod copied_parts;

@@ -16,7 +16,7 @@ use crate::tokens::push_token;
 use data_theory::{NoMemory, Signature, SortId, SortKind, VarId};
 
 /// The name of a declared sort, behind white space.
-fn push_sort_name(
+pub(crate) fn push_sort_name(
     sig: &Signature,
     sort: SortId,
     gap: &[u8],
