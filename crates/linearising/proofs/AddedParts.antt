@@ -1,17 +1,17 @@
 -- What a printed specification adds.
-use Rattle.std.proofs.Common.{◌≡◌, ◌⊎◌, inl, ⊎_elim, Bool, true, false, cond, List, [], ◌∷◌, ◌++◌, map, refl, sym, ap, ap₂, subst, ◌∙◌, append_assoc, append-nil}
+use Rattle.std.proofs.Common.{◌≡◌, ◌⊎◌, inl, ⊎_elim, Bool, true, false, cond, List, [], ◌∷◌, ◌++◌, map, refl, sym, ap, ap₂, ◌∙◌, append_assoc, append-nil}
 use Rattle.std.specs.List.{AllByRecursion, flat_map}
 use Rattle.mcrl2_syntax.specs.declared.declaration.SectionWord.TheVariants as sections
-use Rattle.mcrl2_syntax.specs.Declarations.{PlainSection, PlainSpec}
+use Rattle.mcrl2_syntax.specs.Declarations.{PlainSection}
 use Rattle.mcrl2_syntax.specs.Copied.{gives_scope, is_copied}
 use Rattle.sort_table.specs.BareProcesses.{Variables}
-use Rattle.sort_table.specs.BareDeclarations.{Declaration, process, initial, Section, bare_section, bare_sections, declarations_in}
+use Rattle.sort_table.specs.BareDeclarations.{Declaration, process, initial, Section, bare_section, declarations_in}
 use Rattle.sort_table.specs.PlacedSections.{IsPlacedSection}
 use Rattle.sort_checker.specs.Elaborations.{WrittenEquation}
 use Rattle.sort_checker.specs.Parts.{ScopedDeclaration, variables_by, scoped_behind}
-use Rattle.sort_checker.specs.Systems.{equation_under, equations_in}
+use Rattle.sort_checker.specs.Systems.{equations_in}
 use Rattle.lps_printer.specs.WrittenProcesses.{body_written, start_written, parameters_written, plain_process}
-use Rattle.linearising.specs.Headline.{data_by, data_in, AddsOnly}
+use Rattle.linearising.specs.Headline.{data_by, data_in}
 use Rattle.linearising.specs.CopiedParts.{kept_sections}
 use Rattle.linearising.specs.AddedParts.{WhatMayBeAddedAddsOnly}
 use Rattle.linearising.proofs.CopiedParts.{flat_append, under, vars_of, kept, dropped, what_is_copied_has_all_parts}

@@ -1,5 +1,5 @@
 -- The parameters of an encoding have names of their own, also once its sums are named.
-use Rattle.std.proofs.Common.{◌≡◌, ◌<◌, ℕ, List, map, length, sym, ap, subst}
+use Rattle.std.proofs.Common.{◌≡◌, ◌<◌, List, map, length, sym, subst}
 use Rattle.std.specs.List.{All, Contains}
 use Rattle.std.proofs.lemmas.List.Elements.{All-contains}
 use Rattle.data_theory.specs.declared.ids.NameId.{NameId}
@@ -17,7 +17,7 @@ use Rattle.lps_core.proofs.NamedSums.{name_kept, names_kept}
 use Rattle.greibach.specs.FittingForms.{FormFits}
 use Rattle.greibach.specs.PlainForms.{PlainForm}
 use Rattle.regular_encoder.specs.EncodedForms.{IsEncodedForm}
-use Rattle.regular_encoder.specs.FormColumns.{layout_params, ParamsHaveOwnNames}
+use Rattle.regular_encoder.specs.FormColumns.{ParamsHaveOwnNames}
 use Rattle.regular_encoder.proofs.LaidOutForms.{what_is_laid_out_serves}
 
 still_own : (e h : Sig) (xs : List VarId) → IsSignature e → GrowsByNames e h → All (λ (x : VarId). x.0 < length e.variables) xs → ParamsHaveOwnNames e xs → ParamsHaveOwnNames h xs
