@@ -41,7 +41,7 @@ use Rattle.sort_checker.specs.NumberedWords.{IsNumberOf}
 use Rattle.sort_checker.specs.CodeContexts.{SeesData, Sees, AreBound, CanElaborate, IsElaborated, VariablesStand, SumNamesStand, AllSumNamesStand}
 use Rattle.sort_checker.specs.declared.scoped_declarations.ScopedDecl.{ScopedDecl}
 use Rattle.sort_checker.specs.ElaboratedTexts.{declarations_listed, CanElaborateDefinitions, IsElaboratedDefinition, AreElaboratedDefinitions}
-use Rattle.sort_checker.proofs.Adding.{goes_nowhere, vocabulary_stays, texts_stay}
+use Rattle.sort_checker.proofs.Adding.{goes_nowhere, goes_then, vocabulary_stays, texts_stay}
 use Rattle.sort_checker.proofs.ListedDeclarations.{processes_part}
 use Rattle.sort_checker.proofs.MadeEquations.{binders_on}
 use Rattle.sort_checker.proofs.WhatStays.{sees_after}
@@ -142,6 +142,7 @@ definition_made v w n g signature t sees o h on bs cs ids empty entered k q on2 
         body = subst (Elaborates v scope w.body) (sym (made.stands.means k q (goes_nowhere k q))) made.elaborates;
       };
       stands = definition_settled k q signature_then all_within x (binders.there k q q (goes_nowhere k q), made.stands.there k q (goes_nowhere k q));
+      bounds = λ l r goes. binders.means l q r goes;
       name = named;
       number = refl;
     }
@@ -156,6 +157,7 @@ definitions_on v g signature p h q on (w ∷ ws) (x ∷ xs) all = (
     definition = all.0.definition;
     elaborates = all.0.elaborates;
     stands = definition_on g p h q on x all.0.definition all.0.stands;
+    bounds = λ l r goes. all.0.bounds l r (goes_then g p h q l r on goes);
     name = subst (λ (ts : List Name). slice_get ts x.name.0 ≡ Some w.1.name) (sym (texts_stay g h signature on.added)) all.0.name;
     number = all.0.number;
   },

@@ -6,6 +6,7 @@ use Rattle.std.specs.Str.{IsUtf8}
 use Rattle.std.proofs.lemmas.List.Elements.{All-nil, All-cons}
 use Rattle.std.proofs.lemmas.Option.{same_Some}
 use Rattle.data_theory.specs.IdData.{data_meant}
+use Rattle.data_theory.specs.IdTerms.{IsTreeWithin}
 use Rattle.data_theory.specs.Signature.{Sig}
 use Rattle.data_theory.specs.WholeSignatures.{IsSignature}
 use Rattle.mcrl2_syntax.specs.Declarations.{PlainSpec}
@@ -80,8 +81,8 @@ pub over_then : (g h : Sig) → IsSignature g → (p q : PoolContents) → GoesO
 over_then g h signature p q on ss v over = record { declared = over.declared ∙ sym (vocabulary_stays g h signature on.added); processes = over.processes }
 
 pub model_is : (spec : PlainSpec) (g : Sig) (p : PoolContents) (m : PlainModel) (v : FullVocabulary) → IsOver g (bare_sections spec) v → IsWellTyped v (bare_sections spec) → HasOneStart (bare_sections spec) → IsElaboratedText v g p (bare_sections spec) m
-    → IsModelOf spec g p m
-model_is spec g p m v over well_typed start text =
+    → All (IsTreeWithin g) p.trees → IsModelOf spec g p m
+model_is spec g p m v over well_typed start text trees =
     let ss : List Section = bare_sections spec in
     let e : Entries = entries_of g p.trees in
     let init = text.start in
@@ -105,6 +106,8 @@ model_is spec g p m v over well_typed start text =
         starts = subst (λ (q : Process). Elaborates v [] q (body_of e m.init)) same starts;
         is = refl;
       };
+      text = text;
+      trees = trees;
       there = (
         equations_there v g p (equations_in ss) m.equations text.equations,
         definitions_there v g p (numbered_processes 1 (declarations_in ss)) m.definitions text.definitions,

@@ -15,7 +15,7 @@ use Rattle.mcrl2_syntax.specs.Declarations.{plain_decl, some_data}
 use Rattle.term_pool.specs.Pools.{PoolContents}
 use Rattle.process_terms.specs.Processes.{Body, Definition}
 use Rattle.process_terms.specs.PlainProcesses.{PlainEquation, PlainDefinition, PlainProcess}
-use Rattle.process_terms.specs.Meanings.{equation_of, definition_of, HasEquation, HasDefinition}
+use Rattle.process_terms.specs.Meanings.{bound_at, equation_of, definition_of, HasEquation, HasDefinition}
 use Rattle.process_terms.specs.SignatureEntries.{entries_of}
 use Rattle.sort_table.specs.Expressions.{Expression}
 use Rattle.sort_table.specs.BareData.{bare_data}
@@ -153,11 +153,13 @@ pub record CanElaborateDefinitions (g : Sig) (t : ProcessTable) (ws : List Writt
   pub sees : Sees g t [] vocabulary []
   pub elaborate : AllByRecursion (λ (w : Written). (d : Definition) × ElaboratesDefinition vocabulary w d) ws
 
--- the definition elaborates to one for which the one in code stands, with its name and the number of its declaration
+-- The definition elaborates to one for which the one in code stands, with its name and the number of its declaration. Its parameters have
+-- their sorts in the signature.
 pub record IsElaboratedDefinition (v : FullVocabulary) (g : Sig) (p : PoolContents) (w : ℕ × Written) (x : PlainDefinition) : Type 0 where
   pub definition : Definition
   pub elaborates : ElaboratesDefinition v w.1 definition
   pub stands : IsDefinition g p x definition
+  pub bounds : (h : Sig) (r : PoolContents) → GoesOn g p h r → map (bound_at (entries_of h r.trees)) x.params ≡ elaborates.bounds
   pub name : IsNumberOf g w.1.name x.name
   pub number : x.declaration ≡ w.0
 

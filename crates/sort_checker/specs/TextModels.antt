@@ -3,6 +3,7 @@ use Rattle.std.specs.Prelude.{◌≡◌, ℕ, List, [], ◌∷◌, Some}
 use Rattle.std.specs.List.{All, Contains, flat_map}
 use Rattle.data_theory.specs.declared.ids.NameId.{NameId}
 use Rattle.data_theory.specs.IdData.{data_meant}
+use Rattle.data_theory.specs.IdTerms.{IsTreeWithin}
 use Rattle.data_theory.specs.Signature.{Sig}
 use Rattle.data_theory.specs.WholeSignatures.{IsSignature}
 use Rattle.mcrl2_syntax.specs.Declarations.{PlainSpec}
@@ -58,13 +59,16 @@ pub record IsElaboratedText (v : FullVocabulary) (g : Sig) (p : PoolContents) (s
 abbrev pub IsNamedAs : Sig → ℕ × Written → PlainDefinition → Type 0
 IsNamedAs g w x = IsNumberOf g w.1.name x.name × (x.declaration ≡ w.0)
 
--- Over the vocabulary of the signature the model's theory and process are those of the text. Its numbers are those of the signature and
--- the pool, and the definitions and `init` have the numbers of their declarations.
+-- Over the vocabulary of the signature the model's theory and process are those of the text, and each of its parts is one for which that of
+-- the text stands. Its numbers are those of the signature and the pool, whose trees are over the signature, and the definitions and `init`
+-- have the numbers of their declarations.
 pub record IsModelOf (spec : PlainSpec) (g : Sig) (p : PoolContents) (m : PlainModel) : Type 0 where
   pub vocabulary : FullVocabulary
   pub over : IsOver g (bare_sections spec) vocabulary
   pub system : IsSystem (bare_sections spec) vocabulary (theory_of (data_meant g) (entries_of g p.trees) m) (process_of (entries_of g p.trees) m)
+  pub text : IsElaboratedText vocabulary g p (bare_sections spec) m
   pub there : HasModel (entries_of g p.trees) m
+  pub trees : All (IsTreeWithin g) p.trees
   pub named : EachPair (IsNamedAs g) (numbered_processes 1 (declarations_in (bare_sections spec))) m.definitions
   pub start : Process
   pub first : first_from initial_in 1 (declarations_in (bare_sections spec)) ≡ Some (m.init_declaration, start)

@@ -109,6 +109,7 @@ fn model_of(
     requires trees { All (IsTreeWithin sig.old) pool.old.trees }
     requires elaborates { IsTypedOver sig.old (bare_sections (spec_of spec.now)) }
     ensures kept { GoesOn sig.old pool.old sig.new pool.new }
+    ensures within { OnOk result (All (IsTreeWithin sig.new) pool.new.trees) }
     ensures means { IfOk result (λ model. (v : FullVocabulary) → IsOver sig.old (bare_sections (spec_of spec.now)) v → IsElaboratedText v sig.new pool.new (bare_sections (spec_of spec.now)) (plain_model model)) }
 {
     let declarations = scoped_list(alloc, spec)?;

@@ -13,4 +13,4 @@ returns-clause-means c =
     let typed = c.in_ok-check_types.ensures.elaborates in
     model_is (spec_of c.args.spec.now) c.model_of.new.sig c.model_of.new.pool (plain_model c.in_ok-model.model) typed.vocabulary
     (over_then c.args.sig.now c.model_of.new.sig c.next_sort.ensures.stands c.args.pool.now c.model_of.new.pool c.model_of.ensures.kept (bare_sections (spec_of c.args.spec.now)) typed.vocabulary typed.over) typed.well_typed typed.start
-    (c.in_ok-model.ensures.means typed.vocabulary typed.over)
+    (c.in_ok-model.ensures.means typed.vocabulary typed.over) c.in_ok-model.ensures.within

@@ -82,6 +82,9 @@ returns-clause-kept c =
     let kept = goes_then c.args.sig.now c.args.pool.now c.written_equations.new.sig c.written_equations.new.pool c.definitions.new.sig c.definitions.new.pool c.written_equations.ensures.kept c.definitions.ensures.kept in
     goes_then c.args.sig.now c.args.pool.now c.definitions.new.sig c.definitions.new.pool c.start.new.sig c.start.new.pool kept c.start.ensures.kept
 
+pub returns-clause-within : goal.returns-clause-within
+returns-clause-within c = c.in_ok-init_declaration.ensures.ready.trees
+
 pub returns-clause-means : goal.returns-clause-means
 returns-clause-means c = λ v over.
     let g = c.args.sig.now in
