@@ -16,22 +16,11 @@ ghost use Rattle.sort_table.specs.Vocabularies.{sort_in};
 ghost use Rattle.data_typing.specs.FlatSorts.{flat_sort};
 ghost use Rattle.data_typing.specs.Contexts.{AreTablesOf, IsFlatOver};
 
+use crate::word_numbers::text_of;
 use data_theory::{NameId, NoMemory, Signature};
 use data_typing::flat_sorts::{Base, FlatSort};
 use data_typing::sort_tables::SortTables;
 use mcrl2_syntax::{SortTree, Word};
-use std::str::from_utf8;
-
-/// A name as text.
-fn as_text(name: &[u8]) -> &str
-    requires { IsUtf8 name.now }
-    ensures { result.now ≡ name.now }
-{
-    match from_utf8(name) {
-        Ok(text) => text,
-        Err(_) => unreachable!(),
-    }
-}
 
 /// The number of a name that the table of texts has.
 pub(crate) fn name_number(sig: &Signature, name: &[u8]) -> NameId
@@ -39,7 +28,7 @@ pub(crate) fn name_number(sig: &Signature, name: &[u8]) -> NameId
     requires there { Contains sig.now.texts name.now }
     ensures { slice_get sig.now.texts result.0 ≡ Some name.now }
 {
-    let Some(number) = sig.names().find(as_text(name)) else {
+    let Some(number) = sig.names().find(text_of(name)) else {
         unreachable!()
     };
     number
@@ -66,7 +55,7 @@ fn named_sort(sig: &Signature, tables: &SortTables, name: &Word) -> Option<FlatS
     ensures over { IfSome result (IsFlatOver sig.now) }
 {
     let _ = sig.next_sort();
-    let text = as_text(name.bytes.as_slice());
+    let text = text_of(name.bytes.as_slice());
     match sig.names().find(text) {
         Some(number) => numbered_sort(sig, tables, number),
         None => None,

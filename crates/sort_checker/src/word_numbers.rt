@@ -13,6 +13,7 @@ ghost use Rattle.sort_table.specs.SignatureVocabularies.{text_under};
 ghost use Rattle.sort_checker.specs.CommTrees.{rule_at};
 ghost use Rattle.sort_checker.specs.NumberedWords.{set_names, renaming_names, written_renaming, rule_names, AreNumbersOf, AreSetsOf, AreRenamingsOf, IsRuleOf, AreRulesOf, StandIn};
 
+use crate::variable_sorts::name_number;
 use data_theory::{NameId, NoMemory, Signature};
 use mcrl2_syntax::{CommRule, NameSet, Renaming, Word};
 use process_terms::CommSet;
@@ -36,11 +37,7 @@ pub(crate) fn word_number(sig: &Signature, word: &Word) -> NameId
     requires there { Contains sig.now.texts word.now.bytes.items }
     ensures { slice_get sig.now.texts result.0 ≡ Some word.now.bytes.items }
 {
-    let text = text_of(word.bytes.as_slice());
-    match sig.names().find(text) {
-        Some(number) => number,
-        None => unreachable!(),
-    }
+    name_number(sig, word.bytes.as_slice())
 }
 
 /// The numbers of words.
