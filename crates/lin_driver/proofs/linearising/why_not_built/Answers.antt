@@ -2,6 +2,7 @@ use Rattle.mcrl2_syntax.specs.Declarations.{spec_of}
 use Rattle.mcrl2_syntax.proofs.WordsOfTokens.{specs_are_of_words}
 use Rattle.sort_table.proofs.SpelledPlaces.{spelled_specs_are_placed}
 use Rattle.sort_table.proofs.WordNames.{identifiers_are_text}
+use Rattle.lin_driver.proofs.OneStart.{has_one_start}
 use Rattle.lin_driver.proofs.linearising.why_not_built.Goals as goal
 
 pub build-requires : goal.build-requires
