@@ -62,3 +62,5 @@ pub mod ConstantNils
 mod AddedFunctions
 mod AddedSections
 mod AddedStructs
+pub mod PrintedLinears
+pub mod PrintedConstants

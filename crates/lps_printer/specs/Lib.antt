@@ -38,3 +38,4 @@ pub mod NeededConstants
 pub mod PrintedTexts
 pub mod NeedLaws
 pub mod AddedDeclarations
+pub mod PrintedLinears

@@ -4,11 +4,11 @@
 //! bodies: the contract of each is a law of these definitions, so that the crates above can cite it.
 #![tactic(auto)]
 
-mod constants;
 mod added;
 mod added_functions;
 mod added_sections;
 mod added_structs;
+mod constants;
 mod copied_data;
 mod copied_declarations;
 mod copied_parts;
@@ -29,6 +29,8 @@ mod tables;
 mod term_writer;
 mod terms;
 mod tokens;
+mod whole_texts;
 mod wording;
 
 pub use printing::print_label;
+pub use whole_texts::print;
