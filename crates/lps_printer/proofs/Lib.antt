@@ -51,3 +51,7 @@ mod AddingSections
 mod AddedFunctions
 mod AddedSections
 mod AddedStructs
+mod KindTexts
+mod SpelledTokens
+mod SpelledDataTokens
+mod SpelledDeclarationTokens
