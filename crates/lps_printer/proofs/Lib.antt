@@ -64,3 +64,7 @@ mod AddedSections
 mod AddedStructs
 pub mod PrintedLinears
 pub mod PrintedConstants
+mod KindTexts
+mod SpelledTokens
+mod SpelledDataTokens
+mod SpelledDeclarationTokens
