@@ -44,14 +44,18 @@ pub record HasSortFault (text : List ℕ) (texts : List (List ℕ)) (fault : Sor
   pub has_fault : IsFaultOf spec texts fault
   pub some : fault ≢ sort.NoMemory
 
--- the text spells a specification that has the fault of typing, over a signature with these texts
-pub record HasTypeFault (text : List ℕ) (texts : List (List ℕ)) (fault : TypeFault) : Type 0 where
-  pub spec : PlainSpec
-  pub parsed : IsParsedAs text spec
+-- over a signature with these texts the specification has the fault of typing
+pub record IsTypeFaultOver (spec : PlainSpec) (texts : List (List ℕ)) (fault : TypeFault) : Type 0 where
   pub signature : Sig
   pub names : signature.texts ≡ texts
   pub has_fault : IsTypeFaultOf spec signature fault
   pub some : fault ≢ type.NoMemory
+
+-- the text spells a specification that has the fault of typing
+pub record HasTypeFault (text : List ℕ) (texts : List (List ℕ)) (fault : TypeFault) : Type 0 where
+  pub spec : PlainSpec
+  pub parsed : IsParsedAs text spec
+  pub over : IsTypeFaultOver spec texts fault
 
 -- the text spells a specification that is well typed, and hasn't the first form
 pub record IsNotBuilt (text : List ℕ) : Type 0 where

@@ -3,7 +3,6 @@ ghost use Rattle.std.specs.Prelude.{◌≡◌, ◌≢◌, IfErr, IfOk, IsErrOf, 
 ghost use Rattle.mcrl2_lexer.specs.Lexing.{HasTokens, SpansRise};
 ghost use Rattle.mcrl2_lexer.specs.Tokens.{IsToken, slice_of};
 ghost use Rattle.mcrl2_lexer.specs.declared.token.LexFault.{LexFault};
-ghost use Rattle.data_theory.specs.Signature.{Sig};
 ghost use Rattle.mcrl2_syntax.specs.Declarations.{PlainSpec, spec_of};
 ghost use Rattle.mcrl2_syntax.specs.TreeWords.{IsSpecOfWords};
 ghost use Rattle.mcrl2_parser.specs.Faults.{HasFault};
@@ -13,13 +12,13 @@ ghost use Rattle.sort_table.specs.Built.{IsBuilt};
 ghost use Rattle.sort_table.specs.declared.building.SortFault.{SortFault};
 ghost use Rattle.sort_checker.specs.FullVocabularies.{FullVocabulary};
 ghost use Rattle.sort_checker.specs.Refusals.{IsWellTyped};
-ghost use Rattle.sort_checker.specs.TextModels.{HasOneStart, IsTypeFaultOf};
+ghost use Rattle.sort_checker.specs.TextModels.{HasOneStart};
 ghost use Rattle.sort_checker.specs.declared.elaborating.TypeFault.{TypeFault};
 ghost use Rattle.lin_driver.specs.Headline.{StandsFor};
 ghost use Rattle.lin_driver.specs.Systems.{System};
 ghost use Rattle.lin_driver.specs.FirstForm.{HasFirstForm, IsFirstForm};
 ghost use Rattle.lin_driver.specs.Linearised.{IsLinearisedTo};
-ghost use Rattle.lin_driver.specs.Refusals.{HasSortFault, HasTypeFault, IsParsedAs, IsRefusedWith};
+ghost use Rattle.lin_driver.specs.Refusals.{HasSortFault, HasTypeFault, IsParsedAs, IsRefusedWith, IsTypeFaultOver};
 
 use crate::fault::{LinFault, PlainFault};
 use crate::fresh::fresh_names;
@@ -87,13 +86,14 @@ fn why_ill_typed(alloc: Global, spec: &Spec, signature: Signature, names: &mut N
     requires words { IsSpecOfWords (spec_of spec.now) }
     requires start { HasOneStart (bare_sections (spec_of spec.now)) }
     requires built { IsBuilt (spec_of spec.now) signature }
-    ensures typed { (fault : TypeFault) → result ≡ LinFault.«Type» fault → (g : Sig) × (g.texts ≡ names.new) × IsTypeFaultOf (spec_of spec.now) g fault }
+    ensures typed { (fault : TypeFault) → result ≡ LinFault.«Type» fault → IsTypeFaultOver (spec_of spec.now) names.new fault }
     ensures sound { result ≡ LinFault.NotBuilt → (v : FullVocabulary) × IsWellTyped v (bare_sections (spec_of spec.now)) }
     ensures no_lex { (fault : LexFault) → result ≢ LinFault.Lex fault }
     ensures no_parse { (fault : ParseFault) → result ≢ LinFault.Parse fault }
     ensures no_sort { (fault : SortFault) → result ≢ LinFault.Sort fault }
 {
     let mut signature = signature;
+    let _ = signature.next_sort();
     let mut pool = match Pool::new(alloc) {
         Ok(pool) => pool,
         Err(_) => return LinFault::NoMemory,

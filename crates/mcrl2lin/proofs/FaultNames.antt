@@ -30,12 +30,12 @@ are_named text texts (lin.Sort (sort.SortCycle names)) refused = let has = (refu
 are_named text texts (lin.Sort (sort.Duplicate first second)) refused = tt
 are_named text texts (lin.Sort (sort.EmptySort name)) refused = let has = (refused (λ is. cc)).has_fault in (within texts name.0 has.0 has.1, tt)
 are_named text texts (lin.Sort sort.NoMemory) refused = tt
-are_named text texts (lin.«Type» (type.UnknownName number name)) refused = let has = refused (λ is. cc) in (named_by_texts texts has.signature.texts name has.has_fault.0 has.names has.has_fault.1, tt)
+are_named text texts (lin.«Type» (type.UnknownName number name)) refused = let has = (refused (λ is. cc)).over in (named_by_texts texts has.signature.texts name has.has_fault.0 has.names has.has_fault.1, tt)
 are_named text texts (lin.«Type» (type.Untyped number)) refused = tt
-are_named text texts (lin.«Type» (type.FreeVariable number name)) refused = let has = refused (λ is. cc) in (named_by_texts texts has.signature.texts name has.has_fault.0 has.names has.has_fault.1, tt)
+are_named text texts (lin.«Type» (type.FreeVariable number name)) refused = let has = (refused (λ is. cc)).over in (named_by_texts texts has.signature.texts name has.has_fault.0 has.names has.has_fault.1, tt)
 are_named text texts (lin.«Type» (type.VariableLeft number)) refused = tt
 are_named text texts (lin.«Type» (type.CommShape number)) refused = tt
-are_named text texts (lin.«Type» (type.RenameTwice number name)) refused = let has = refused (λ is. cc) in (named_by_texts texts has.signature.texts name has.has_fault.0 has.names has.has_fault.1, tt)
+are_named text texts (lin.«Type» (type.RenameTwice number name)) refused = let has = (refused (λ is. cc)).over in (named_by_texts texts has.signature.texts name has.has_fault.0 has.names has.has_fault.1, tt)
 are_named text texts (lin.«Type» type.NoMemory) refused = tt
 are_named text texts lin.NotBuilt refused = tt
 are_named text texts lin.NoMemory refused = tt
