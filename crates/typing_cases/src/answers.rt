@@ -11,7 +11,7 @@ ghost use Rattle.sort_table.specs.PlacedSections.{IsPlaced};
 ghost use Rattle.sort_checker.specs.TextModels.{HasOneStart};
 ghost use Rattle.typing_cases.specs.Counts.{IsCount};
 
-use crate::counts::{Counts, counts};
+use crate::counts::{Counts, count_names};
 use crate::shown_processes::shown_model;
 use crate::shown_terms::push_name;
 use data_theory::{Names, NoMemory, Signature};
@@ -36,10 +36,10 @@ pub fn answer(alloc: Global, line: &str) -> Result<Vec<u8>, AllocError> {
     };
     let mut names = Names::new(alloc);
     match build(alloc, &spec, &mut names) {
-        Ok(signature) => {
-            let text = elaborated(alloc, &spec, signature)?;
-            text.as_bytes().to_vec(alloc)
-        }
+        Ok(signature) => match elaborated(alloc, &spec, signature) {
+            Ok(text) => text.as_bytes().to_vec(alloc),
+            Err(_) => b"no memory".to_vec(alloc),
+        },
         Err(_) => b"no signature".to_vec(alloc),
     }
 }
@@ -53,7 +53,7 @@ fn elaborated(alloc: Global, spec: &Spec, signature: Signature) -> Result<String
     let mut signature = signature;
     let mut pool = Pool::new(alloc)?;
     let model = elaborate(alloc, spec, &mut signature, &mut pool);
-    let counts = counts(&mut signature)?;
+    let counts = count_names(&mut signature)?;
     match model {
         Ok(model) => shown_model(alloc, &signature, &pool, counts, &model),
         Err(fault) => fault_text(alloc, &signature, counts, &fault),

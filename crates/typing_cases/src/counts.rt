@@ -17,7 +17,7 @@ pub struct Counts {
 /// # Errors
 ///
 /// `NoMemory` where there is none for them.
-pub fn counts(sig: &mut Signature) -> Result<Counts, NoMemory>
+pub fn count_names(sig: &mut Signature) -> Result<Counts, NoMemory>
     ensures { IfOk result (IsCount sig.new) }
 {
     let name = sig.fresh("counted")?;

@@ -158,7 +158,7 @@ impl<'a> Shown<'a> {
         requires { IsCount self.now.sig.now self.now.counts }
     {
         match process {
-            Proc::Delta => out.push_str("delta"),
+            Proc::Delta => Ok(out.push_str("delta")?),
             Proc::Act(label) => self.label(label, out),
             Proc::Call(number, args) => self.call(number.0, args.as_slice(), out),
             Proc::Choice(parts) => self.parts(parts.as_slice(), " + ", out),
@@ -178,14 +178,14 @@ impl<'a> Shown<'a> {
                 self.process(then, out)?;
                 out.push_str(" <> ")?;
                 self.process(other, out)?;
-                out.push_str(")")
+                Ok(out.push_str(")")?)
             }
             Proc::Sum(variables, inner) => {
                 out.push_str("(sum ")?;
                 push_variables(self.sig, self.counts, variables.as_slice(), out)?;
                 out.push_str(" . ")?;
                 self.process(inner, out)?;
-                out.push_str(")")
+                Ok(out.push_str(")")?)
             }
             Proc::Allow(sets, inner) => {
                 out.push_str("allow({")?;
