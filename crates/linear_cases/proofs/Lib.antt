@@ -1,7 +1,5 @@
 mod KnownTerms
-mod TestedTerms
 mod TestedForms
-mod TestedModels
 mod Readings
 pub mod FirstFits
 mod AroundTold

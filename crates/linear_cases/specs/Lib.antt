@@ -1,3 +1,2 @@
 pub mod AroundTests
 pub mod FormTests
-pub mod ModelTests
