@@ -39,3 +39,4 @@ pub mod PrintedTexts
 pub mod NeedLaws
 pub mod AddedDeclarations
 pub mod PrintedLinears
+pub mod GrowingByConstants
