@@ -68,3 +68,8 @@ mod KindTexts
 mod SpelledTokens
 mod SpelledDataTokens
 mod SpelledDeclarationTokens
+pub mod CopiedSections
+pub mod SpelledAdditions
+mod DeclaredCounts
+pub mod GrownTexts
+pub mod FreshIdentifiers

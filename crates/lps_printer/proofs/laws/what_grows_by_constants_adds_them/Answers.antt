@@ -1,0 +1,8 @@
+use Rattle.lps_printer.proofs.GrownTexts.{what_grows_by_constants_adds_them, added_constants_are_named}
+use Rattle.lps_printer.proofs.laws.what_grows_by_constants_adds_them.Goals as goal
+
+pub returns-clause-added : goal.returns-clause-added
+returns-clause-added c = what_grows_by_constants_adds_them
+
+pub returns-clause-named : goal.returns-clause-named
+returns-clause-named c = added_constants_are_named
