@@ -1,9 +1,9 @@
 -- What is added to a text where its signature grows by constants.
-use Rattle.std.proofs.Common.{◌≡◌, ◌+◌, ◌<◌, ◌≤◌, ◌&&◌, ◌||◌, ℕ, zero, suc, Bool, true, false, cond, nat_eq, List, [], ◌∷◌, ◌++◌, length, map, get_or, not, All, refl, sym, ap, ap₂, ◌∙◌, subst, arith}
+use Rattle.std.proofs.Common.{◌≡◌, ◌+◌, ◌<◌, ◌≤◌, ◌&&◌, ◌||◌, ℕ, zero, suc, Bool, true, false, cond, nat_eq, List, [], ◌∷◌, ◌++◌, length, map, get_or, codes, not, All, refl, sym, ap, ap₂, ◌∙◌, subst, arith, append_assoc, length-append}
 use Rattle.std.specs.Prelude.{None}
 use Rattle.std.specs.List.{AllByRecursion, Contains, flat_map, list_any}
-use Rattle.std.proofs.lemmas.List.{get_or-append-add}
-use Rattle.std.proofs.lemmas.List.Elements.{All-nil, All-head, All-tail, All-weaker, All-contains, All-from_recursion, recursion_from_All}
+use Rattle.std.proofs.lemmas.List.{get_or-append-add, length-map}
+use Rattle.std.proofs.lemmas.List.Elements.{All-nil, All-head, All-tail, All-weaker, All-cons, All-contains, All-from_recursion, recursion_from_All, All-contains_itself, Contains-append_left, Contains-append_right, Contains-push}
 use Rattle.std.proofs.lemmas.Bool.Decides.{nat_tests}
 use Rattle.mcrl2_syntax.specs.declared.declaration.SectionWord.TheVariants as sections
 use Rattle.mcrl2_syntax.specs.Declarations.{PlainSpec}
@@ -12,12 +12,14 @@ use Rattle.data_theory.specs.declared.ids.NameId.{NameId}
 use Rattle.data_theory.specs.declared.ids.SortId.{SortId}
 use Rattle.data_theory.specs.Complete.{IsKindWithin, IsSortWithin}
 use Rattle.data_theory.specs.Functions.{Function, arguments_of, declared_function}
-use Rattle.data_theory.specs.Signature.{Sig}
+use Rattle.data_theory.specs.Signature.{Sig, with_taken}
 use Rattle.data_theory.specs.Sorts as kinds
 use Rattle.data_theory.specs.Sorts.{SortInfo}
 use Rattle.data_theory.specs.Structs.{numbers_from}
+use Rattle.data_theory.specs.Terms.{list}
 use Rattle.data_theory.specs.IdTerms.{sort_under}
 use Rattle.data_theory.specs.WholeSignatures.{IsSignature}
+use Rattle.sort_table.specs.Expressions.{Name}
 use Rattle.sort_table.specs.BareDeclarations.{Declaration, mappings, Section}
 use Rattle.sort_table.specs.SignatureVocabularies.{text_under}
 use Rattle.sort_table.specs.Vocabularies.{EachPair}
@@ -25,9 +27,10 @@ use Rattle.lps_printer.specs.declared.added_sections.Line.TheVariants as lines
 use Rattle.lps_printer.specs.DataLayout.{IsIdentifier}
 use Rattle.lps_printer.specs.NamedSummands.{IsNamed, IsNamedVariable}
 use Rattle.lps_printer.specs.WrittenProcesses.{TextNames, sort_written}
+use Rattle.lps_printer.specs.AddedConstants.{AddsConstant, AddsEach, none_left, adds, AddsConstants}
 use Rattle.lps_printer.specs.AddedDeclarations.{no_function, function_at, name_at, kind_at, constructors_in, begun_by, struct_begun, is_constant, constants_among, constant_with, added_functions, struct_declared, structs_declared, line_declared, lines_declared, added_declared}
 use Rattle.lps_printer.specs.GrowingByConstants.{GrowsByConstants}
-use Rattle.lps_printer.specs.GrownTexts.{mapping_declared, mappings_declared, AddsTheConstants, WhatGrowsByConstantsAddsThem, AreNamedConstants, AddedConstantsAreNamed}
+use Rattle.lps_printer.specs.GrownTexts.{mapping_declared, mappings_declared, AddsTheConstants, WhatGrowsByConstantsAddsThem, AreNamedConstants, AddedConstantsAreNamed, EmptyListsAreAdded}
 use Rattle.lps_printer.proofs.DeclaredCounts.{added_are}
 
 abbrev Constant : Type 0
@@ -122,6 +125,19 @@ module _ (h : Sig) (k : ℕ) (n : TextNames) where
       let P = λ (x : Constant). IsIdentifier (text_under h x.0) × IsNamed (sort_written n (sort_under h x.1)) in
       (subst HasNames (sym at.0.is) (All-head P c cs named), all_named cs fs at.1 (All-tail P c cs named))
 
+-- they have the names of the constants
+names_among : (h : Sig) (k : ℕ) (cs : List Constant) (fs : List FunId) → AreConstantsAt h k cs fs → All (λ (f : FunId). Contains (map (λ (c : Constant). text_under h c.0) cs) (name_at h f)) fs
+names_among h k [] [] at = All-nil (λ (f : FunId). Contains [] (name_at h f))
+names_among h k [] (f ∷ fs) at = absurd at
+names_among h k (c ∷ cs) [] at = absurd at
+names_among h k (c ∷ cs) (f ∷ fs) at =
+    let own : Name = text_under h c.0 in
+    let others : List Name = map (λ (d : Constant). text_under h d.0) cs in
+    let same : own ≡ name_at h f = ap (λ (x : Function). get_or h.texts x.name.0 []) (sym at.0.is) in
+    All-cons (λ (e : FunId). Contains (own ∷ others) (name_at h e)) f fs
+    (subst (Contains (own ∷ others)) same (Contains-append_left (own ∷ []) others own (Contains-push [] own)))
+    (All-weaker (λ (e : FunId). Contains others (name_at h e)) (λ (e : FunId). Contains (own ∷ others) (name_at h e)) (λ e there. Contains-append_right (own ∷ []) others (name_at h e) there) fs (names_among h k cs fs at.1))
+
 no_structs_declared : (h : Sig) (n : TextNames) (fs : List FunId) → AllByRecursion (λ (f : FunId). struct_begun h f ≡ []) fs → flat_map (structs_declared h n) fs ≡ []
 no_structs_declared h n [] none = refl
 no_structs_declared h n (f ∷ fs) none = ap₂ (λ (xs ys : List Section). xs ++ ys) (ap (struct_declared h n (function_at h f).result) none.0) (no_structs_declared h n fs none.1)
@@ -151,6 +167,7 @@ what_grows_by_constants_adds_them spec g h stands is w =
     record {
       functions = same;
       all_constants = all;
+      named = subst (All (λ (f : FunId). Contains (map (λ (c : Constant). text_under h c.0) w.constants) (name_at h f))) (sym same) (names_among h k w.constants fs at);
       no_structs = none;
       declared = λ n empty_lists. ap₂ (λ (xs ys : List Section). xs ++ (ys ++ lines_declared h n lines.EmptyList empty_lists)) (no_structs_declared h n (added_functions spec h) none)
           (ap (lines_declared h n lines.Constant) (all ∙ same) ∙ all_declared h k n w.constants fs at);
@@ -161,14 +178,44 @@ added_constants_are_named spec g h n empty_lists stands is w named among =
     let k = length g.functions in
     let fs = new g h stands w in
     let at = at_their_numbers g h stands w in
-    let adds = what_grows_by_constants_adds_them spec g h stands is w in
+    let those = what_grows_by_constants_adds_them spec g h stands is w in
     let own : AllByRecursion (λ (f : FunId). IsNamedVariable (constant_with h n f)) fs = all_named h k n w.constants fs at named in
     let Q = λ (f : FunId). IsNamedVariable (constant_with h n f) in
     let R = λ (f : FunId). IsIdentifier (name_at h f) in
-    let here : AllByRecursion Q (added_functions spec h) = subst (AllByRecursion Q) (sym adds.functions) own in
+    let here : AllByRecursion Q (added_functions spec h) = subst (AllByRecursion Q) (sym those.functions) own in
     let every : All Q (added_functions spec h) = All-from_recursion Q (added_functions spec h) here in
     record {
-      no_structs = adds.no_structs;
-      constants = subst (AllByRecursion Q) (sym adds.all_constants) here;
+      no_structs = those.no_structs;
+      constants = subst (AllByRecursion Q) (sym those.all_constants) here;
       lists = recursion_from_All R empty_lists (All-weaker (Contains (added_functions spec h)) R (λ f there. (All-contains Q (added_functions spec h) f every there).0) empty_lists among);
     }
+
+-- ---- the constants for empty lists
+one_longer : (g : Sig) (s : SortId) (h : Sig) → AddsConstant g s h → length h.functions ≡ length g.functions + 1
+one_longer g s h a =
+    let f = declared_function a.name [] s in
+    let e : h.functions ≡ g.functions ++ f ∷ [] = ap (λ (x : Sig). x.functions) a.declared ∙ ap (λ (x : Sig). x.functions ++ f ∷ []) a.fresh.taken in
+    ap length e ∙ length-append g.functions (f ∷ [])
+
+each_longer : (g : Sig) (ss : List SortId) (h : Sig) → AddsEach g ss h → length h.functions ≡ length g.functions + length ss
+each_longer g ss h none_left = omega arith
+each_longer g ss h (adds {h = i} {s = s} {ss = others} one more) = let a = one_longer g s i one in let b = each_longer i others h more in omega (arith, a, b)
+
+all_longer : (g : Sig) (ss : List SortId) (h : Sig) → AddsConstants g ss h → length h.functions ≡ length g.functions + length ss
+all_longer g [] h a = let e = ap (λ (x : Sig). length x.functions) a in omega (arith, e)
+all_longer g (s ∷ ss) h a = each_longer (with_taken g (codes "nil")) (s ∷ ss) h a
+
+as_many_constants : (g h : Sig) (ss : List SortId) → (w : GrowsByConstants g h) → AddsConstants g ss h → length w.constants ≡ length ss
+as_many_constants g h ss w a =
+    let l = all_longer g ss h a in
+    let m = ap length w.functions ∙ length-append g.functions (map constant_function w.constants) ∙ ap (λ (k : ℕ). length g.functions + k) (length-map w.constants constant_function) in
+    omega (arith, l, m)
+
+pub empty_lists_are_added : EmptyListsAreAdded
+empty_lists_are_added spec g i h sorts needed is first last further over =
+    let one = numbers_from (length g.functions) (length first.constants) in
+    let two = numbers_from (length i.functions) (length last.constants) in
+    let many : length last.constants ≡ length needed = as_many_constants i h sorts last further ∙ sym (length-map sorts (sort_under i)) ∙ ap length over ∙ length-map needed list in
+    let e : h.declared ≡ g.declared ++ (one ++ two) = last.declared ∙ ap (λ (fs : List FunId). fs ++ two) first.declared ∙ append_assoc g.declared one two in
+    let all : All (Contains (one ++ two)) two = All-weaker (Contains two) (Contains (one ++ two)) (λ f there. Contains-append_right one two f there) two (All-contains_itself two) in
+    subst (λ (n : ℕ). All (Contains (added_functions spec h)) (numbers_from (length i.functions) n)) many (subst (λ (fs : List FunId). All (Contains fs) two) (sym (added_are spec g h (one ++ two) is e)) all)

@@ -73,3 +73,4 @@ pub mod SpelledAdditions
 mod DeclaredCounts
 pub mod GrownTexts
 pub mod FreshIdentifiers
+pub mod CopiedParts

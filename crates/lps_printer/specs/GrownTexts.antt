@@ -8,6 +8,7 @@ use Rattle.data_theory.specs.declared.ids.NameId.{NameId}
 use Rattle.data_theory.specs.declared.ids.SortId.{SortId}
 use Rattle.data_theory.specs.Signature.{Sig}
 use Rattle.data_theory.specs.Structs.{numbers_from}
+use Rattle.data_theory.specs.Terms.{Sort, list}
 use Rattle.data_theory.specs.IdTerms.{sort_under}
 use Rattle.data_theory.specs.WholeSignatures.{IsSignature}
 use Rattle.sort_table.specs.BareDeclarations.{Declaration, mappings, Section, bare_sections, declarations_in}
@@ -18,7 +19,8 @@ use Rattle.lps_printer.specs.declared.added_sections.Line.TheVariants as lines
 use Rattle.lps_printer.specs.DataLayout.{IsIdentifier}
 use Rattle.lps_printer.specs.NamedSummands.{IsNamed}
 use Rattle.lps_printer.specs.WrittenProcesses.{TextNames, sort_written}
-use Rattle.lps_printer.specs.AddedDeclarations.{added_functions, constants_among, struct_begun, lines_declared, added_declared}
+use Rattle.lps_printer.specs.AddedConstants.{AddsConstants}
+use Rattle.lps_printer.specs.AddedDeclarations.{added_functions, constants_among, struct_begun, name_at, lines_declared, added_declared}
 use Rattle.lps_printer.specs.GrowingByConstants.{GrowsByConstants}
 use Rattle.lps_printer.specs.SpelledSections.{AddsNamedConstants}
 
@@ -35,6 +37,7 @@ mappings_declared h n (c ∷ cs) = record { word = sections.Map; declarations = 
 pub record AddsTheConstants (spec : PlainSpec) (g h : Sig) (constants : List (NameId × SortId)) : Type 0 where
   pub functions : added_functions spec h ≡ numbers_from (length g.functions) (length constants)
   pub all_constants : constants_among h (added_functions spec h) ≡ added_functions spec h
+  pub named : All (λ (f : FunId). Contains (map (λ (c : NameId × SortId). text_under h c.0) constants) (name_at h f)) (added_functions spec h)
   pub no_structs : AllByRecursion (λ (f : FunId). struct_begun h f ≡ []) (added_functions spec h)
   pub declared : (n : TextNames) (empty_lists : List FunId) → added_declared spec h n empty_lists ≡ mappings_declared h n constants ++ lines_declared h n lines.EmptyList empty_lists
 
@@ -52,3 +55,9 @@ abbrev pub AddedConstantsAreNamed : Type 0
 AddedConstantsAreNamed =
     (spec : PlainSpec) (g h : Sig) (n : TextNames) (empty_lists : List FunId) → IsSignature g → IsVocabularyOf (under_names (declarations_in (bare_sections spec))) (vocabulary_of g) → (w : GrowsByConstants g h)
     → AreNamedConstants h n w.constants → All (Contains (added_functions spec h)) empty_lists → AddsNamedConstants spec h n empty_lists
+
+-- The constants that are added for empty lists are among those that the text doesn't declare: the last ones.
+abbrev pub EmptyListsAreAdded : Type 0
+EmptyListsAreAdded =
+    (spec : PlainSpec) (g i h : Sig) (sorts : List SortId) (needed : List Sort) → IsVocabularyOf (under_names (declarations_in (bare_sections spec))) (vocabulary_of g) → GrowsByConstants g i → GrowsByConstants i h → AddsConstants i sorts h
+    → map (sort_under i) sorts ≡ map list needed → All (Contains (added_functions spec h)) (numbers_from (length i.functions) (length needed))

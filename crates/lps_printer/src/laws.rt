@@ -1,5 +1,6 @@
 //! Laws of printed text. The functions do nothing: each contract is a law.
 
+ghost use Rattle.lps_printer.specs.CopiedParts.{WhatIsCopiedHasAllParts};
 ghost use Rattle.lps_printer.specs.CopiedTokens.{CopiesLex};
 ghost use Rattle.lps_printer.specs.CopyLaws.{CopiesSpellTheSame, DeclarationCopiesSpellTheSame};
 ghost use Rattle.lps_printer.specs.DataLaws.{ExpressionsSpellBack, TermsReadBack};
@@ -8,7 +9,7 @@ ghost use Rattle.lps_printer.specs.EmptyLists.{FilledTermsAreWritable};
 ghost use Rattle.lps_printer.specs.FilledLinears.{FilledLinearsAreEqual};
 ghost use Rattle.lps_printer.specs.FittingNames.{NamesThatFitRead};
 ghost use Rattle.lps_printer.specs.FreshIdentifiers.{ConstantNamesAreIdentifiers, FreshNamesAreIdentifiers};
-ghost use Rattle.lps_printer.specs.GrownTexts.{AddedConstantsAreNamed, WhatGrowsByConstantsAddsThem};
+ghost use Rattle.lps_printer.specs.GrownTexts.{AddedConstantsAreNamed, EmptyListsAreAdded, WhatGrowsByConstantsAddsThem};
 ghost use Rattle.lps_printer.specs.LinearBack.{LinearProcessesElaborateBack};
 ghost use Rattle.lps_printer.specs.NamedSummands.{SummandsSpellBack};
 ghost use Rattle.lps_printer.specs.NeedLaws.{AddedConstantsAreNils, ListedNilsAreThose, WhatIsMetIsFound};
@@ -107,17 +108,6 @@ pub fn whole_texts_spell_back()
     ensures { WholeTextsSpellBack }
 {}
 
-/// The empty lists that are listed are those that stand in open places, and each sort that is met is found.
-pub fn needed_constants_are_found()
-    ensures listed { ListedNilsAreThose }
-    ensures found { WhatIsMetIsFound }
-{}
-
-/// The constants that are added are mappings without arguments into the lists that they stand for.
-pub fn added_constants_are_nils()
-    ensures { AddedConstantsAreNils }
-{}
-
 /// The copied sections of a text spell its declarations, and none of these is a process.
 pub fn copied_sections_spell_back()
     ensures { CopiedSectionsSpellBack }
@@ -137,10 +127,27 @@ pub fn printed_texts_spell_back()
 pub fn what_grows_by_constants_adds_them()
     ensures added { WhatGrowsByConstantsAddsThem }
     ensures named { AddedConstantsAreNamed }
+    ensures empty_lists { EmptyListsAreAdded }
 {}
 
 /// Names that are fresh to an identifier are identifiers, and so are those of the constants of sorts.
 pub fn fresh_names_are_identifiers()
     ensures fresh { FreshNamesAreIdentifiers }
     ensures constants { ConstantNamesAreIdentifiers }
+{}
+
+/// The empty lists that are listed are those that stand in open places, and each sort that is met is found.
+pub fn needed_constants_are_found()
+    ensures listed { ListedNilsAreThose }
+    ensures found { WhatIsMetIsFound }
+{}
+
+/// The constants that are added are mappings without arguments into the lists that they stand for.
+pub fn added_constants_are_nils()
+    ensures { AddedConstantsAreNils }
+{}
+
+/// The sections that are copied have all declarations of data and all equations of a specification.
+pub fn what_is_copied_has_all_parts()
+    ensures { WhatIsCopiedHasAllParts }
 {}
