@@ -74,3 +74,9 @@ mod DeclaredCounts
 pub mod GrownTexts
 pub mod FreshIdentifiers
 pub mod CopiedParts
+pub mod TwoOfLists
+pub mod TextItems
+pub mod ConstantVocabularies
+pub mod KeptDeclarations
+pub mod ListedVariables
+pub mod PrintedDeclarations
