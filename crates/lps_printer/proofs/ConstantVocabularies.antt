@@ -1,6 +1,6 @@
 -- The vocabulary of a signature that has grown by constants.
-use Rattle.std.proofs.Common.{◌≡◌, ◌+◌, ◌-◌, ◌<◌, ◌≤◌, inl, ℕ, zero, suc, Bool, true, false, cond, List, [], ◌∷◌, ◌++◌, length, map, get_or, refl, ap, sym, ◌∙◌, subst, arith}
-use Rattle.std.specs.Prelude.{Option, Some, None, IfSome, slice_get, bytes_eq}
+use Rattle.std.proofs.Common.{◌≡◌, ◌+◌, ◌-◌, ◌<◌, ◌≤◌, inl, ℕ, zero, suc, Bool, true, false, cond, List, [], ◌∷◌, ◌++◌, length, map, refl, ap, sym, ◌∙◌, subst, arith}
+use Rattle.std.specs.Prelude.{Option, Some, IfSome, slice_get, bytes_eq}
 use Rattle.std.specs.List.{All, AllByRecursion, Contains}
 use Rattle.std.proofs.lemmas.List.{append-nil, length-append, length-map}
 use Rattle.std.proofs.lemmas.List.Elements.{All-append, All-contains, All-cons, All-nil, All-weaker}
@@ -9,10 +9,10 @@ use Rattle.data_theory.specs.declared.ids.NameId.{NameId}
 use Rattle.data_theory.specs.declared.ids.SortId.{SortId}
 use Rattle.data_theory.specs.declared.ids.FunId.{FunId}
 use Rattle.data_theory.specs.Terms.{Sort}
-use Rattle.data_theory.specs.Declarations.{DeclaredFunction, mapping, projection, recogniser, constructor, function_at}
+use Rattle.data_theory.specs.Declarations.{DeclaredFunction, mapping, constructor}
 use Rattle.data_theory.specs.Places.{HaveOnePlace}
 use Rattle.data_theory.specs.Sorts as sorts
-use Rattle.data_theory.specs.Sorts.{Kind, SortInfo}
+use Rattle.data_theory.specs.Sorts.{Kind}
 use Rattle.data_theory.specs.Functions.{Function, declared_function}
 use Rattle.data_theory.specs.Structs.{numbers_from}
 use Rattle.data_theory.specs.Signature.{Sig}
@@ -21,7 +21,7 @@ use Rattle.data_theory.specs.WholeSignatures.{IsSignature}
 use Rattle.data_theory.specs.IdSorts.{constructions}
 use Rattle.data_theory.specs.IdSymbols.{declared_from}
 use Rattle.data_theory.specs.IdData.{constructors_of, is_constructor, role_meant, function_meant, function_at_meant, data_meant}
-use Rattle.data_theory.specs.IdTerms.{sort_under, IsGrown}
+use Rattle.data_theory.specs.IdTerms.{sort_under}
 use Rattle.data_theory.proofs.PlaceLemmas.{read_behind}
 use Rattle.data_theory.proofs.IdSortLemmas.{read_within}
 use Rattle.data_theory.proofs.IdSymbolLemmas.{holds_at}
@@ -32,9 +32,9 @@ use Rattle.sort_table.specs.BareSorts.{SortExpression}
 use Rattle.sort_table.specs.SortMeanings.{a_struct, UnderNames}
 use Rattle.sort_table.specs.TextFunctions as text
 use Rattle.sort_table.specs.TextFunctions.{TextFunction, Named, declared_constructor}
-use Rattle.sort_table.specs.Vocabularies.{Vocabulary, sort_in, EachPair, IsRole, of_map, IsFunction, IsSortNamed, IsVocabularyOf}
+use Rattle.sort_table.specs.Vocabularies.{Vocabulary, sort_in, EachPair, IsRole, of_map, IsFunction, IsVocabularyOf}
 use Rattle.sort_table.specs.SignatureVocabularies.{text_under, function_name_of, function_names_from, sort_name_under, vocabulary_of}
-use Rattle.sort_table.specs.Growth.{More, with_more, with_declared, AllStand, IsMore}
+use Rattle.sort_table.specs.Growth.{with_declared, AllStand, IsMore}
 use Rattle.sort_table.proofs.Growing.{vocabularies_grow}
 use Rattle.sort_table.proofs.GrowingSignatures.{grown_signatures_have_more}
 use Rattle.sort_table.proofs.NothingTwice.{mapped_at}

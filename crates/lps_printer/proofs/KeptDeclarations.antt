@@ -11,7 +11,7 @@ use Rattle.mcrl2_syntax.proofs.Lists.{all_front, all_back, all_both}
 use Rattle.sort_table.specs.Expressions.{Name}
 use Rattle.sort_table.specs.BareSorts.{SortExpression, truth_values, a_name, bare_sort}
 use Rattle.sort_table.specs.BareProcesses.{bare_names}
-use Rattle.sort_table.specs.BareDeclarations.{Constructor, Declaration, sorts, alias, struct, constructors, mappings, variables, equation, actions, process, initial, Section, bare_word, bare_field, bare_constructor, bare_declaration, bare_section, declarations_in}
+use Rattle.sort_table.specs.BareDeclarations.{Constructor, Declaration, sorts, alias, struct, constructors, mappings, variables, equation, actions, process, initial, bare_word, bare_field, bare_constructor, bare_declaration, bare_section, declarations_in}
 use Rattle.sort_table.specs.SortMeanings.{alone, kinds_by, actions_by}
 use Rattle.sort_table.specs.TextFunctions.{TextRole, Named, struct_constructor, declared_constructor, mapping, projection, recogniser, declared, where_named, fields_of, projections_from, functions_by}
 use Rattle.sort_table.specs.Duplicates.{Item, a_sort, an_action, function_item}
@@ -19,7 +19,7 @@ use Rattle.sort_table.specs.Identifiers.{name_where, in_sort, in_sorts, in_field
 use Rattle.sort_table.specs.PlacedSections.{IsPlacedSection}
 use Rattle.sort_table.proofs.GrowingTexts.{flat_behind}
 use Rattle.lps_printer.specs.CopiedSections.{kept_sections}
-use Rattle.lps_printer.specs.CopiedParts.{data_by, data_in}
+use Rattle.lps_printer.specs.CopiedParts.{data_by}
 use Rattle.lps_printer.proofs.CopiedParts.{what_is_copied_has_all_parts}
 use Rattle.lps_printer.proofs.TwoOfLists.{all_mapped, Within, nothing_left, stays, left_out}
 use Rattle.lps_printer.proofs.TextItems.{fixed_by, name_of}

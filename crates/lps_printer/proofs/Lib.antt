@@ -81,3 +81,4 @@ pub mod ConstantVocabularies
 pub mod KeptDeclarations
 pub mod ListedVariables
 pub mod PrintedDeclarations
+pub mod GrowingByConstants

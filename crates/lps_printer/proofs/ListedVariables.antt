@@ -1,26 +1,24 @@
 -- The parameters and the sums of a linear process that reads back differ in their names, and have sorts.
-use Rattle.std.proofs.Common.{◌≡◌, ◌≢◌, ℕ, zero, suc, List, [], ◌∷◌, ◌++◌, inl, map, refl, ap, sym, ◌∙◌, subst, arith}
+use Rattle.std.proofs.Common.{◌≡◌, ◌≢◌, zero, suc, List, [], ◌∷◌, inl, map, refl, ap, sym, ◌∙◌, subst, arith}
 use Rattle.std.specs.Prelude.{Option, Some, None}
 use Rattle.std.specs.List.{AllByRecursion, Contains, flat_map}
 use Rattle.mcrl2_syntax.proofs.Lists.{all_both}
-use Rattle.data_theory.specs.Terms.{Sort, Term}
-use Rattle.data_theory.specs.Declarations.{Declares}
+use Rattle.data_theory.specs.Terms.{Sort}
 use Rattle.data_theory.specs.Environments.{AreDistinct}
 use Rattle.process_terms.specs.Processes.{Bound}
-use Rattle.bisim_laws.specs.LinearProcesses.{Summand, Linear, variables}
+use Rattle.bisim_laws.specs.LinearProcesses.{Summand, variables}
 use Rattle.sort_table.specs.Expressions.{Name}
 use Rattle.sort_table.specs.BareSorts.{SortExpression}
 use Rattle.sort_table.specs.BareProcesses.{Variables, sums_in, sums_in_all}
 use Rattle.sort_table.specs.Vocabularies.{sort_in}
 use Rattle.sort_checker.specs.FullVocabularies.{FullVocabulary}
-use Rattle.sort_checker.specs.Scopes.{numbers_of}
 use Rattle.data_typing.specs.Meanings.{Scope, meaning}
 use Rattle.data_typing.specs.Typings.{Meaning, bound}
 use Rattle.lps_printer.specs.PrintedExpressions.{Expression}
 use Rattle.lps_printer.specs.PrintedProcesses as printed_
 use Rattle.lps_printer.specs.PrintedProcesses.{Next, ends, goes_bare, goes, Variable, one_variable, with_next, with_condition, with_sums, summand_process, all_summands, choice_process}
 use Rattle.lps_printer.specs.WrittenProcesses.{TextNames, sort_written, variable_written, summand_written, body_written, parameters_written, plain_group, plain_process, plain_processes, bound_named, scope_behind}
-use Rattle.lps_printer.specs.LinearBack.{EachTwo, CanBind, SummandReads, LinearReads}
+use Rattle.lps_printer.specs.LinearBack.{EachTwo, CanBind, SummandReads}
 use Rattle.lps_printer.specs.PrintedDeclarations.{CanBeListed, VariablesThatReadCanBeListed}
 use Rattle.lps_printer.proofs.Lookups.{in_scope}
 use Rattle.lps_printer.proofs.TwoOfLists.{in_front, behind_one, in_nothing, all_from, two_mapped}

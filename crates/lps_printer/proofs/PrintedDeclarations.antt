@@ -1,7 +1,7 @@
 -- The declarations of a printed text are sound, and the signature has their vocabulary.
-use Rattle.std.proofs.Common.{◌≡◌, ◌≢◌, ◌⊎◌, inl, inr, ⊎_elim, ℕ, zero, suc, Bool, true, false, cond, List, [], ◌∷◌, ◌++◌, map, refl, ap, ap₂, sym, ◌∙◌, subst, arith, append_assoc}
-use Rattle.std.specs.Prelude.{Some, None, not, is_some, slice_get}
-use Rattle.std.specs.List.{All, AllByRecursion, Contains, find, flat_map}
+use Rattle.std.proofs.Common.{◌≡◌, ◌≢◌, ⊎_elim, zero, suc, Bool, true, false, cond, List, [], ◌∷◌, ◌++◌, map, refl, ap, ap₂, sym, ◌∙◌, subst, arith, append_assoc}
+use Rattle.std.specs.Prelude.{Some, None, not, is_some}
+use Rattle.std.specs.List.{AllByRecursion, Contains, find, flat_map}
 use Rattle.std.proofs.lemmas.List.{append-nil}
 use Rattle.std.proofs.lemmas.List.Elements.{All-contains}
 use Rattle.mcrl2_syntax.specs.Declarations.{PlainSpec}
@@ -18,17 +18,17 @@ use Rattle.data_theory.proofs.PlaceLemmas.{read_contained}
 use Rattle.data_theory.proofs.TableLemmas.{is_first_name}
 use Rattle.bisim_laws.specs.LinearProcesses.{Linear}
 use Rattle.sort_table.specs.Expressions.{Name}
-use Rattle.sort_table.specs.BareSorts.{SortExpression, truth_values, positives, naturals, integers, lists_of, a_name}
-use Rattle.sort_table.specs.BareProcesses.{Variables, sums_in}
+use Rattle.sort_table.specs.BareSorts.{SortExpression}
+use Rattle.sort_table.specs.BareProcesses.{Variables}
 use Rattle.sort_table.specs.BareDeclarations.{Declaration, sorts, alias, struct, constructors, mappings, variables, equation, actions, process, initial, Section, bare_section, bare_sections, declarations_in}
 use Rattle.sort_table.specs.NamedLists.{all_named, first_named}
 use Rattle.sort_table.specs.SortMeanings.{Kind, kinds_by, kinds_in, actions_by, actions_in, UnderNames, under_names, StandsFor, for_truth_values, for_positives, for_naturals, for_integers, for_lists, for_plain, for_struct, for_alias, StandForEach, no_sorts, and_sort}
-use Rattle.sort_table.specs.TextFunctions.{TextFunction, Named, mapping, functions_by, functions_in}
-use Rattle.sort_table.specs.Duplicates.{Item, a_sort, a_function, an_action, a_process, a_variable, SameSorts, IsAgain, sort_again, function_again, action_again, process_again, process_as_action, action_as_process, variable_again, IsBuiltIn, StandsTwice, variable_lists, built_in, its_variables, NothingAgain}
-use Rattle.sort_table.specs.UnknownSorts.{name_in, names_of_variables, sorts_used, HasKnownSorts, AllAreKnown}
-use Rattle.sort_table.specs.SortCycles.{Refers, ReferOn, IsCycle, NoCycle}
-use Rattle.sort_table.specs.EmptySorts.{IsEmptySort, NoEmptySort}
-use Rattle.sort_table.specs.Vocabularies.{sort_in, HasSorts, IsVocabularyOf}
+use Rattle.sort_table.specs.TextFunctions.{Named, mapping, functions_by, functions_in}
+use Rattle.sort_table.specs.Duplicates.{Item, a_function, a_process, SameSorts, IsAgain, sort_again, function_again, action_again, process_again, process_as_action, action_as_process, variable_again, IsBuiltIn, StandsTwice, variable_lists, built_in, its_variables, NothingAgain}
+use Rattle.sort_table.specs.UnknownSorts.{name_in, names_of_variables, sorts_used, AllAreKnown}
+use Rattle.sort_table.specs.SortCycles.{Refers, ReferOn, NoCycle}
+use Rattle.sort_table.specs.EmptySorts.{NoEmptySort}
+use Rattle.sort_table.specs.Vocabularies.{sort_in, IsVocabularyOf}
 use Rattle.sort_table.specs.SignatureVocabularies.{text_under, vocabulary_of}
 use Rattle.sort_table.specs.Growth.{with_declared}
 use Rattle.sort_table.specs.Identifiers.{copied_identifiers}
@@ -40,9 +40,9 @@ use Rattle.sort_table.proofs.StandingNames.{declared_names_stand}
 use Rattle.lps_printer.specs.WrittenProcesses.{TextNames, sort_written, start_written}
 use Rattle.lps_printer.specs.CopiedSections.{kept_sections}
 use Rattle.lps_printer.specs.LinearBack.{EachTwo}
-use Rattle.lps_printer.specs.AddedDeclarations.{name_at, empty_list_declared, added_declared}
-use Rattle.lps_printer.specs.GrownTexts.{mapping_declared, AddsTheConstants}
-use Rattle.lps_printer.specs.PrintedDeclarations.{IsEquation, DeclareConstants, AddedConstantsAreDeclared, IsReadSort, CanBeListed, process_declared, DeclaresMore, printed_declared, AreSoundOver, PrintedDeclarationsAreSound}
+use Rattle.lps_printer.specs.AddedDeclarations.{name_at, empty_list_declared}
+use Rattle.lps_printer.specs.GrownTexts.{mapping_declared}
+use Rattle.lps_printer.specs.PrintedDeclarations.{IsEquation, AddedConstantsAreDeclared, IsReadSort, CanBeListed, process_declared, DeclaresMore, printed_declared, AreSoundOver, PrintedDeclarationsAreSound}
 use Rattle.lps_printer.proofs.TwoOfLists.{in_mapped, all_from, all_weaker, all_mapped, all_flat, two_both, two_at, two_weaker, two_mapped, Within, within_flat, within_all, within_contains, within_two}
 use Rattle.lps_printer.proofs.TextItems.{fixed_by, vars_by, is_function, name_of, again_function, again_name, NotAgain, HasOtherVariables, AreOthers, ItemsDiffer, items_differ, fixed_stands, nothing_again}
 use Rattle.lps_printer.proofs.KeptDeclarations.{kept_within, kept_names, kept_kinds, kept_functions, kept_actions}

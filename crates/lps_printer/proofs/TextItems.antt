@@ -1,10 +1,9 @@
 -- What sections declare as one list of items: nothing is declared again where no two of them are.
-use Rattle.std.proofs.Common.{◌≡◌, ◌≢◌, ◌<◌, ◌≤◌, ◌⊎◌, inl, inr, ℕ, zero, suc, Bool, true, false, List, [], ◌∷◌, ◌++◌, length, map, refl, ap, sym, ◌∙◌, subst, arith, append_assoc}
+use Rattle.std.proofs.Common.{◌≡◌, ◌≢◌, ◌<◌, ◌≤◌, ◌⊎◌, inl, inr, ℕ, zero, suc, Bool, true, false, List, [], ◌∷◌, ◌++◌, map, refl, ap, sym, ◌∙◌, subst, arith, append_assoc}
 use Rattle.std.specs.Prelude.{Some, slice_get}
 use Rattle.std.specs.List.{AllByRecursion, Contains, flat_map}
 use Rattle.std.proofs.lemmas.List.{append-nil, map-append}
 use Rattle.std.proofs.lemmas.Option.{none-some, same_Some}
-use Rattle.mcrl2_syntax.proofs.Lists.{all_both}
 use Rattle.data_theory.proofs.PlaceLemmas.{contains_read}
 use Rattle.sort_table.specs.Expressions.{Name}
 use Rattle.sort_table.specs.BareSorts.{SortExpression}
@@ -17,7 +16,7 @@ use Rattle.sort_table.proofs.AddedStructs.{all_contained}
 use Rattle.sort_table.proofs.Growing.{contains_behind, contains_after, in_either}
 use Rattle.sort_table.proofs.GrowingTexts.{flat_behind}
 use Rattle.lps_printer.specs.LinearBack.{EachTwo}
-use Rattle.lps_printer.proofs.TwoOfLists.{in_front, in_nothing, in_mapped, all_mapped, all_flat, all_from, two_both, two_front, two_back, two_across, two_at, two_from, two_weaker, two_mapped, two_unmapped, Within, within_itself, nothing_within, within_both, front_within, back_within, within_contains, within_two}
+use Rattle.lps_printer.proofs.TwoOfLists.{in_nothing, in_mapped, all_mapped, all_flat, all_from, two_both, two_front, two_back, two_across, two_at, two_from, two_weaker, two_mapped, two_unmapped, Within, within_itself, within_both, front_within, back_within, within_contains, within_two}
 
 -- ---- the items of a declaration
 -- what isn't a variable, which stands in no section of its own
