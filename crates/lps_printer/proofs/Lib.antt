@@ -81,4 +81,3 @@ pub mod ConstantVocabularies
 pub mod KeptDeclarations
 pub mod ListedVariables
 pub mod PrintedDeclarations
-pub mod GrowingByConstants
