@@ -69,3 +69,11 @@ mod SpelledTokens
 mod SpelledDataTokens
 mod SpelledDeclarationTokens
 pub mod GrowingByConstants
+pub mod OwnFunctions
+pub mod SortsBack
+pub mod VariableNames
+pub mod VariableScopes
+pub mod WritableLinears
+pub mod SameNeeds
+pub mod DeclaredActions
+pub mod FittingLinears

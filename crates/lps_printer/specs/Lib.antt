@@ -40,3 +40,4 @@ pub mod NeedLaws
 pub mod AddedDeclarations
 pub mod PrintedLinears
 pub mod GrowingByConstants
+pub mod FittingLinears

@@ -6,6 +6,7 @@ ghost use Rattle.lps_printer.specs.DataLaws.{ExpressionsSpellBack, TermsReadBack
 ghost use Rattle.lps_printer.specs.DefinitionTexts.{DefinitionsSpellBack, LinearTextsSpellBack, StartsSpellBack};
 ghost use Rattle.lps_printer.specs.EmptyLists.{FilledTermsAreWritable};
 ghost use Rattle.lps_printer.specs.FilledLinears.{FilledLinearsAreEqual};
+ghost use Rattle.lps_printer.specs.FittingLinears.{FittingLinearsRead};
 ghost use Rattle.lps_printer.specs.FittingNames.{NamesThatFitRead};
 ghost use Rattle.lps_printer.specs.LinearBack.{LinearProcessesElaborateBack};
 ghost use Rattle.lps_printer.specs.NamedSummands.{SummandsSpellBack};
@@ -113,4 +114,9 @@ pub fn needed_constants_are_found()
 /// The constants that are added are mappings without arguments into the lists that they stand for.
 pub fn added_constants_are_nils()
     ensures { AddedConstantsAreNils }
+{}
+
+/// What is printed for a linear process that fits a signature can be read, with the constants that are added for empty lists.
+pub fn fitting_linears_read()
+    ensures { FittingLinearsRead }
 {}
