@@ -11,10 +11,10 @@ use Rattle.sort_checker.specs.Elaborations.{WrittenEquation}
 use Rattle.sort_checker.specs.Parts.{ScopedDeclaration, variables_by, scoped_behind}
 use Rattle.sort_checker.specs.Systems.{equations_in}
 use Rattle.lps_printer.specs.WrittenProcesses.{body_written, start_written, parameters_written, plain_process}
-use Rattle.linearising.specs.Headline.{data_by, data_in}
-use Rattle.linearising.specs.CopiedParts.{kept_sections}
+use Rattle.lps_printer.specs.CopiedSections.{kept_sections}
+use Rattle.lps_printer.specs.CopiedParts.{data_by, data_in}
 use Rattle.linearising.specs.AddedParts.{WhatMayBeAddedAddsOnly}
-use Rattle.linearising.proofs.CopiedParts.{flat_append, under, vars_of, kept, dropped, what_is_copied_has_all_parts}
+use Rattle.lps_printer.proofs.CopiedParts.{flat_append, under, vars_of, kept, dropped, what_is_copied_has_all_parts}
 
 -- ---- sections behind others
 declarations_append : (as_ bs : List Section) → declarations_in (as_ ++ bs) ≡ declarations_in as_ ++ declarations_in bs

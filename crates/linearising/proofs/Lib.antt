@@ -5,7 +5,6 @@ mod TakenNames
 mod GrownModels
 mod ColumnActions
 mod ColumnNames
-mod CopiedParts
 mod AddedParts
 mod ModelLinears
 mod Linearised

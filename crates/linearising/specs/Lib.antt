@@ -7,5 +7,4 @@ pub mod ModelLinears
 pub mod Headline
 pub mod Linearised
 pub mod ElaboratedModels
-pub mod CopiedParts
 pub mod AddedParts

@@ -29,13 +29,6 @@ pub fn filled_linears_serve()
     ensures { FilledLinearsServe }
 {}
 
-ghost use Rattle.linearising.specs.CopiedParts.{WhatIsCopiedHasAllParts};
-
-/// The sections that are copied have all declarations of data and all equations of a specification.
-pub fn what_is_copied_has_all_parts()
-    ensures { WhatIsCopiedHasAllParts }
-{}
-
 ghost use Rattle.linearising.specs.AddedParts.{WhatMayBeAddedAddsOnly};
 
 /// A specification that has the copied sections of another, what may be added to it, and a process, adds only what is allowed.

@@ -68,3 +68,4 @@ mod KindTexts
 mod SpelledTokens
 mod SpelledDataTokens
 mod SpelledDeclarationTokens
+pub mod CopiedParts

@@ -31,6 +31,7 @@ pub mod CodeProcesses
 pub mod TreeTokens
 pub mod CopiedPlaces
 pub mod CopiedSections
+pub mod CopiedParts
 pub mod AddingSections
 pub mod SignatureNames
 pub mod AddedConstants
@@ -39,3 +40,4 @@ pub mod PrintedTexts
 pub mod NeedLaws
 pub mod AddedDeclarations
 pub mod PrintedLinears
+pub mod GrowingByConstants

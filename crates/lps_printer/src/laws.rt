@@ -1,5 +1,6 @@
 //! Laws of printed text. The functions do nothing: each contract is a law.
 
+ghost use Rattle.lps_printer.specs.CopiedParts.{WhatIsCopiedHasAllParts};
 ghost use Rattle.lps_printer.specs.CopiedTokens.{CopiesLex};
 ghost use Rattle.lps_printer.specs.CopyLaws.{CopiesSpellTheSame, DeclarationCopiesSpellTheSame};
 ghost use Rattle.lps_printer.specs.DataLaws.{ExpressionsSpellBack, TermsReadBack};
@@ -113,4 +114,9 @@ pub fn needed_constants_are_found()
 /// The constants that are added are mappings without arguments into the lists that they stand for.
 pub fn added_constants_are_nils()
     ensures { AddedConstantsAreNils }
+{}
+
+/// The sections that are copied have all declarations of data and all equations of a specification.
+pub fn what_is_copied_has_all_parts()
+    ensures { WhatIsCopiedHasAllParts }
 {}
