@@ -1,10 +1,10 @@
 -- A text whose parts elaborate has none of the faults 12 to 17.
-use Rattle.std.proofs.Common.{◌≡◌, ℕ, suc, Bool, true, false, not, cond, ◌&&◌, ◌||◌, List, [], ◌∷◌, ◌++◌, map, refl, ap, ap₂, ◌∙◌}
+use Rattle.std.proofs.Common.{◌≡◌, ℕ, suc, Bool, true, false, not, cond, ◌&&◌, ◌||◌, List, [], ◌∷◌, map, refl, ap, ap₂, ◌∙◌}
 use Rattle.std.specs.Prelude.{Option, Some, None, option_map}
 use Rattle.std.specs.Option.{option_or}
 use Rattle.std.specs.List.{AllByRecursion, flat_map, list_all, list_any}
 use Rattle.data_theory.specs.Provable.{Equation}
-use Rattle.process_terms.specs.Processes.{Around, Body, Definition}
+use Rattle.process_terms.specs.Processes.{Body, Definition}
 use Rattle.mcrl2_syntax.proofs.Lists.{all_front, all_back}
 use Rattle.sort_table.specs.Expressions.{Name}
 use Rattle.sort_table.specs.BareProcesses.{Variables, Process}
@@ -15,9 +15,9 @@ use Rattle.data_typing.proofs.NamedParts.{all_appended}
 use Rattle.data_typing.proofs.WithinLemmas.{all_more}
 use Rattle.sort_checker.specs.FullVocabularies.{FullVocabulary, Written, process_by}
 use Rattle.sort_checker.specs.Operators.{has_comm_fault, renamed_twice}
-use Rattle.sort_checker.specs.Parts.{ScopedPart, ScopedDeclaration, variables_by, scoped_behind, scoped_declarations, parts_under, parts_of}
+use Rattle.sort_checker.specs.Parts.{ScopedDeclaration, variables_by, scoped_behind, scoped_declarations, parts_under, parts_of}
 use Rattle.sort_checker.specs.Faults.{unknown_name, is_typed, free_variable, has_variable_left, operators_of}
-use Rattle.sort_checker.specs.Refusals.{TypeFault, unknown_in, untyped, free_in, variable_left, comm_shape, rename_twice, first_from, number_from, unknown_fault, untyped_fault, free_fault, left_fault, comm_fault, rename_fault, type_fault}
+use Rattle.sort_checker.specs.Refusals.{TypeFault, unknown_in, untyped, free_in, variable_left, comm_shape, rename_twice, first_from, number_from, unknown_fault, untyped_fault, free_fault, left_fault, comm_fault, rename_fault}
 use Rattle.sort_checker.specs.Elaborations.{Elaborates, ElaboratesDefinition, WrittenEquation, ElaboratesEquation}
 use Rattle.sort_checker.specs.Systems.{equation_under, initial_by}
 use Rattle.sort_checker.specs.ScopeLaws.{same_none}

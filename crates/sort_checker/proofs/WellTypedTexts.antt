@@ -65,7 +65,7 @@ neither_true : (a b : Bool) → (a || b) ≡ false → (a ≡ false) × (b ≡ f
 neither_true true b h = let never : true ≡ false = h in cc
 neither_true false b h = (refl, h)
 
-all_false : {A : Type 0} (t : A → Bool) (xs : List A) → list_any t xs ≡ false → AllByRecursion (λ x. t x ≡ false) xs
+pub all_false : {A : Type 0} (t : A → Bool) (xs : List A) → list_any t xs ≡ false → AllByRecursion (λ x. t x ≡ false) xs
 all_false t [] h = tt
 all_false t (x ∷ xs) h = let r = neither_true (t x) (list_any t xs) h in (r.0, all_false t xs r.1)
 
