@@ -68,4 +68,9 @@ mod KindTexts
 mod SpelledTokens
 mod SpelledDataTokens
 mod SpelledDeclarationTokens
+pub mod CopiedSections
+pub mod SpelledAdditions
+mod DeclaredCounts
+pub mod GrownTexts
+pub mod FreshIdentifiers
 pub mod CopiedParts

@@ -41,3 +41,6 @@ pub mod NeedLaws
 pub mod AddedDeclarations
 pub mod PrintedLinears
 pub mod GrowingByConstants
+pub mod SpelledSections
+pub mod GrownTexts
+pub mod FreshIdentifiers

@@ -8,11 +8,14 @@ ghost use Rattle.lps_printer.specs.DefinitionTexts.{DefinitionsSpellBack, Linear
 ghost use Rattle.lps_printer.specs.EmptyLists.{FilledTermsAreWritable};
 ghost use Rattle.lps_printer.specs.FilledLinears.{FilledLinearsAreEqual};
 ghost use Rattle.lps_printer.specs.FittingNames.{NamesThatFitRead};
+ghost use Rattle.lps_printer.specs.FreshIdentifiers.{ConstantNamesAreIdentifiers, FreshNamesAreIdentifiers};
+ghost use Rattle.lps_printer.specs.GrownTexts.{AddedConstantsAreNamed, EmptyListsAreAdded, WhatGrowsByConstantsAddsThem};
 ghost use Rattle.lps_printer.specs.LinearBack.{LinearProcessesElaborateBack};
 ghost use Rattle.lps_printer.specs.NamedSummands.{SummandsSpellBack};
 ghost use Rattle.lps_printer.specs.NeedLaws.{AddedConstantsAreNils, ListedNilsAreThose, WhatIsMetIsFound};
 ghost use Rattle.lps_printer.specs.Pieces.{PiecesLex};
 ghost use Rattle.lps_printer.specs.PrintedSystems.{PrintedSystemsAreLinear};
+ghost use Rattle.lps_printer.specs.SpelledSections.{AddedSectionsSpellBack, CopiedSectionsSpellBack, PrintedTextsSpellBack};
 ghost use Rattle.lps_printer.specs.SummandTexts.{SummandTextsElaborate};
 ghost use Rattle.lps_printer.specs.TermTexts.{TermTextsReadBack};
 ghost use Rattle.lps_printer.specs.TextSections.{SectionTextsSpellBack};
@@ -103,6 +106,34 @@ pub fn section_texts_spell_back()
 /// The text of a linear process spells the sections in front, and the process and its start behind.
 pub fn whole_texts_spell_back()
     ensures { WholeTextsSpellBack }
+{}
+
+/// The copied sections of a text spell its declarations, and none of these is a process.
+pub fn copied_sections_spell_back()
+    ensures { CopiedSectionsSpellBack }
+{}
+
+/// Added constants spell mappings and the equations of empty lists, where their names are identifiers.
+pub fn added_sections_spell_back()
+    ensures { AddedSectionsSpellBack }
+{}
+
+/// The printed text of a linear process spells the copied declarations, the added ones, and the process and its start.
+pub fn printed_texts_spell_back()
+    ensures { PrintedTextsSpellBack }
+{}
+
+/// Where the signature of a text grows by constants, mappings of these are what is added, and their names are those of what is added.
+pub fn what_grows_by_constants_adds_them()
+    ensures added { WhatGrowsByConstantsAddsThem }
+    ensures named { AddedConstantsAreNamed }
+    ensures empty_lists { EmptyListsAreAdded }
+{}
+
+/// Names that are fresh to an identifier are identifiers, and so are those of the constants of sorts.
+pub fn fresh_names_are_identifiers()
+    ensures fresh { FreshNamesAreIdentifiers }
+    ensures constants { ConstantNamesAreIdentifiers }
 {}
 
 /// The empty lists that are listed are those that stand in open places, and each sort that is met is found.
