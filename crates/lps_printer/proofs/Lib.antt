@@ -74,3 +74,4 @@ mod DeclaredCounts
 pub mod GrownTexts
 pub mod FreshIdentifiers
 pub mod CopiedParts
+pub mod GrowingByConstants
