@@ -6,6 +6,7 @@ mod GrownModels
 mod ColumnActions
 mod ColumnNames
 mod AddedParts
+pub mod AddedConstants
 mod ModelLinears
 mod Linearised
 mod SortedTerms

@@ -8,3 +8,4 @@ pub mod Headline
 pub mod Linearised
 pub mod ElaboratedModels
 pub mod AddedParts
+pub mod AddedConstants

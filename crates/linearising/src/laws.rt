@@ -35,3 +35,10 @@ ghost use Rattle.linearising.specs.AddedParts.{WhatMayBeAddedAddsOnly};
 pub fn what_may_be_added_adds_only()
     ensures { WhatMayBeAddedAddsOnly }
 {}
+
+ghost use Rattle.linearising.specs.AddedConstants.{ConstantsMayBeAdded};
+
+/// The constants by which the signature of a text grows may be added to it, with the equations of empty lists.
+pub fn constants_may_be_added()
+    ensures { ConstantsMayBeAdded }
+{}

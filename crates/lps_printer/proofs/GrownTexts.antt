@@ -1,8 +1,9 @@
 -- What is added to a text where its signature grows by constants.
-use Rattle.std.proofs.Common.{◌≡◌, ◌+◌, ◌<◌, ◌≤◌, ◌&&◌, ◌||◌, ℕ, zero, suc, Bool, true, false, cond, nat_eq, List, [], ◌∷◌, ◌++◌, length, map, get_or, codes, not, All, refl, sym, ap, ap₂, ◌∙◌, subst, arith, append_assoc, length-append}
+use Rattle.std.proofs.Common.{◌≡◌, ◌+◌, ◌<◌, ◌≤◌, ◌&&◌, ◌||◌, ℕ, zero, suc, Bool, true, false, cond, nat_eq, List, [], ◌∷◌, ◌++◌, length, map, get_or, codes, not, All, refl, sym, ap, ap₂, ◌∙◌, subst, arith, append_assoc, append-nil, length-append}
 use Rattle.std.specs.Prelude.{None}
 use Rattle.std.specs.List.{AllByRecursion, Contains, flat_map, list_any}
 use Rattle.std.proofs.lemmas.List.{get_or-append-add, length-map}
+use Rattle.std.proofs.lemmas.Grind.{flat_map-append}
 use Rattle.std.proofs.lemmas.List.Elements.{All-nil, All-head, All-tail, All-weaker, All-cons, All-contains, All-from_recursion, recursion_from_All, All-contains_itself, Contains-append_left, Contains-append_right, Contains-push}
 use Rattle.std.proofs.lemmas.Bool.Decides.{nat_tests}
 use Rattle.mcrl2_syntax.specs.declared.declaration.SectionWord.TheVariants as sections
@@ -20,7 +21,7 @@ use Rattle.data_theory.specs.Terms.{list}
 use Rattle.data_theory.specs.IdTerms.{sort_under}
 use Rattle.data_theory.specs.WholeSignatures.{IsSignature}
 use Rattle.sort_table.specs.Expressions.{Name}
-use Rattle.sort_table.specs.BareDeclarations.{Declaration, mappings, Section}
+use Rattle.sort_table.specs.BareDeclarations.{Declaration, mappings, Section, declarations_in}
 use Rattle.sort_table.specs.SignatureVocabularies.{text_under}
 use Rattle.sort_table.specs.Vocabularies.{EachPair}
 use Rattle.lps_printer.specs.declared.added_sections.Line.TheVariants as lines
@@ -28,7 +29,7 @@ use Rattle.lps_printer.specs.DataLayout.{IsIdentifier}
 use Rattle.lps_printer.specs.NamedSummands.{IsNamed, IsNamedVariable}
 use Rattle.lps_printer.specs.WrittenProcesses.{TextNames, sort_written}
 use Rattle.lps_printer.specs.AddedConstants.{AddsConstant, AddsEach, none_left, adds, AddsConstants}
-use Rattle.lps_printer.specs.AddedDeclarations.{no_function, function_at, name_at, kind_at, constructors_in, begun_by, struct_begun, is_constant, constants_among, constant_with, added_functions, struct_declared, structs_declared, line_declared, lines_declared, added_declared}
+use Rattle.lps_printer.specs.AddedDeclarations.{no_function, function_at, name_at, kind_at, constructors_in, begun_by, struct_begun, is_constant, constants_among, constant_with, added_functions, struct_declared, structs_declared, empty_list_declared, line_declared, lines_declared, added_declared}
 use Rattle.lps_printer.specs.GrowingByConstants.{GrowsByConstants}
 use Rattle.lps_printer.specs.GrownTexts.{mapping_declared, mappings_declared, AddsTheConstants, WhatGrowsByConstantsAddsThem, AreNamedConstants, AddedConstantsAreNamed, EmptyListsAreAdded}
 use Rattle.lps_printer.proofs.DeclaredCounts.{added_are}
@@ -142,6 +143,14 @@ no_structs_declared : (h : Sig) (n : TextNames) (fs : List FunId) → AllByRecur
 no_structs_declared h n [] none = refl
 no_structs_declared h n (f ∷ fs) none = ap₂ (λ (xs ys : List Section). xs ++ ys) (ap (struct_declared h n (function_at h f).result) none.0) (no_structs_declared h n fs none.1)
 
+mappings_are : (h : Sig) (n : TextNames) (cs : List Constant) → declarations_in (mappings_declared h n cs) ≡ map (mapping_declared h n) cs
+mappings_are h n [] = refl
+mappings_are h n (c ∷ cs) = append-nil (map (mapping_declared h n) (c ∷ cs))
+
+equations_are : (h : Sig) (n : TextNames) (fs : List FunId) → declarations_in (lines_declared h n lines.EmptyList fs) ≡ map (λ (f : FunId). empty_list_declared (name_at h f)) fs
+equations_are h n [] = refl
+equations_are h n (f ∷ fs) = append-nil (map (λ (e : FunId). empty_list_declared (name_at h e)) (f ∷ fs))
+
 -- ---- the laws
 module _ (g h : Sig) (stands : IsSignature g) (w : GrowsByConstants g h) where
   abbrev new : List FunId
@@ -164,13 +173,17 @@ what_grows_by_constants_adds_them spec g h stands is w =
     let same : added_functions spec h ≡ fs = added_are spec g h fs is w.declared in
     let all : constants_among h (added_functions spec h) ≡ added_functions spec h = ap (constants_among h) same ∙ are_all h k below w.constants fs at ∙ sym same in
     let none : AllByRecursion (λ (f : FunId). struct_begun h f ≡ []) (added_functions spec h) = subst (AllByRecursion (λ (f : FunId). struct_begun h f ≡ [])) (sym same) (begin_none h k below w.constants fs at) in
+    let declared_ : (n : TextNames) (empty_lists : List FunId) → added_declared spec h n empty_lists ≡ mappings_declared h n w.constants ++ lines_declared h n lines.EmptyList empty_lists
+    = λ n empty_lists. ap₂ (λ (xs ys : List Section). xs ++ (ys ++ lines_declared h n lines.EmptyList empty_lists)) (no_structs_declared h n (added_functions spec h) none)
+    (ap (lines_declared h n lines.Constant) (all ∙ same) ∙ all_declared h k n w.constants fs at) in
     record {
       functions = same;
       all_constants = all;
       named = subst (All (λ (f : FunId). Contains (map (λ (c : Constant). text_under h c.0) w.constants) (name_at h f))) (sym same) (names_among h k w.constants fs at);
       no_structs = none;
-      declared = λ n empty_lists. ap₂ (λ (xs ys : List Section). xs ++ (ys ++ lines_declared h n lines.EmptyList empty_lists)) (no_structs_declared h n (added_functions spec h) none)
-          (ap (lines_declared h n lines.Constant) (all ∙ same) ∙ all_declared h k n w.constants fs at);
+      declared = declared_;
+      declarations = λ n empty_lists. ap declarations_in (declared_ n empty_lists) ∙ flat_map-append (λ (s : Section). s.declarations) (mappings_declared h n w.constants) (lines_declared h n lines.EmptyList empty_lists)
+          ∙ ap₂ (λ (xs ys : List Declaration). xs ++ ys) (mappings_are h n w.constants) (equations_are h n empty_lists);
     }
 
 pub added_constants_are_named : AddedConstantsAreNamed

@@ -20,7 +20,7 @@ use Rattle.lps_printer.specs.DataLayout.{IsIdentifier}
 use Rattle.lps_printer.specs.NamedSummands.{IsNamed}
 use Rattle.lps_printer.specs.WrittenProcesses.{TextNames, sort_written}
 use Rattle.lps_printer.specs.AddedConstants.{AddsConstants}
-use Rattle.lps_printer.specs.AddedDeclarations.{added_functions, constants_among, struct_begun, name_at, lines_declared, added_declared}
+use Rattle.lps_printer.specs.AddedDeclarations.{added_functions, constants_among, struct_begun, name_at, empty_list_declared, lines_declared, added_declared}
 use Rattle.lps_printer.specs.GrowingByConstants.{GrowsByConstants}
 use Rattle.lps_printer.specs.SpelledSections.{AddsNamedConstants}
 
@@ -40,6 +40,7 @@ pub record AddsTheConstants (spec : PlainSpec) (g h : Sig) (constants : List (Na
   pub named : All (λ (f : FunId). Contains (map (λ (c : NameId × SortId). text_under h c.0) constants) (name_at h f)) (added_functions spec h)
   pub no_structs : AllByRecursion (λ (f : FunId). struct_begun h f ≡ []) (added_functions spec h)
   pub declared : (n : TextNames) (empty_lists : List FunId) → added_declared spec h n empty_lists ≡ mappings_declared h n constants ++ lines_declared h n lines.EmptyList empty_lists
+  pub declarations : (n : TextNames) (empty_lists : List FunId) → declarations_in (added_declared spec h n empty_lists) ≡ map (mapping_declared h n) constants ++ map (λ (f : FunId). empty_list_declared (name_at h f)) empty_lists
 
 -- The signature g has what the text declares, and h has further constants.
 abbrev pub WhatGrowsByConstantsAddsThem : Type 0
