@@ -91,7 +91,7 @@ all_named (b ∷ x) h =
     let p = and_parts (is_letter b) (list_all is_name_byte x) h in
     and_from (is_name_byte b) (list_all is_name_byte x) (ap (λ (l : Bool). l || is_digit b || nat_eq b 39) p.0) p.1
 
-prefixed : (x : List ℕ) → IsIdentifier x → IsIdentifier (codes "dc_" ++ x)
+pub prefixed : (x : List ℕ) → IsIdentifier x → IsIdentifier (codes "dc_" ++ x)
 prefixed x i = (all_named x i.0, no_word (100 ∷ 99 ∷ 95 ∷ x) refl)
 
 pub constant_names_are_identifiers : ConstantNamesAreIdentifiers
