@@ -75,3 +75,9 @@ pub mod GrownTexts
 pub mod FreshIdentifiers
 pub mod CopiedParts
 pub mod GrowingByConstants
+pub mod TwoOfLists
+pub mod TextItems
+pub mod ConstantVocabularies
+pub mod KeptDeclarations
+pub mod ListedVariables
+pub mod PrintedDeclarations

@@ -44,3 +44,4 @@ pub mod GrowingByConstants
 pub mod SpelledSections
 pub mod GrownTexts
 pub mod FreshIdentifiers
+pub mod PrintedDeclarations

@@ -14,6 +14,7 @@ ghost use Rattle.lps_printer.specs.LinearBack.{LinearProcessesElaborateBack};
 ghost use Rattle.lps_printer.specs.NamedSummands.{SummandsSpellBack};
 ghost use Rattle.lps_printer.specs.NeedLaws.{AddedConstantsAreNils, ListedNilsAreThose, WhatIsMetIsFound};
 ghost use Rattle.lps_printer.specs.Pieces.{PiecesLex};
+ghost use Rattle.lps_printer.specs.PrintedDeclarations.{AddedConstantsAreDeclared, GrowthByConstantsIsMore, PrintedDeclarationsAreSound, VariablesThatReadCanBeListed};
 ghost use Rattle.lps_printer.specs.PrintedSystems.{PrintedSystemsAreLinear};
 ghost use Rattle.lps_printer.specs.SpelledSections.{AddedSectionsSpellBack, CopiedSectionsSpellBack, PrintedTextsSpellBack};
 ghost use Rattle.lps_printer.specs.SummandTexts.{SummandTextsElaborate};
@@ -150,4 +151,18 @@ pub fn added_constants_are_nils()
 /// The sections that are copied have all declarations of data and all equations of a specification.
 pub fn what_is_copied_has_all_parts()
     ensures { WhatIsCopiedHasAllParts }
+{}
+
+/// A signature that has grown by constants has them behind its vocabulary, and nothing else.
+pub fn growth_by_constants_is_more()
+    ensures { GrowthByConstantsIsMore }
+{}
+
+/// Where the declarations of a text are sound and a signature has their vocabulary, those of a text that is printed for it are sound, too,
+/// and the signature that has grown by the added constants has their vocabulary. The added sections declare these constants, and the
+/// variables of a linear process that reads back can be listed.
+pub fn printed_declarations_are_sound()
+    ensures sound { PrintedDeclarationsAreSound }
+    ensures constants { AddedConstantsAreDeclared }
+    ensures variables { VariablesThatReadCanBeListed }
 {}
