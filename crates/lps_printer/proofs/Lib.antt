@@ -75,6 +75,15 @@ pub mod GrownTexts
 pub mod FreshIdentifiers
 pub mod CopiedParts
 pub mod GrowingByConstants
+pub mod SectionsBehind
+pub mod OverSignatures
+pub mod GrownVocabularies
+pub mod CopiedWords
+pub mod CopiedTheories
+pub mod EmptyEquations
+pub mod FoundConstants
+pub mod NilEquations
+pub mod PrintedTheories
 pub mod TwoOfLists
 pub mod TextItems
 pub mod ConstantVocabularies
