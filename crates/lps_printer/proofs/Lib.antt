@@ -90,3 +90,11 @@ pub mod ConstantVocabularies
 pub mod KeptDeclarations
 pub mod ListedVariables
 pub mod PrintedDeclarations
+pub mod OwnFunctions
+pub mod SortsBack
+pub mod VariableNames
+pub mod VariableScopes
+pub mod WritableLinears
+pub mod SameNeeds
+pub mod DeclaredActions
+pub mod FittingLinears

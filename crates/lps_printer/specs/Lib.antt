@@ -48,3 +48,4 @@ pub mod EmptyEquations
 pub mod FoundConstants
 pub mod PrintedTheories
 pub mod PrintedDeclarations
+pub mod FittingLinears

@@ -8,6 +8,7 @@ ghost use Rattle.lps_printer.specs.DefinitionTexts.{DefinitionsSpellBack, Linear
 ghost use Rattle.lps_printer.specs.EmptyEquations.{EmptyEquationsElaborate};
 ghost use Rattle.lps_printer.specs.EmptyLists.{FilledTermsAreWritable};
 ghost use Rattle.lps_printer.specs.FilledLinears.{FilledLinearsAreEqual};
+ghost use Rattle.lps_printer.specs.FittingLinears.{FittingLinearsRead};
 ghost use Rattle.lps_printer.specs.FittingNames.{NamesThatFitRead};
 ghost use Rattle.lps_printer.specs.FoundConstants.{ThereAreConstants, ConstantsHaveEquations};
 ghost use Rattle.lps_printer.specs.FreshIdentifiers.{ConstantNamesAreIdentifiers, FreshNamesAreIdentifiers};
@@ -184,4 +185,9 @@ pub fn printed_declarations_are_sound()
     ensures sound { PrintedDeclarationsAreSound }
     ensures constants { AddedConstantsAreDeclared }
     ensures variables { VariablesThatReadCanBeListed }
+{}
+
+/// What is printed for a linear process that fits a signature can be read, with the constants that are added for empty lists.
+pub fn fitting_linears_read()
+    ensures { FittingLinearsRead }
 {}
