@@ -5,8 +5,8 @@ mod TakenNames
 mod GrownModels
 mod ColumnActions
 mod ColumnNames
-mod CopiedParts
 mod AddedParts
+pub mod AddedConstants
 mod ModelLinears
 mod Linearised
 mod SortedTerms

@@ -7,5 +7,5 @@ pub mod ModelLinears
 pub mod Headline
 pub mod Linearised
 pub mod ElaboratedModels
-pub mod CopiedParts
 pub mod AddedParts
+pub mod AddedConstants

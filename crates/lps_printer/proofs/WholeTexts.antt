@@ -84,11 +84,11 @@ start_of : (v : FullVocabulary) (n : TextNames) (l : Linear) (ts : List Term) �
 start_of v n l ts h k = start_declares (start_action n ts) (k.process, initial_spelled v n l ts k h.of_sorts)
 
 -- ---- behind other sections
-sections_behind : (ss : List PrintedSection) (bs : List Section) → AreSections ss bs → (rs : List PrintedSection) (cs : List Section) → AreSections rs cs → AreSections (ss ++ rs) (bs ++ cs)
+pub sections_behind : (ss : List PrintedSection) (bs : List Section) → AreSections ss bs → (rs : List PrintedSection) (cs : List Section) → AreSections rs cs → AreSections (ss ++ rs) (bs ++ cs)
 sections_behind ss bs no_sections_left rs cs h = h
 sections_behind ss bs (one_section {ss = others} {bs = more} e one k) rs cs h = one_section e one (sections_behind others more k rs cs h)
 
-behind_none : {B : Type 0} (f : Declaration → List B) (bs cs : List Section) → flat_map f (declarations_in bs) ≡ [] → flat_map f (declarations_in (bs ++ cs)) ≡ flat_map f (declarations_in cs)
+pub behind_none : {B : Type 0} (f : Declaration → List B) (bs cs : List Section) → flat_map f (declarations_in bs) ≡ [] → flat_map f (declarations_in (bs ++ cs)) ≡ flat_map f (declarations_in cs)
 behind_none f bs cs h =
     ap (flat_map f) (flat_map-append (λ (s : Section). s.declarations) bs cs) ∙ flat_map-append f (declarations_in bs) (declarations_in cs) ∙ ap (λ (xs : List _). xs ++ flat_map f (declarations_in cs)) h
 
