@@ -44,4 +44,8 @@ pub mod GrowingByConstants
 pub mod SpelledSections
 pub mod GrownTexts
 pub mod FreshIdentifiers
+pub mod EmptyEquations
+pub mod FoundConstants
+pub mod PrintedTheories
 pub mod PrintedDeclarations
+pub mod FittingLinears
