@@ -3,13 +3,18 @@ mod FilledLinears
 mod OneComponents
 mod TakenNames
 mod GrownModels
-mod ColumnActions
+mod ConstantGrowth
+mod ProcessNames
 mod ColumnNames
 mod AddedParts
 pub mod AddedConstants
 mod ModelLinears
-mod Linearised
+mod LinearisedTexts
 mod SortedTerms
 mod SmallNumerals
 mod SignatureSorts
 mod ElaboratedModels
+mod ModelsOfTexts
+mod OneStart
+mod Refused
+mod MadeLinears
