@@ -7,11 +7,12 @@ pub fn equal_linears_are_good()
     ensures { EqualLinearsAreGood }
 {}
 
-ghost use Rattle.linearising.specs.Linearised.{WhatIsLedToStandsForTheText, WhatIsPrintedStandsForTheText};
+ghost use Rattle.linearising.specs.Linearised.{WhatIsLedToStandsForTheText, WhatIsMadeStandsForTheText, WhatIsPrintedStandsForTheText};
 
-/// The linear process to which a text's process leads stands for the text, and so does what is printed for that one.
+/// The linear process to which a text's process leads stands for the text, and so do what is made of a text and what is printed for that.
 pub fn what_is_printed_stands_for_the_text()
     ensures led_to { WhatIsLedToStandsForTheText }
+    ensures made { WhatIsMadeStandsForTheText }
     ensures printed { WhatIsPrintedStandsForTheText }
 {}
 
@@ -20,6 +21,13 @@ ghost use Rattle.linearising.specs.ElaboratedModels.{WhatElaboratesCanBeLinear};
 /// A specification for which a well-typed text stands can be linearised.
 pub fn what_elaborates_can_be_linear()
     ensures { WhatElaboratesCanBeLinear }
+{}
+
+ghost use Rattle.linearising.specs.ModelsOfTexts.{ModelsOfTextsCanBeLinear};
+
+/// The model of a text can be linearised.
+pub fn models_of_texts_can_be_linear()
+    ensures { ModelsOfTextsCanBeLinear }
 {}
 
 ghost use Rattle.linearising.specs.FilledLinears.{FilledLinearsServe};

@@ -76,7 +76,7 @@ numbers_both n (suc k) m =
 text_stays : (g h : Sig) → IsGrown g h → (n : NameId) → n.0 < length g.texts → text_under h n ≡ text_under g n
 text_stays g h w n l = (entry_stays g.texts h.texts [] n.0 (w.new_texts, w.texts) l).0
 
-still_taken : (g h : Sig) (t : List ℕ) → IsGrown g h → IsTaken g t → IsTaken h t
+pub still_taken : (g h : Sig) (t : List ℕ) → IsGrown g h → IsTaken g t → IsTaken h t
 still_taken g h t w k = (
   k.0,
   subst (λ z. slice_get z k.0.0 ≡ Some t) (sym w.texts) (read_front g.texts w.new_texts k.0.0 t k.1),

@@ -13,7 +13,7 @@ use Rattle.sort_table.proofs.GrowingSignatures.{grown_signatures_have_more}
 use Rattle.sort_checker.specs.FullVocabularies.{FullVocabulary}
 use Rattle.process_terms.specs.Theories.{Theory, AreOfSorts}
 use Rattle.process_terms.specs.Processes.{Process}
-use Rattle.process_terms.specs.Meanings.{process_of}
+use Rattle.process_terms.specs.Meanings.{theory_of, process_of}
 use Rattle.process_terms.specs.SignatureEntries.{entries_of}
 use Rattle.bisim_laws.specs.LinearProcesses.{sorts, state_of}
 use Rattle.bisim_laws.specs.Links.{Then, Dropped}
@@ -24,7 +24,7 @@ use Rattle.lps_core.specs.PlainLinears.{linear_of, initial_of, linear_state}
 use Rattle.lps_core.proofs.GrowingData.{goes_back, linear_grown, terms_grown}
 use Rattle.lps_core.proofs.Staying.{what_fits_is_sorted}
 use Rattle.linearising.specs.Headline.{Specifies, AddsOnly}
-use Rattle.linearising.specs.Linearised.{WhatIsLedToStandsForTheText, WhatIsPrintedStandsForTheText}
+use Rattle.linearising.specs.Linearised.{WhatIsLedToStandsForTheText, WhatIsMadeStandsForTheText, WhatIsPrintedStandsForTheText}
 use Rattle.linearising.proofs.EqualLinears.{equal_linears_are_good}
 use Rattle.linearising.proofs.GrownModels.{model_stays}
 
@@ -49,7 +49,7 @@ text_has_data text w th p h s same = s.system.data_of ∙ ap (λ (v : Vocabulary
 -- ---- from a specification in code
 pub led_to_stands_for : WhatIsLedToStandsForTheText
 led_to_stands_for text v th g h ts us m l s same sg fits grow leads =
-    let grown = grown_signatures_have_more g h sg.complete sg.table sg.roles leads.stands.roles leads.grown leads.actions in
+    let grown = grown_signatures_have_more g h sg.complete sg.table sg.roles leads.stands.roles leads.grows.grown leads.grows.actions in
     record {
       vocabulary = v;
       theory = th;
@@ -62,6 +62,15 @@ led_to_stands_for text v th g h ts us m l s same sg fits grow leads =
       link = leads.link;
       bisimilar = subst (λ q. IsGoodOver h leads.link q (linear_state (entries_of h us) l)) (model_stays g h ts us sg grow m fits) leads.bisimilar;
     }
+
+-- what is made of a text
+pub made_stands_for : WhatIsMadeStandsForTheText
+made_stands_for text spec h us equations x l made =
+    let m = made.made in
+    let is = m.is_model in
+    let ts = m.pool.trees in
+    let specifies : Specifies text is.vocabulary (theory_of (data_meant m.signature) (entries_of m.signature ts) m.model) (process_of (entries_of m.signature ts) m.model) = record { tokens = made.tokens; cut = made.cut; spec = spec; spelled = made.spelled; system = is.system } in
+    led_to_stands_for text is.vocabulary (theory_of (data_meant m.signature) (entries_of m.signature ts) m.model) m.signature h ts us m.model l specifies is.over.declared m.stands m.fits m.grow m.leads
 
 -- ---- to the printed text
 pub printed_stands_for : WhatIsPrintedStandsForTheText
