@@ -6,8 +6,8 @@ mod GrownModels
 mod ConstantGrowth
 mod ProcessNames
 mod ColumnNames
-mod CopiedParts
 mod AddedParts
+pub mod AddedConstants
 mod ModelLinears
 mod LinearisedTexts
 mod SortedTerms

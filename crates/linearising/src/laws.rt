@@ -37,16 +37,16 @@ pub fn filled_linears_serve()
     ensures { FilledLinearsServe }
 {}
 
-ghost use Rattle.linearising.specs.CopiedParts.{WhatIsCopiedHasAllParts};
-
-/// The sections that are copied have all declarations of data and all equations of a specification.
-pub fn what_is_copied_has_all_parts()
-    ensures { WhatIsCopiedHasAllParts }
-{}
-
 ghost use Rattle.linearising.specs.AddedParts.{WhatMayBeAddedAddsOnly};
 
 /// A specification that has the copied sections of another, what may be added to it, and a process, adds only what is allowed.
 pub fn what_may_be_added_adds_only()
     ensures { WhatMayBeAddedAddsOnly }
+{}
+
+ghost use Rattle.linearising.specs.AddedConstants.{ConstantsMayBeAdded};
+
+/// The constants by which the signature of a text grows may be added to it, with the equations of empty lists.
+pub fn constants_may_be_added()
+    ensures { ConstantsMayBeAdded }
 {}

@@ -19,7 +19,7 @@ use Rattle.data_theory.specs.IdTerms.{IsGrown}
 use Rattle.data_theory.specs.WholeSignatures.{IsSignature}
 use Rattle.data_theory.proofs.PlaceLemmas.{read_front}
 use Rattle.data_theory.proofs.IdGrowthLemmas.{with_a_text_it_is_grown, with_a_variable_it_is_grown, with_a_function_it_is_grown, growth_after_growth_is_growth}
-use Rattle.term_pool.specs.Constants.{DeclaresConstants, none_left, declares}
+use Rattle.term_pool.specs.Constants.{IsFirstName, DeclaresConstants, none_left, declares}
 use Rattle.term_pool.proofs.DeclaredConstants.{grown_as, grown_itself, fresh_grows}
 use Rattle.process_terms.proofs.MeaningLemmas.{entry_stays}
 use Rattle.bisim_laws.proofs.Firing.{contains_first, contains_later, contains_none, contains_cases}
@@ -29,7 +29,9 @@ use Rattle.lps_core.proofs.NamedSums.{with_name_has}
 use Rattle.sort_table.specs.SignatureVocabularies.{text_under}
 use Rattle.lps_printer.specs.AddedConstants.{AddsEach, none_left as no_constant_left, adds, AddsConstants}
 use Rattle.lps_printer.specs.LinearBack.{EachTwo}
-use Rattle.lps_printer.specs.GrowingByConstants.{GrowsByConstants}
+use Rattle.lps_printer.specs.DataLayout.{IsIdentifier}
+use Rattle.lps_printer.specs.GrowingByConstants.{SortsAreNamed, GrowsByConstants}
+use Rattle.lps_printer.proofs.FreshIdentifiers.{fresh_names_are_identifiers, prefixed}
 
 -- ---- lists
 -- where R of two elements gives S of them
@@ -111,6 +113,20 @@ IsNew g h c = ¬ (IsTaken g (text_under h c.0))
 abbrev Differ : Sig → NameId × SortId → NameId × SortId → Type 0
 Differ h c d = text_under h c.0 ≢ text_under h d.0
 
+abbrev HasName : Sig → NameId × SortId → Type 0
+HasName h c = IsIdentifier (text_under h c.0)
+
+-- the names of sorts stay
+still_named : (g h : Sig) → IsGrown g h → h.sorts ≡ g.sorts → SortsAreNamed g → SortsAreNamed h
+still_named g h w e m d s n at is =
+    let p = m d s n (subst (λ ss. slice_get ss d.0 ≡ Some s) e at) is in
+    let long = ap length w.texts ∙ length-append g.texts w.new_texts in
+    let l = p.0 in
+    (omega (arith, long, l), subst IsIdentifier (sym (text_stays g h w n p.0)) p.1)
+
+first_named : (g : Sig) (d : SortId) (text : List ℕ) → IsFirstName g d text → SortsAreNamed g → IsIdentifier text
+first_named g d text f m = subst IsIdentifier (get_or_from_slice_get g.texts f.1.0 text [] f.4) (m d f.0 f.1 f.2 f.3).1
+
 -- nothing but texts, names that are taken and variables
 on_same : (g h : Sig) → IsGrown g h → h.functions ≡ g.functions → h.declared ≡ g.declared → h.sorts ≡ g.sorts → h.sort_names ≡ g.sort_names → h.actions ≡ g.actions → GrowsOn g h
 on_same g h w functions declared sorts sort_names actions = record {
@@ -124,6 +140,7 @@ on_same g h w functions declared sorts sort_names actions = record {
     actions = actions;
     taken = All-nil (IsNew g h);
     differ = tt;
+    named = λ m. All-nil (HasName h);
   };
   there = λ c i. absurd (contains_none c i);
 }
@@ -143,9 +160,9 @@ on_fresh g h base n f = subst (GrowsOn g) (sym f.taken) (on_text g f.text)
 pub on_variable : (g : Sig) (x : Variable) → GrowsOn g (with_variable g x)
 on_variable g x = on_same g (with_variable g x) (with_a_variable_it_is_grown g x) refl refl refl refl refl
 
--- one constant under a fresh name
-pub on_constant : (g between : Sig) (base : List ℕ) (n : NameId) (s : SortId) → IsFreshIn g base n between → GrowsOn g (with_function between (declared_function n [] s))
-on_constant g between base n s f =
+-- one constant under a name that is fresh to an identifier
+pub on_constant : (g between : Sig) (base : List ℕ) (n : NameId) (s : SortId) → IsFreshIn g base n between → (SortsAreNamed g → IsIdentifier base) → GrowsOn g (with_function between (declared_function n [] s))
+on_constant g between base n s f its_base =
     let k = with_function between (declared_function n [] s) in
     let w : IsGrown g k = growth_after_growth_is_growth g between k (fresh_grows g base n between f) (with_a_function_it_is_grown between (declared_function n [] s)) in
     let text : text_under k n ≡ f.text = get_or_from_slice_get between.texts n.0 f.text [] f.named in
@@ -160,6 +177,7 @@ on_constant g between base n s f =
         actions = ap (λ (z : Sig). z.actions) f.taken;
         taken = All-cons (IsNew g k) (n, s) [] (λ t. f.fresh.free (subst (IsTaken g) text t)) (All-nil (IsNew g k));
         differ = (tt, tt);
+        named = λ m. All-cons (HasName k) (n, s) [] (subst IsIdentifier (sym (text ∙ f.fresh.named)) (fresh_names_are_identifiers base (its_base m) f.fresh.number)) (All-nil (HasName k));
       };
       there = λ c i. ⊎_elim (λ q. subst (IsThere k) q (slice_get_within between.texts n.0 f.text f.named, with_name_has between.taken n)) (λ j. absurd (contains_none c j)) (contains_cases (n, s) c [] i);
     }
@@ -191,6 +209,10 @@ grows_behind g h k a b =
           (two_by (Differ h) (Differ k) cs (λ c d i j n q. n (sym (kept c i) ∙ q ∙ kept d j)) a.grows.differ)
           b.differ
           (λ c d i j q. All-contains (IsNew h k) ds d b.taken j (subst (IsTaken h) q (was c i)));
+      named = λ m. all_from (HasName k) (cs ++ ds) (λ c i. ⊎_elim
+          (λ j. subst IsIdentifier (sym (kept c j)) (All-contains (HasName h) cs c (a.grows.named m) j))
+          (λ j. All-contains (HasName k) ds c (b.named (still_named g h a.grows.grown a.grows.sorts m)) j)
+          (Contains-append_cases cs ds c i));
     }
 
 pub on_then : (g h k : Sig) → GrowsOn g h → GrowsOn h k → GrowsOn g k
@@ -204,11 +226,11 @@ on_then g h k a b = record {
 pub on_declared : {sorts : List SortId} {g h : Sig} {cs ds : List (SortId × FunId)} → DeclaresConstants sorts g cs h ds → GrowsOn g h
 on_declared {g = g} none_left = on_itself g
 on_declared {h = k} (declares {d = d} {g = g} {h = h} one rest) =
-    on_then g h k (subst (GrowsOn g) (sym one.declared) (on_constant g one.between (codes "dc_" ++ one.text) one.name d one.fresh)) (on_declared rest)
+    on_then g h k (subst (GrowsOn g) (sym one.declared) (on_constant g one.between (codes "dc_" ++ one.text) one.name d one.fresh (λ m. prefixed one.text (first_named g d one.text one.sort_named m)))) (on_declared rest)
 
 on_each : (g h : Sig) (ss : List SortId) → AddsEach g ss h → GrowsOn g h
 on_each g h [] no_constant_left = on_itself g
-on_each g k (s ∷ ss) (adds {h = h} one rest) = on_then g h k (subst (GrowsOn g) (sym one.declared) (on_constant g one.between (codes "nil") one.name s one.fresh)) (on_each h k ss rest)
+on_each g k (s ∷ ss) (adds {h = h} one rest) = on_then g h k (subst (GrowsOn g) (sym one.declared) (on_constant g one.between (codes "nil") one.name s one.fresh (λ m. (refl, refl)))) (on_each h k ss rest)
 
 pub on_added : (g h : Sig) (ss : List SortId) → AddsConstants g ss h → GrowsOn g h
 on_added g h [] e = subst (GrowsOn g) (sym e) (on_itself g)

@@ -12,8 +12,8 @@ use Rattle.sort_table.specs.PlacedSections.{word_of_declaration, IsPlacedSection
 use Rattle.sort_checker.specs.Elaborations.{WrittenEquation}
 use Rattle.sort_checker.specs.Parts.{ScopedDeclaration, variables_by, scoped_behind}
 use Rattle.sort_checker.specs.Systems.{equation_under}
-use Rattle.linearising.specs.Headline.{data_by, data_in}
-use Rattle.linearising.specs.CopiedParts.{kept_sections, WhatIsCopiedHasAllParts}
+use Rattle.lps_printer.specs.CopiedSections.{kept_sections}
+use Rattle.lps_printer.specs.CopiedParts.{data_by, data_in, WhatIsCopiedHasAllParts}
 
 pub flat_append : {A B : Type 0} (f : A → List B) (xs ys : List A) → flat_map f (xs ++ ys) ≡ flat_map f xs ++ flat_map f ys
 flat_append f [] ys = refl

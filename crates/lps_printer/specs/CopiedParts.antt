@@ -1,17 +1,22 @@
 -- What is copied of a text has its data and its equations.
-use Rattle.std.specs.Prelude.{◌≡◌, List, [], ◌∷◌, cond, map}
-use Rattle.std.specs.List.{AllByRecursion}
+use Rattle.std.specs.Prelude.{◌≡◌, List, [], ◌∷◌, map}
+use Rattle.std.specs.List.{AllByRecursion, flat_map}
 use Rattle.mcrl2_syntax.specs.Declarations.{PlainSection}
-use Rattle.mcrl2_syntax.specs.Copied.{is_copied}
-use Rattle.sort_table.specs.BareDeclarations.{bare_section}
+use Rattle.sort_table.specs.BareDeclarations.{Declaration, variables, equation, process, initial, Section, declarations_in, bare_section}
 use Rattle.sort_table.specs.PlacedSections.{IsPlacedSection}
 use Rattle.sort_checker.specs.Systems.{equations_in}
-use Rattle.linearising.specs.Headline.{data_in}
+use Rattle.lps_printer.specs.CopiedSections.{kept_sections}
 
--- the sections that are copied, in their order
-abbrev pub kept_sections : List PlainSection → List PlainSection
-kept_sections [] = []
-kept_sections (s ∷ ss) = cond (is_copied (s ∷ ss)) (s ∷ kept_sections ss) (kept_sections ss)
+-- what declares sorts, functions and actions
+abbrev pub data_by : Declaration → List Declaration
+data_by (variables xs) = []
+data_by (equation c l r) = []
+data_by (process n xs p) = []
+data_by (initial p) = []
+data_by d = d ∷ []
+
+abbrev pub data_in : List Section → List Declaration
+data_in ss = flat_map data_by (declarations_in ss)
 
 -- each declaration stands in a section of its word
 pub record CopiesKeepParts (ss : List PlainSection) : Type 0 where
