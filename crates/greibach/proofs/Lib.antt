@@ -30,6 +30,8 @@ pub mod GrownFits
 pub mod PutFitting
 pub mod ConditionTrees
 pub mod FittingHeads
+pub mod FreshIdentifiers
+pub mod UsableNames
 pub mod HeadArms
 pub mod AssembledForms
 pub mod LabelMade

@@ -18,7 +18,7 @@ ghost use Rattle.greibach.specs.PlacesInCode.{plain_places};
 ghost use Rattle.greibach.specs.FittingPlaces.{PlacesFitSince};
 ghost use Rattle.greibach.specs.AddedHeads.{Later};
 ghost use Rattle.greibach.specs.MadeEquations.{IsEquationAt, MakesAll};
-ghost use Rattle.greibach.specs.Surroundings.{plain_unfolding, EquationMade, FormMade, HasTakenNames, ParametersStand};
+ghost use Rattle.greibach.specs.Surroundings.{plain_unfolding, EquationMade, FormMade, HasUsableNames, ParametersStand};
 
 use crate::environments::bound_to;
 use crate::forms::{Greibach, GreibachEquation};
@@ -41,7 +41,7 @@ const MAX_DEPTH: usize = 5_000;
 /// Other variables of the same sorts with the same names. One that has the name of an earlier one gets a fresh name.
 fn parameters(alloc: Global, sig: &mut Signature, vars: &[VarId]) -> Result<Vec<VarId>, NoMemory>
     requires stands { IsSignature sig.old }
-    requires names { HasTakenNames sig.old }
+    requires names { HasUsableNames sig.old }
     requires variables { All (IsVariable sig.old) vars.now }
     ensures grown { GrowsByNames sig.old sig.new }
     ensures params { IfOk result (λ params. ParametersStand sig.old sig.new vars.now params.items) }
@@ -75,7 +75,7 @@ fn equation(
     under_way: &mut Unfolding,
 ) -> Result<GreibachEquation, NoMemory>
     requires stands { IsSignature sig.old }
-    requires names { HasTakenNames sig.old }
+    requires names { HasUsableNames sig.old }
     requires table { PlacesFitSince sig.old pool.old.trees (plain_places places.now) }
     requires place { place < length places.now.places.items }
     requires met { All (λ n. n < length places.now.places.items) under_way.old.met.keys }
@@ -112,7 +112,7 @@ fn equations(
     pool: &mut Pool,
 ) -> Result<Vec<GreibachEquation>, NoMemory>
     requires stands { IsSignature sig.old }
-    requires names { HasTakenNames sig.old }
+    requires names { HasUsableNames sig.old }
     requires table { PlacesFitSince sig.old pool.old.trees (plain_places places.now) }
     requires start { places.now.start < length places.now.places.items }
     ensures grown { GrowsByNames sig.old sig.new }
@@ -164,7 +164,7 @@ pub fn normal_form(
     start: &Component,
 ) -> Result<Greibach, NoMemory>
     requires stands { IsSignature sig.old }
-    requires names { HasTakenNames sig.old }
+    requires names { HasUsableNames sig.old }
     requires model { ModelFits sig.old pool.old.trees (plain_model guarded.now.model.now) }
     requires component { ComponentFits sig.old pool.old.trees (plain_model guarded.now.model.now).definitions (plain_component start.now) }
     requires sequential { HasSequentialBodies (plain_model guarded.now.model.now) (plain_component start.now) }
@@ -172,7 +172,7 @@ pub fn normal_form(
     ensures grown { GrowsByNames sig.old sig.new }
     ensures kept { Extends pool.old.trees pool.new.trees }
     ensures constants { pool.new.constants ≡ pool.old.constants }
-    ensures names { OnOk result (HasTakenNames sig.new) }
+    ensures names { OnOk result (HasUsableNames sig.new) }
     ensures fits { IfOk result (λ form. FormFits sig.new pool.new.trees (plain_form form)) }
     ensures unfolds { IfOk result (λ form. IsFormOf sig.new pool.new.trees (plain_model guarded.now.model.now) (plain_component start.now) (plain_form form)) }
     ensures bisimilar { IfOk result (λ form. IsBisimilarForm sig.new pool.new.trees (plain_model guarded.now.model.now) (plain_component start.now) (plain_form form)) }
