@@ -11,17 +11,20 @@ use crate::around::{
 };
 use crate::drafts::{Draft, add_line, first_word};
 use crate::fitting::may_be_encoded;
+use crate::form_shown::{Words, form_size, form_text};
 use crate::known::count_variables;
-use crate::shown::{Texts, shown, term_texts};
+use crate::shown::{Texts, shown, term_texts, variable_names};
+use crate::unfolding::unfolded;
 use action_filters::{allow, block, hide, rename};
 use communication::communicate;
 use data_theory::{Names, NoMemory, Signature, SortId};
 use greibach::Greibach;
 use lps_core::{Linear, name_sums, signature_stands};
+use process_terms::{Model, Proc, ProcDef};
 use regular_encoder::{EncodeFault, encode};
 use std::alloc::Global;
 use summand_expander::product;
-use term_pool::Pool;
+use term_pool::{Pool, Theory};
 
 /// The first line of a case, and what is said of the case.
 pub fn answer(alloc: Global, lines: &[String]) -> Result<String, NoMemory> {
@@ -60,15 +63,23 @@ fn case(
         actions,
         equations,
         init,
+        processes,
+        component,
     } = draft;
-    let form = Greibach { equations, init };
-    if !may_be_encoded(alloc, &form, sig, pool)? {
+    let drafted = Greibach { equations, init };
+    let Some(form) = form_of(alloc, drafted, processes, component, sig, pool)? else {
         return Ok(String::from_str(alloc, "no form")?);
-    }
+    };
     let Some(last) = lines.last() else {
         return Ok(String::new(alloc));
     };
     let said = (sorts.as_slice(), actions.as_slice());
+    if last.starts_with("form") {
+        return told(alloc, &form, last.as_str(), said, sig, pool);
+    }
+    if !may_be_encoded(alloc, &form, sig, pool)? {
+        return Ok(String::from_str(alloc, "no form")?);
+    }
     if last.starts_with("stacked") {
         let lin = stack_encoder::encode(alloc, &form, sig, pool)?;
         return done(alloc, &lin, last.as_str(), said, sig, pool);
@@ -78,6 +89,53 @@ fn case(
         Err(EncodeFault::NotTail(number)) => Ok(format!(in alloc; "not tail {number}")?),
         Err(EncodeFault::NoMemory) => Err(NoMemory),
     }
+}
+
+/// The form of a case: that of its component, if it has one, and else the form of its equations.
+fn form_of(
+    alloc: Global,
+    drafted: Greibach,
+    procs: Vec<ProcDef>,
+    component: Option<Proc>,
+    sig: &mut Signature,
+    pool: &mut Pool,
+) -> Result<Option<Greibach>, NoMemory>
+    ensures { pool.new.constants ≡ pool.old.constants }
+{
+    let Some(init) = component else {
+        return Ok(Some(drafted));
+    };
+    let model = Model {
+        theory: Theory {
+            equations: Vec::new(alloc),
+        },
+        init_declaration: procs.len().saturating_add(1),
+        procs,
+        init,
+    };
+    unfolded(alloc, &model, sig, pool)
+}
+
+/// The form, or how large it is where the last word is `count`.
+fn told(
+    alloc: Global,
+    form: &Greibach,
+    line: &str,
+    said: (&[(String, SortId)], &[String]),
+    sig: &mut Signature,
+    pool: &Pool,
+) -> Result<String, NoMemory> {
+    if line.ends_with(" count") {
+        return form_size(alloc, form);
+    }
+    let variables = count_variables(sig)?;
+    let (sorts, actions) = said;
+    let words = Words {
+        sorts,
+        actions,
+        variables,
+    };
+    form_text(alloc, sig, pool, words, form)
 }
 
 /// The linear process with its names replaced, where the pairs may be put around it.
@@ -171,14 +229,15 @@ fn done(
         let (params, summands) = (lin.params.len(), lin.summands.len());
         return Ok(format!(in alloc; "{params} parameters, {summands} summands")?);
     }
-    let variables = count_variables(sig)?;
-    let terms = term_texts(alloc, sig, pool, variables)?;
+    let count = count_variables(sig)?;
+    let variables = variable_names(alloc, sig, count)?;
+    let terms = term_texts(alloc, sig, pool, variables.as_slice())?;
     let (sorts, actions) = said;
     let texts = Texts {
         sorts,
         actions,
-        variables,
+        variables: variables.as_slice(),
         terms,
     };
-    shown(alloc, sig, &texts, &lin)
+    shown(alloc, &texts, &lin)
 }

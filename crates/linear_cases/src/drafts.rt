@@ -3,9 +3,10 @@
 ghost use Rattle.std.specs.Prelude.{◌≡◌, IsTrue};
 ghost use Rattle.term_pool.specs.HeadTrees.{AreIn};
 
+use crate::process_drafts::{definition, process};
 use data_theory::{ActId, NameId, NoMemory, Num, Signature, SortId, TermId, VarId};
 use greibach::{GreibachEquation, GreibachSummand};
-use process_terms::{Action, Label};
+use process_terms::{Action, Label, Proc, ProcDef};
 use std::alloc::Global;
 use term_pool::{Head, Pool};
 
@@ -29,6 +30,8 @@ pub struct Draft {
     pub actions: Vec<String>,
     pub equations: Vec<GreibachEquation>,
     pub init: Vec<TermId>,
+    pub processes: Vec<ProcDef>,
+    pub component: Option<Proc>,
 }
 
 impl Draft {
@@ -44,6 +47,8 @@ impl Draft {
             actions: Vec::new(alloc),
             equations: Vec::new(alloc),
             init: Vec::new(alloc),
+            processes: Vec::new(alloc),
+            component: None,
         })
     }
 
@@ -79,7 +84,7 @@ impl Draft {
     }
 
     /// The variables that the case calls so.
-    fn variables(&self, alloc: Global, names: &str) -> Result<Vec<VarId>, NoMemory> {
+    pub fn variables(&self, alloc: Global, names: &str) -> Result<Vec<VarId>, NoMemory> {
         let mut variables = Vec::new(alloc);
         for name in names.split(' ') {
             if let Some((variable, _)) = self.variable(name) {
@@ -128,6 +133,21 @@ fn is_no_constant(sig: &Signature, name: NameId) -> bool
         Some(_) => false,
         None => true,
     }
+}
+
+/// Adds the sort of the lists over a sort, unless it's there.
+fn add_list(
+    alloc: Global,
+    draft: &mut Draft,
+    sig: &mut Signature,
+    text: &str,
+    element: SortId,
+) -> Result<(), NoMemory> {
+    if element.0 < sig.next_sort().0 && sig.list_of(element).is_none() {
+        let sort = sig.add_list(element)?;
+        draft.sorts.push((String::from_str(alloc, text)?, sort))?;
+    }
+    Ok(())
 }
 
 /// Adds a constant of a sort, unless there is one of that name.
@@ -257,6 +277,21 @@ fn push_application(
     Ok(())
 }
 
+/// Pushes the empty list of a sort.
+fn push_empty_list(
+    sig: &Signature,
+    pool: &mut Pool,
+    sort: SortId,
+    stack: &mut Stack,
+) -> Result<(), NoMemory>
+    ensures { pool.new.constants ≡ pool.old.constants }
+{
+    if let Some(fun) = sig.fun("[]", &[sort]) {
+        stack.push((pool.intern(Head::Fun(fun), &[])?, sort))?;
+    }
+    Ok(())
+}
+
 /// Pushes the term of a word.
 fn push_word(
     alloc: Global,
@@ -271,6 +306,9 @@ fn push_word(
     if let Some((name, count)) = word.split_once('/') {
         let count = count.parse::<usize>().unwrap_or(0);
         return push_application(alloc, sig, pool, name, count, stack);
+    }
+    if let Some(name) = word.strip_prefix("[]") {
+        return push_empty_list(sig, pool, draft.sort(name), stack);
     }
     let Some((variable, sort)) = draft.variable(word) else {
         return push_numeral(pool, word, stack);
@@ -308,7 +346,7 @@ fn bare(alloc: Global, stack: &[(TermId, SortId)]) -> Result<Vec<TermId>, NoMemo
 }
 
 /// The terms of a text.
-fn terms(
+pub fn terms(
     alloc: Global,
     draft: &Draft,
     sig: &Signature,
@@ -328,7 +366,7 @@ pub fn first_word(text: &str) -> (&str, &str) {
 }
 
 /// The label of actions with commas between them.
-fn label(
+pub fn label(
     alloc: Global,
     draft: &Draft,
     sig: &Signature,
@@ -451,6 +489,7 @@ pub fn add_line(
     let (first, rest) = first_word(text);
     match command {
         "sort" => add_sort(alloc, draft, sig, first)?,
+        "list" => add_list(alloc, draft, sig, first, draft.sort(rest))?,
         "map" => add_constant(sig, first, draft.sort(rest))?,
         "act" => {
             let sorts = draft.sorts(alloc, rest)?;
@@ -470,6 +509,11 @@ pub fn add_line(
             let summand = summand(alloc, draft, sig, pool, text)?;
             add_summand(draft, summand)?;
         }
+        "process" => {
+            let definition = definition(alloc, draft, sig, pool, text)?;
+            draft.processes.push(definition)?;
+        }
+        "component" => draft.component = Some(process(alloc, draft, sig, pool, text)?),
         "linear" | "stacked" => {
             let init = terms(alloc, draft, sig, pool, first_part(text).0)?;
             draft.init = init;
