@@ -51,3 +51,7 @@ pub mod ComponentViews
 pub mod CollectedEquations
 pub mod FormOfComponent
 pub mod WhateverStands
+pub mod PlainParts
+pub mod WrittenParts
+pub mod PlainHeads
+pub mod PlainlyConditioned

@@ -77,7 +77,7 @@ named [] n p e = cc
 named (q ∷ form) zero p e = let s : q.place ≡ p = cc in record { equation = q; at = refl; is = s }
 named (q ∷ form) (suc n) p e = let k = named form n p e in record { equation = k.equation; at = k.at; is = k.is }
 
-equations : {g : Data} {t : Text} {ks last : List Place} {n : ℕ} {form : List UnfoldedEquation} → Collects g t ks n form last → (k : ℕ) (q : UnfoldedEquation) → slice_get form k ≡ Some q → IsUnfoldedEquation g t q
+pub equations : {g : Data} {t : Text} {ks last : List Place} {n : ℕ} {form : List UnfoldedEquation} → Collects g t ks n form last → (k : ℕ) (q : UnfoldedEquation) → slice_get form k ≡ Some q → IsUnfoldedEquation g t q
 equations (all_collected l) k q e = cc
 equations {g} {t} (next_collected x at eq met rest) zero q e = let s : x ≡ q = cc in subst (λ z. IsUnfoldedEquation g t z) s eq
 equations (next_collected x at eq met rest) (suc k) q e = equations rest k q e

@@ -24,3 +24,4 @@ pub mod AddedHeads
 pub mod TablesRead
 pub mod MadeEquations
 pub mod Scopes
+pub mod PlainComponents

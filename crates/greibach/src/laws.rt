@@ -58,3 +58,10 @@ pub fn scopes_are_of_the_text()
     ensures sequential { SequentialBodiesAreSequential }
     ensures bound { VariablesAreBoundOnce }
 {}
+
+ghost use Rattle.greibach.specs.PlainComponents.{FormsOfComponentsArePlain};
+
+/// The form of a component is plainly conditioned for what its specification and itself write.
+pub fn forms_of_components_are_plain()
+    ensures { FormsOfComponentsArePlain }
+{}

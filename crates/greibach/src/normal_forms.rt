@@ -12,6 +12,7 @@ ghost use Rattle.lps_core.specs.Naming.{GrowsByNames};
 ghost use Rattle.proc_unfold.specs.FittingModels.{ComponentFits, ModelFits};
 ghost use Rattle.greibach.specs.FittingForms.{FormFits};
 ghost use Rattle.greibach.specs.ComponentForms.{arguments_of, IsBisimilarForm, IsFormOf};
+ghost use Rattle.greibach.specs.PlainComponents.{IsPlainForm};
 ghost use Rattle.greibach.specs.Scopes.{BindsItsVariablesOnce, HasSequentialBodies};
 ghost use Rattle.greibach.specs.PlainForms.{plain_equation, plain_form};
 ghost use Rattle.greibach.specs.PlacesInCode.{plain_places};
@@ -176,6 +177,7 @@ pub fn normal_form(
     ensures fits { IfOk result (λ form. FormFits sig.new pool.new.trees (plain_form form)) }
     ensures unfolds { IfOk result (λ form. IsFormOf sig.new pool.new.trees (plain_model guarded.now.model.now) (plain_component start.now) (plain_form form)) }
     ensures bisimilar { IfOk result (λ form. IsBisimilarForm sig.new pool.new.trees (plain_model guarded.now.model.now) (plain_component start.now) (plain_form form)) }
+    ensures plain { IfOk result (λ form. IsPlainForm sig.new pool.new (plain_model guarded.now.model.now) (plain_component start.now) (plain_form form)) }
 {
     let source = Source {
         model: guarded.model,

@@ -5,10 +5,10 @@ ghost use Rattle.term_pool.specs.HeadTrees.{AreIn};
 
 use crate::process_drafts::{definition, process};
 use data_theory::{ActId, NameId, NoMemory, Num, Signature, SortId, TermId, VarId};
-use greibach::{GreibachEquation, GreibachSummand};
-use process_terms::{Action, Label, Proc, ProcDef};
+use greibach::{Greibach, GreibachEquation, GreibachSummand};
+use process_terms::{Action, Label, Model, Proc, ProcDef};
 use std::alloc::Global;
-use term_pool::{Head, Pool};
+use term_pool::{Head, Pool, Theory};
 
 const POS: SortId = SortId(1);
 
@@ -28,10 +28,9 @@ pub struct Draft {
     pub sorts: Vec<(String, SortId)>,
     pub variables: Vec<Called>,
     pub actions: Vec<String>,
-    pub equations: Vec<GreibachEquation>,
-    pub init: Vec<TermId>,
+    pub form: Greibach,
     pub processes: Vec<ProcDef>,
-    pub component: Option<Proc>,
+    pub model: Option<Model>,
 }
 
 impl Draft {
@@ -45,10 +44,12 @@ impl Draft {
             sorts,
             variables: Vec::new(alloc),
             actions: Vec::new(alloc),
-            equations: Vec::new(alloc),
-            init: Vec::new(alloc),
+            form: Greibach {
+                equations: Vec::new(alloc),
+                init: Vec::new(alloc),
+            },
             processes: Vec::new(alloc),
-            component: None,
+            model: None,
         })
     }
 
@@ -469,10 +470,24 @@ fn summand(
 
 /// Adds a summand to the last equation.
 fn add_summand(draft: &mut Draft, summand: GreibachSummand) -> Result<(), NoMemory> {
-    if let Some(equation) = draft.equations.last_mut() {
+    if let Some(equation) = draft.form.equations.last_mut() {
         equation.summands.push(summand)?;
     }
     Ok(())
+}
+
+/// Makes a specification of the definitions so far and of where they start.
+fn start(alloc: Global, draft: &mut Draft, init: Proc) {
+    let mut procs = Vec::new(alloc);
+    std::mem::swap(&mut procs, &mut draft.processes);
+    draft.model = Some(Model {
+        theory: Theory {
+            equations: Vec::new(alloc),
+        },
+        init_declaration: procs.len().saturating_add(1),
+        procs,
+        init,
+    });
 }
 
 /// Adds what a line says.
@@ -503,7 +518,10 @@ pub fn add_line(
         "equation" => {
             let params = draft.variables(alloc, text)?;
             let summands = Vec::new(alloc);
-            draft.equations.push(GreibachEquation { params, summands })?;
+            draft
+                .form
+                .equations
+                .push(GreibachEquation { params, summands })?;
         }
         "summand" => {
             let summand = summand(alloc, draft, sig, pool, text)?;
@@ -513,10 +531,13 @@ pub fn add_line(
             let definition = definition(alloc, draft, sig, pool, text)?;
             draft.processes.push(definition)?;
         }
-        "component" => draft.component = Some(process(alloc, draft, sig, pool, text)?),
+        "component" => {
+            let init = process(alloc, draft, sig, pool, text)?;
+            start(alloc, draft, init);
+        }
         "linear" | "stacked" => {
             let init = terms(alloc, draft, sig, pool, first_part(text).0)?;
-            draft.init = init;
+            draft.form.init = init;
         }
         _ => {}
     }
