@@ -55,3 +55,4 @@ pub mod PlainParts
 pub mod WrittenParts
 pub mod PlainHeads
 pub mod PlainlyConditioned
+pub mod KeptShapes

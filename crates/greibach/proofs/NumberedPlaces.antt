@@ -51,7 +51,7 @@ path_itself [] = refl
 path_itself (true ∷ xs) = path_itself xs
 path_itself (false ∷ xs) = path_itself xs
 
-place_itself : (p : Place) → same_place p p ≡ true
+pub place_itself : (p : Place) → same_place p p ≡ true
 place_itself p = ⊎_elim (λ k. ap (λ b. b && same_path p.path p.path) k.0 ∙ path_itself p.path) (λ k. absurd (k.1 refl)) (eqb_tells p.owner p.owner)
 
 tests_differ : false ≡ true → ⊥

@@ -1,5 +1,5 @@
 -- The heads of a body are made of what the body writes.
-use Rattle.std.proofs.Common.{◌≡◌, ◌==◌, ⊎_elim, ℕ, suc, true, false, cond, List, [], ◌∷◌, ◌++◌, map, length, Some, refl, sym, ap, ap₂, ◌∙◌, subst}
+use Rattle.std.proofs.Common.{◌≡◌, ⊎_elim, ℕ, true, cond, List, [], ◌∷◌, ◌++◌, map, length, Some, refl, sym, ap, ◌∙◌, subst}
 use Rattle.std.specs.Prelude.{Contains, slice_get}
 use Rattle.std.specs.List.{AllByRecursion, flat_map}
 use Rattle.std.proofs.lemmas.Bool.Decides.{eqb_tells}
@@ -15,11 +15,11 @@ use Rattle.process_terms.specs.Processes.{Bound, Body, written_delta, written_ac
 use Rattle.bisim_laws.specs.LinearProcesses.{variables, sorts, LabelIsOver, no_action_left, action_over, AreDeclared, reading}
 use Rattle.bisim_laws.specs.BaseStates.{Piece}
 use Rattle.bisim_laws.proofs.Firing.{contains_first, contains_later, contains_none, contains_cases as bound_cases}
-use Rattle.lps_core.specs.MadeTerms.{Written, both_written, written_in, StackSort, Origin, IsMade, a_variable, of_a_call, AreMade, none_made, more_made, IsInstance, an_instance, the_whole, IsActionArgument, action_argument, as_written, against_a_written_one, plain_part, HasPlainParts, AreWrittenSums, HasActionArguments}
+use Rattle.lps_core.specs.MadeTerms.{Written, written_in, StackSort, Origin, IsMade, a_variable, of_a_call, AreMade, none_made, more_made, IsInstance, an_instance, the_whole, IsActionArgument, action_argument, as_written, against_a_written_one, plain_part, HasPlainParts, AreWrittenSums, HasActionArguments}
 use Rattle.lps_core.proofs.Members.{In, here, there, in_append, in_map}
 use Rattle.lps_core.proofs.SortedTerms.{one_sort, HaveTheirSorts, puts_sorted, columns_long}
-use Rattle.greibach.specs.Places.{Path, Place, Factor, factors, Text, IsSortedBody}
-use Rattle.greibach.specs.Unfolding.{PlaceCall, Head, summed, guarded, followed, rest_call, onward_call, onward, HasPiece, no_rest, has_piece, HasOnwardPiece, HasPieces, Unfolds, un_delta, un_act, un_choice, un_seq, un_cond, un_sum, un_call}
+use Rattle.greibach.specs.Places.{Path, Factor, factors, Text, IsSortedBody}
+use Rattle.greibach.specs.Unfolding.{PlaceCall, Head, summed, guarded, followed, rest_call, onward_call, onward, HasPiece, has_piece, HasOnwardPiece, HasPieces, Unfolds, un_delta, un_act, un_choice, un_seq, un_cond, un_sum, un_call}
 use Rattle.greibach.specs.UnfoldedForms.{HasDefinitions}
 use Rattle.greibach.proofs.Situations.{factors_sorted}
 use Rattle.greibach.proofs.Under.{sorted_more, within_first}

@@ -9,7 +9,7 @@ use Rattle.process_terms.specs.Processes.{Bound}
 use Rattle.bisim_laws.specs.LinearProcesses.{is_true}
 use Rattle.bisim_laws.proofs.Firing.{contains_first, contains_later, contains_cases, contains_none}
 use Rattle.lps_core.specs.Conditions.{parts, all_parts, without_true, joined}
-use Rattle.lps_core.specs.MadeTerms.{Origin, StandsIn, the_whole, on_the_left, on_the_right, IsPlainPart, true_part, plain_part, HasPlainParts}
+use Rattle.lps_core.specs.MadeTerms.{Origin, StandsIn, on_the_left, on_the_right, IsPlainPart, true_part, plain_part, HasPlainParts}
 
 parts_stand : (c p q : Term) → StandsIn c p → Contains (parts p) q → StandsIn c q
 parts_stand c (application conjunction (more x (more y none))) q s i = ⊎_elim (λ same. subst (λ z. StandsIn c z) same (on_the_left s)) (λ k. parts_stand c y q (on_the_right s) k) (contains_cases x q (parts y) i)

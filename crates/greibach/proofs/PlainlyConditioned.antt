@@ -1,14 +1,13 @@
 -- The form of a component is plainly conditioned.
-use Rattle.std.proofs.Common.{◌≡◌, ℕ, List, [], ◌∷◌, ◌++◌, map, Some, refl, sym, ap, ◌∙◌, subst}
+use Rattle.std.proofs.Common.{◌≡◌, ℕ, List, [], ◌∷◌, ◌++◌, map, Some, refl, sym, subst}
 use Rattle.std.specs.Prelude.{Contains, slice_get}
 use Rattle.std.proofs.lemmas.List.Elements.{Contains-append_left, Contains-append_right}
-use Rattle.data_theory.specs.Terms.{Sort, Term, Terms, variable, numeral, unknown, application, none, more, put}
-use Rattle.data_theory.specs.Declarations.{Data, Declares, argument_sorts, HasSort, HaveSorts}
-use Rattle.data_theory.specs.Environments.{Environment, term_in, bound, bound_variables, terms_of, IsOver, AreOver}
+use Rattle.data_theory.specs.Terms.{Sort, Term, Terms, variable, numeral, unknown, application, none, more}
+use Rattle.data_theory.specs.Declarations.{Data, argument_sorts, HasSort, HaveSorts}
+use Rattle.data_theory.specs.Environments.{term_in, bound, bound_variables, terms_of, IsOver, AreOver}
 use Rattle.data_theory.specs.Signature.{Sig}
 use Rattle.data_theory.specs.IdData.{data_meant}
 use Rattle.data_theory.specs.IdTerms.{variable_sorts}
-use Rattle.data_theory.specs.declared.ids.TermId.{TermId}
 use Rattle.data_theory.proofs.EnvironmentLemmas.{closed_terms_stay}
 use Rattle.term_pool.specs.Pools.{PoolContents}
 use Rattle.process_terms.specs.PlainProcesses.{PlainModel, PlainComponent, call_of, term_of}
@@ -16,17 +15,15 @@ use Rattle.process_terms.specs.Processes.{Bound, seq_of}
 use Rattle.process_terms.specs.Meanings.{Entries, bound_at, term_at, component_body}
 use Rattle.process_terms.specs.SignatureEntries.{entries_of}
 use Rattle.bisim_laws.specs.LinearProcesses.{variables, sorts, AreDeclared}
-use Rattle.bisim_laws.specs.BaseStates.{Piece, GreibachCall}
 use Rattle.bisim_laws.proofs.Firing.{contains_first, contains_later, contains_none}
 use Rattle.lps_core.specs.MadeTerms.{Written, written_in, WasAnswered, Origin, origin_of, a_variable, of_a_call, AreMade, none_made, more_made, IsInstance, an_instance}
 use Rattle.lps_core.proofs.Members.{In, here, there, in_map, contains_in, contains_map, mapped_at}
-use Rattle.greibach.specs.Forms.{FormSummand, FormEquation, Form, FormIsSorted}
-use Rattle.greibach.specs.FittingForms.{FormFits}
+use Rattle.greibach.specs.Forms.{FormSummand, FormEquation, FormIsSorted}
 use Rattle.greibach.specs.PlainForms.{PlainForm, form_of}
-use Rattle.greibach.specs.PlainTerms.{FormSummandIsPlain, FormIsPlainlyConditioned}
+use Rattle.greibach.specs.PlainTerms.{FormSummandIsPlain}
 use Rattle.greibach.specs.PlainComponents.{written_from, FormsOfComponentsArePlain}
-use Rattle.greibach.specs.Places.{Place, Factor, bodies, Text, IsSortedBody, factors_at}
-use Rattle.greibach.specs.Unfolding.{PlaceCall, Head}
+use Rattle.greibach.specs.Places.{Place, Factor, bodies, Text, IsSortedBody}
+use Rattle.greibach.specs.Unfolding.{Head}
 use Rattle.greibach.specs.UnfoldedForms.{UnfoldedEquation, IsUnfoldedEquation, numbered_call, summand_with, equation_with}
 use Rattle.greibach.specs.MeetingOrder.{number_in}
 use Rattle.greibach.specs.ComponentForms.{arguments_of, text_of, IsFormOf}

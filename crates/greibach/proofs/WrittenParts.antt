@@ -1,6 +1,6 @@
 -- What the parts of a body write is what the body writes.
-use Rattle.std.proofs.Common.{◌≡◌, ⊎_elim, ℕ, zero, suc, true, false, List, [], ◌∷◌, ◌++◌, map, Some, refl, sym, ap, subst}
-use Rattle.std.specs.Prelude.{Contains, slice_get}
+use Rattle.std.proofs.Common.{◌≡◌, ⊎_elim, ℕ, zero, suc, true, false, List, [], ◌∷◌, ◌++◌, map, subst}
+use Rattle.std.specs.Prelude.{Contains}
 use Rattle.std.proofs.lemmas.List.Elements.{Contains-append_left, Contains-append_right}
 use Rattle.data_theory.specs.Terms.{Sort, Term}
 use Rattle.process_terms.specs.PlainProcesses.{PlainDefinition, PlainComponent, call_of, term_of}

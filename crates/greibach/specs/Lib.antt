@@ -25,3 +25,4 @@ pub mod TablesRead
 pub mod MadeEquations
 pub mod Scopes
 pub mod PlainComponents
+pub mod LinearShapes

@@ -65,3 +65,10 @@ ghost use Rattle.greibach.specs.PlainComponents.{FormsOfComponentsArePlain};
 pub fn forms_of_components_are_plain()
     ensures { FormsOfComponentsArePlain }
 {}
+
+ghost use Rattle.greibach.specs.LinearShapes.{FormsKeepLinearShapes};
+
+/// The form of a definition in the shape of a linear process is one equation with its summands.
+pub fn forms_keep_linear_shapes()
+    ensures { FormsKeepLinearShapes }
+{}

@@ -10,6 +10,7 @@ use Rattle.greibach.specs.PlacesInCode.{plain_place, plain_places}
 use Rattle.greibach.proofs.MadeForms.{made_fit, start_within}
 use Rattle.greibach.proofs.FormOfComponent.{form_of_component}
 use Rattle.greibach.proofs.FormsOfComponents.{forms_of_components_good}
+use Rattle.greibach.proofs.KeptShapes.{forms_keep_linear_shapes}
 use Rattle.greibach.proofs.PlainlyConditioned.{forms_of_components_plain}
 use Rattle.greibach.proofs.GrownFits.{both_by_names, pool_alone}
 use Rattle.greibach.proofs.normal_forms.normal_form.Goals as goal
@@ -46,6 +47,11 @@ returns-clause-unfolds c =
 pub returns-clause-bisimilar : goal.returns-clause-bisimilar
 returns-clause-bisimilar c =
     forms_of_components_good c.equations.new.sig c.equations.new.pool.trees (plain_model c.args.guarded.now.model.now) (plain_component c.args.start.now) (record { equations = map plain_equation c.in_ok-equations.equations.items; init = c.in_ok-init.init.items })
+    (returns-clause-unfolds c)
+
+pub returns-clause-linear : goal.returns-clause-linear
+returns-clause-linear c =
+    forms_keep_linear_shapes c.equations.new.sig c.equations.new.pool.trees (plain_model c.args.guarded.now.model.now) (plain_component c.args.start.now) (record { equations = map plain_equation c.in_ok-equations.equations.items; init = c.in_ok-init.init.items })
     (returns-clause-unfolds c)
 
 pub returns-clause-plain : goal.returns-clause-plain
