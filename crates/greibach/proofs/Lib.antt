@@ -53,3 +53,8 @@ pub mod ComponentViews
 pub mod CollectedEquations
 pub mod FormOfComponent
 pub mod WhateverStands
+pub mod PlainParts
+pub mod WrittenParts
+pub mod PlainHeads
+pub mod PlainlyConditioned
+pub mod KeptShapes

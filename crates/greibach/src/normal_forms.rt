@@ -12,6 +12,8 @@ ghost use Rattle.lps_core.specs.Naming.{GrowsByNames};
 ghost use Rattle.proc_unfold.specs.FittingModels.{ComponentFits, ModelFits};
 ghost use Rattle.greibach.specs.FittingForms.{FormFits};
 ghost use Rattle.greibach.specs.ComponentForms.{arguments_of, IsBisimilarForm, IsFormOf};
+ghost use Rattle.greibach.specs.LinearShapes.{KeepsLinearShape};
+ghost use Rattle.greibach.specs.PlainComponents.{IsPlainForm};
 ghost use Rattle.greibach.specs.Scopes.{BindsItsVariablesOnce, HasSequentialBodies};
 ghost use Rattle.greibach.specs.PlainForms.{plain_equation, plain_form};
 ghost use Rattle.greibach.specs.PlacesInCode.{plain_places};
@@ -151,7 +153,8 @@ fn first_arguments(alloc: Global, start: &Component) -> Result<Vec<TermId>, NoMe
 /// Equation 1 is where the component starts: the called definition, or the term as an equation without parameters. What follows a
 /// label in its body goes on as equations: a call at its beginning is kept, and the rest has an equation of its own, whose
 /// parameters are the variables that occur free in it. A call in head position is replaced by the summands of its definition. The
-/// equations are numbered in the order in which they are met.
+/// equations are numbered in the order in which they are met. A definition in the shape of a linear process becomes one equation that
+/// keeps its summands, and what the form writes is made of what the specification writes.
 ///
 /// # Errors
 ///
@@ -176,6 +179,8 @@ pub fn normal_form(
     ensures fits { IfOk result (λ form. FormFits sig.new pool.new.trees (plain_form form)) }
     ensures unfolds { IfOk result (λ form. IsFormOf sig.new pool.new.trees (plain_model guarded.now.model.now) (plain_component start.now) (plain_form form)) }
     ensures bisimilar { IfOk result (λ form. IsBisimilarForm sig.new pool.new.trees (plain_model guarded.now.model.now) (plain_component start.now) (plain_form form)) }
+    ensures linear { IfOk result (λ form. KeepsLinearShape sig.new pool.new.trees (plain_model guarded.now.model.now) (plain_component start.now) (plain_form form)) }
+    ensures plain { IfOk result (λ form. IsPlainForm sig.new pool.new (plain_model guarded.now.model.now) (plain_component start.now) (plain_form form)) }
 {
     let source = Source {
         model: guarded.model,
