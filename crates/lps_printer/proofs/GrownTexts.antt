@@ -7,7 +7,6 @@ use Rattle.std.proofs.lemmas.Grind.{flat_map-append}
 use Rattle.std.proofs.lemmas.List.Elements.{All-nil, All-head, All-tail, All-weaker, All-cons, All-contains, All-from_recursion, recursion_from_All, All-contains_itself, Contains-append_left, Contains-append_right, Contains-push}
 use Rattle.std.proofs.lemmas.Bool.Decides.{nat_tests}
 use Rattle.mcrl2_syntax.specs.declared.declaration.SectionWord.TheVariants as sections
-use Rattle.mcrl2_syntax.specs.Declarations.{PlainSpec}
 use Rattle.data_theory.specs.declared.ids.FunId.{FunId}
 use Rattle.data_theory.specs.declared.ids.NameId.{NameId}
 use Rattle.data_theory.specs.declared.ids.SortId.{SortId}
@@ -31,7 +30,7 @@ use Rattle.lps_printer.specs.WrittenProcesses.{TextNames, sort_written}
 use Rattle.lps_printer.specs.AddedConstants.{AddsConstant, AddsEach, none_left, adds, AddsConstants}
 use Rattle.lps_printer.specs.AddedDeclarations.{no_function, function_at, name_at, kind_at, constructors_in, begun_by, struct_begun, is_constant, constants_among, constant_with, added_functions, struct_declared, structs_declared, empty_list_declared, line_declared, lines_declared, added_declared}
 use Rattle.lps_printer.specs.GrowingByConstants.{GrowsByConstants}
-use Rattle.lps_printer.specs.GrownTexts.{mapping_declared, mappings_declared, AddsTheConstants, WhatGrowsByConstantsAddsThem, AreNamedConstants, AddedConstantsAreNamed, EmptyListsAreAdded}
+use Rattle.lps_printer.specs.GrownTexts.{mapping_declared, mappings_declared, WhatGrowsByConstantsAddsThem, AreNamedConstants, AddedConstantsAreNamed, EmptyListsAreAdded}
 use Rattle.lps_printer.proofs.DeclaredCounts.{added_are}
 
 abbrev Constant : Type 0

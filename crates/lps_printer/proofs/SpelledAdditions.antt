@@ -1,10 +1,9 @@
 -- Added constants spell mappings and equations.
-use Rattle.std.proofs.Common.{◌≡◌, ◌++◌, ℕ, true, List, [], ◌∷◌, map, get_or, codes, refl, sym, ap, ap₂, ◌∙◌, subst, append-nil}
+use Rattle.std.proofs.Common.{◌≡◌, ◌++◌, ℕ, true, List, [], ◌∷◌, map, codes, refl, sym, ap, ap₂, ◌∙◌, subst, append-nil}
 use Rattle.std.specs.Prelude.{None}
-use Rattle.std.specs.List.{AllByRecursion, flat_map, list_all}
+use Rattle.std.specs.List.{AllByRecursion, flat_map}
 use Rattle.mcrl2_lexer.specs.declared.kind.Kind.TheVariants as kind_
 use Rattle.mcrl2_lexer.specs.declared.token.Token.{Token}
-use Rattle.mcrl2_lexer.specs.Words.{is_space}
 use Rattle.mcrl2_syntax.specs.declared.declaration.SectionWord.TheVariants as sections
 use Rattle.mcrl2_syntax.specs.DataTrees.{PlainData}
 use Rattle.mcrl2_syntax.specs.Declarations.{PlainSpec}
@@ -24,7 +23,7 @@ use Rattle.sort_checker.specs.FullVocabularies.{process_by}
 use Rattle.sort_checker.specs.Systems.{initial_by}
 use Rattle.lps_printer.specs.declared.added_sections.Line.{Line}
 use Rattle.lps_printer.specs.declared.added_sections.Line.TheVariants as lines
-use Rattle.lps_printer.specs.Pieces.{bytes_of, is_quiet, StandApart, Says, says_more}
+use Rattle.lps_printer.specs.Pieces.{is_quiet, StandApart, Says, says_more}
 use Rattle.lps_printer.specs.PrintedExpressions as form
 use Rattle.lps_printer.specs.PlainExpressions.{plain}
 use Rattle.lps_printer.specs.PrintedProcesses.{Variable}
@@ -32,8 +31,8 @@ use Rattle.lps_printer.specs.DataLayout.{piece, space, print, IsIdentifier}
 use Rattle.lps_printer.specs.NamedSummands.{IsNamedVariable}
 use Rattle.lps_printer.specs.SummandLayout.{print_variable}
 use Rattle.lps_printer.specs.WrittenProcesses.{TextNames}
-use Rattle.lps_printer.specs.CopiedSections.{further_line, kept_sections, copied_sections}
-use Rattle.lps_printer.specs.TextSections.{IsDeclared, all_inside, Declares, DeclareAll, no_declarations, one_declaration, AreSections, no_sections_left, one_section}
+use Rattle.lps_printer.specs.CopiedSections.{further_line, copied_sections}
+use Rattle.lps_printer.specs.TextSections.{IsDeclared, Declares, DeclareAll, no_declarations, one_declaration, AreSections, no_sections_left, one_section}
 use Rattle.lps_printer.specs.AddedDeclarations.{function_at, name_at, struct_begun, constant_with, print_equation, struct_section, struct_sections, print_line, line_word, lines_with, line_sections, added_functions, constants_among, added_sections, struct_declared, structs_declared, constant_declared, empty_list_declared, line_declared, lines_declared, added_declared}
 use Rattle.lps_printer.specs.WholeTexts.{HaveNoProcess}
 use Rattle.lps_printer.specs.SpelledSections.{AddedSectionsSpellBack, PrintedTextsSpellBack, copied_declared}
