@@ -17,7 +17,6 @@ use Rattle.sort_table.specs.BareSorts.{SortExpression}
 use Rattle.sort_table.specs.BareDeclarations.{Field, Constructor, struct, bare_word, bare_field, bare_constructor}
 use Rattle.lps_printer.specs.Pieces.{Piece, is_none, is_quiet, StandApart, Says, says_more, cannot_go_on}
 use Rattle.lps_printer.specs.DataLayout.{piece, space, IsIdentifier}
-use Rattle.lps_printer.specs.SummandLayout.{print_sort}
 use Rattle.lps_printer.specs.TextSections.{IsDeclared, all_inside, Declares}
 use Rattle.lps_printer.specs.AddedDeclarations.{print_named, print_field, print_further_fields, print_fields, print_recogniser, print_constructor, print_further_constructors, print_constructors, print_struct}
 use Rattle.lps_printer.specs.NamedStructs.{IsNamedOption, IsNamedField, IsNamedConstructor}
