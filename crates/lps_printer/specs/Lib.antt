@@ -45,3 +45,8 @@ pub mod NamedStructs
 pub mod SpelledSections
 pub mod GrownTexts
 pub mod FreshIdentifiers
+pub mod EmptyEquations
+pub mod FoundConstants
+pub mod PrintedTheories
+pub mod PrintedDeclarations
+pub mod FittingLinears

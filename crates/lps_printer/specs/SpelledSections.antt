@@ -49,5 +49,5 @@ AddedSectionsSpellBack = (spec : PlainSpec) (g : Sig) (n : TextNames) (empty_lis
 abbrev pub PrintedTextsSpellBack : Type 0
 PrintedTextsSpellBack =
     (text : List ℕ) (spec : PlainSpec) (tokens : List Token) → HasTokens text tokens → SpellsSpec text spec tokens
-    → (v : FullVocabulary) (g : Sig) (n : TextNames) (l : Linear) (ts : List Term) (empty_lists : List FunId) → LinearReads v n l ts → AreNamed n l.summands → AddsNamedDeclarations spec g n empty_lists
+    → (v : FullVocabulary) (g : Sig) (n : TextNames) (l : Linear) (ts : List Term) (empty_lists : List FunId) → LinearReads v n l ts → AreNamed n l → AddsNamedDeclarations spec g n empty_lists
     → IsWholeText (copied_sections spec.sections ++ added_sections spec g n empty_lists) (copied_declared spec ++ added_declared spec g n empty_lists) n l ts

@@ -5,16 +5,21 @@ ghost use Rattle.lps_printer.specs.CopiedTokens.{CopiesLex};
 ghost use Rattle.lps_printer.specs.CopyLaws.{CopiesSpellTheSame, DeclarationCopiesSpellTheSame};
 ghost use Rattle.lps_printer.specs.DataLaws.{ExpressionsSpellBack, TermsReadBack};
 ghost use Rattle.lps_printer.specs.DefinitionTexts.{DefinitionsSpellBack, LinearTextsSpellBack, StartsSpellBack};
+ghost use Rattle.lps_printer.specs.EmptyEquations.{EmptyEquationsElaborate};
 ghost use Rattle.lps_printer.specs.EmptyLists.{FilledTermsAreWritable};
 ghost use Rattle.lps_printer.specs.FilledLinears.{FilledLinearsAreEqual};
+ghost use Rattle.lps_printer.specs.FittingLinears.{FittingLinearsRead};
 ghost use Rattle.lps_printer.specs.FittingNames.{NamesThatFitRead};
+ghost use Rattle.lps_printer.specs.FoundConstants.{ThereAreConstants, ConstantsHaveEquations};
 ghost use Rattle.lps_printer.specs.FreshIdentifiers.{ConstantNamesAreIdentifiers, FreshNamesAreIdentifiers};
 ghost use Rattle.lps_printer.specs.GrownTexts.{AddedConstantsAreNamed, EmptyListsAreAdded, WhatGrowsByConstantsAddsThem};
 ghost use Rattle.lps_printer.specs.LinearBack.{LinearProcessesElaborateBack};
 ghost use Rattle.lps_printer.specs.NamedSummands.{SummandsSpellBack};
 ghost use Rattle.lps_printer.specs.NeedLaws.{AddedConstantsAreNils, ListedNilsAreThose, WhatIsMetIsFound};
 ghost use Rattle.lps_printer.specs.Pieces.{PiecesLex};
+ghost use Rattle.lps_printer.specs.PrintedDeclarations.{AddedConstantsAreDeclared, GrowthByConstantsIsMore, PrintedDeclarationsAreSound, VariablesThatReadCanBeListed};
 ghost use Rattle.lps_printer.specs.PrintedSystems.{PrintedSystemsAreLinear};
+ghost use Rattle.lps_printer.specs.PrintedTheories.{PrintedTextsHaveTheories};
 ghost use Rattle.lps_printer.specs.SpelledSections.{AddedSectionsSpellBack, CopiedSectionsSpellBack, PrintedTextsSpellBack};
 ghost use Rattle.lps_printer.specs.SummandTexts.{SummandTextsElaborate};
 ghost use Rattle.lps_printer.specs.TermTexts.{TermTextsReadBack};
@@ -150,4 +155,39 @@ pub fn added_constants_are_nils()
 /// The sections that are copied have all declarations of data and all equations of a specification.
 pub fn what_is_copied_has_all_parts()
     ensures { WhatIsCopiedHasAllParts }
+{}
+
+/// The equation of a constant for an empty list elaborates.
+pub fn empty_equations_elaborate()
+    ensures { EmptyEquationsElaborate }
+{}
+
+/// Sorts that differ have constants for the empty lists over them, and each constant has its equation where a theory has those of these sorts.
+pub fn constants_have_equations()
+    ensures there { ThereAreConstants }
+    ensures equations { ConstantsHaveEquations }
+{}
+
+/// The printed text of a linear process is well typed, and has the theory of its text with the equations of the constants for empty lists.
+pub fn printed_texts_have_theories()
+    ensures { PrintedTextsHaveTheories }
+{}
+
+/// A signature that has grown by constants has them behind its vocabulary, and nothing else.
+pub fn growth_by_constants_is_more()
+    ensures { GrowthByConstantsIsMore }
+{}
+
+/// Where the declarations of a text are sound and a signature has their vocabulary, those of a text that is printed for it are sound, too,
+/// and the signature that has grown by the added constants has their vocabulary. The added sections declare these constants, and the
+/// variables of a linear process that reads back can be listed.
+pub fn printed_declarations_are_sound()
+    ensures sound { PrintedDeclarationsAreSound }
+    ensures constants { AddedConstantsAreDeclared }
+    ensures variables { VariablesThatReadCanBeListed }
+{}
+
+/// What is printed for a linear process that fits a signature can be read, with the constants that are added for empty lists.
+pub fn fitting_linears_read()
+    ensures { FittingLinearsRead }
 {}

@@ -82,3 +82,4 @@ pub mod ElaboratedForms
 pub mod ElaboratedInside
 pub mod ElaboratedInCode
 pub mod TreeSizes
+pub mod WellTypedBack
