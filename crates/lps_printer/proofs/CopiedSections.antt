@@ -8,8 +8,8 @@ use Rattle.mcrl2_lexer.specs.declared.kind.Kind.{Kind}
 use Rattle.mcrl2_lexer.specs.declared.kind.Kind.TheVariants as kind_
 use Rattle.mcrl2_lexer.specs.declared.token.Token.{Token}
 use Rattle.mcrl2_lexer.specs.Words.{is_space}
-use Rattle.mcrl2_lexer.specs.Tokens.{IsToken, slice_of, IsAccepted}
-use Rattle.mcrl2_lexer.specs.Lexing.{Lexes, nothing, after_space, after_comment, after_token, HasTokens}
+use Rattle.mcrl2_lexer.specs.Tokens.{IsToken, IsAccepted}
+use Rattle.mcrl2_lexer.specs.Lexing.{Lexes, nothing, after_space, after_comment, after_token}
 use Rattle.mcrl2_syntax.specs.declared.declaration.SectionWord.{SectionWord}
 use Rattle.mcrl2_syntax.specs.declared.declaration.SectionWord.TheVariants as sections
 use Rattle.mcrl2_syntax.specs.Words.{span_of}
@@ -18,17 +18,15 @@ use Rattle.mcrl2_syntax.specs.Declarations.{PlainDecl, PlainSection, PlainSpec}
 use Rattle.mcrl2_syntax.specs.Copied.{has_declarations, word_is_copied, is_copied}
 use Rattle.mcrl2_syntax.specs.SpelledDeclarations.{SpellsDecl, section_word, IsInside, SpellsDecls, no_decls, more_decls, no_sections, more_sections, SpellsSpec}
 use Rattle.mcrl2_syntax.specs.SpelledDeclarations as spelled
-use Rattle.sort_table.specs.BareDeclarations.{Declaration, bare_declaration, Section, bare_section, declarations_in}
+use Rattle.sort_table.specs.BareDeclarations.{Declaration, bare_declaration, bare_section, declarations_in}
 use Rattle.sort_table.specs.PlacedSections.{word_of_declaration, IsPlacedSection}
 use Rattle.sort_table.proofs.SpelledPlaces.{spelled_specs_are_placed}
 use Rattle.sort_table.specs.BareProcesses.{Process}
 use Rattle.sort_checker.specs.FullVocabularies.{Written, process_by, processes_in}
 use Rattle.sort_checker.specs.Systems.{initial_by}
 use Rattle.lps_printer.specs.Pieces.{bytes_of, is_quiet, StandApart, Says, says_none, says_more}
-use Rattle.lps_printer.specs.DataLayout.{space}
 use Rattle.lps_printer.specs.CopiedTokens.{Copied, AreCopied, copied_behind, copied}
 use Rattle.lps_printer.specs.CopyLaws.{Alike, alike_none, alike_more, declares_data}
-use Rattle.lps_printer.specs.TreeTokens.{declaration_tokens}
 use Rattle.lps_printer.specs.TextSections.{IsDeclared, inside_kind, all_inside, Declares, DeclareAll, no_declarations, one_declaration, AreSections, no_sections_left, one_section}
 use Rattle.lps_printer.specs.CopiedSections.{further_line, copied_declaration, copied_declarations, copied_section, kept_sections, copied_sections}
 use Rattle.lps_printer.specs.WholeTexts.{HaveNoProcess}
@@ -44,8 +42,7 @@ lexed_are_copied text at to tokens nothing all = tt
 lexed_are_copied text at to tokens (after_space inside white more) all = lexed_are_copied text (suc at) to tokens more all
 lexed_are_copied text at to tokens (after_comment {next = next} further comment more) all = lexed_are_copied text next to tokens more all
 lexed_are_copied text at to tokens (after_token {first = first} {others = others} start some longest more) all =
-    let accepted = All-head (IsAccepted text) first others all in
-    (
+    let accepted = All-head (IsAccepted text) first others all in (
       record { token = subst (λ (from : ℕ). IsToken (take (first.end - from) (drop from text)) first.kind) (sym start) longest.token; kept = accepted.kept; fits = accepted.fits },
       lexed_are_copied text first.end to others more (All-tail (IsAccepted text) first others all),
     )

@@ -10,7 +10,6 @@ use Rattle.std.proofs.lemmas.Slice.Eq.{bytes_eq-Decides}
 use Rattle.mcrl2_lexer.specs.declared.kind.Kind.{Kind}
 use Rattle.mcrl2_lexer.specs.declared.kind.Kind.TheVariants as kind_
 use Rattle.mcrl2_lexer.specs.Words.{is_letter, is_digit, is_name_byte, is_name, word_of_two, word_of_three, word_of_four, word_of_five, word_of_six, word_kind}
-use Rattle.data_theory.specs.Fresh.{candidate}
 use Rattle.lps_printer.specs.DataLayout.{IsIdentifier}
 use Rattle.lps_printer.specs.FreshIdentifiers.{FreshNamesAreIdentifiers, ConstantNamesAreIdentifiers}
 

@@ -1,5 +1,5 @@
 -- Growing by constants, step by step.
-use Rattle.std.proofs.Common.{◌≡◌, ◌≢◌, ◌+◌, ◌<◌, ◌⊎◌, ⊎_elim, ℕ, zero, suc, List, [], ◌∷◌, ◌++◌, map, length, get_or, codes, Some, refl, sym, ap, ◌∙◌, subst, arith, append-nil, append_assoc, length-append}
+use Rattle.std.proofs.Common.{◌≡◌, ◌≢◌, ◌+◌, ◌<◌, ⊎_elim, ℕ, zero, suc, List, [], ◌∷◌, ◌++◌, map, length, codes, Some, refl, sym, ap, ◌∙◌, subst, arith, append-nil, append_assoc, length-append}
 use Rattle.std.specs.Prelude.{slice_get, Contains}
 use Rattle.std.specs.List.{AllByRecursion}
 use Rattle.std.proofs.lemmas.List.{map-append, length-map}
@@ -20,7 +20,7 @@ use Rattle.data_theory.specs.WholeSignatures.{IsSignature}
 use Rattle.data_theory.proofs.PlaceLemmas.{read_front}
 use Rattle.data_theory.proofs.IdGrowthLemmas.{with_a_text_it_is_grown, with_a_variable_it_is_grown, with_a_function_it_is_grown, growth_after_growth_is_growth}
 use Rattle.term_pool.specs.Constants.{IsFirstName, DeclaresConstants, none_left, declares}
-use Rattle.term_pool.proofs.DeclaredConstants.{grown_as, grown_itself, fresh_grows}
+use Rattle.term_pool.proofs.DeclaredConstants.{grown_itself, fresh_grows}
 use Rattle.process_terms.proofs.MeaningLemmas.{entry_stays}
 use Rattle.bisim_laws.proofs.Firing.{contains_first, contains_later, contains_none, contains_cases}
 use Rattle.lps_core.specs.Naming.{GrowsByNames}

@@ -7,7 +7,6 @@ use Rattle.std.proofs.lemmas.Grind.{flat_map-append}
 use Rattle.std.proofs.lemmas.List.Elements.{All-nil, All-head, All-tail, All-weaker, All-cons, All-contains, All-from_recursion, recursion_from_All, All-contains_itself, Contains-append_left, Contains-append_right, Contains-push}
 use Rattle.std.proofs.lemmas.Bool.Decides.{nat_tests}
 use Rattle.mcrl2_syntax.specs.declared.declaration.SectionWord.TheVariants as sections
-use Rattle.mcrl2_syntax.specs.Declarations.{PlainSpec}
 use Rattle.data_theory.specs.declared.ids.FunId.{FunId}
 use Rattle.data_theory.specs.declared.ids.NameId.{NameId}
 use Rattle.data_theory.specs.declared.ids.SortId.{SortId}
@@ -30,8 +29,9 @@ use Rattle.lps_printer.specs.NamedSummands.{IsNamed, IsNamedVariable}
 use Rattle.lps_printer.specs.WrittenProcesses.{TextNames, sort_written}
 use Rattle.lps_printer.specs.AddedConstants.{AddsConstant, AddsEach, none_left, adds, AddsConstants}
 use Rattle.lps_printer.specs.AddedDeclarations.{no_function, function_at, name_at, kind_at, constructors_in, begun_by, struct_begun, is_constant, constants_among, constant_with, added_functions, struct_declared, structs_declared, empty_list_declared, line_declared, lines_declared, added_declared}
+use Rattle.lps_printer.specs.NamedStructs.{IsNamedStruct, BeginsNamedStruct}
 use Rattle.lps_printer.specs.GrowingByConstants.{GrowsByConstants}
-use Rattle.lps_printer.specs.GrownTexts.{mapping_declared, mappings_declared, AddsTheConstants, WhatGrowsByConstantsAddsThem, AreNamedConstants, AddedConstantsAreNamed, EmptyListsAreAdded}
+use Rattle.lps_printer.specs.GrownTexts.{mapping_declared, mappings_declared, WhatGrowsByConstantsAddsThem, AreNamedConstants, AddedConstantsAreNamed, EmptyListsAreAdded}
 use Rattle.lps_printer.proofs.DeclaredCounts.{added_are}
 
 abbrev Constant : Type 0
@@ -186,6 +186,10 @@ what_grows_by_constants_adds_them spec g h stands is w =
           ∙ ap₂ (λ (xs ys : List Declaration). xs ++ ys) (mappings_are h n w.constants) (equations_are h n empty_lists);
     }
 
+no_struct_is_named : (h : Sig) (n : TextNames) (fs : List FunId) → AllByRecursion (λ (f : FunId). struct_begun h f ≡ []) fs → AllByRecursion (BeginsNamedStruct h n) fs
+no_struct_is_named h n [] none = tt
+no_struct_is_named h n (f ∷ fs) none = (subst (IsNamedStruct h n (function_at h f).result) (sym none.0) tt, no_struct_is_named h n fs none.1)
+
 pub added_constants_are_named : AddedConstantsAreNamed
 added_constants_are_named spec g h n empty_lists stands is w named among =
     let k = length g.functions in
@@ -198,7 +202,7 @@ added_constants_are_named spec g h n empty_lists stands is w named among =
     let here : AllByRecursion Q (added_functions spec h) = subst (AllByRecursion Q) (sym those.functions) own in
     let every : All Q (added_functions spec h) = All-from_recursion Q (added_functions spec h) here in
     record {
-      no_structs = those.no_structs;
+      structs = no_struct_is_named h n (added_functions spec h) those.no_structs;
       constants = subst (AllByRecursion Q) (sym those.all_constants) here;
       lists = recursion_from_All R empty_lists (All-weaker (Contains (added_functions spec h)) R (λ f there. (All-contains Q (added_functions spec h) f every there).0) empty_lists among);
     }

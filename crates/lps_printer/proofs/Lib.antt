@@ -69,6 +69,7 @@ mod SpelledTokens
 mod SpelledDataTokens
 mod SpelledDeclarationTokens
 pub mod CopiedSections
+mod SpelledStructs
 pub mod SpelledAdditions
 mod DeclaredCounts
 pub mod GrownTexts

@@ -1,10 +1,9 @@
--- Added constants spell mappings and equations.
-use Rattle.std.proofs.Common.{◌≡◌, ◌++◌, ℕ, true, List, [], ◌∷◌, map, get_or, codes, refl, sym, ap, ap₂, ◌∙◌, subst, append-nil}
+-- Added declarations spell structs, mappings and equations.
+use Rattle.std.proofs.Common.{◌≡◌, ◌++◌, ℕ, true, List, [], ◌∷◌, map, codes, refl, sym, ap, ap₂, ◌∙◌, subst, append-nil}
 use Rattle.std.specs.Prelude.{None}
-use Rattle.std.specs.List.{AllByRecursion, flat_map, list_all}
+use Rattle.std.specs.List.{AllByRecursion, flat_map}
 use Rattle.mcrl2_lexer.specs.declared.kind.Kind.TheVariants as kind_
 use Rattle.mcrl2_lexer.specs.declared.token.Token.{Token}
-use Rattle.mcrl2_lexer.specs.Words.{is_space}
 use Rattle.mcrl2_syntax.specs.declared.declaration.SectionWord.TheVariants as sections
 use Rattle.mcrl2_syntax.specs.DataTrees.{PlainData}
 use Rattle.mcrl2_syntax.specs.Declarations.{PlainSpec}
@@ -24,7 +23,7 @@ use Rattle.sort_checker.specs.FullVocabularies.{process_by}
 use Rattle.sort_checker.specs.Systems.{initial_by}
 use Rattle.lps_printer.specs.declared.added_sections.Line.{Line}
 use Rattle.lps_printer.specs.declared.added_sections.Line.TheVariants as lines
-use Rattle.lps_printer.specs.Pieces.{bytes_of, is_quiet, StandApart, Says, says_more}
+use Rattle.lps_printer.specs.Pieces.{is_quiet, StandApart, Says, says_more}
 use Rattle.lps_printer.specs.PrintedExpressions as form
 use Rattle.lps_printer.specs.PlainExpressions.{plain}
 use Rattle.lps_printer.specs.PrintedProcesses.{Variable}
@@ -32,9 +31,11 @@ use Rattle.lps_printer.specs.DataLayout.{piece, space, print, IsIdentifier}
 use Rattle.lps_printer.specs.NamedSummands.{IsNamedVariable}
 use Rattle.lps_printer.specs.SummandLayout.{print_variable}
 use Rattle.lps_printer.specs.WrittenProcesses.{TextNames}
-use Rattle.lps_printer.specs.CopiedSections.{further_line, kept_sections, copied_sections}
-use Rattle.lps_printer.specs.TextSections.{IsDeclared, all_inside, Declares, DeclareAll, no_declarations, one_declaration, AreSections, no_sections_left, one_section}
-use Rattle.lps_printer.specs.AddedDeclarations.{function_at, name_at, struct_begun, constant_with, print_equation, struct_section, struct_sections, print_line, line_word, lines_with, line_sections, added_functions, constants_among, added_sections, struct_declared, structs_declared, constant_declared, empty_list_declared, line_declared, lines_declared, added_declared}
+use Rattle.lps_printer.specs.CopiedSections.{further_line, copied_sections}
+use Rattle.lps_printer.specs.NamedStructs.{IsNamedStruct, BeginsNamedStruct}
+use Rattle.lps_printer.specs.TextWordings.{sort_place}
+use Rattle.lps_printer.specs.TextSections.{IsDeclared, Declares, DeclareAll, no_declarations, one_declaration, AreSections, no_sections_left, one_section}
+use Rattle.lps_printer.specs.AddedDeclarations.{function_at, name_at, struct_begun, constructor_with, constant_with, print_equation, struct_section, struct_sections, print_line, line_word, lines_with, line_sections, added_functions, constants_among, added_sections, struct_declared, structs_declared, constant_declared, empty_list_declared, line_declared, lines_declared, added_declared}
 use Rattle.lps_printer.specs.WholeTexts.{HaveNoProcess}
 use Rattle.lps_printer.specs.SpelledSections.{AddedSectionsSpellBack, PrintedTextsSpellBack, copied_declared}
 use Rattle.lps_printer.proofs.Trees.{plain_bare}
@@ -44,6 +45,7 @@ use Rattle.lps_printer.proofs.Apart.{Ends, IsGap, name_piece, in_front, apart}
 use Rattle.lps_printer.proofs.SummandsApart.{signed_spaced, variable_apart}
 use Rattle.lps_printer.proofs.ProcessSpelling.{read_sort}
 use Rattle.lps_printer.proofs.InsideDeclarations.{sort_inside}
+use Rattle.lps_printer.proofs.SpelledStructs.{struct_declares}
 use Rattle.lps_printer.proofs.WholeTexts.{sections_behind, behind_none, whole_texts_spell_back}
 use Rattle.lps_printer.proofs.CopiedSections.{copied_sections_spell_back}
 
@@ -108,12 +110,14 @@ lines_are_sections : (g : Sig) (n : TextNames) (line : Line) (fs : List FunId) �
 lines_are_sections g n line [] named = no_sections_left
 lines_are_sections g n line (f ∷ fs) named = one_section refl (one_declaration (line_declares g n line f 32 [] refl refl named.0) (further_lines g n line fs named.1)) no_sections_left
 
-structs_are_sections : (g : Sig) (n : TextNames) (fs : List FunId) → AllByRecursion (λ (f : FunId). struct_begun g f ≡ []) fs → AreSections (flat_map (struct_sections g n) fs) (flat_map (structs_declared g n) fs)
-structs_are_sections g n [] h = no_sections_left
-structs_are_sections g n (f ∷ fs) h =
-    let s : SortId = (function_at g f).result in
-    sections_behind (struct_sections g n f) (structs_declared g n f) (subst (λ (cs : List FunId). AreSections (struct_section g n s cs) (struct_declared g n s cs)) (sym h.0) no_sections_left)
-    (flat_map (struct_sections g n) fs) (flat_map (structs_declared g n) fs) (structs_are_sections g n fs h.1)
+one_struct : (g : Sig) (n : TextNames) (s : SortId) (cs : List FunId) → IsNamedStruct g n s cs → AreSections (struct_section g n s cs) (struct_declared g n s cs)
+one_struct g n s [] named = no_sections_left
+one_struct g n s (c ∷ cs) named = one_section refl (one_declaration (struct_declares (n.sort (sort_place g s)) (constructor_with g n c) (map (constructor_with g n) cs) named.0 named.1) no_declarations) no_sections_left
+
+structs_are_sections : (g : Sig) (n : TextNames) (fs : List FunId) → AllByRecursion (BeginsNamedStruct g n) fs → AreSections (flat_map (struct_sections g n) fs) (flat_map (structs_declared g n) fs)
+structs_are_sections g n [] named = no_sections_left
+structs_are_sections g n (f ∷ fs) named =
+    sections_behind (struct_sections g n f) (structs_declared g n f) (one_struct g n (function_at g f).result (struct_begun g f) named.0) (flat_map (struct_sections g n) fs) (flat_map (structs_declared g n) fs) (structs_are_sections g n fs named.1)
 
 -- ---- none of them is a process
 pub no_process_both : (bs cs : List Section) → HaveNoProcess bs → HaveNoProcess cs → HaveNoProcess (bs ++ cs)
@@ -160,7 +164,7 @@ pub added_sections_spell_back : AddedSectionsSpellBack
 added_sections_spell_back spec g n empty_lists h =
     let fs = added_functions spec g in
     record {
-      are_sections = sections_behind (flat_map (struct_sections g n) fs) (flat_map (structs_declared g n) fs) (structs_are_sections g n fs h.no_structs)
+      are_sections = sections_behind (flat_map (struct_sections g n) fs) (flat_map (structs_declared g n) fs) (structs_are_sections g n fs h.structs)
           (line_sections g n lines.Constant (constants_among g fs) ++ line_sections g n lines.EmptyList empty_lists) (lines_declared g n lines.Constant (constants_among g fs) ++ lines_declared g n lines.EmptyList empty_lists)
           (sections_behind (line_sections g n lines.Constant (constants_among g fs)) (lines_declared g n lines.Constant (constants_among g fs)) (lines_are_sections g n lines.Constant (constants_among g fs) h.constants)
           (line_sections g n lines.EmptyList empty_lists) (lines_declared g n lines.EmptyList empty_lists) (lines_are_sections g n lines.EmptyList empty_lists h.lists));

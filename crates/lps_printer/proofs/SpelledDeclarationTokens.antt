@@ -1,5 +1,5 @@
 -- The tokens of a declaration that is copied are those that spell it.
-use Rattle.std.proofs.Common.{◌≡◌, ℕ, true, List, [], ◌∷◌, codes, Option, Some, None, refl, sym, ap, ap₂, ◌∙◌}
+use Rattle.std.proofs.Common.{◌≡◌, ℕ, true, List, [], ◌∷◌, codes, Option, refl, ap, ap₂, ◌∙◌}
 use Rattle.mcrl2_lexer.specs.declared.kind.Kind.TheVariants as kind_
 use Rattle.mcrl2_lexer.specs.declared.token.Token.{Token}
 use Rattle.mcrl2_lexer.specs.Tokens.{slice_of}
@@ -8,10 +8,9 @@ use Rattle.mcrl2_syntax.specs.Words.{PlainWord}
 use Rattle.mcrl2_syntax.specs.SortTrees.{PlainSort}
 use Rattle.mcrl2_syntax.specs.ProcessParts.{PlainVarGroup}
 use Rattle.mcrl2_syntax.specs.Declarations.{PlainField, PlainConstructor, PlainDecl}
-use Rattle.mcrl2_syntax.specs.SpelledWords.{SpellsList, last_item, more_items}
 use Rattle.mcrl2_syntax.specs.SpelledLabels.{SpellsVarGroup, variables}
 use Rattle.mcrl2_syntax.specs.SpelledDeclarations.{SpellsField, field_bare, field_named, SpellsFields, no_fields, some_fields, SpellsRecogniser, no_recogniser, a_recogniser, SpellsConstructor, a_constructor, SpellsSignature, of_constants, of_functions, SpellsDecl, decl_sorts, decl_alias, decl_struct, decl_cons, decl_map, decl_vars, decl_equation, decl_conditional, decl_acts, decl_acts_over, decl_proc, decl_proc_over, decl_init}
-use Rattle.lps_printer.specs.CopiedTokens.{Copied, IsCopied, AreCopied}
+use Rattle.lps_printer.specs.CopiedTokens.{Copied, AreCopied}
 use Rattle.lps_printer.specs.CopyLaws.{declares_data}
 use Rattle.mcrl2_syntax.specs.DataTrees.{PlainData}
 use Rattle.mcrl2_syntax.specs.SpelledData.{SpellsData}

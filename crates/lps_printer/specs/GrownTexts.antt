@@ -22,7 +22,7 @@ use Rattle.lps_printer.specs.WrittenProcesses.{TextNames, sort_written}
 use Rattle.lps_printer.specs.AddedConstants.{AddsConstants}
 use Rattle.lps_printer.specs.AddedDeclarations.{added_functions, constants_among, struct_begun, name_at, empty_list_declared, lines_declared, added_declared}
 use Rattle.lps_printer.specs.GrowingByConstants.{GrowsByConstants}
-use Rattle.lps_printer.specs.SpelledSections.{AddsNamedConstants}
+use Rattle.lps_printer.specs.SpelledSections.{AddsNamedDeclarations}
 
 -- `c: S`
 abbrev pub mapping_declared : Sig → TextNames → NameId × SortId → Declaration
@@ -55,7 +55,7 @@ AreNamedConstants h n constants = All (λ (c : NameId × SortId). IsIdentifier (
 abbrev pub AddedConstantsAreNamed : Type 0
 AddedConstantsAreNamed =
     (spec : PlainSpec) (g h : Sig) (n : TextNames) (empty_lists : List FunId) → IsSignature g → IsVocabularyOf (under_names (declarations_in (bare_sections spec))) (vocabulary_of g) → (w : GrowsByConstants g h)
-    → AreNamedConstants h n w.constants → All (Contains (added_functions spec h)) empty_lists → AddsNamedConstants spec h n empty_lists
+    → AreNamedConstants h n w.constants → All (Contains (added_functions spec h)) empty_lists → AddsNamedDeclarations spec h n empty_lists
 
 -- The constants that are added for empty lists are among those that the text doesn't declare: the last ones.
 abbrev pub EmptyListsAreAdded : Type 0

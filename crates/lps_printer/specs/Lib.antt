@@ -41,6 +41,7 @@ pub mod NeedLaws
 pub mod AddedDeclarations
 pub mod PrintedLinears
 pub mod GrowingByConstants
+pub mod NamedStructs
 pub mod SpelledSections
 pub mod GrownTexts
 pub mod FreshIdentifiers

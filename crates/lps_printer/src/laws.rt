@@ -118,7 +118,7 @@ pub fn copied_sections_spell_back()
     ensures { CopiedSectionsSpellBack }
 {}
 
-/// Added constants spell mappings and the equations of empty lists, where their names are identifiers.
+/// The added sections spell structs, mappings and the equations of empty lists, where their names are identifiers.
 pub fn added_sections_spell_back()
     ensures { AddedSectionsSpellBack }
 {}
