@@ -9,6 +9,5 @@ pub mod Refusals
 pub mod Linearised
 pub mod ElaboratedModels
 pub mod ModelsOfTexts
-pub mod CopiedParts
 pub mod AddedParts
 pub mod AddedConstants
