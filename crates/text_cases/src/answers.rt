@@ -2,9 +2,7 @@
 
 use crate::process_forms::push_actions;
 use crate::spec_forms::{push_places, push_spec, section_text};
-use crate::texts::{push_printed, text_of};
-use data_theory::Names;
-use lin_driver::plain;
+use crate::texts::text_of;
 use mcrl2_lexer::{Tokens, lex, numeral_value};
 use mcrl2_parser::{declarations, level, parse, parse_label};
 use std::alloc::{AllocError, Global};
@@ -80,18 +78,6 @@ fn label_text(alloc: Global, line: &[u8]) -> Result<Vec<u8>, AllocError> {
     }
 }
 
-/// The text of the linear process that is made for a text.
-fn linear_text(alloc: Global, text: &[u8]) -> Result<Vec<u8>, AllocError> {
-    match plain(alloc, text, &mut Names::new(alloc)) {
-        Ok(printed) => {
-            let mut out = Vec::new(alloc);
-            push_printed(&mut out, &printed)?;
-            Ok(out)
-        }
-        Err(fault) => fault_text(alloc, &fault),
-    }
-}
-
 /// The value of a numeral.
 fn value_text(alloc: Global, digits: &[u8]) -> Result<Vec<u8>, AllocError> {
     if !digits.iter().all(|byte| byte.is_ascii_digit()) {
@@ -119,8 +105,7 @@ fn lexed_text(alloc: Global, kind: &str, text: &[u8]) -> Result<Vec<u8>, AllocEr
 /// - `level`: how deep its tokens nest,
 /// - `tree`: the specification that it spells, in full brackets, `places`: where the parts of that stand, and `read`: whether
 ///   there is one,
-/// - `label`: the label that it is, and `value`: the value of the digits that it is,
-/// - `linear`: the text of its linear process.
+/// - `label`: the label that it is, and `value`: the value of the digits that it is.
 ///
 /// A line of no kind is its own answer.
 pub fn answer(alloc: Global, line: &str) -> Result<Vec<u8>, AllocError> {
@@ -129,7 +114,6 @@ pub fn answer(alloc: Global, line: &str) -> Result<Vec<u8>, AllocError> {
     match kind {
         "label" => label_text(alloc, &text),
         "value" => value_text(alloc, &text),
-        "linear" => linear_text(alloc, &text),
         "tokens" | "cuts" | "level" | "tree" | "places" | "read" => lexed_text(alloc, kind, &text),
         _ => line.as_bytes().to_vec(alloc),
     }

@@ -1,5 +1,4 @@
-//! Small texts, what they are read as and what is made of them: the tables of cases of `mcrl2_lexer`, `mcrl2_parser` and
-//! `lin_driver`.
+//! Small texts, and what they are read as: the tables of cases of `mcrl2_lexer` and `mcrl2_parser`.
 //!
 //! A line of the input is a case: its kind (see [`answers::answer`]), a space, and a text (see [`texts::text_of`]). For each the
 //! program prints a line, which the file `stdout` has. Any other line is printed as it is, so that headings keep the two files

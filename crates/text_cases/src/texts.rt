@@ -39,29 +39,6 @@ fn push_often(text: &mut Vec<u8>, count: u32, piece: &[u8]) -> Result<(), AllocE
     Ok(())
 }
 
-/// The digit of a number below 16, in the base 16.
-fn digit_of(number: u8) -> u8 {
-    match number {
-        0..=9 => b'0' + number,
-        10..=15 => b'a' + (number - 10),
-        _ => b'?',
-    }
-}
-
-/// Puts a text behind a line so that it has none of its own: as in a case, but without repetitions.
-pub fn push_printed(out: &mut Vec<u8>, text: &[u8]) -> Result<(), AllocError> {
-    for byte in text {
-        if matches!(*byte, b' '..=b'~') && *byte != b'\\' {
-            out.push(*byte)?;
-        } else {
-            out.push(b'\\')?;
-            out.push(digit_of(*byte >> 4))?;
-            out.push(digit_of(*byte & 15))?;
-        }
-    }
-    Ok(())
-}
-
 /// The text that a line tells. Of its pieces between `@` each third one, from the first on, stands there as it is. The one
 /// behind it is a number, and the next one stands there that often.
 pub fn text_of(alloc: Global, line: &str) -> Result<Vec<u8>, AllocError> {
