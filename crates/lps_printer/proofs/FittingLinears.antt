@@ -1,19 +1,17 @@
 -- What is printed for a linear process that fits a signature can be read.
-use Rattle.std.proofs.Common.{◌≡◌, ◌<◌, ◌⊎◌, inl, inr, ⊎_elim, ℕ, zero, Bool, true, false, List, [], ◌∷◌, ◌++◌, ◌+◌, suc, length, map, get_or, codes, Option, Some, None, refl, sym, ap, ap₂, ◌∙◌, subst, arith, append-nil, length-append}
-use Rattle.std.specs.Prelude.{slice_get, option_map, IfSome}
+use Rattle.std.proofs.Common.{◌≡◌, ◌<◌, inl, inr, ⊎_elim, ℕ, zero, Bool, true, false, List, [], ◌∷◌, ◌++◌, ◌+◌, suc, length, map, get_or, codes, Option, Some, None, refl, sym, ap, ap₂, ◌∙◌, subst, arith, append-nil, length-append}
+use Rattle.std.specs.Prelude.{slice_get, option_map}
 use Rattle.std.specs.List.{All, AllByRecursion, Contains, flat_map}
 use Rattle.std.proofs.lemmas.Bool.{cases_lt}
 use Rattle.std.proofs.lemmas.List.{length-map, get_or_past}
 use Rattle.std.proofs.lemmas.List.Elements.{All-nil, All-cons, All-head, All-tail, All-contains, Contains-get_or, Contains-append_left, Contains-append_right, Contains-append_cases}
-use Rattle.std.proofs.lemmas.Option.{slice_get_within, get_or_from_slice_get}
 use Rattle.data_theory.specs.declared.ids.FunId.{FunId}
 use Rattle.data_theory.specs.declared.ids.NameId.{NameId}
 use Rattle.data_theory.specs.declared.ids.SortId.{SortId}
 use Rattle.data_theory.specs.declared.ids.TermId.{TermId}
 use Rattle.data_theory.specs.declared.ids.VarId.{VarId}
-use Rattle.data_theory.specs.Terms.{Sort, list, Symbol, Term, Terms}
-use Rattle.data_theory.specs.Terms as terms
-use Rattle.data_theory.specs.Declarations.{Data, Construction, Declares, HaveSorts, IsSymbol}
+use Rattle.data_theory.specs.Terms.{Sort, list, Term}
+use Rattle.data_theory.specs.Declarations.{Construction, Declares, HaveSorts}
 use Rattle.data_theory.specs.Environments.{terms_of, Apart}
 use Rattle.data_theory.specs.Equations.{trueᵗ}
 use Rattle.data_theory.specs.Keys.{Key}
@@ -30,12 +28,12 @@ use Rattle.data_theory.specs.WholeSignatures.{IsSignature}
 use Rattle.data_theory.proofs.PlaceLemmas.{contains_read}
 use Rattle.data_theory.proofs.IdSymbolLemmas.{holds_at}
 use Rattle.term_pool.proofs.Lists.{contains_none, contains_cons, contains_head, contains_tail, contains_map, contained_from_map}
-use Rattle.process_terms.specs.Labels.{Action, Label}
+use Rattle.process_terms.specs.Labels.{Action}
 use Rattle.process_terms.specs.Processes.{Bound}
 use Rattle.process_terms.specs.PlainProcesses.{PlainAction}
 use Rattle.process_terms.specs.Meanings.{Entries, bound_at, term_at, action_of, label_of}
-use Rattle.process_terms.specs.SignatureEntries.{action_entry, entries_of, BothGrow}
-use Rattle.bisim_laws.specs.LinearProcesses.{Summand, Linear, variables, sorts, AreDeclared, HaveDataSorts, LabelIsSorted, action_sorted, NextIsSorted, next_sorted, SummandIsSorted, IsWellSorted, IsSummand}
+use Rattle.process_terms.specs.SignatureEntries.{entries_of, BothGrow}
+use Rattle.bisim_laws.specs.LinearProcesses.{Summand, variables, sorts, LabelIsSorted, action_sorted, NextIsSorted, next_sorted, SummandIsSorted, IsWellSorted, IsSummand}
 use Rattle.lps_core.specs.Fitting.{Fits, SummandFits, IsActionOf, IsVariable, HasTakenName}
 use Rattle.lps_core.specs.Naming.{name_of, names_of, IsUsed, list_names, table_names, function_names, HasOwnNames}
 use Rattle.lps_core.specs.PlainLinears.{PlainSummand, PlainLinear, summand_of, linear_of, initial_of}
@@ -52,10 +50,10 @@ use Rattle.sort_checker.specs.FullVocabularies.{FullVocabulary, process_named}
 use Rattle.sort_checker.specs.Scopes.{numbers_of}
 use Rattle.lps_printer.specs.DataLayout.{IsIdentifier}
 use Rattle.lps_printer.specs.ReadableNames.{AreWritable, ReadsNames}
-use Rattle.lps_printer.specs.EmptyLists.{HasNils, NilsAmong, AllNilsAmong, HasNoUnknown, HaveNoUnknown}
+use Rattle.lps_printer.specs.EmptyLists.{HasNils, AllNilsAmong, HasNoUnknown, HaveNoUnknown}
 use Rattle.lps_printer.specs.WrittenProcesses.{TextNames, bound_named, scope_behind}
-use Rattle.lps_printer.specs.LinearBack.{CanBind, ActionReads, SummandReads, parameters_of, LinearReads}
-use Rattle.lps_printer.specs.SummandTexts.{HaveIdentifiers, HasIdentifiers, AreNamed}
+use Rattle.lps_printer.specs.LinearBack.{ActionReads, SummandReads, parameters_of}
+use Rattle.lps_printer.specs.SummandTexts.{HaveIdentifiers, HasIdentifiers}
 use Rattle.lps_printer.specs.FilledLinears.{Constants, filled_terms, filled_action, filled_label, filled_summand, filled_linear}
 use Rattle.lps_printer.specs.SignatureNames.{declared_name_of, text_or_none, sort_names, text_names_under}
 use Rattle.lps_printer.specs.AddedConstants.{AddsConstants, AreConstants}

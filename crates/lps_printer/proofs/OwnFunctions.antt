@@ -1,5 +1,5 @@
 -- Declared functions are told apart by their names and the sorts of their arguments, from one another and from the built-in ones.
-use Rattle.std.proofs.Common.{◌≡◌, ◌+◌, ◌<◌, ◌==◌, ◌&&◌, ℕ, zero, suc, Bool, true, false, cond, ⊎_elim, List, [], ◌∷◌, ◌++◌, length, map, take, get_or, Option, Some, None, refl, sym, ap, ◌∙◌, subst, arith}
+use Rattle.std.proofs.Common.{◌≡◌, ◌+◌, ◌<◌, ◌==◌, ℕ, zero, suc, Bool, true, false, cond, ⊎_elim, List, [], ◌∷◌, ◌++◌, length, map, take, get_or, Option, Some, None, refl, sym, ap, ◌∙◌, subst, arith}
 use Rattle.std.specs.Prelude.{slice_get, option_map, bytes_eq, nat_lt}
 use Rattle.std.specs.List.{All, Contains, filter, list_all}
 use Rattle.std.proofs.lemmas.Bool.{and_parts}
@@ -17,9 +17,8 @@ use Rattle.data_theory.specs.declared.words.ListWord.TheVariants as lists
 use Rattle.data_theory.specs.declared.words.Word.{Word}
 use Rattle.data_theory.specs.declared.words.Word.TheVariants as words
 use Rattle.data_theory.specs.Words.{text_of}
-use Rattle.data_theory.specs.Terms.{Sort, boolean, positive, natural, integer, list, Symbol, truth, falsity, negation, conjunction, disjunction, implication, equality, inequality, conditional, comparison, arithmetic, minus, upcast, empty, cons, snoc, concatenation, size, element_at, head, rhead, tail, rtail, membership, function}
-use Rattle.data_theory.specs.Declarations.{Data, function_at, argument_sorts, IsSymbol}
-use Rattle.data_theory.specs.Keys.{Key, key}
+use Rattle.data_theory.specs.Terms.{Sort, boolean, natural, list, Symbol, truth, falsity, negation, conjunction, disjunction, implication, equality, inequality, conditional, comparison, arithmetic, minus, upcast, empty, cons, snoc, concatenation, size, element_at, head, rhead, tail, rtail, membership, function}
+use Rattle.data_theory.specs.Declarations.{Data, function_at, argument_sorts}
 use Rattle.data_theory.specs.Functions.{Function, key_of}
 use Rattle.data_theory.specs.Sorts as kinds
 use Rattle.data_theory.specs.Complete.{IsFunctionWithin}
@@ -32,9 +31,9 @@ use Rattle.data_theory.specs.IdData.{data_meant, function_meant}
 use Rattle.data_theory.specs.IdSorts.{constructions, meaning_of}
 use Rattle.data_theory.specs.IdSymbols.{if_declared, declared_from}
 use Rattle.data_theory.specs.IdTerms.{sort_under, symbol_under}
-use Rattle.data_theory.specs.NamedFunctions.{if_named, named_from, functions_named}
+use Rattle.data_theory.specs.NamedFunctions.{named_from, functions_named}
 use Rattle.data_theory.specs.WholeSignatures.{IsSignature}
-use Rattle.data_theory.proofs.PlaceLemmas.{contains_read, read_contained}
+use Rattle.data_theory.proofs.PlaceLemmas.{contains_read}
 use Rattle.data_theory.proofs.IdSortLemmas.{same_meant_sort, sorts_mean_their_kinds, read_within}
 use Rattle.data_theory.proofs.IdSymbolLemmas.{holds_at, boolean_is, positive_is, natural_is, integer_is, positive_within, natural_within, integer_within, symbol_fits, listed_functions_mean_their_places}
 use Rattle.data_theory.proofs.IdDataLemmas.{declared_found}

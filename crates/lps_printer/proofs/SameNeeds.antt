@@ -1,30 +1,26 @@
 -- Constants that are added under new names leave as they are the names that are declared once, and so the empty lists that need one.
-use Rattle.std.proofs.Common.{◌≡◌, ◌+◌, ◌<◌, ◌==◌, ◌&&◌, ⊎_elim, ℕ, zero, suc, Bool, true, false, cond, List, [], ◌∷◌, ◌++◌, length, map, take, get_or, Option, Some, None, refl, sym, ap, ap₂, ◌∙◌, subst, arith, append-nil, append_assoc}
+use Rattle.std.proofs.Common.{◌≡◌, ◌+◌, ◌<◌, ◌==◌, ◌&&◌, ℕ, suc, Bool, true, false, cond, List, [], ◌∷◌, ◌++◌, length, map, Some, refl, sym, ap, ap₂, ◌∙◌, subst, arith, append-nil, append_assoc}
 use Rattle.std.specs.Prelude.{slice_get, option_map}
-use Rattle.std.specs.List.{All, Contains, flat_map}
+use Rattle.std.specs.List.{Contains, flat_map}
 use Rattle.std.proofs.lemmas.Bool.Decides.{Decides-eqb}
 use Rattle.std.proofs.lemmas.List.Elements.{All-contains, Contains-append_right}
-use Rattle.std.proofs.lemmas.Option.{none-some, slice_get_within, slice_get-map, slice_get-get_or, get_or_from_slice_get}
-use Rattle.data_theory.specs.declared.ids.FunId.{FunId}
+use Rattle.std.proofs.lemmas.Option.{slice_get_within, slice_get-map, slice_get-get_or, get_or_from_slice_get}
 use Rattle.data_theory.specs.declared.ids.NameId.{NameId}
 use Rattle.data_theory.specs.declared.ids.SortId.{SortId}
-use Rattle.data_theory.specs.declared.words.Word.{Word}
 use Rattle.data_theory.specs.Names.{place_in}
 use Rattle.data_theory.specs.Terms.{Sort, Symbol, truth, falsity, negation, conjunction, disjunction, implication, equality, inequality, conditional, comparison, arithmetic, minus, upcast, empty, cons, snoc, concatenation, size, element_at, head, rhead, tail, rtail, membership, function, Term, Terms, variable, unknown, application}
 use Rattle.data_theory.specs.Terms as terms
 use Rattle.data_theory.specs.Declarations.{Data, argument_sorts, HasSort, HaveSorts, IsSymbol}
 use Rattle.data_theory.specs.Environments.{terms_of}
-use Rattle.data_theory.specs.Keys.{Key}
 use Rattle.data_theory.specs.Complete.{IsFunctionWithin}
 use Rattle.data_theory.specs.Functions.{Function, declared_function}
 use Rattle.data_theory.specs.Signature.{Sig, IsTaken}
 use Rattle.data_theory.specs.IdData.{data_meant}
 use Rattle.data_theory.specs.IdSymbols.{if_declared}
-use Rattle.data_theory.specs.IdTerms.{IsGrown}
 use Rattle.data_theory.specs.NamedFunctions.{if_named, named_from, functions_named}
 use Rattle.data_theory.specs.WholeSignatures.{IsSignature}
 use Rattle.data_theory.proofs.NameLemmas.{still_there, place_within}
-use Rattle.data_theory.proofs.PlaceLemmas.{contains_read, read_front}
+use Rattle.data_theory.proofs.PlaceLemmas.{contains_read}
 use Rattle.term_pool.proofs.DeclaredConstants.{still_read}
 use Rattle.term_pool.proofs.Lists.{contains_head, contains_tail, contained_from_map}
 use Rattle.lps_core.proofs.NamedSums.{not_taken}
@@ -34,7 +30,7 @@ use Rattle.lps_printer.specs.WrittenTerms.{Manner, no_elements, an_element, a_ca
 use Rattle.lps_printer.specs.NeededConstants.{nils_in, nils, all_nils, element_nils}
 use Rattle.lps_printer.specs.SignatureNames.{is_free, is_function_once, once_functions, actions_named, is_action_once, is_declared_once, names_under, text_names_under}
 use Rattle.lps_printer.specs.GrowingByConstants.{GrowsByConstants}
-use Rattle.lps_printer.proofs.OwnFunctions.{stands_as, many_declared}
+use Rattle.lps_printer.proofs.OwnFunctions.{stands_as}
 
 -- ---- texts
 module _ (g h : Sig) (sg : IsSignature g) (w : GrowsByConstants g h) where

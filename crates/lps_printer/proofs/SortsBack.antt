@@ -1,7 +1,6 @@
 -- What is printed for a sort is read as the sort.
 use Rattle.std.proofs.Common.{◌≡◌, ◌+◌, ◌<◌, ◌⊎◌, inl, inr, ℕ, zero, suc, List, [], ◌∷◌, ◌++◌, length, map, take, codes, Option, Some, None, refl, sym, ap, ◌∙◌, subst, arith, length-append}
 use Rattle.std.specs.Prelude.{slice_get, option_map, IfSome, IsSome}
-use Rattle.std.proofs.lemmas.Option.{none-some}
 use Rattle.data_theory.specs.declared.ids.NameId.{NameId}
 use Rattle.data_theory.specs.declared.ids.SortId.{SortId}
 use Rattle.data_theory.specs.Terms.{Sort, boolean, positive, natural, integer, list, named}
@@ -23,7 +22,7 @@ use Rattle.sort_table.specs.NamedLists.{first_named}
 use Rattle.sort_table.specs.SignatureVocabularies.{text_under, sort_name_under}
 use Rattle.sort_table.proofs.NamesFound.{name_found}
 use Rattle.lps_printer.specs.WrittenProcesses.{sort_written}
-use Rattle.lps_printer.specs.SignatureNames.{sort_names, text_names_under}
+use Rattle.lps_printer.specs.SignatureNames.{text_names_under}
 use Rattle.lps_printer.proofs.SignatureNames.{sort_named_at}
 
 -- ---- the entry of a declared sort

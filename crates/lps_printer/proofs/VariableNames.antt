@@ -1,7 +1,7 @@
 -- The names of variables aren't those of functions.
-use Rattle.std.proofs.Common.{◌≡◌, ◌<◌, ⊎_elim, ℕ, List, [], ◌∷◌, ◌++◌, length, map, get_or, codes, Some, refl, sym, ap, ◌∙◌, subst}
+use Rattle.std.proofs.Common.{◌≡◌, ◌<◌, ⊎_elim, ℕ, List, [], ◌∷◌, length, map, codes, Some, refl, sym, ap, ◌∙◌, subst}
 use Rattle.std.specs.Prelude.{slice_get}
-use Rattle.std.specs.List.{All, Contains}
+use Rattle.std.specs.List.{Contains}
 use Rattle.std.proofs.lemmas.List.Elements.{Contains-append_left, Contains-append_right}
 use Rattle.std.proofs.lemmas.Option.{slice_get-get_or}
 use Rattle.data_theory.specs.declared.ids.NameId.{NameId}
@@ -25,7 +25,7 @@ use Rattle.data_theory.specs.WholeSignatures.{IsSignature}
 use Rattle.data_theory.proofs.NameLemmas.{place_is}
 use Rattle.data_theory.proofs.PlaceLemmas.{contains_read}
 use Rattle.data_theory.proofs.StandingLemmas.{first_functions_stand}
-use Rattle.term_pool.proofs.Lists.{contains_none, contains_cons, contains_head, contains_map}
+use Rattle.term_pool.proofs.Lists.{contains_none, contains_cons, contains_map}
 use Rattle.data_theory.specs.Environments.{AreDistinct}
 use Rattle.lps_core.specs.Fitting.{IsVariable}
 use Rattle.lps_core.specs.Naming.{name_of, names_of, list_words, list_names, table_names, function_names}
@@ -34,7 +34,7 @@ use Rattle.sort_table.specs.SignatureVocabularies.{text_under}
 use Rattle.lps_printer.specs.DataLayout.{IsIdentifier}
 use Rattle.lps_printer.specs.ReadableNames.{symbol_text}
 use Rattle.lps_printer.specs.SignatureNames.{variable_name_of, names_under}
-use Rattle.lps_printer.proofs.OwnFunctions.{StandsAs, stands_as}
+use Rattle.lps_printer.proofs.OwnFunctions.{stands_as}
 
 -- ---- names that differ belong to one variable each
 pub same_variable : (g : Sig) (xs : List VarId) → AreDistinct (map (λ (n : NameId). n.0) (names_of g xs)) → (x y : VarId) → Contains xs x → Contains xs y → (name_of g x).0 ≡ (name_of g y).0 → x ≡ y

@@ -1,10 +1,10 @@
 -- Variables that are told apart by their names, and whose names aren't those of functions.
-use Rattle.std.proofs.Common.{◌≡◌, ◌≢◌, ◌⊎◌, inl, inr, ⊎_elim, ℕ, Bool, true, false, cond, List, [], ◌∷◌, map, Option, Some, None, refl, sym, ap, ◌∙◌, subst}
+use Rattle.std.proofs.Common.{◌≡◌, ◌≢◌, ◌⊎◌, inl, inr, ⊎_elim, ℕ, Bool, true, false, cond, List, [], ◌∷◌, map, Some, None, refl, sym, ap, ◌∙◌, subst}
 use Rattle.std.specs.Prelude.{bytes_eq}
 use Rattle.std.specs.List.{Contains, AllByRecursion}
 use Rattle.std.proofs.lemmas.Slice.Eq.{bytes_eq-Decides}
-use Rattle.data_theory.specs.Terms.{Sort, Symbol, function}
-use Rattle.data_theory.specs.Declarations.{Declares, IsSort, IsSymbol}
+use Rattle.data_theory.specs.Terms.{Symbol, function}
+use Rattle.data_theory.specs.Declarations.{Declares, IsSymbol}
 use Rattle.data_theory.specs.Environments.{Apart, AreDistinct}
 use Rattle.data_theory.specs.Signature.{Sig}
 use Rattle.data_theory.specs.IdData.{data_meant}
@@ -24,7 +24,7 @@ use Rattle.data_typing.specs.Meanings.{Scope, bound_row, meaning}
 use Rattle.sort_checker.specs.FullVocabularies.{FullVocabulary}
 use Rattle.sort_checker.specs.Scopes.{numbers_of}
 use Rattle.lps_printer.specs.ReadableNames.{symbol_text, ReadsNames}
-use Rattle.lps_printer.specs.FittingNames.{FitNames, numbers}
+use Rattle.lps_printer.specs.FittingNames.{FitNames}
 use Rattle.lps_printer.specs.WrittenProcesses.{TextNames, sort_written, bound_named, scope_behind}
 use Rattle.lps_printer.specs.LinearBack.{EachTwo, CanBind}
 use Rattle.lps_printer.specs.SignatureNames.{text_names_under}

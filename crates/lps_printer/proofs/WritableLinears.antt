@@ -1,12 +1,12 @@
 -- A linear process with constants in the place of empty lists is a linear process over the same variables, is well sorted, and can be written.
-use Rattle.std.proofs.Common.{◌≡◌, ℕ, Bool, true, false, cond, List, [], ◌∷◌, ◌++◌, length, map, refl, sym, ap, ◌∙◌, subst}
+use Rattle.std.proofs.Common.{ℕ, Bool, true, false, cond, List, [], ◌∷◌, ◌++◌, refl, sym, ◌∙◌, subst}
 use Rattle.std.specs.Prelude.{Option, Some, None, option_map}
 use Rattle.std.specs.List.{AllByRecursion, Contains}
 use Rattle.std.proofs.lemmas.List.{length-map}
 use Rattle.data_theory.specs.Terms.{Sort, boolean, Symbol, Term, Terms, variable, unknown, application}
 use Rattle.data_theory.specs.Terms as terms
 use Rattle.data_theory.specs.Environments.{terms_of, IsOver, AreOver}
-use Rattle.data_theory.specs.Declarations.{Data, HasSort, HaveSorts}
+use Rattle.data_theory.specs.Declarations.{Data, HaveSorts}
 use Rattle.process_terms.specs.Labels.{Action, Label}
 use Rattle.process_terms.specs.Processes.{Bound}
 use Rattle.bisim_laws.specs.LinearProcesses.{Summand, Linear, variables, sorts, LabelIsOver, no_action_left, action_over, NextIsOver, no_next, next_over, IsSummand, IsLinear, LabelIsSorted, no_action_to_sort, action_sorted, NextIsSorted, no_next_to_sort, next_sorted, SummandIsSorted, IsWellSorted}
@@ -16,7 +16,7 @@ use Rattle.lps_printer.specs.ReadableNames.{IsWritable, AreWritable}
 use Rattle.lps_printer.specs.EmptyLists.{Filled, empty_or, all_opened, all_placed, as_elements, filled_in, filled, filled_all, HasNils, NilsAmong, AllNilsAmong, HasNoUnknown, HaveNoUnknown}
 use Rattle.lps_printer.specs.WrittenProcesses.{TextNames}
 use Rattle.lps_printer.specs.LinearBack.{NextReads}
-use Rattle.lps_printer.specs.FilledLinears.{Constants, filled_terms, filled_action, filled_label, filled_summand, filled_linear}
+use Rattle.lps_printer.specs.FilledLinears.{Constants, filled_terms, filled_label, filled_summand, filled_linear}
 use Rattle.lps_printer.proofs.EmptyLists.{fill}
 
 -- ---- the same variables
