@@ -13,3 +13,4 @@ mod SortedTerms
 mod SmallNumerals
 mod SignatureSorts
 mod ElaboratedModels
+mod ReadingBack

@@ -9,3 +9,4 @@ pub mod Linearised
 pub mod ElaboratedModels
 pub mod AddedParts
 pub mod AddedConstants
+pub mod ReadingBack
