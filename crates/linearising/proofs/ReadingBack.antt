@@ -16,7 +16,7 @@ use Rattle.data_theory.specs.Terms.{Term}
 use Rattle.data_theory.specs.WholeSignatures.{IsSignature}
 use Rattle.process_terms.specs.SignatureEntries.{entries_of, BothGrow}
 use Rattle.process_terms.specs.Theories.{Theory, Equals}
-use Rattle.bisim_laws.specs.LinearProcesses.{Linear, state_of, IsWellSorted, IsLinearText}
+use Rattle.bisim_laws.specs.LinearProcesses.{Linear, state_of, IsLinearText}
 use Rattle.lps_core.specs.Fitting.{Fits}
 use Rattle.lps_core.specs.PlainLinears.{PlainLinear, linear_of, initial_of}
 use Rattle.lps_core.proofs.Staying.{what_fits_is_sorted, what_fits_stays}
@@ -40,7 +40,7 @@ use Rattle.lps_printer.specs.FittingLinears.{CanBeRead}
 use Rattle.lps_printer.specs.FoundConstants.{constant_among}
 use Rattle.lps_printer.specs.GrowingByConstants.{GrowsByConstants}
 use Rattle.lps_printer.specs.LinearBack.{parameters_of}
-use Rattle.lps_printer.specs.PrintedDeclarations.{DeclaresMore, AreSoundOver}
+use Rattle.lps_printer.specs.PrintedDeclarations.{AreSoundOver}
 use Rattle.lps_printer.specs.PrintedLinears.{IsPrinted}
 use Rattle.lps_printer.specs.PrintedTheories.{printed_sections, printed_vocabulary, HasTheory}
 use Rattle.lps_printer.specs.SignatureNames.{text_names_under}
