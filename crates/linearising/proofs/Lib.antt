@@ -18,3 +18,4 @@ mod ModelsOfTexts
 mod OneStart
 mod Refused
 mod MadeLinears
+mod ReadingBack

@@ -11,3 +11,4 @@ pub mod ElaboratedModels
 pub mod ModelsOfTexts
 pub mod AddedParts
 pub mod AddedConstants
+pub mod ReadingBack

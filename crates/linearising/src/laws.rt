@@ -50,3 +50,10 @@ ghost use Rattle.linearising.specs.AddedConstants.{ConstantsMayBeAdded};
 pub fn constants_may_be_added()
     ensures { ConstantsMayBeAdded }
 {}
+
+ghost use Rattle.linearising.specs.ReadingBack.{PrintedTextsReadBack};
+
+/// What is printed for a linear process that fits reads back.
+pub fn printed_texts_read_back()
+    ensures { PrintedTextsReadBack }
+{}
