@@ -21,3 +21,4 @@ mod ModelsOfTexts
 mod OneStart
 mod Refused
 mod MadeLinears
+mod MadeNames

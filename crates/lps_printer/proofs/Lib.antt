@@ -98,3 +98,4 @@ pub mod WritableLinears
 pub mod SameNeeds
 pub mod DeclaredActions
 pub mod FittingLinears
+pub mod GrownIdentifiers

@@ -49,3 +49,4 @@ pub mod FoundConstants
 pub mod PrintedTheories
 pub mod PrintedDeclarations
 pub mod FittingLinears
+pub mod GrownIdentifiers

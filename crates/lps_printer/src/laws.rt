@@ -13,6 +13,7 @@ ghost use Rattle.lps_printer.specs.FittingNames.{NamesThatFitRead};
 ghost use Rattle.lps_printer.specs.FoundConstants.{ThereAreConstants, ConstantsHaveEquations};
 ghost use Rattle.lps_printer.specs.FreshIdentifiers.{ConstantNamesAreIdentifiers, FreshNamesAreIdentifiers};
 ghost use Rattle.lps_printer.specs.GrownTexts.{AddedConstantsAreNamed, EmptyListsAreAdded, WhatGrowsByConstantsAddsThem};
+ghost use Rattle.lps_printer.specs.GrownIdentifiers.{ConstantSortsRead, ConstantsAreNamed, NamesStayIdentifiers};
 ghost use Rattle.lps_printer.specs.LinearBack.{LinearProcessesElaborateBack};
 ghost use Rattle.lps_printer.specs.NamedSummands.{SummandsSpellBack};
 ghost use Rattle.lps_printer.specs.NeedLaws.{AddedConstantsAreNils, ListedNilsAreThose, WhatIsMetIsFound};
@@ -190,4 +191,11 @@ pub fn printed_declarations_are_sound()
 /// What is printed for a linear process that fits a signature can be read, with the constants that are added for empty lists.
 pub fn fitting_linears_read()
     ensures { FittingLinearsRead }
+{}
+
+/// Names stay identifiers as constants are added. The constants' names are identifiers, and what is written for their sorts has these sorts.
+pub fn names_stay_identifiers()
+    ensures stay { NamesStayIdentifiers }
+    ensures constants { ConstantsAreNamed }
+    ensures sorts { ConstantSortsRead }
 {}
