@@ -12,13 +12,12 @@ use Rattle.sort_table.specs.BareDeclarations.{Declaration, Section, declarations
 use Rattle.sort_table.specs.Expressions.{Name}
 use Rattle.sort_table.specs.Identifiers.{copied_identifiers}
 use Rattle.sort_table.specs.SignatureVocabularies.{text_under}
-use Rattle.sort_checker.specs.Elaborations.{WrittenEquation}
 use Rattle.sort_checker.specs.Parts.{ScopedDeclaration, variables_by, scoped_behind}
 use Rattle.sort_checker.specs.Systems.{equation_under, equations_in}
 use Rattle.lps_printer.specs.WrittenProcesses.{TextNames}
 use Rattle.lps_printer.specs.AddedDeclarations.{name_at, added_functions, empty_list_declared, added_declared}
 use Rattle.lps_printer.specs.CopiedParts.{data_by, data_in}
-use Rattle.lps_printer.specs.GrownTexts.{mapping_declared, AddsTheConstants}
+use Rattle.lps_printer.specs.GrownTexts.{mapping_declared}
 use Rattle.lps_printer.proofs.CopiedParts.{flat_append, under}
 use Rattle.lps_printer.proofs.GrownTexts.{what_grows_by_constants_adds_them}
 use Rattle.linearising.specs.Headline.{IsAddition, names_of_addition, IsOfAnEmptyList}

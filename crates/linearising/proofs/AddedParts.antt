@@ -1,6 +1,5 @@
 -- What a printed specification adds.
-use Rattle.std.proofs.Common.{◌++◌, map, ap, ◌∙◌}
-use Rattle.sort_table.specs.BareDeclarations.{bare_section}
+use Rattle.std.proofs.Common.{ap, ◌∙◌}
 use Rattle.sort_checker.specs.Systems.{equations_in}
 use Rattle.lps_printer.specs.CopiedParts.{data_in}
 use Rattle.lps_printer.proofs.SectionsBehind.{printed_data, printed_equations}

@@ -22,3 +22,5 @@ mod OneStart
 mod Refused
 mod MadeLinears
 mod MadeNames
+mod ReadingBack
+pub mod MadeTexts

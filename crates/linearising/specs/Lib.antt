@@ -12,3 +12,5 @@ pub mod ElaboratedModels
 pub mod ModelsOfTexts
 pub mod AddedParts
 pub mod AddedConstants
+pub mod ReadingBack
+pub mod MadeTexts

@@ -50,3 +50,25 @@ ghost use Rattle.linearising.specs.AddedConstants.{ConstantsMayBeAdded};
 pub fn constants_may_be_added()
     ensures { ConstantsMayBeAdded }
 {}
+
+ghost use Rattle.linearising.specs.ReadingBack.{PrintedTextsReadBack};
+
+/// What is printed for a linear process that fits reads back.
+pub fn printed_texts_read_back()
+    ensures { PrintedTextsReadBack }
+{}
+
+ghost use Rattle.linearising.specs.MadeTexts.{WhatIsMadeCanBePrinted, WhatIsPrintedForATextStandsForIt};
+
+/// What is made of a text can be printed, and what is printed for it stands for the text.
+pub fn what_is_printed_for_a_text_stands_for_it()
+    ensures can_be_printed { WhatIsMadeCanBePrinted }
+    ensures stands_for { WhatIsPrintedForATextStandsForIt }
+{}
+
+ghost use Rattle.linearising.specs.NamedSignatures.{TextsDeclareIdentifiers};
+
+/// The functions, the sorts and the actions of a text are named by identifiers.
+pub fn texts_declare_identifiers()
+    ensures { TextsDeclareIdentifiers }
+{}

@@ -44,8 +44,7 @@ lexed_are_copied text at to tokens nothing all = tt
 lexed_are_copied text at to tokens (after_space inside white more) all = lexed_are_copied text (suc at) to tokens more all
 lexed_are_copied text at to tokens (after_comment {next = next} further comment more) all = lexed_are_copied text next to tokens more all
 lexed_are_copied text at to tokens (after_token {first = first} {others = others} start some longest more) all =
-    let accepted = All-head (IsAccepted text) first others all in
-    (
+    let accepted = All-head (IsAccepted text) first others all in (
       record { token = subst (λ (from : ℕ). IsToken (take (first.end - from) (drop from text)) first.kind) (sym start) longest.token; kept = accepted.kept; fits = accepted.fits },
       lexed_are_copied text first.end to others more (All-tail (IsAccepted text) first others all),
     )

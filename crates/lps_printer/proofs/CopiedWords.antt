@@ -129,8 +129,7 @@ module _ (g : Sig) (sg : IsSignature g) (rs : List (Name × ℕ)) (new : AllByRe
   -- ---- of declarations
   declaration_apart : (xs : Variables) (d : PlainDecl) → AreTaken g (in_declaration d) → AllByRecursion (EquationHasNoneOf rs) (equation_under xs (bare_declaration d))
   declaration_apart xs (trees.equation_decl span c l r) h =
-      let sides = in_data l ++ in_data r in
-      (
+      let sides = in_data l ++ in_data r in (
         (
           condition_apart c (λ t k. h t (Contains-append_left (in_condition c) sides t k)),
           data_apart l (λ t k. h t (Contains-append_right (in_condition c) sides t (Contains-append_left (in_data l) (in_data r) t k))),

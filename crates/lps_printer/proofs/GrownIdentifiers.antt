@@ -83,8 +83,7 @@ constants_are_named g h w named = numbers_named h (length g.functions) (length w
 -- the first names of sorts are, where all are
 pub sorts_are_named : (g : Sig) → IsSignature g → All (λ (e : NameId × SortId). IsIdentifier (text_under g e.0)) g.sort_names → SortsAreNamed g
 sorts_are_named g sg named = λ d s n at first.
-    let among = sg.first_names_lead d s n at first in
-    (
+    let among = sg.first_names_lead d s n at first in (
       (All-contains (λ (e : NameId × SortId). (e.0.0 < length g.texts) × (e.1.0 < length g.sorts)) g.sort_names (n, d) sg.complete.within.sort_names among).0,
       All-contains (λ (e : NameId × SortId). IsIdentifier (text_under g e.0)) g.sort_names (n, d) named among,
     )

@@ -57,8 +57,7 @@ module _ (h : Sig) (w : FullVocabulary) (is : w.declared ≡ vocabulary_of h) (r
   nils_elaborate f k [] all = tt
   nils_elaborate f k (s ∷ ss) all =
       let a : f + 0 ≡ f = omega arith in
-      let b : k + 0 ≡ k = omega arith in
-      (
+      let b : k + 0 ≡ k = omega arith in (
         one_elaborates f k s (moved h (f + 0) (k + 0) f k s a b (all 0 s refl)),
         nils_elaborate (f + 1) (suc k) ss (λ i r at. let c : f + suc i ≡ f + 1 + i = omega arith in let d : k + suc i ≡ suc k + i = omega arith in moved h (f + suc i) (k + suc i) (f + 1 + i) (suc k + i) r c d (all (suc i) r at)),
       )
