@@ -23,7 +23,7 @@ on_column {g = g} {k = k} (a_column {h = h} {name = name} n) =
     let x : Variable = record { name = name; sort = k.1 } in
     on_then g h (with_variable h x) (on_name n) (on_variable h x)
 
-on_columns : {g h : Sig} {ks : List (NameId × SortId)} {cs : List VarId} → AreColumns g ks h cs → GrowsOn g h
+pub on_columns : {g h : Sig} {ks : List (NameId × SortId)} {cs : List VarId} → AreColumns g ks h cs → GrowsOn g h
 on_columns {g = g} no_column = on_itself g
 on_columns {g = g} (one_more_column {h = h} {i = i} a k) = on_then g h i (on_columns a) (on_column k)
 

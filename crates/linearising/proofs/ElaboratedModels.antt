@@ -453,7 +453,7 @@ module _ (v : FullVocabulary) (g : Sig) (p : PoolContents) (ws : List Written) (
   }
 
 pub what_elaborates_can_be_linear : WhatElaboratesCanBeLinear
-what_elaborates_can_be_linear v g p spec m words sg inhabited constants x =
+what_elaborates_can_be_linear v g p spec m words sg inhabited constants names x =
     let ss = bare_sections spec in
     let ws = processes_in (declarations_in ss) in
     let small_start = subst (AllByRecursion (EachExpression HasSmallNumerals)) x.one_init (small_starts spec words) in
@@ -473,4 +473,5 @@ what_elaborates_can_be_linear v g p spec m words sg inhabited constants x =
       own = bound_once (entries_of g p.trees) m (term_of m.init) (have_own v g p ws x.init m sg y);
       inhabited = inhabited;
       constants = constants;
+      names = names;
     }

@@ -4,6 +4,9 @@ mod OneComponents
 mod TakenNames
 mod GrownModels
 mod ConstantGrowth
+mod Identifiers
+mod NamedSignatures
+mod NamedVariables
 mod ProcessNames
 mod ColumnNames
 mod AddedParts
@@ -19,3 +22,5 @@ mod OneStart
 mod Refused
 mod MadeLinears
 mod ReadingBack
+mod MadeNames
+pub mod MadeTexts

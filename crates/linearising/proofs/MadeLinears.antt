@@ -18,11 +18,12 @@ use Rattle.sort_checker.specs.TextModels.{IsModelOf}
 use Rattle.sort_checker.proofs.Adding.{signature_stays, vocabulary_stays}
 use Rattle.linearising.specs.ModelLinears.{CanBeLinear}
 use Rattle.linearising.proofs.ModelsOfTexts.{models_of_texts_can_be_linear}
+use Rattle.linearising.proofs.NamedVariables.{none_named, added_named}
 
 no_constants : (g : Sig) → AreConstants g []
 no_constants g = record { each = All-nil (λ c. IsConstantOf g c.0 c.1); once = λ i j x a b. absurd (none-some x a) }
 
 pub model_can_be_linear : (spec : PlainSpec) (g h : Sig) (p q : PoolContents) (m : PlainModel) → IsSpecOfWords spec → IsSignature g → IsBuilt spec g → p.constants ≡ [] → GoesOn g p h q → IsModelOf spec h q m → CanBeLinear h q m
 model_can_be_linear spec g h p q m words stands built none on is =
-    let data : data_meant h ≡ data_meant g = ap (λ (v : Vocabulary). v.tables) (vocabulary_stays g h stands on.added) in
-    models_of_texts_can_be_linear spec h q m words (signature_stays g h stands on.added) (subst NoSortIsEmpty (sym data) built.inhabited) (subst (AreConstants h) (sym (on.constants ∙ none)) (no_constants h)) is
+    let same : data_meant h ≡ data_meant g = ap (λ (v : Vocabulary). v.tables) (vocabulary_stays g h stands on.added) in
+    models_of_texts_can_be_linear spec h q m words (signature_stays g h stands on.added) (subst NoSortIsEmpty (sym same) built.inhabited) (subst (AreConstants h) (sym (on.constants ∙ none)) (no_constants h)) (added_named g h on.added (none_named g built.declared.no_variables)) is

@@ -119,6 +119,7 @@ from_the_component g h ts us m c l sg grow fits k leads =
       inhabited = leads.inhabited;
       grows = leads.grows;
       fits = leads.fits;
+      identifiers = leads.identifiers;
       params = leads.params;
       names = leads.names;
       link = Then Same leads.link;

@@ -57,4 +57,4 @@ model_elaborates spec g p m is =
     }
 
 pub models_of_texts_can_be_linear : ModelsOfTextsCanBeLinear
-models_of_texts_can_be_linear spec g p m words signature inhabited constants is = what_elaborates_can_be_linear is.vocabulary g p spec m words signature inhabited constants (model_elaborates spec g p m is)
+models_of_texts_can_be_linear spec g p m words signature inhabited constants names is = what_elaborates_can_be_linear is.vocabulary g p spec m words signature inhabited constants names (model_elaborates spec g p m is)

@@ -2,7 +2,7 @@
 use Rattle.std.proofs.Common.{◌≡◌, ◌<◌, ◌+◌, ◌==◌, ◌⊎◌, inl, inr, ⊎_elim, ℕ, zero, suc, Bool, true, false, cond, List, [], ◌∷◌, ◌++◌, map, length, get_or, codes, Some, Option, refl, sym, ap, ◌∙◌, subst, arith, length-append}
 use Rattle.std.specs.Prelude.{slice_get, Contains}
 use Rattle.std.specs.List.{All, list_any}
-use Rattle.std.proofs.lemmas.List.Elements.{All-nil, All-cons, All-head, All-tail, All-append, All-weaker}
+use Rattle.std.proofs.lemmas.List.Elements.{All-nil, All-cons, All-head, All-tail, All-append, All-weaker, All-contains}
 use Rattle.std.proofs.lemmas.Option.{same_Some}
 use Rattle.data_theory.specs.declared.ids.NameId.{NameId}
 use Rattle.data_theory.specs.declared.ids.SortId.{SortId}
@@ -19,19 +19,24 @@ use Rattle.data_theory.proofs.IdGrowthLemmas.{with_a_variable_it_is_grown}
 use Rattle.term_pool.specs.Pools.{PoolContents}
 use Rattle.term_pool.specs.Constants.{DeclaresConstants, none_left, declares}
 use Rattle.term_pool.proofs.DeclaredConstants.{still_read, fresh_grows}
-use Rattle.lps_core.specs.Fitting.{IsVariable, sort_of_variable}
+use Rattle.data_theory.specs.IdTrees.{Tree}
+use Rattle.lps_core.specs.Fitting.{IsVariable, sort_of_variable, SummandFits, Fits}
+use Rattle.lps_core.proofs.Members.{all_from, contains_map}
 use Rattle.lps_core.specs.Naming.{name_of, IsNamed, it_stays, it_is_new, AreNamed, no_sum, one_more_sum, SummandsAreNamed, no_summand, one_more_summand}
-use Rattle.lps_core.specs.PlainLinears.{PlainLinear}
+use Rattle.lps_core.specs.PlainLinears.{PlainSummand, PlainLinear}
 use Rattle.lps_core.proofs.NamedSums.{name_kept, variable_kept, last_variable, all_front, all_last}
-use Rattle.greibach.specs.Surroundings.{IsIdentifier}
+use Rattle.greibach.specs.Surroundings.{HasUsableNames}
+use Rattle.lps_printer.specs.DataLayout.{IsIdentifier}
 use Rattle.greibach.specs.FittingForms.{FormFits, EquationFits}
 use Rattle.greibach.specs.PlainForms.{PlainEquation, PlainForm}
-use Rattle.greibach.proofs.FreshIdentifiers.{fresh_identifier}
+use Rattle.lps_printer.proofs.FreshIdentifiers.{fresh_names_are_identifiers}
 use Rattle.regular_encoder.specs.EncodedForms.{IsEncodedForm}
 use Rattle.regular_encoder.specs.FormColumns.{all_params, kind_of, is_same_kind, with_kind, with_kinds, column_kinds, IsOwnName, the_name, a_new_name, IsColumn, a_column, AreColumns, no_column, one_more_column, IsControl, no_control, a_control, IsFirstTerm, an_argument, a_closed_term, AreFirstTerms, no_first_term, one_more_first_term}
 use Rattle.lps_printer.proofs.GrowingByConstants.{GrowsOn, on_itself, on_fresh, on_variable, on_then}
-use Rattle.linearising.specs.TakenNames.{HasIdentifierText, HasIdentifier, HaveIdentifiers}
-use Rattle.linearising.proofs.ConstantGrowth.{on_name, on_column, on_columns, on_control}
+use Rattle.linearising.specs.TakenNames.{HasIdentifierText, HaveIdentifiers, HaveTakenNames}
+use Rattle.sort_checker.specs.Additions.{AddsVariables, nothing, one_list, one_variable}
+use Rattle.linearising.proofs.Identifiers.{identifier_named}
+use Rattle.linearising.proofs.ConstantGrowth.{on_columns}
 
 below_or_last : (a b : ℕ) → a < b + 1 → (a < b) ⊎ (a ≡ b)
 below_or_last zero zero m = inr refl
@@ -43,8 +48,8 @@ below_or_last (suc a) (suc b) m = ⊎_elim (λ k. inl (omega (arith, k))) (λ k.
 pub text_still : (g h : Sig) (n : NameId) → IsGrown g h → HasIdentifierText g n → HasIdentifierText h n
 text_still g h n w u = (u.0, still_read g.texts h.texts w.new_texts w.texts n.0 u.0 u.1, u.2)
 
-fresh_text : (g h : Sig) (base : List ℕ) (n : NameId) → IsIdentifier base → IsFreshIn g base n h → HasIdentifierText h n
-fresh_text g h base n i f = (f.text, f.named, subst IsIdentifier (sym f.fresh.named) (fresh_identifier base i f.fresh.number))
+pub fresh_text : (g h : Sig) (base : List ℕ) (n : NameId) → IsIdentifier base → IsFreshIn g base n h → HasIdentifierText h n
+fresh_text g h base n i f = (f.text, f.named, subst IsIdentifier (sym f.fresh.named) (fresh_names_are_identifiers base i f.fresh.number))
 
 -- ---- all variables
 pub none_named : (g : Sig) → g.variables ≡ [] → HaveIdentifiers g
@@ -64,7 +69,7 @@ named_more g v u all x l =
     (λ last. subst (HasIdentifierText g) (sym (ap (λ n. (get_or (g.variables ++ v ∷ []) n d).name) last ∙ ap (λ (y : Variable). y.name) (last_variable g v d))) u)
     (below_or_last x.0 (length g.variables) (omega (arith, l, long)))
 
-fresh_named : (g h : Sig) (base : List ℕ) (n : NameId) → IsFreshIn g base n h → HaveIdentifiers g → HaveIdentifiers h
+pub fresh_named : (g h : Sig) (base : List ℕ) (n : NameId) → IsFreshIn g base n h → HaveIdentifiers g → HaveIdentifiers h
 fresh_named g h base n f all = named_still g h (fresh_grows g base n h f) (ap (λ (z : Sig). z.variables) f.taken) all
 
 -- ---- columns
@@ -163,3 +168,22 @@ summands_named no_summand l all = all
 summands_named {g = g} (one_more_summand {xss = xss} {h = h} {xs = xs} a n) l all =
     let w = (summands_grow a).grows.grown in
     sums_named n (All-weaker (IsVariable g) (IsVariable h) (λ x k. variable_kept g h x w k) xs (all_last (All (IsVariable g)) xss xs l)) (summands_named a (all_front (All (IsVariable g)) xss xs l) all)
+
+-- the sums of a linear process that fits are variables
+pub sums_there : (g : Sig) (ts : List Tree) (l : PlainLinear) → Fits g ts l → All (All (IsVariable g)) (map (λ (s : PlainSummand). s.sums) l.summands)
+sums_there g ts l fits = all_from (All (IsVariable g)) (map (λ (s : PlainSummand). s.sums) l.summands) (λ xs i.
+    let r = contains_map (λ (s : PlainSummand). s.sums) l.summands xs i in
+    subst (All (IsVariable g)) (sym r.1.1) (All-contains (SummandFits g ts l.params) l.summands r.0 fits.summands r.1.0).sums)
+
+-- ---- as the Greibach normal form has them
+pub usable_named : (g : Sig) → HasUsableNames g → HaveIdentifiers g
+usable_named g all x l = let u = all x l in (u.text, u.named, u.identifier)
+
+pub named_usable : (g : Sig) → HaveTakenNames g (length g.variables) → HaveIdentifiers g → HasUsableNames g
+named_usable g taken all x l = let u = all x l in record { taken = taken x l; text = u.0; named = u.1; identifier = u.2 }
+
+-- ---- as elaboration adds them
+pub added_named : (g h : Sig) → AddsVariables g h → HaveIdentifiers g → HaveIdentifiers h
+added_named g _ nothing all = all
+added_named g _ (one_list h e l n a) all = added_named g h a all
+added_named g _ (one_variable h x n i s a) all = named_more h x (i.0, i.1, identifier_named i.0 i.2) (added_named g h a all)

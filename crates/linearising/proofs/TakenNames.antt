@@ -68,3 +68,7 @@ on_ok (Err x) A B f h = h
 pub if_ok : {T E : Type 0} (r : Result T E) (P Q : T → Type 0) → ((x : T) → P x → Q x) → IfOk r P → IfOk r Q
 if_ok (Ok x) P Q f h = f x h
 if_ok (Err x) P Q f h = h
+
+pub on_any : {T E : Type 0} (r : Result T E) (A : Type 0) → A → OnOk r A
+on_any (Ok x) A a = a
+on_any (Err x) A a = tt

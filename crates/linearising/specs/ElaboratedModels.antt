@@ -20,6 +20,7 @@ use Rattle.sort_table.specs.BareDeclarations.{bare_sections, declarations_in}
 use Rattle.mcrl2_syntax.specs.Declarations.{PlainSpec}
 use Rattle.mcrl2_syntax.specs.TreeWords.{IsSpecOfWords}
 use Rattle.linearising.specs.ModelLinears.{CanBeLinear}
+use Rattle.linearising.specs.TakenNames.{HaveIdentifiers}
 
 -- the definition in code is that for which the written one stands, and its parameters have their sorts in the signature
 pub record IsDefinitionOf (v : FullVocabulary) (g : Sig) (p : PoolContents) (w : Written) (d : PlainDefinition) : Type 0 where
@@ -39,5 +40,5 @@ pub record IsElaborated (v : FullVocabulary) (g : Sig) (p : PoolContents) (spec 
 -- the specification is one that tokens spell
 abbrev pub WhatElaboratesCanBeLinear : Type 0
 WhatElaboratesCanBeLinear =
-    (v : FullVocabulary) (g : Sig) (p : PoolContents) (spec : PlainSpec) (m : PlainModel) → IsSpecOfWords spec → IsSignature g → NoSortIsEmpty (data_meant g) → AreConstants g p.constants
+    (v : FullVocabulary) (g : Sig) (p : PoolContents) (spec : PlainSpec) (m : PlainModel) → IsSpecOfWords spec → IsSignature g → NoSortIsEmpty (data_meant g) → AreConstants g p.constants → HaveIdentifiers g
     → IsElaborated v g p spec m → CanBeLinear g p m

@@ -2,6 +2,7 @@ pub mod EqualLinears
 pub mod FilledLinears
 pub mod OneComponents
 pub mod TakenNames
+pub mod NamedSignatures
 pub mod Faults
 pub mod ModelLinears
 pub mod Headline
@@ -12,3 +13,4 @@ pub mod ModelsOfTexts
 pub mod AddedParts
 pub mod AddedConstants
 pub mod ReadingBack
+pub mod MadeTexts

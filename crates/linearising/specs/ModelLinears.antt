@@ -31,19 +31,21 @@ use Rattle.regular_encoder.specs.FormColumns.{ParamsHaveOwnNames}
 use Rattle.regular_encoder.specs.Refusals.{IsFirstWithTwoCalls}
 use Rattle.lps_printer.specs.GrowingByConstants.{GrowsByConstants}
 use Rattle.linearising.specs.OneComponents.{HasParallelOperator}
+use Rattle.linearising.specs.TakenNames.{HaveIdentifiers}
 use Rattle.guard_check.specs.declared.checking.GuardFault.TheVariants as guard
 use Rattle.proc_unfold.specs.declared.faults.NetFault.TheVariants as net
 use Rattle.linearising.specs.declared.fault.ModelFault.{ModelFault}
 use Rattle.linearising.specs.declared.fault.ModelFault.TheVariants.{Net, NotBuilt, Guard, NotTail, NoMemory}
 
 -- What is asked of a specification: it is well formed over the signature and the pool, no binder takes a variable that is in scope, no
--- sort is empty, and the pool's constants are those of the signature.
+-- sort is empty, the pool's constants are those of the signature, and variables are named by identifiers.
 pub record CanBeLinear (g : Sig) (p : PoolContents) (m : PlainModel) : Type 0 where
   pub stands : IsSignature g
   pub fits : ModelFits g p.trees m
   pub own : (e : Entries) → HaveOwnVariables (table_of e m.definitions) (body_of e m.init)
   pub inhabited : NoSortIsEmpty (data_meant g)
   pub constants : AreConstants g p.constants
+  pub names : HaveIdentifiers g
 
 abbrev pub component_process : Entries → PlainModel → PlainComponent → Process
 component_process e m c = close (table_of e m.definitions) [] (component_body e c)
@@ -66,6 +68,7 @@ pub record CanBeLinearFrom (g : Sig) (p : PoolContents) (m : PlainModel) (c : Pl
   pub own : BindsItsVariablesOnce m c
   pub inhabited : NoSortIsEmpty (data_meant g)
   pub constants : AreConstants g p.constants
+  pub names : HaveIdentifiers g
 
 -- From this process a link leads to the linear process, over every theory that goes on from the signature at the end. Constants alone
 -- were declared meanwhile. The parameters and the sums have names of their own.
@@ -74,6 +77,7 @@ pub record LeadsToLinear (g : Sig) (p : Process) (h : Sig) (us : List Tree) (l :
   pub inhabited : NoSortIsEmpty (data_meant h)
   pub grows : GrowsByConstants g h
   pub fits : Fits h us l
+  pub identifiers : HaveIdentifiers h
   pub params : ParamsHaveOwnNames h l.params
   pub names : HaveOwnNames h l
   pub link : Link

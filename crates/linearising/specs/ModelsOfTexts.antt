@@ -11,8 +11,9 @@ use Rattle.mcrl2_syntax.specs.Declarations.{PlainSpec}
 use Rattle.mcrl2_syntax.specs.TreeWords.{IsSpecOfWords}
 use Rattle.sort_checker.specs.TextModels.{IsModelOf}
 use Rattle.linearising.specs.ModelLinears.{CanBeLinear}
+use Rattle.linearising.specs.TakenNames.{HaveIdentifiers}
 
 -- the specification is one that tokens spell
 abbrev pub ModelsOfTextsCanBeLinear : Type 0
 ModelsOfTextsCanBeLinear =
-    (spec : PlainSpec) (g : Sig) (p : PoolContents) (m : PlainModel) → IsSpecOfWords spec → IsSignature g → NoSortIsEmpty (data_meant g) → AreConstants g p.constants → IsModelOf spec g p m → CanBeLinear g p m
+    (spec : PlainSpec) (g : Sig) (p : PoolContents) (m : PlainModel) → IsSpecOfWords spec → IsSignature g → NoSortIsEmpty (data_meant g) → AreConstants g p.constants → HaveIdentifiers g → IsModelOf spec g p m → CanBeLinear g p m

@@ -57,3 +57,18 @@ ghost use Rattle.linearising.specs.ReadingBack.{PrintedTextsReadBack};
 pub fn printed_texts_read_back()
     ensures { PrintedTextsReadBack }
 {}
+
+ghost use Rattle.linearising.specs.MadeTexts.{WhatIsMadeCanBePrinted, WhatIsPrintedForATextStandsForIt};
+
+/// What is made of a text can be printed, and what is printed for it stands for the text.
+pub fn what_is_printed_for_a_text_stands_for_it()
+    ensures can_be_printed { WhatIsMadeCanBePrinted }
+    ensures stands_for { WhatIsPrintedForATextStandsForIt }
+{}
+
+ghost use Rattle.linearising.specs.NamedSignatures.{TextsDeclareIdentifiers};
+
+/// The functions, the sorts and the actions of a text are named by identifiers.
+pub fn texts_declare_identifiers()
+    ensures { TextsDeclareIdentifiers }
+{}

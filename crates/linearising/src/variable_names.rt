@@ -3,7 +3,7 @@
 ghost use Rattle.std.specs.Prelude.{◌≡◌, ◌≤◌, ◌<◌, length, OnOk};
 ghost use Rattle.lps_core.specs.Fitting.{HasTakenName, IsVariable};
 ghost use Rattle.lps_core.specs.Naming.{GrowsByNames};
-ghost use Rattle.linearising.specs.TakenNames.{HaveTakenNames};
+ghost use Rattle.linearising.specs.TakenNames.{HasIdentifierText, HaveIdentifiers, HaveTakenNames};
 
 use data_theory::{NameId, NoMemory, Signature, SortId, VarId};
 use lps_core::signature_stands;
@@ -46,6 +46,7 @@ pub(crate) fn take_variable_names(
     requires { name.0 < length sig.old.texts }
     ensures grown { GrowsByNames sig.old sig.new }
     ensures taken { OnOk result (HaveTakenNames sig.new (length sig.new.variables)) }
+    ensures named { HasIdentifierText sig.old name → HaveIdentifiers sig.old → OnOk result (HaveIdentifiers sig.new) }
 {
     signature_stands(sig);
     let last = sig.add_var(name, SortId(0))?;

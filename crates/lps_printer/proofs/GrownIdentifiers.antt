@@ -49,7 +49,7 @@ text_still : (g h : Sig) → IsGrown g h → (n : NameId) → n.0 < length g.tex
 text_still g h w n l = ap (λ ts. get_or ts n.0 []) w.texts ∙ front_entry g.texts w.new_texts n.0 [] l
 
 module _ (g h : Sig) (before : IsSignature g) (w : IsGrown g h) where
-  identifier_still : (n : NameId) → n.0 < length g.texts → IsIdentifier (text_under g n) → IsIdentifier (text_under h n)
+  pub identifier_still : (n : NameId) → n.0 < length g.texts → IsIdentifier (text_under g n) → IsIdentifier (text_under h n)
   identifier_still n l i = subst IsIdentifier (sym (text_still g h w n l)) i
 
   variable_still : (x : VarId) → IsVariable g x → HasIdentifier g x → HasIdentifier h x
@@ -61,7 +61,7 @@ module _ (g h : Sig) (before : IsSignature g) (w : IsGrown g h) where
   variables_still : (xs : List VarId) → All (IsVariable g) xs → All (HasIdentifier g) xs → All (HasIdentifier h) xs
   variables_still xs there named = λ i d l. variable_still (get_or xs i d) (there i d l) (named i d l)
 
-  function_still : (f : FunId) → f.0 < length g.functions → FunctionNamed g f → FunctionNamed h f
+  pub function_still : (f : FunId) → f.0 < length g.functions → FunctionNamed g f → FunctionNamed h f
   function_still f l i =
       let e = read_within g.functions f.0 l in
       let old : IsIdentifier (text_under g e.0.name) = subst (λ (o : Option Function). IsIdentifier (function_name_of g o)) e.1 i in
@@ -75,13 +75,13 @@ numbers_named h n (suc m) all =
     All-cons (FunctionNamed h) (record { 0 = n }) (numbers_from (n + 1) m) (subst (λ (k : ℕ). FunctionNamed h (record { 0 = k })) z (all 0 (omega arith)))
     (numbers_named h (n + 1) m (λ i l. let e : n + suc i ≡ n + 1 + i = omega arith in subst (λ (k : ℕ). FunctionNamed h (record { 0 = k })) e (all (suc i) (omega (arith, l)))))
 
-constants_are_named : (g h : Sig) (w : GrowsByConstants g h) → All (λ (c : NameId × SortId). IsIdentifier (text_under h c.0)) w.constants → All (FunctionNamed h) (numbers_from (length g.functions) (length w.constants))
+pub constants_are_named : (g h : Sig) (w : GrowsByConstants g h) → All (λ (c : NameId × SortId). IsIdentifier (text_under h c.0)) w.constants → All (FunctionNamed h) (numbers_from (length g.functions) (length w.constants))
 constants_are_named g h w named = numbers_named h (length g.functions) (length w.constants) (λ i l.
     let c = read_within w.constants i l in
     subst (λ (o : Option Function). IsIdentifier (function_name_of h o)) (sym (constant_there g h w i c.0 c.1)) (holds_at (λ (e : NameId × SortId). IsIdentifier (text_under h e.0)) w.constants i c.0 named c.1))
 
 -- the first names of sorts are, where all are
-sorts_are_named : (g : Sig) → IsSignature g → All (λ (e : NameId × SortId). IsIdentifier (text_under g e.0)) g.sort_names → SortsAreNamed g
+pub sorts_are_named : (g : Sig) → IsSignature g → All (λ (e : NameId × SortId). IsIdentifier (text_under g e.0)) g.sort_names → SortsAreNamed g
 sorts_are_named g sg named = λ d s n at first.
     let among = sg.first_names_lead d s n at first in (
       (All-contains (λ (e : NameId × SortId). (e.0.0 < length g.texts) × (e.1.0 < length g.sorts)) g.sort_names (n, d) sg.complete.within.sort_names among).0,

@@ -37,6 +37,7 @@ linear_of_component-requires c =
       own = c.in_ok-component.ensures.binds c.requires.own;
       inhabited = c.requires.inhabited;
       constants = subst (λ cs. AreConstants g cs) (sym c.component_of.ensures.constants) c.requires.constants;
+      names = c.requires.names;
     })
 
 pub returns-clause-linear : goal.returns-clause-linear

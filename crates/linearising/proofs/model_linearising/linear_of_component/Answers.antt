@@ -1,4 +1,4 @@
-use Rattle.std.proofs.Common.{ℕ, List, sym, subst, ◌∙◌}
+use Rattle.std.proofs.Common.{ℕ, List, codes, refl, sym, subst, ◌∙◌}
 use Rattle.data_theory.specs.declared.ids.NameId.{NameId}
 use Rattle.data_theory.specs.Fresh.{IsFreshIn}
 use Rattle.data_theory.specs.WholeSignatures.{IsSignature}
@@ -24,6 +24,7 @@ use Rattle.linearising.proofs.ColumnNames.{encoding_has_own_names}
 use Rattle.lps_printer.proofs.GrowingByConstants.{on_names, on_then}
 use Rattle.linearising.proofs.ConstantGrowth.{encoding_grows}
 use Rattle.linearising.proofs.ProcessNames.{process_name}
+use Rattle.linearising.proofs.NamedVariables.{fresh_named, fresh_text, named_usable, usable_named, encoding_named, summands_named, sums_there}
 use Rattle.linearising.proofs.ModelLinears.{component_leads, encoding_refused}
 use Rattle.linearising.proofs.model_linearising.linear_of_component.Goals as goal
 
@@ -56,6 +57,14 @@ normal_form-requires-clause-component c =
     let ts = c.args.pool.now.trees in
     let w = names_on g c.fresh.new.self b _ c.in_ok-name.name c.requires.stands c.in_ok-name.ensures.fresh c.take_variable_names.ensures.grown in
     component_grows g b ts ts c.requires.stands (both_by_names g b ts ts w (extends_itself ts)) (plain_model c.args.guarded.now.model.now) c.requires.fits (plain_component c.args.component.now) c.requires.component
+
+pub normal_form-requires-clause-names : goal.normal_form-requires-clause-names
+normal_form-requires-clause-names c =
+    let g = c.args.sig.now in
+    let a = c.fresh.new.self in
+    let b = c.take_variable_names.new.sig in
+    let f = c.in_ok-name.ensures.fresh in
+    named_usable b c.in_ok-take_variable_names.ensures.taken (c.take_variable_names.ensures.named (fresh_text g a (codes "P") c.in_ok-name.name (refl, refl) f) (fresh_named g a (codes "P") c.in_ok-name.name f c.requires.names))
 
 pub returns-in_err-form-clause-grown : goal.returns-in_err-form-clause-grown
 returns-in_err-form-clause-grown c =
@@ -154,6 +163,7 @@ returns-clause-linear c =
     record {
       stands = sh;
       inhabited = still_inhabited e h c.in_ok-linear.ensures.stands sh c.name_sums.ensures.grown.grown c.name_sums.ensures.grown.sorts c.in_ok-linear.ensures.inhabited;
+      identifiers = summands_named c.in_ok-named.ensures.named.names (sums_there e bs made c.in_ok-linear.ensures.fits) (encoding_named d e c.normal_form.new.pool c.encode.new.pool f made c.in_ok-form.ensures.fits c.in_ok-linear.ensures.encoded (usable_named d c.in_ok-form.ensures.names));
       grows = (on_then g e h (on_then g d e (on_names g d c.requires.stands gd) (encoding_grows d e c.normal_form.new.pool c.encode.new.pool f made c.in_ok-linear.ensures.encoded)) (on_names e h c.in_ok-linear.ensures.stands c.name_sums.ensures.grown)).grows;
       fits = c.in_ok-named.ensures.fits;
       params = encoding_has_own_names d e h c.normal_form.new.pool c.encode.new.pool f made named gd.stands c.in_ok-linear.ensures.stands c.in_ok-form.ensures.fits few c.in_ok-linear.ensures.encoded c.in_ok-linear.ensures.fits c.name_sums.ensures.grown c.in_ok-named.ensures.named.params;

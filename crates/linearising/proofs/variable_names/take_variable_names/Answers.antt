@@ -3,8 +3,10 @@ use Rattle.lps_core.specs.Naming.{GrowsByNames}
 use Rattle.lps_core.proofs.NamedSums.{names_none}
 use Rattle.std.proofs.Common.{length}
 use Rattle.lps_core.specs.Fitting.{HasTakenName}
-use Rattle.linearising.specs.TakenNames.{HaveTakenNames}
-use Rattle.linearising.proofs.TakenNames.{all_taken, on_ok}
+use Rattle.data_theory.specs.declared.signature.Variable.{Variable}
+use Rattle.linearising.specs.TakenNames.{HaveIdentifiers, HaveTakenNames}
+use Rattle.linearising.proofs.NamedVariables.{named_more, named_still}
+use Rattle.linearising.proofs.TakenNames.{all_taken, on_ok, on_any}
 use Rattle.linearising.proofs.variable_names.take_variable_names.Goals as goal
 
 pub returns-in_err-last-clause-grown : goal.returns-in_err-last-clause-grown
@@ -18,3 +20,14 @@ returns-clause-taken c =
     (λ last. all_taken g c.add_var.new.self c.take_names_below.new.sig h _ c.in_ok-last.last.0 c.in_ok-last.ensures.number c.in_ok-last.ensures.added c.take_names_below.ensures.variables
     c.take_name_of.ensures.grown c.take_name_of.ensures.variables c.in_ok-take_names_below.ensures.taken last)
     c.take_name_of.ensures.taken
+
+pub returns-clause-named : goal.returns-clause-named
+returns-clause-named c = λ text all.
+    let g = c.args.sig.now in
+    let i = c.add_var.new.self in
+    let j = c.take_names_below.new.sig in
+    let h = c.take_name_of.new.sig in
+    let x : Variable = record { name = c.args.name; sort = record { 0 = 0 } } in
+    let one : HaveIdentifiers i = subst HaveIdentifiers (sym c.in_ok-last.ensures.added) (named_more g x text all) in
+    on_any c.take_name_of.result (HaveIdentifiers h)
+    (named_still j h c.take_name_of.ensures.grown.grown c.take_name_of.ensures.variables (named_still i j c.take_names_below.ensures.grown.grown c.take_names_below.ensures.variables one))
