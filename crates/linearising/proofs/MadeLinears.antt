@@ -24,5 +24,5 @@ no_constants g = record { each = All-nil (λ c. IsConstantOf g c.0 c.1); once = 
 
 pub model_can_be_linear : (spec : PlainSpec) (g h : Sig) (p q : PoolContents) (m : PlainModel) → IsSpecOfWords spec → IsSignature g → IsBuilt spec g → p.constants ≡ [] → GoesOn g p h q → IsModelOf spec h q m → CanBeLinear h q m
 model_can_be_linear spec g h p q m words stands built none on is =
-    let data : data_meant h ≡ data_meant g = ap (λ (v : Vocabulary). v.tables) (vocabulary_stays g h stands on.added) in
-    models_of_texts_can_be_linear spec h q m words (signature_stays g h stands on.added) (subst NoSortIsEmpty (sym data) built.inhabited) (subst (AreConstants h) (sym (on.constants ∙ none)) (no_constants h)) is
+    let same : data_meant h ≡ data_meant g = ap (λ (v : Vocabulary). v.tables) (vocabulary_stays g h stands on.added) in
+    models_of_texts_can_be_linear spec h q m words (signature_stays g h stands on.added) (subst NoSortIsEmpty (sym same) built.inhabited) (subst (AreConstants h) (sym (on.constants ∙ none)) (no_constants h)) is
