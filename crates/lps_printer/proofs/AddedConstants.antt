@@ -1,15 +1,15 @@
 -- Constants that are added for empty lists.
-use Rattle.std.proofs.Common.{◌≡◌, ℕ, suc, ◌+◌, ◌<◌, List, [], ◌∷◌, length, map, drop, get_or, codes, Option, Some, sym, ap, ◌∙◌, subst, arith, drop-cons, add-one, length-append}
-use Rattle.std.specs.Prelude.{slice_get, IfSome}
+use Rattle.std.proofs.Common.{◌≡◌, ℕ, suc, ◌+◌, ◌<◌, List, [], ◌∷◌, length, map, drop, get_or, codes, Option, Some, Result, Ok, Err, sym, ap, ◌∙◌, subst, arith, drop-cons, add-one, length-append}
+use Rattle.std.specs.Prelude.{slice_get, IfSome, IfOk, OnErr}
 use Rattle.std.proofs.Math.ListN.{set}
 use Rattle.data_theory.specs.declared.ids.FunId.{FunId}
 use Rattle.data_theory.specs.declared.ids.SortId.{SortId}
 use Rattle.data_theory.specs.Functions.{Function, declared_function}
-use Rattle.data_theory.specs.Signature.{Sig, with_taken}
+use Rattle.data_theory.specs.Signature.{Sig, with_taken, with_function}
 use Rattle.data_theory.specs.IdTerms.{IsGrown}
 use Rattle.data_theory.proofs.IdSortLemmas.{read_within}
 use Rattle.data_theory.proofs.IdGrowthLemmas.{with_a_function_it_is_grown, growth_after_growth_is_growth}
-use Rattle.term_pool.proofs.DeclaredConstants.{grown_as, fresh_grows, still_read}
+use Rattle.term_pool.proofs.DeclaredConstants.{grown_as, grown_itself, fresh_grows, still_read}
 use Rattle.lps_printer.specs.AddedConstants.{result_or, result_in, AddsConstant, AddsEach, adds, AddsConstants, with_constants}
 use Rattle.lps_printer.proofs.CodeForms.{at_entry}
 
@@ -36,6 +36,11 @@ one_function_more g h s one =
     let same : length one.between.functions ≡ length g.functions = ap (λ (k : Sig). length k.functions) one.fresh.taken in
     let more = ap (λ (k : Sig). length k.functions) one.declared ∙ length-append one.between.functions (declared_function one.name [] s ∷ []) in
     omega (arith, same, more)
+
+-- after either answer
+pub grown_by_one : {T E : Type 0} (r : Result T E) (g h : Sig) (f : Function) → IfOk r (λ _. h ≡ with_function g f) → OnErr r (h ≡ g) → IsGrown g h
+grown_by_one (Ok x) g h f added kept = grown_as g h (with_function g f) added (with_a_function_it_is_grown g f)
+grown_by_one (Err e) g h f added kept = grown_as g h g kept (grown_itself g)
 
 -- ---- one after the other
 pub next_constant : (g h k : Sig) (nils : List FunId) (i : ℕ) (x : FunId) (final : Sig) → i < length nils → x ≡ get_or nils i x → IsGrown g h → x.0 < length g.functions → AddsConstant h (result_in h x) k

@@ -86,7 +86,7 @@ pub fn print(
 ) -> Result<Vec<u8>, NoMemory>
     requires fits { Fits sig.old pool.now.trees (plain_linear lin.now) }
     requires name { name.0 < length sig.old.texts }
-    ensures grown { OnOk result (IsGrown sig.old sig.new) }
+    ensures grown { IsGrown sig.old sig.new }
     ensures written { IfOk result (λ text. IsPrinted (spec_of spec.now) sig.old sig.new pool.now.trees name (plain_linear lin.now) text.items) }
 {
     let _ = sig.names();

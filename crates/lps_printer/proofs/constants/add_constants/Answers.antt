@@ -4,12 +4,21 @@ use Rattle.std.proofs.lemmas.List.{length-map}
 use Rattle.data_theory.specs.declared.ids.FunId.{FunId}
 use Rattle.data_theory.specs.Signature.{Sig, with_taken}
 use Rattle.data_theory.proofs.IdGrowthLemmas.{with_a_text_it_is_grown, growth_after_growth_is_growth}
-use Rattle.term_pool.proofs.DeclaredConstants.{grown_as}
+use Rattle.term_pool.proofs.DeclaredConstants.{grown_as, grown_itself}
 use Rattle.lps_printer.specs.AddedConstants.{result_in, with_constants, bare_table, AddsEach, none_left}
 use Rattle.lps_printer.proofs.NameTables.{read_alike}
 use Rattle.lps_printer.proofs.CodeActions.{some_of, nothing_left}
 use Rattle.lps_printer.proofs.AddedConstants.{constant_grows, one_function_more, next_constant, next_entry, constants_begun}
 use Rattle.lps_printer.proofs.constants.add_constants.Goals as goal
+
+pub returns-in_err-constants-clause-grown : goal.returns-in_err-constants-clause-grown
+returns-in_err-constants-clause-grown c = grown_itself c.args.sig.now
+
+pub returns-then-is_empty-clause-grown : goal.returns-then-is_empty-clause-grown
+returns-then-is_empty-clause-grown c = grown_itself c.args.sig.now
+
+pub returns-in_err-take_name-clause-grown : goal.returns-in_err-take_name-clause-grown
+returns-in_err-take_name-clause-grown c = grown_as c.args.sig.now c.take_name.new.self c.args.sig.now c.in_err-take_name.ensures.unchanged (grown_itself c.args.sig.now)
 
 pub loop-nil-init : goal.loop-nil-init
 loop-nil-init c =

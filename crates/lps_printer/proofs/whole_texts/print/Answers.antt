@@ -4,8 +4,8 @@ use Rattle.std.proofs.lemmas.List.Elements.{All-weaker}
 use Rattle.std.proofs.lemmas.Option.{slice_get_within}
 use Rattle.std.proofs.lemmas.Result.{IfOk-weaker}
 use Rattle.data_theory.specs.declared.ids.FunId.{FunId}
-use Rattle.data_theory.specs.IdTerms.{IsGrown}
 use Rattle.mcrl2_syntax.specs.Declarations.{spec_of}
+use Rattle.term_pool.proofs.DeclaredConstants.{grown_itself}
 use Rattle.lps_core.specs.PlainLinears.{plain_linear}
 use Rattle.lps_core.proofs.GrownSignatures.{texts_longer}
 use Rattle.lps_core.proofs.StayingFits.{what_fits_fits_still}
@@ -50,13 +50,8 @@ text_with-requires-clause-added c =
     added_below c.args.sig.now c.add_constants.new.sig c.names.ensures.stands c.as_slice.result.now c.in_ok-constants.ensures.added c.fun_count-first.result c.fun_count.result c.fun_count-first.ensures c.fun_count.ensures c.as_slice-3.result.now
     (c.as_slice-3.ensures.value ∙ c.in_ok-added.ensures)
 
-pub returns-clause-grown : goal.returns-clause-grown
-returns-clause-grown c =
-    let g = c.args.sig.now in
-    let h = c.add_constants.new.sig in
-    let l = plain_linear c.args.lin.now in
-    IfOk-weaker c.text_with.result (λ text. HasText (spec_of c.args.spec.now) h c.args.pool.now.trees c.as_slice-2.result.now (text_under h c.args.name) l c.as_slice-3.result.now text.items) (λ text. IsGrown g h)
-    (λ text has. constants_grow g h (map (result_in g) c.as_slice.result.now) c.in_ok-constants.ensures.added) c.text_with.ensures
+pub returns-in_err-found-clause-grown : goal.returns-in_err-found-clause-grown
+returns-in_err-found-clause-grown c = grown_itself c.args.sig.now
 
 pub returns-clause-written : goal.returns-clause-written
 returns-clause-written c =
