@@ -38,7 +38,7 @@ with_name_keeps ns m n h = elim (list_any (λ k. m.0 == k.0) ns) as (λ b. Conta
 
 -- ---- growth by names and variables alone
 pub names_none : (g : Sig) → IsSignature g → GrowsByNames g g
-names_none g s = record { stands = s; grown = grown_itself g; functions = refl; sorts = refl; actions = refl; taken = λ n i. i }
+names_none g s = record { stands = s; grown = grown_itself g; functions = refl; sorts = refl; sort_names = refl; actions = refl; taken = λ n i. i }
 
 pub names_then : (g h k : Sig) → GrowsByNames g h → GrowsByNames h k → GrowsByNames g k
 names_then g h k a b = record {
@@ -46,15 +46,16 @@ names_then g h k a b = record {
   grown = growth_after_growth_is_growth g h k a.grown b.grown;
   functions = b.functions ∙ a.functions;
   sorts = b.sorts ∙ a.sorts;
+  sort_names = b.sort_names ∙ a.sort_names;
   actions = b.actions ∙ a.actions;
   taken = λ n i. b.taken n (a.taken n i);
 }
 
 pub names_text : (g : Sig) (t : List ℕ) → IsSignature g → GrowsByNames g (with_taken g t)
-names_text g t s = record { stands = text_stands g t s; grown = with_a_text_it_is_grown g t; functions = refl; sorts = refl; actions = refl; taken = λ n i. with_name_keeps g.taken (place_in (with_text g.texts t) t) n i }
+names_text g t s = record { stands = text_stands g t s; grown = with_a_text_it_is_grown g t; functions = refl; sorts = refl; sort_names = refl; actions = refl; taken = λ n i. with_name_keeps g.taken (place_in (with_text g.texts t) t) n i }
 
 pub names_variable : (g : Sig) (x : Variable) → IsSignature g → x.name.0 < length g.texts → x.sort.0 < length g.sorts → GrowsByNames g (with_variable g x)
-names_variable g x s n r = record { stands = variable_stands g x s n r; grown = with_a_variable_it_is_grown g x; functions = refl; sorts = refl; actions = refl; taken = λ n i. i }
+names_variable g x s n r = record { stands = variable_stands g x s n r; grown = with_a_variable_it_is_grown g x; functions = refl; sorts = refl; sort_names = refl; actions = refl; taken = λ n i. i }
 
 -- ---- variables that stay
 pub variable_there : (g : Sig) (x : VarId) → IsVariable g x → (d : Variable) → slice_get g.variables x.0 ≡ Some (get_or g.variables x.0 d)

@@ -54,6 +54,7 @@ pub record GrowsByNames (g h : Sig) : Type 0 where
   pub grown : IsGrown g h
   pub functions : h.functions ≡ g.functions
   pub sorts : h.sorts ≡ g.sorts
+  pub sort_names : h.sort_names ≡ g.sort_names
   pub actions : h.actions ≡ g.actions
   pub taken : (n : NameId) → Contains g.taken n → Contains h.taken n
 
