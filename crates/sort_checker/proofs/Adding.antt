@@ -24,7 +24,7 @@ of_lists g _ (one_list h e l absent a) = additions.one_list h e l absent (of_lis
 pub adds_then : (g h k : Sig) → AddsVariables g h → AddsVariables h k → AddsVariables g k
 adds_then g h _ a nothing = a
 adds_then g h _ a (additions.one_list k e l absent b) = additions.one_list k e l absent (adds_then g h k a b)
-adds_then g h _ a (one_variable k x n s b) = one_variable k x n s (adds_then g h k a b)
+adds_then g h _ a (one_variable k x n i s b) = one_variable k x n i s (adds_then g h k a b)
 
 pub goes_nowhere : (g : Sig) (p : PoolContents) → GoesOn g p g p
 goes_nowhere g p = record { added = nothing; kept = extends_itself p.trees; constants = refl }
@@ -56,7 +56,7 @@ stays g _ stands (additions.one_list h e l absent a) =
       vocabulary = list_sorts_keep_the_vocabulary h (with_list h e) so_far.signature more ∙ so_far.vocabulary;
       texts = same_texts h (with_list h e) more ∙ so_far.texts;
     }
-stays g _ stands (one_variable h x n s a) =
+stays g _ stands (one_variable h x n i s a) =
     let so_far = stays g h stands a in
     record {
       signature = variable_stands h x so_far.signature n s;

@@ -13,6 +13,7 @@ use Rattle.data_theory.specs.Signature.{Sig, with_variable}
 use Rattle.data_theory.specs.WholeSignatures.{IsSignature}
 use Rattle.data_theory.specs.IdTerms.{sort_under, variable_sorts, IsGrown}
 use Rattle.data_theory.proofs.IdSortLemmas.{growth_keeps_meant_sorts}
+use Rattle.data_theory.proofs.WholeSignatureLemmas.{variable_stands}
 use Rattle.term_pool.specs.Pools.{PoolContents}
 use Rattle.process_terms.specs.Processes as processes
 use Rattle.process_terms.specs.Meanings.{bound_at, HasVariable}
@@ -27,11 +28,11 @@ use Rattle.data_typing.specs.CodeWords.{bound_of, scope_behind, scope_of}
 use Rattle.data_typing.specs.FlatSorts.{flat_sort}
 use Rattle.data_typing.specs.Meanings.{Scope}
 use Rattle.sort_checker.specs.Scopes.{numbers_of, Binds, binds_none, binds_more}
-use Rattle.sort_checker.specs.Additions.{nothing, one_variable, GoesOn}
+use Rattle.sort_checker.specs.Additions.{nothing, one_variable, HasIdentifier, GoesOn}
 use Rattle.sort_checker.specs.ElaboratedParts.{AreBinders}
 use Rattle.sort_checker.specs.CodeContexts.{IsNumbered, AreBound, EnterBehind}
 use Rattle.sort_checker.proofs.Members.{contains_cases, contains_none}
-use Rattle.sort_checker.proofs.Adding.{adds_then, it_is_grown, signature_stays, vocabulary_stays}
+use Rattle.sort_checker.proofs.Adding.{adds_then, it_is_grown, vocabulary_stays}
 
 -- ---- scopes in code
 pub scope_with : (texts : List Name) (s : Scope) (bs : List Bound) (c : Bound) → scope_behind texts s (bs ++ c ∷ []) ≡ bound_of texts c ∷ scope_behind texts s bs
@@ -57,8 +58,8 @@ last_of [] x more d = refl
 last_of (y ∷ xs) x more d = last_of xs x more d
 
 module _ (g : Sig) (signature : IsSignature g) (x : Variable) (name : x.name.0 < length g.texts) (sort : x.sort.0 < length g.sorts) where
-  pub variable_goes_on : (p : PoolContents) → GoesOn g p (with_variable g x) p
-  variable_goes_on p = record { added = one_variable g x name sort nothing; kept = ([], sym (append-nil p.trees)); constants = refl }
+  pub variable_goes_on : HasIdentifier g x → (p : PoolContents) → GoesOn g p (with_variable g x) p
+  variable_goes_on named p = record { added = one_variable g x name named sort nothing; kept = ([], sym (append-nil p.trees)); constants = refl }
 
   variables_longer : (h : Sig) → IsGrown (with_variable g x) h → length g.variables < length h.variables
   variables_longer h grown =
@@ -70,12 +71,12 @@ module _ (g : Sig) (signature : IsSignature g) (x : Variable) (name : x.name.0 <
   pub its_binder : (id : VarId) → id.0 ≡ length g.variables → AreBinders (with_variable g x) (id ∷ []) (record { var = length g.variables; sort = sort_under g x.sort } ∷ [])
   its_binder id number = record {
     there = λ h p q on.
-        let grown = it_is_grown (with_variable g x) h (signature_stays g (with_variable g x) signature (one_variable g x name sort nothing)) on.added in
+        let grown = it_is_grown (with_variable g x) h (variable_stands g x signature name sort) on.added in
         let long = variables_longer h grown in
         let mapped : length (variable_sorts h) ≡ length h.variables = length-map h.variables (λ (v : Variable). sort_under h v.sort) in
         All-cons (HasVariable (entries_of h q.trees)) id [] (let less : id.0 < length (variable_sorts h) = omega (arith, long, mapped, number) in less) (All-nil (HasVariable (entries_of h q.trees)));
     means = λ h p q on.
-        let grown = it_is_grown (with_variable g x) h (signature_stays g (with_variable g x) signature (one_variable g x name sort nothing)) on.added in
+        let grown = it_is_grown (with_variable g x) h (variable_stands g x signature name sort) on.added in
         let at : get_or (variable_sorts h) id.0 boolean ≡ sort_under h x.sort =
         ap₂ (λ (vs : List Variable) (n : ℕ). get_or (map (λ (v : Variable). sort_under h v.sort) vs) n boolean) grown.variables number ∙ its_sort h grown.new_variables in
         let kept : sort_under h x.sort ≡ sort_under g x.sort = growth_keeps_meant_sorts (with_variable g x) h grown x.sort sort in

@@ -4,6 +4,8 @@ use Rattle.std.specs.Prelude.{Some, slice_get}
 use Rattle.std.specs.List.{All}
 use Rattle.std.proofs.lemmas.Option.{slice_get_within}
 use Rattle.std.proofs.lemmas.List.Elements.{All-append, All-nil, All-cons}
+use Rattle.mcrl2_lexer.specs.declared.kind.Kind.TheVariants.{Identifier}
+use Rattle.mcrl2_lexer.specs.Tokens.{IsToken}
 use Rattle.data_theory.specs.declared.ids.SortId.{SortId}
 use Rattle.data_theory.specs.declared.ids.VarId.{VarId}
 use Rattle.data_theory.specs.Signature.{Sig, with_variable}
@@ -26,19 +28,19 @@ use Rattle.sort_checker.proofs.WhatStays.{ready_on}
 use Rattle.sort_checker.proofs.Binding.{variable_goes_on, bound_one}
 
 -- one variable: the signature with it, and the scope with it as the innermost one
-module _ (g : Sig) (p : PoolContents) (t : SortTables) (bs : List Bound) (ready : IsReady g p t bs) (x : Name) (c : Bound) (s : SortId) (text : slice_get g.texts c.name.0 ≡ Some x) (sort : s.0 < length g.sorts) (h : Sig) (added : h ≡ with_variable g (record { name = c.name; sort = s })) where
+module _ (g : Sig) (p : PoolContents) (t : SortTables) (bs : List Bound) (ready : IsReady g p t bs) (x : Name) (c : Bound) (s : SortId) (text : slice_get g.texts c.name.0 ≡ Some x) (named : IsToken x Identifier) (sort : s.0 < length g.sorts) (h : Sig) (added : h ≡ with_variable g (record { name = c.name; sort = s })) where
   name_within : c.name.0 < length g.texts
   name_within = slice_get_within g.texts c.name.0 x text
 
   pub one_goes_on : GoesOn g p h p
-  one_goes_on = subst (λ k. GoesOn g p k p) (sym added) (variable_goes_on g ready.signature (record { name = c.name; sort = s }) name_within sort p)
+  one_goes_on = subst (λ k. GoesOn g p k p) (sym added) (variable_goes_on g ready.signature (record { name = c.name; sort = s }) name_within sort (x, text, named) p)
 
   module _ (number : c.var.0 ≡ length g.variables) (cs : List Bound) (entered : cs ≡ bs ++ c ∷ []) where
     pub ready_with : IsFlatOver g c.sort → IsReady h p t cs
     ready_with flat =
         let k : Sig = with_variable g (record { name = c.name; sort = s }) in
         let grown = with_a_variable_it_is_grown g (record { name = c.name; sort = s }) in
-        let before : IsReady k p t bs = ready_on g p t bs k p t ready (one_variable g (record { name = c.name; sort = s }) name_within sort nothing) (tables_stay g k t refl ready.tables) (kept_over_growth g k grown p.trees) in
+        let before : IsReady k p t bs = ready_on g p t bs k p t ready (one_variable g (record { name = c.name; sort = s }) name_within (x, text, named) sort nothing) (tables_stay g k t refl ready.tables) (kept_over_growth g k grown p.trees) in
         let long = length-append g.variables (record { name = c.name; sort = s } ∷ []) in
         let less : c.var.0 < length k.variables = omega (arith, long, number) in
         subst (λ r. IsReady r p t cs) (sym added)

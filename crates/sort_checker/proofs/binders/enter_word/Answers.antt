@@ -15,26 +15,26 @@ returns-in_err-var-clause-kept c = subst (λ h. GoesOn c.args.sig.now c.args.poo
 pub returns-in_err-enter-clause-kept : goal.returns-in_err-enter-clause-kept
 returns-in_err-enter-clause-kept c =
     let b : Bound = record { name = c.word_number-name.result; var = c.in_ok-var.var; sort = c.flat-sort.result } in
-    one_goes_on c.args.sig.now c.args.pool.now c.args.tables.now c.args.scope.now c.requires.ready c.args.word.now.bytes.items b c.args.sort c.word_number-name.ensures c.requires.sort c.add_var.new.self c.in_ok-var.ensures.added
+    one_goes_on c.args.sig.now c.args.pool.now c.args.tables.now c.args.scope.now c.requires.ready c.args.word.now.bytes.items b c.args.sort c.word_number-name.ensures c.requires.name c.requires.sort c.add_var.new.self c.in_ok-var.ensures.added
 
 pub returns-in_err-push-clause-kept : goal.returns-in_err-push-clause-kept
 returns-in_err-push-clause-kept c =
     let b : Bound = record { name = c.word_number-name.result; var = c.in_ok-var.var; sort = c.flat-sort.result } in
-    one_goes_on c.args.sig.now c.args.pool.now c.args.tables.now c.args.scope.now c.requires.ready c.args.word.now.bytes.items b c.args.sort c.word_number-name.ensures c.requires.sort c.add_var.new.self c.in_ok-var.ensures.added
+    one_goes_on c.args.sig.now c.args.pool.now c.args.tables.now c.args.scope.now c.requires.ready c.args.word.now.bytes.items b c.args.sort c.word_number-name.ensures c.requires.name c.requires.sort c.add_var.new.self c.in_ok-var.ensures.added
 
 pub returns-clause-kept : goal.returns-clause-kept
 returns-clause-kept c =
     let b : Bound = record { name = c.word_number-name.result; var = c.in_ok-var.var; sort = c.flat-sort.result } in
-    one_goes_on c.args.sig.now c.args.pool.now c.args.tables.now c.args.scope.now c.requires.ready c.args.word.now.bytes.items b c.args.sort c.word_number-name.ensures c.requires.sort c.add_var.new.self c.in_ok-var.ensures.added
+    one_goes_on c.args.sig.now c.args.pool.now c.args.tables.now c.args.scope.now c.requires.ready c.args.word.now.bytes.items b c.args.sort c.word_number-name.ensures c.requires.name c.requires.sort c.add_var.new.self c.in_ok-var.ensures.added
 
 pub returns-clause-ready : goal.returns-clause-ready
 returns-clause-ready c =
     let b : Bound = record { name = c.word_number-name.result; var = c.in_ok-var.var; sort = c.flat-sort.result } in
-    ready_with c.args.sig.now c.args.pool.now c.args.tables.now c.args.scope.now c.requires.ready c.args.word.now.bytes.items b c.args.sort c.word_number-name.ensures c.requires.sort c.add_var.new.self c.in_ok-var.ensures.added
+    ready_with c.args.sig.now c.args.pool.now c.args.tables.now c.args.scope.now c.requires.ready c.args.word.now.bytes.items b c.args.sort c.word_number-name.ensures c.requires.name c.requires.sort c.add_var.new.self c.in_ok-var.ensures.added
     c.in_ok-var.ensures.number c.enter.new.self c.in_ok-enter.ensures.entered (c.flat-sort.ensures.within c.args.sig.now c.requires.ready.tables c.requires.sort)
 
 pub returns-clause-bound : goal.returns-clause-bound
 returns-clause-bound c = λ e has.
     let b : Bound = record { name = c.word_number-name.result; var = c.in_ok-var.var; sort = c.flat-sort.result } in
-    entered_one c.args.sig.now c.args.pool.now c.args.tables.now c.args.scope.now c.requires.ready c.args.word.now.bytes.items b c.args.sort c.word_number-name.ensures c.requires.sort c.add_var.new.self c.in_ok-var.ensures.added
+    entered_one c.args.sig.now c.args.pool.now c.args.tables.now c.args.scope.now c.requires.ready c.args.word.now.bytes.items b c.args.sort c.word_number-name.ensures c.requires.name c.requires.sort c.add_var.new.self c.in_ok-var.ensures.added
     c.in_ok-var.ensures.number c.enter.new.self c.in_ok-enter.ensures.entered (c.flat-sort.ensures.means c.args.sig.now c.requires.ready.tables c.requires.sort) e has c.args.variables.now.items c.push.new.self.items c.in_ok-push.ensures.items
