@@ -32,3 +32,4 @@ pub mod SameVocabulary
 pub mod MakingLemmas
 pub mod ReadableWords
 pub mod TreesWithin
+pub mod StandingLemmas

@@ -3,7 +3,7 @@ use Rattle.std.proofs.Common.{◌≡◌, ◌<◌, ℕ, zero, suc, Bool, true, fa
 use Rattle.std.specs.Prelude.{Option, Some, None, slice_get}
 use Rattle.std.specs.List.{All, AllByRecursion, Contains, filter, list_any}
 use Rattle.std.proofs.lemmas.Option.{none-some, same_Some}
-use Rattle.std.proofs.lemmas.List.Elements.{All-append, All-filter, All-weaker, All-contains_itself, Contains-append_left, Contains-append_right, recursion_from_All}
+use Rattle.std.proofs.lemmas.List.Elements.{All-append, All-contains, All-filter, All-weaker, All-contains_itself, Contains-append_left, Contains-append_right, recursion_from_All}
 use Rattle.data_theory.specs.declared.ids.SortId.{SortId}
 use Rattle.data_theory.specs.declared.rows.Row.{Row}
 use Rattle.data_theory.specs.Terms.{Sort, boolean, list}
@@ -14,7 +14,7 @@ use Rattle.data_theory.specs.IdSymbols.{word_symbol}
 use Rattle.data_theory.specs.RowsOfWords.{has_name}
 use Rattle.data_theory.specs.Table.{first_rows, truth_rows, comparison_rows, sum_rows, quotient_rows, extreme_rows, step_rows, sort_rows, list_rows, first_table, language_table, bool_sort, pos_sort, nat_sort, int_sort}
 use Rattle.data_theory.specs.IdTables.{IsRow, of_front, over_sort, over_list}
-use Rattle.data_theory.proofs.IdRowLemmas.{RowTells, row_tells}
+use Rattle.data_theory.proofs.IdRowLemmas.{Tells, RowTells, row_tells}
 use Rattle.sort_table.specs.Expressions.{Name}
 use Rattle.sort_table.specs.NamedLists.{all_named, first_named}
 use Rattle.sort_table.specs.Duplicates.{any_sort, lists_of_any}
@@ -135,6 +135,15 @@ places_numbered s (i ∷ is) = ap (λ ss. sort_numbered s i ∷ ss) (places_numb
 are_sorts : (g : Data) (s : Sort) → IsSort g s → (is : List SortId) → AllByRecursion (IsSort g) (map (sort_numbered s) is)
 are_sorts g s h [] = tt
 are_sorts g s h (i ∷ is) = (sort_is g s h i.0, are_sorts g s h is)
+
+-- what the symbol of a row at a sort S tells of the row's sorts
+pub any_row_tells : (g : Data) (s : Sort) → IsSort g s → (r : Row) → Contains (language_table any_sort lists_of_any) r
+    → Tells g (row_word r) (map (over s) (row_places r)) (row_is_list_constant r) (over s (place_numbered (row_result r))) (word_symbol (row_word r) (map (over s) (row_places r)) (over s (place_numbered (row_result r))))
+any_row_tells g s h r stands =
+    let is : IsItsRow r = All-contains IsItsRow (language_table any_sort lists_of_any) r all_rows stands in
+    let tells : RowTells g (sort_numbered s) r = row_tells g any_sorts (sort_numbered s) refl refl refl refl (list_is s) (λ i less. sort_is g s h i.0) element_is r is in
+    let to : Sort = sort_numbered s (row_result r) in
+    subst (λ ss. Tells g (row_word r) ss (row_is_list_constant r) to (word_symbol (row_word r) ss to)) (sym (places_numbered s (row_sorts r))) tells
 
 row_is_sound : (g : Data) (r : Row) → IsItsRow r → row_is_list_constant r ≡ false → IsSoundScheme g (row_scheme r)
 row_is_sound g r is called s h =

@@ -255,7 +255,7 @@ tested_at {A = A} f x xs e c = let (k, at) = read_contained xs x c in by xs k e 
     by (y ∷ ys) (suc k) e at = by ys k (both_true (f y) (list_all f ys) e).1 at
 
 -- ---- numbers of sorts at the places of a row
-list_kind : (m : SortId → Sort) (d : ℕ) (k : kinds.Kind) (a : Sort) → meaning_of m d k ≡ list a → (e : SortId) × (k ≡ kinds.lists_over e) × (m e ≡ a)
+pub list_kind : (m : SortId → Sort) (d : ℕ) (k : kinds.Kind) (a : Sort) → meaning_of m d k ≡ list a → (e : SortId) × (k ≡ kinds.lists_over e) × (m e ≡ a)
 list_kind m d kinds.booleans a h = cc
 list_kind m d kinds.positives a h = cc
 list_kind m d kinds.naturals a h = cc

@@ -21,3 +21,4 @@ pub mod WordPlaces
 pub mod FoundRows
 pub mod NamedSorts
 pub mod CodeParts
+pub mod StandingSorts

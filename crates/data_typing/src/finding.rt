@@ -20,7 +20,7 @@ use data_theory::{FunId, NoMemory, Signature, SortId};
 use std::alloc::Global;
 
 /// The number of a sort that is no list.
-fn base_number(sig: &Signature, named: &[SortId], base: Base) -> SortId
+pub(crate) fn base_number(sig: &Signature, named: &[SortId], base: Base) -> SortId
     requires named { AreNamedSorts sig.now named.now }
     requires there { IsBaseWithin (length named.now) base }
     ensures means { sort_under sig.now result ≡ base_sort base }

@@ -7,6 +7,7 @@ ghost use Rattle.data_typing.specs.TypingLaws.{CheckedTermsHaveTheSort, Inferred
 ghost use Rattle.data_typing.specs.Plans.{CallsGoByPlan};
 ghost use Rattle.data_typing.specs.Sortings.{SortsGoBeforeTerms};
 ghost use Rattle.data_typing.specs.WorkedTypings.{TheseAreTyped};
+ghost use Rattle.data_typing.specs.StandingSorts.{TreesHaveTheirSortsIn};
 ghost use Rattle.data_typing.specs.ContextLaws.{ListSortsComeBehind, ListSortsKeepTheVocabulary, ReadingsStay, ScopesStay, TablesStay, WishesStay};
 
 /// Worked expressions have the typings that the language says.
@@ -67,4 +68,9 @@ pub fn contexts_stay()
 /// A data expression that tokens spell can be read.
 pub fn spelled_data_are_readable()
     ensures { (d : PlainData) → IsDataOfWords d → IsReadable d }
+{}
+
+/// Of a tree over the numbers of a signature the sort of each subterm is in it.
+pub fn trees_have_their_sorts()
+    ensures { TreesHaveTheirSortsIn }
 {}

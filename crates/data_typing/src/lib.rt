@@ -16,5 +16,6 @@ pub mod plans;
 pub mod reading;
 pub mod scope;
 pub mod sort_tables;
+pub mod standing;
 pub mod steps;
 pub mod words;
