@@ -10,6 +10,4 @@ mod AddedParts
 mod ModelLinears
 mod Linearised
 mod SortedTerms
-mod SmallNumerals
-mod SignatureSorts
 mod ElaboratedModels

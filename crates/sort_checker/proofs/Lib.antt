@@ -82,3 +82,6 @@ pub mod ElaboratedForms
 pub mod ElaboratedInside
 pub mod ElaboratedInCode
 pub mod TreeSizes
+pub mod SmallNumerals
+pub mod SignatureSorts
+pub mod LabelsOver

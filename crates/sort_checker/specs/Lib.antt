@@ -49,3 +49,4 @@ pub mod TextProcesses
 pub mod FaultNames
 pub mod TextModels
 pub mod SortedTrees
+pub mod TypedLabels
