@@ -29,7 +29,7 @@ use Rattle.greibach.specs.Forms.{CallIsOver, IsFormSummand, IsFormEquation}
 use Rattle.greibach.specs.PlainForms.{PlainFormSummand, PlainEquation, call_of, form_summand_of, equation_of, form_of}
 use Rattle.greibach.specs.FittingForms.{CallFits, FormSummandFits, EquationFits, FormFits}
 use Rattle.greibach.specs.PlacesInCode.{PlainPlace}
-use Rattle.greibach.specs.Surroundings.{HasTakenNames, NumberedCall, SummandStands, EquationStands, AreEquations}
+use Rattle.greibach.specs.Surroundings.{HasUsableNames, NumberedCall, SummandStands, EquationStands, AreEquations}
 
 -- ---- closed terms
 mutual
@@ -67,7 +67,7 @@ record Called (g : Sig) (ts : List Tree) (qs : List PlainEquation) (xs : List Va
 one_value : {A : Type 0} {x y : A} → Some x ≡ Some y → x ≡ y
 one_value e = cc
 
-module _ (g : Sig) (sg : IsSignature g) (names : HasTakenNames g) (ts : List Tree) (ps : List PlainPlace) (met : List ℕ) (qs : List PlainEquation) (are : AreEquations g ts ps met qs) (all : length met ≤ length qs) where
+module _ (g : Sig) (sg : IsSignature g) (names : HasUsableNames g) (ts : List Tree) (ps : List PlainPlace) (met : List ℕ) (qs : List PlainEquation) (are : AreEquations g ts ps met qs) (all : length met ≤ length qs) where
   called : (xs : List VarId) (c : ℕ × List TermId) → NumberedCall g ts ps met xs c → Called g ts qs xs c
   called xs c k =
       let i = slice_get_within met (c.0 - 1) k.place k.number.1 in
@@ -84,7 +84,7 @@ module _ (g : Sig) (sg : IsSignature g) (names : HasTakenNames g) (ts : List Tre
       }
 
   taken : (xs : List VarId) → All (IsVariable g) xs → All (HasTakenName g) xs
-  taken xs h = All-weaker (IsVariable g) (HasTakenName g) names xs h
+  taken xs h = All-weaker (IsVariable g) (HasTakenName g) (λ x l. (names x l).taken) xs h
 
   summand_fits : (init : List TermId) (params : List VarId) (s : PlainFormSummand) → SummandStands g ts ps met params s → FormSummandFits g ts (record { equations = qs; init = init }) s
   summand_fits init params s k = record {

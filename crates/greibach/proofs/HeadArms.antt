@@ -43,8 +43,9 @@ use Rattle.greibach.specs.ListedVariables.{listed_variables, paired}
 use Rattle.greibach.specs.RenewedVariables.{IsRenewed, renewed}
 use Rattle.greibach.specs.FittingPlaces.{AreAmong, IsThere, PartFits, PlaceFits, PlacesFitSince}
 use Rattle.greibach.specs.AddedLabels.{LabelAdded}
+use Rattle.greibach.proofs.UsableNames.{still_usable}
 use Rattle.greibach.proofs.FittingHeads.{place_fits, there_covered, call_stands, onward_stands, label_added}
-use Rattle.greibach.specs.Surroundings.{PlainAround, PlainUnfolding, HasTakenNames, BindingFits, CallOfPlace, SummandStands, IsCovered, IsCoveredBut, CallStands, CanAdd, Added}
+use Rattle.greibach.specs.Surroundings.{PlainAround, PlainUnfolding, HasUsableNames, BindingFits, CallOfPlace, SummandStands, IsCovered, IsCoveredBut, CallStands, CanAdd, Added}
 use Rattle.greibach.proofs.ReadPlaces.{begins_itself, from_members, to_members}
 use Rattle.greibach.proofs.GrownFits.{pool_alone, both_by_names, action_grows, term_grows, terms_grow, surrounds_grow, added_then, term_wider, binding_wider, call_wider, since_grows, summands_grow}
 use Rattle.greibach.proofs.PutFitting.{listed_within, put_terms_fit, put_term_fits}
@@ -125,10 +126,10 @@ waiting_can g ts t a u v c k h m s e = record {
 renewed_long : (g : Sig) (x : VarId) {i : Sig} {z : VarId} → IsRenewed g x i z → length i.variables ≡ length g.variables + 1
 renewed_long g x renewed = length-append g.variables (record { name = name_of g x; sort = sort_of_variable g x } ∷ [])
 
-pub renewed_names : (g h : Sig) (x y : VarId) → IsSignature g → HasTakenNames g → IsVariable g x → GrowsByNames g h → IsRenewed g x h y → HasTakenNames h
+pub renewed_names : (g h : Sig) (x y : VarId) → IsSignature g → HasUsableNames g → IsVariable g x → GrowsByNames g h → IsRenewed g x h y → HasUsableNames h
 renewed_names g h x y sg names l grows new v k = ⊎_elim
-    (λ old. name_taken h v k (subst (Contains h.taken) (sym (name_kept g h v grows.grown old)) (grows.taken (name_of g v) (taken_name g v old (names v old)))))
-    (λ last. name_taken h v k (subst (Contains h.taken) (sym (renewed_name new last)) (grows.taken (name_of g x) (taken_name g x l (names x l)))))
+    (λ old. still_usable g h v v grows.grown (name_kept g h v grows.grown old) (name_taken h v k (subst (Contains h.taken) (sym (name_kept g h v grows.grown old)) (grows.taken (name_of g v) (taken_name g v old (names v old).taken)))) (names v old))
+    (λ last. still_usable g h x v grows.grown (renewed_name new last) (name_taken h v k (subst (Contains h.taken) (sym (renewed_name new last)) (grows.taken (name_of g x) (taken_name g x l (names x l).taken)))) (names x l))
     (below_or_last v.0 (length g.variables) (subst (λ n. v.0 < n) (renewed_long g x new) k))
   where
     below_or_last : (a b : ℕ) → a < b + 1 → (a < b) ⊎ (a ≡ b)

@@ -30,6 +30,8 @@ pub mod GrownFits
 pub mod PutFitting
 pub mod ConditionTrees
 pub mod FittingHeads
+pub mod FreshIdentifiers
+pub mod UsableNames
 pub mod HeadArms
 pub mod AssembledForms
 pub mod LabelMade
@@ -51,3 +53,8 @@ pub mod ComponentViews
 pub mod CollectedEquations
 pub mod FormOfComponent
 pub mod WhateverStands
+pub mod PlainParts
+pub mod WrittenParts
+pub mod PlainHeads
+pub mod PlainlyConditioned
+pub mod KeptShapes

@@ -51,7 +51,7 @@ path_itself [] = refl
 path_itself (true ∷ xs) = path_itself xs
 path_itself (false ∷ xs) = path_itself xs
 
-place_itself : (p : Place) → same_place p p ≡ true
+pub place_itself : (p : Place) → same_place p p ≡ true
 place_itself p = ⊎_elim (λ k. ap (λ b. b && same_path p.path p.path) k.0 ∙ path_itself p.path) (λ k. absurd (k.1 refl)) (eqb_tells p.owner p.owner)
 
 tests_differ : false ≡ true → ⊥
@@ -77,7 +77,7 @@ named [] n p e = cc
 named (q ∷ form) zero p e = let s : q.place ≡ p = cc in record { equation = q; at = refl; is = s }
 named (q ∷ form) (suc n) p e = let k = named form n p e in record { equation = k.equation; at = k.at; is = k.is }
 
-equations : {g : Data} {t : Text} {ks last : List Place} {n : ℕ} {form : List UnfoldedEquation} → Collects g t ks n form last → (k : ℕ) (q : UnfoldedEquation) → slice_get form k ≡ Some q → IsUnfoldedEquation g t q
+pub equations : {g : Data} {t : Text} {ks last : List Place} {n : ℕ} {form : List UnfoldedEquation} → Collects g t ks n form last → (k : ℕ) (q : UnfoldedEquation) → slice_get form k ≡ Some q → IsUnfoldedEquation g t q
 equations (all_collected l) k q e = cc
 equations {g} {t} (next_collected x at eq met rest) zero q e = let s : x ≡ q = cc in subst (λ z. IsUnfoldedEquation g t z) s eq
 equations (next_collected x at eq met rest) (suc k) q e = equations rest k q e

@@ -108,7 +108,7 @@ same_bodies t u s e place = by_path place.owner place.path
 read_once : (ks : List Place) (n : ℕ) {p q : Place} → slice_get ks n ≡ Some p → slice_get ks n ≡ Some q → p ≡ q
 read_once ks n e f = cc
 
-unfolds_at : (u : Text) {over : List ℕ} {o o' : ℕ} {e : Environment} {f f' : Factor} {rest rest' : List Factor} {ks : List Head} → o ≡ o' → f ∷ rest ≡ f' ∷ rest'
+pub unfolds_at : (u : Text) {over : List ℕ} {o o' : ℕ} {e : Environment} {f f' : Factor} {rest rest' : List Factor} {ks : List Head} → o ≡ o' → f ∷ rest ≡ f' ∷ rest'
     → Unfolds u over o e f.path f.body rest ks → Unfolds u over o' e f'.path f'.body rest' ks
 unfolds_at u {over} {o} {o'} {e} {f} {f'} {rest} {rest'} {ks} p q h =
     let first : f ≡ f' = cc in

@@ -25,7 +25,7 @@ use Rattle.term_pool.specs.Pools.{Extends}
 use Rattle.term_pool.proofs.Lists.{contains_none, contains_head, contains_tail}
 use Rattle.process_terms.specs.Meanings.{ReadsOnly}
 use Rattle.process_terms.specs.SignatureEntries.{entries_of}
-use Rattle.lps_core.specs.Fitting.{IsVariable, sort_of_variable, HasTakenName}
+use Rattle.lps_core.specs.Fitting.{IsVariable, sort_of_variable}
 use Rattle.lps_core.specs.Naming.{name_of, names_of, GrowsByNames, IsNamed, it_stays, it_is_new, AreNamed, no_sum, one_more_sum}
 use Rattle.lps_core.specs.TreeSummands.{numbers_of}
 use Rattle.lps_core.proofs.GrownSignatures.{fresh_variables}
@@ -38,8 +38,9 @@ use Rattle.greibach.specs.ListedVariables.{paired}
 use Rattle.greibach.specs.RenewedVariables.{IsRenewed, renewed, AreRenewed, none_renewed, one_more_renewed}
 use Rattle.greibach.specs.PlacesInCode.{PlainPlace, PlainPlaces}
 use Rattle.greibach.specs.FittingPlaces.{PlacesFitSince}
-use Rattle.greibach.specs.Surroundings.{PlainUnfolding, HasTakenNames, IsCovered, CanAdd, SummandStands, CallOfPlace, ParametersStand, EquationStands, AreEquations}
+use Rattle.greibach.specs.Surroundings.{PlainUnfolding, HasUsableName, HasUsableNames, IsCovered, CanAdd, SummandStands, CallOfPlace, ParametersStand, EquationStands, AreEquations}
 use Rattle.greibach.proofs.OneByOne.{renewed_grows}
+use Rattle.greibach.proofs.UsableNames.{still_usable, fresh_usable}
 use Rattle.greibach.proofs.GrownFits.{both_by_names, variables_grow, since_grows, summands_grow}
 use Rattle.greibach.proofs.ReadPlaces.{still_read}
 use Rattle.greibach.specs.OccurringVariables.{params_at}
@@ -51,12 +52,12 @@ pub record RenewedStand (g h : Sig) (xs ys : List VarId) : Type 0 where
   pub on : GrowsByNames g h
   pub variables : All (IsVariable h) ys
   pub sorts : map (sort_of_variable h) ys ≡ map (sort_of_variable g) xs
-  pub names : HasTakenNames h
+  pub names : HasUsableNames h
 
 one_grows : (h : Sig) (x : VarId) {k : Sig} {y : VarId} → IsSignature h → IsVariable h x → IsRenewed h x k y → GrowsByNames h k
 one_grows h x sh l renewed = renewed_grows h x (name_of h x) (sort_of_variable h x) _ sh l refl refl refl
 
-pub renewed_stand : (g : Sig) → IsSignature g → HasTakenNames g → {xs : List VarId} {h : Sig} {ys : List VarId} → AreRenewed g xs h ys → All (IsVariable g) xs → RenewedStand g h xs ys
+pub renewed_stand : (g : Sig) → IsSignature g → HasUsableNames g → {xs : List VarId} {h : Sig} {ys : List VarId} → AreRenewed g xs h ys → All (IsVariable g) xs → RenewedStand g h xs ys
 renewed_stand g sg names none_renewed vs = record { on = names_none g sg; variables = All-nil (IsVariable g); sorts = refl; names = names }
 renewed_stand g sg names (one_more_renewed {xs = xs} {ys = ys} {h = h} {k = k} {x = x} {y = y} r n) vs =
     let f = renewed_stand g sg names r (all_front (IsVariable g) xs x vs) in
@@ -80,25 +81,25 @@ below_or_last zero (suc b) m = inl (omega arith)
 below_or_last (suc a) zero m = absurd (omega (arith, m))
 below_or_last (suc a) (suc b) m = ⊎_elim (λ k. inl (omega (arith, k))) (λ k. inr (ap suc k)) (below_or_last a b (omega (arith, m)))
 
-one_more_names : (P : NameId → Type 0) (h : Sig) (x : VarId) {k : Sig} {y : VarId} → IsNamed P h x k y → SumStands h k P x y → HasTakenNames h → (v : VarId) → IsVariable k v → HasTakenName k v
-one_more_names P h x (it_stays n) s names v l = names v l
-one_more_names P h x {k} (it_is_new {h = j} {base = base} {name = name} i r f) s names v l = ⊎_elim
+one_more_names : (P : NameId → Type 0) (h : Sig) (x : VarId) {k : Sig} {y : VarId} → IsNamed P h x k y → SumStands h k P x y → IsVariable h x → HasUsableNames h → (v : VarId) → IsVariable k v → HasUsableName k v
+one_more_names P h x (it_stays n) s own names v l = names v l
+one_more_names P h x {k} (it_is_new {h = j} {base = base} {name = name} i r f) s own names v l = ⊎_elim
     (λ old.
     let o : IsVariable h v = subst (λ vs. v.0 < length vs) (fresh_variables h j base name f) old in
-    name_taken k v l (subst (Contains k.taken) (sym (name_kept h k v s.on.grown o)) (s.on.taken (name_of h v) (taken_name h v o (names v o)))))
-    (λ last. subst (λ z. HasTakenName k z) (ap (λ n. record { 0 = n }) (sym last)) (name_taken k (record { 0 = length j.variables }) s.variable s.taken))
+    still_usable h k v v s.on.grown (name_kept h k v s.on.grown o) (name_taken k v l (subst (Contains k.taken) (sym (name_kept h k v s.on.grown o)) (s.on.taken (name_of h v) (taken_name h v o (names v o).taken)))) (names v o))
+    (λ last. subst (λ z. HasUsableName k z) (ap (λ n. record { 0 = n }) (sym last)) (fresh_usable h j x base name (sort_of_variable h x) r f (names x own) (name_taken k (record { 0 = length j.variables }) s.variable s.taken)))
     (below_or_last v.0 (length j.variables) (subst (λ n. v.0 < n) (length-append j.variables (record { name = name; sort = sort_of_variable h x } ∷ [])) l))
 
 abbrev pub NoName : NameId → Type 0
 NoName n = Contains [] n
 
-all_taken : (g : Sig) → HasTakenNames g → (xs : List VarId) → All (IsVariable g) xs → All (λ x. Contains g.taken (name_of g x)) xs
-all_taken g names xs vs = All-weaker (IsVariable g) (λ x. Contains g.taken (name_of g x)) (λ x l. taken_name g x l (names x l)) xs vs
+all_taken : (g : Sig) → HasUsableNames g → (xs : List VarId) → All (IsVariable g) xs → All (λ x. Contains g.taken (name_of g x)) xs
+all_taken g names xs vs = All-weaker (IsVariable g) (λ x. Contains g.taken (name_of g x)) (λ x l. taken_name g x l (names x l).taken) xs vs
 
 no_name_taken : (g : Sig) → AreTaken g NoName
 no_name_taken g n i = absurd (contains_none n i)
 
-named_names : (g : Sig) → IsSignature g → HasTakenNames g → {xs : List VarId} {h : Sig} {ys : List VarId} → AreNamed NoName g xs h ys → All (IsVariable g) xs → HasTakenNames h
+named_names : (g : Sig) → IsSignature g → HasUsableNames g → {xs : List VarId} {h : Sig} {ys : List VarId} → AreNamed NoName g xs h ys → All (IsVariable g) xs → HasUsableNames h
 named_names g sg names no_sum vs = names
 named_names g sg names (one_more_sum {xs = xs} {ys = ys} {h = h} {k = k} {x = x} {y = y} a n) vs =
     let front = all_front (IsVariable g) xs x vs in
@@ -107,12 +108,12 @@ named_names g sg names (one_more_sum {xs = xs} {ys = ys} {h = h} {k = k} {x = x}
     let own = variable_kept g h x r.0.grown (all_last (IsVariable g) xs x vs) in
     let P : NameId → Type 0 = λ m. NoName m ⊎ Contains (names_of h ys) m in
     let used : (m : NameId) → P m → Contains h.taken m = λ m u. ⊎_elim (λ i. absurd (contains_none m i)) (λ i. names_are_taken h before ys r.1.variables m i) u in
-    one_more_names P h x n (sum_named P h x k y r.0.stands own (taken_name h x own (before x own)) used n) before
+    one_more_names P h x n (sum_named P h x k y r.0.stands own (taken_name h x own (before x own).taken) used n) own before
   where
-    names_are_taken : (h : Sig) → HasTakenNames h → (ys : List VarId) → All (IsVariable h) ys → (m : NameId) → Contains (names_of h ys) m → Contains h.taken m
-    names_are_taken h ns ys vs m i = let c = contains_map (name_of h) ys m i in subst (Contains h.taken) (sym c.1.1) (let l = All-contains (IsVariable h) ys c.0 vs c.1.0 in taken_name h c.0 l (ns c.0 l))
+    names_are_taken : (h : Sig) → HasUsableNames h → (ys : List VarId) → All (IsVariable h) ys → (m : NameId) → Contains (names_of h ys) m → Contains h.taken m
+    names_are_taken h ns ys vs m i = let c = contains_map (name_of h) ys m i in subst (Contains h.taken) (sym c.1.1) (let l = All-contains (IsVariable h) ys c.0 vs c.1.0 in taken_name h c.0 l (ns c.0 l).taken)
 
-pub parameters_stand : (g h k : Sig) (vars others params : List VarId) → IsSignature g → HasTakenNames g → All (IsVariable g) vars → AreRenewed g vars h others → GrowsByNames h k → AreNamed NoName h others k params → ParametersStand g k vars params
+pub parameters_stand : (g h k : Sig) (vars others params : List VarId) → IsSignature g → HasUsableNames g → All (IsVariable g) vars → AreRenewed g vars h others → GrowsByNames h k → AreNamed NoName h others k params → ParametersStand g k vars params
 parameters_stand g h k vars others params sg names vs r w a =
     let f = renewed_stand g sg names r vs in
     let s = sums_named NoName h f.on.stands (no_name_taken h) others k params a f.variables (all_taken h f.names others f.variables) in
@@ -180,7 +181,7 @@ variable_more ts us vars i d terms new id e w h l t n =
     ∙ ap₂ (λ zs z. zs ++ z ∷ []) (trees_kept ts us terms e w ∙ h) t
     ∙ sym (ap (map variable) (take_more vars i d l) ∙ map-append variable (take i vars) (get_or vars i d ∷ []))
 
-pub params_ok : {E : Type 0} (r : Result (Vec VarId Global) E) (g h k : Sig) (vars others : List VarId) (keys : List NameId) → IsSignature g → HasTakenNames g → All (IsVariable g) vars → AreRenewed g vars h others → GrowsByNames h k → keys ≡ []
+pub params_ok : {E : Type 0} (r : Result (Vec VarId Global) E) (g h k : Sig) (vars others : List VarId) (keys : List NameId) → IsSignature g → HasUsableNames g → All (IsVariable g) vars → AreRenewed g vars h others → GrowsByNames h k → keys ≡ []
     → IfOk r (λ named. AreNamed (λ n. Contains keys n) h others k named.items) → IfOk r (λ params. ParametersStand g k vars params.items)
 params_ok (Err e) g h k vars others keys sg names vs r w no_keys a = tt
 params_ok (Ok p) g h k vars others keys sg names vs r w no_keys a = parameters_stand g h k vars others p.items sg names vs r w (subst (λ l. AreNamed (λ n. Contains l n) h others k p.items) no_keys a)

@@ -24,3 +24,5 @@ pub mod AddedHeads
 pub mod TablesRead
 pub mod MadeEquations
 pub mod Scopes
+pub mod PlainComponents
+pub mod LinearShapes

@@ -1,6 +1,8 @@
 -- What stands around a place under way, and the summands that are made, over a pool and a signature.
-use Rattle.std.specs.Prelude.{◌≡◌, ◌<◌, ◌≤◌, ℕ, List, [], ◌∷◌, ◌++◌, map, length, Some, slice_get}
+use Rattle.std.specs.Prelude.{◌≡◌, ◌<◌, ◌≤◌, ℕ, true, List, [], ◌∷◌, ◌++◌, map, length, Some, slice_get}
 use Rattle.std.specs.List.{All, Contains}
+use Rattle.mcrl2_lexer.specs.declared.kind.Kind.TheVariants.{Identifier}
+use Rattle.mcrl2_lexer.specs.Words.{is_name, word_kind}
 use Rattle.data_theory.specs.declared.ids.VarId.{VarId}
 use Rattle.data_theory.specs.declared.ids.TermId.{TermId}
 use Rattle.data_theory.specs.Environments.{Apart, AreDistinct}
@@ -10,7 +12,7 @@ use Rattle.data_theory.specs.Complete.{BeginsWith}
 use Rattle.data_theory.specs.IdTrees.{Tree}
 use Rattle.data_theory.specs.WholeSignatures.{IsSignature}
 use Rattle.lps_core.specs.Fitting.{IsVariable, sort_of_variable, HasTakenName}
-use Rattle.lps_core.specs.Naming.{names_of}
+use Rattle.lps_core.specs.Naming.{name_of, names_of}
 use Rattle.lps_core.specs.TreeSummands.{numbers_of}
 use Rattle.proc_unfold.specs.FittingModels.{TermFits, TermsFit, ActionFits}
 use Rattle.greibach.specs.declared.heads.Around.{Around}
@@ -40,9 +42,20 @@ abbrev pub plain_unfolding : Unfolding → PlainUnfolding
 plain_unfolding u = record { met = u.met.keys; waiting = plain_calls u.waiting.items; summands = map plain_form_summand u.summands.items }
 
 -- ---- what fits
--- the name of each variable is taken
-abbrev pub HasTakenNames : Sig → Type 0
-HasTakenNames g = (x : VarId) → IsVariable g x → HasTakenName g x
+-- a name that is no word
+abbrev pub IsIdentifier : List ℕ → Type 0
+IsIdentifier t = (is_name t ≡ true) × (word_kind t ≡ Identifier)
+
+-- the name of a variable is taken, and is an identifier
+pub record HasUsableName (g : Sig) (x : VarId) : Type 0 where
+  pub taken : HasTakenName g x
+  pub text : List ℕ
+  pub named : slice_get g.texts (name_of g x).0 ≡ Some text
+  pub identifier : IsIdentifier text
+
+-- so is that of each variable
+abbrev pub HasUsableNames : Sig → Type 0
+HasUsableNames g = (x : VarId) → IsVariable g x → HasUsableName g x
 
 -- a variable with a term of its sort
 pub record BindingFits (g : Sig) (ts : List Tree) (xs : List VarId) (p : VarId × TermId) : Type 0 where
@@ -111,14 +124,14 @@ pub record AreStanding (g : Sig) (ts : List Tree) (ps : List PlainPlace) (params
 
 pub record CanAdd (g : Sig) (ts : List Tree) (t : PlainPlaces) (a : PlainAround) (u : PlainUnfolding) : Type 0 where
   pub signature : IsSignature g
-  pub names : HasTakenNames g
+  pub names : HasUsableNames g
   pub table : PlacesFitSince g ts t
   pub around : Surrounds g ts t.places a u.waiting
   pub standing : AreStanding g ts t.places a.params u
 
 -- signature and pool keep what they have, what waits stays, further places were met, and the summands stand
 pub record Added (g h : Sig) (ts us : List Tree) (t : PlainPlaces) (params : List VarId) (u v : PlainUnfolding) : Type 0 where
-  pub names : HasTakenNames h
+  pub names : HasUsableNames h
   pub waiting : v.waiting ≡ u.waiting
   pub met : BeginsWith u.met v.met
   pub standing : AreStanding h us t.places params v
@@ -144,11 +157,11 @@ pub record ParametersStand (g h : Sig) (vars params : List VarId) : Type 0 where
   pub sorts : map (sort_of_variable h) params ≡ map (sort_of_variable g) vars
   pub distinct : AreDistinct (numbers_of params)
   pub named : AreDistinct (map (λ m. m.0) (names_of h params))
-  pub names : HasTakenNames h
+  pub names : HasUsableNames h
 
 -- the equation of a place was made, and nothing waits any more
 pub record EquationMade (g : Sig) (ts : List Tree) (ps : List PlainPlace) (n : ℕ) (u v : PlainUnfolding) (q : PlainEquation) : Type 0 where
-  pub names : HasTakenNames g
+  pub names : HasUsableNames g
   pub met : BeginsWith u.met v.met
   pub met_there : All (λ (m : ℕ). m < length ps) v.met
   pub waiting : v.waiting ≡ []
@@ -157,7 +170,7 @@ pub record EquationMade (g : Sig) (ts : List Tree) (ps : List PlainPlace) (n : �
 
 -- each place that was met has its equation, and the first one is where the component starts
 pub record FormMade (g : Sig) (ts : List Tree) (t : PlainPlaces) (qs : List PlainEquation) : Type 0 where
-  pub names : HasTakenNames g
+  pub names : HasUsableNames g
   pub met : List ℕ
   pub starts : slice_get met 0 ≡ Some t.start
   pub all : length met ≤ length qs

@@ -58,3 +58,17 @@ pub fn scopes_are_of_the_text()
     ensures sequential { SequentialBodiesAreSequential }
     ensures bound { VariablesAreBoundOnce }
 {}
+
+ghost use Rattle.greibach.specs.PlainComponents.{FormsOfComponentsArePlain};
+
+/// The form of a component is plainly conditioned for what its specification and itself write.
+pub fn forms_of_components_are_plain()
+    ensures { FormsOfComponentsArePlain }
+{}
+
+ghost use Rattle.greibach.specs.LinearShapes.{FormsKeepLinearShapes};
+
+/// The form of a definition in the shape of a linear process is one equation with its summands.
+pub fn forms_keep_linear_shapes()
+    ensures { FormsKeepLinearShapes }
+{}

@@ -12,13 +12,15 @@ ghost use Rattle.lps_core.specs.Naming.{GrowsByNames};
 ghost use Rattle.proc_unfold.specs.FittingModels.{ComponentFits, ModelFits};
 ghost use Rattle.greibach.specs.FittingForms.{FormFits};
 ghost use Rattle.greibach.specs.ComponentForms.{arguments_of, IsBisimilarForm, IsFormOf};
+ghost use Rattle.greibach.specs.LinearShapes.{KeepsLinearShape};
+ghost use Rattle.greibach.specs.PlainComponents.{IsPlainForm};
 ghost use Rattle.greibach.specs.Scopes.{BindsItsVariablesOnce, HasSequentialBodies};
 ghost use Rattle.greibach.specs.PlainForms.{plain_equation, plain_form};
 ghost use Rattle.greibach.specs.PlacesInCode.{plain_places};
 ghost use Rattle.greibach.specs.FittingPlaces.{PlacesFitSince};
 ghost use Rattle.greibach.specs.AddedHeads.{Later};
 ghost use Rattle.greibach.specs.MadeEquations.{IsEquationAt, MakesAll};
-ghost use Rattle.greibach.specs.Surroundings.{plain_unfolding, EquationMade, FormMade, HasTakenNames, ParametersStand};
+ghost use Rattle.greibach.specs.Surroundings.{plain_unfolding, EquationMade, FormMade, HasUsableNames, ParametersStand};
 
 use crate::environments::bound_to;
 use crate::forms::{Greibach, GreibachEquation};
@@ -41,7 +43,7 @@ const MAX_DEPTH: usize = 5_000;
 /// Other variables of the same sorts with the same names. One that has the name of an earlier one gets a fresh name.
 fn parameters(alloc: Global, sig: &mut Signature, vars: &[VarId]) -> Result<Vec<VarId>, NoMemory>
     requires stands { IsSignature sig.old }
-    requires names { HasTakenNames sig.old }
+    requires names { HasUsableNames sig.old }
     requires variables { All (IsVariable sig.old) vars.now }
     ensures grown { GrowsByNames sig.old sig.new }
     ensures params { IfOk result (λ params. ParametersStand sig.old sig.new vars.now params.items) }
@@ -75,7 +77,7 @@ fn equation(
     under_way: &mut Unfolding,
 ) -> Result<GreibachEquation, NoMemory>
     requires stands { IsSignature sig.old }
-    requires names { HasTakenNames sig.old }
+    requires names { HasUsableNames sig.old }
     requires table { PlacesFitSince sig.old pool.old.trees (plain_places places.now) }
     requires place { place < length places.now.places.items }
     requires met { All (λ n. n < length places.now.places.items) under_way.old.met.keys }
@@ -112,7 +114,7 @@ fn equations(
     pool: &mut Pool,
 ) -> Result<Vec<GreibachEquation>, NoMemory>
     requires stands { IsSignature sig.old }
-    requires names { HasTakenNames sig.old }
+    requires names { HasUsableNames sig.old }
     requires table { PlacesFitSince sig.old pool.old.trees (plain_places places.now) }
     requires start { places.now.start < length places.now.places.items }
     ensures grown { GrowsByNames sig.old sig.new }
@@ -151,7 +153,8 @@ fn first_arguments(alloc: Global, start: &Component) -> Result<Vec<TermId>, NoMe
 /// Equation 1 is where the component starts: the called definition, or the term as an equation without parameters. What follows a
 /// label in its body goes on as equations: a call at its beginning is kept, and the rest has an equation of its own, whose
 /// parameters are the variables that occur free in it. A call in head position is replaced by the summands of its definition. The
-/// equations are numbered in the order in which they are met.
+/// equations are numbered in the order in which they are met. A definition in the shape of a linear process becomes one equation that
+/// keeps its summands, and what the form writes is made of what the specification writes.
 ///
 /// # Errors
 ///
@@ -164,7 +167,7 @@ pub fn normal_form(
     start: &Component,
 ) -> Result<Greibach, NoMemory>
     requires stands { IsSignature sig.old }
-    requires names { HasTakenNames sig.old }
+    requires names { HasUsableNames sig.old }
     requires model { ModelFits sig.old pool.old.trees (plain_model guarded.now.model.now) }
     requires component { ComponentFits sig.old pool.old.trees (plain_model guarded.now.model.now).definitions (plain_component start.now) }
     requires sequential { HasSequentialBodies (plain_model guarded.now.model.now) (plain_component start.now) }
@@ -172,10 +175,12 @@ pub fn normal_form(
     ensures grown { GrowsByNames sig.old sig.new }
     ensures kept { Extends pool.old.trees pool.new.trees }
     ensures constants { pool.new.constants ≡ pool.old.constants }
-    ensures names { OnOk result (HasTakenNames sig.new) }
+    ensures names { OnOk result (HasUsableNames sig.new) }
     ensures fits { IfOk result (λ form. FormFits sig.new pool.new.trees (plain_form form)) }
     ensures unfolds { IfOk result (λ form. IsFormOf sig.new pool.new.trees (plain_model guarded.now.model.now) (plain_component start.now) (plain_form form)) }
     ensures bisimilar { IfOk result (λ form. IsBisimilarForm sig.new pool.new.trees (plain_model guarded.now.model.now) (plain_component start.now) (plain_form form)) }
+    ensures linear { IfOk result (λ form. KeepsLinearShape sig.new pool.new.trees (plain_model guarded.now.model.now) (plain_component start.now) (plain_form form)) }
+    ensures plain { IfOk result (λ form. IsPlainForm sig.new pool.new (plain_model guarded.now.model.now) (plain_component start.now) (plain_form form)) }
 {
     let source = Source {
         model: guarded.model,

@@ -1,5 +1,7 @@
 mod KnownTerms
+mod TestedTerms
 mod TestedForms
+mod TestedModels
 mod Readings
 pub mod FirstFits
 mod AroundTold

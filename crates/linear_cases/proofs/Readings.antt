@@ -3,7 +3,7 @@ use Rattle.std.proofs.Common.{◌≡◌, ◌<◌, ◌≤◌, ◌+◌, ◌==◌, 
 use Rattle.std.specs.Prelude.{slice_get, IfSome}
 use Rattle.std.specs.List.{All, list_all, list_any}
 use Rattle.std.proofs.lemmas.List.Folds.{list_all_at, list_all-map}
-use Rattle.std.proofs.lemmas.List.{map-append, length-map, take-map, take_more, drop_more, drop_all}
+use Rattle.std.proofs.lemmas.List.{map-append, length-map, take-map, take_more, take_all, drop_more, drop_all}
 use Rattle.std.proofs.lemmas.Option.{slice_get-get_or}
 use Rattle.data_theory.specs.declared.ids.NameId.{NameId}
 use Rattle.data_theory.specs.declared.ids.SortId.{SortId}
@@ -44,6 +44,9 @@ sort_more g xs i s ys new own e l h k = mapped_more (sort_of_variable g) xs i (r
 pub one_fails : {A B : Type 0} (p : B → Bool) (f : A → B) (xs : List A) (i : ℕ) (x : A) (b : Bool) → i < length xs → x ≡ get_or xs i x → b ≡ p (f x) → b ≡ false → false ≡ list_all p (map f xs)
 one_fails p f xs i x b l read e wrong =
     sym (list_all_at p (map f xs) i (f x) (subst (λ n. i < n) (sym (length-map xs f)) l) (ap p (read_mapped f xs i (f x) x l ∙ ap f (sym read)) ∙ sym e ∙ wrong))
+
+pub all_taken : {A B : Type 0} (p : B → Bool) (f : A → B) (xs : List A) (i : ℕ) → length xs ≤ i → list_all p (map f (take i xs)) ≡ true → true ≡ list_all p (map f xs)
+all_taken p f xs i l e = sym (subst (λ zs. list_all p (map f zs) ≡ true) (take_all i xs l) e)
 
 pub differ_more : (xs : List ℕ) (i d : ℕ) → i < length xs → list_any (λ y. y == get_or xs i d) (drop (i + 1) xs) ≡ false → differ (drop i xs) ≡ differ xs → differ (drop (i + 1) xs) ≡ differ xs
 differ_more xs i d l none e = sym (ap differ (drop_more xs i d l) ∙ ap (λ b. not b && differ (drop (i + 1) xs)) none) ∙ e

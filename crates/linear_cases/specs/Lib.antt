@@ -1,2 +1,3 @@
 pub mod AroundTests
 pub mod FormTests
+pub mod ModelTests

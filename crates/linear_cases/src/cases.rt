@@ -2,22 +2,29 @@
 
 ghost use Rattle.std.specs.Prelude.{◌≡◌, [], List, IfOk};
 ghost use Rattle.data_theory.specs.IdTrees.{Tree};
+ghost use Rattle.data_theory.specs.Declarations.{NoSortIsEmpty};
+ghost use Rattle.data_theory.specs.IdData.{data_meant};
 ghost use Rattle.term_pool.specs.Pools.{Extends};
 ghost use Rattle.lps_core.specs.Fitting.{Fits};
 ghost use Rattle.lps_core.specs.PlainLinears.{plain_linear};
+ghost use Rattle.greibach.specs.FittingForms.{FormFits};
+ghost use Rattle.greibach.specs.PlainForms.{plain_form};
 
 use crate::around::{
     have_results, have_targets, names_of, pairs_of, rename_once, rules_of, sets_of,
 };
 use crate::drafts::{Draft, add_line, first_word};
 use crate::fitting::may_be_encoded;
+use crate::form_shown::{Words, form_size, form_text};
 use crate::known::count_variables;
-use crate::shown::{Texts, shown, term_texts};
+use crate::shown::{Texts, shown, term_texts, variable_names};
+use crate::unfolding::unfolded;
 use action_filters::{allow, block, hide, rename};
 use communication::communicate;
-use data_theory::{Names, NoMemory, Signature, SortId};
+use data_theory::{Names, NoMemory, Signature};
 use greibach::Greibach;
 use lps_core::{Linear, name_sums, signature_stands};
+use process_terms::Model;
 use regular_encoder::{EncodeFault, encode};
 use std::alloc::Global;
 use summand_expander::product;
@@ -25,7 +32,7 @@ use term_pool::Pool;
 
 /// The first line of a case, and what is said of the case.
 pub fn answer(alloc: Global, lines: &[String]) -> Result<String, NoMemory> {
-    let text = linear_text(alloc, lines)?;
+    let text = case_text(alloc, lines)?;
     let Some(first) = lines.first() else {
         return Ok(text);
     };
@@ -33,12 +40,28 @@ pub fn answer(alloc: Global, lines: &[String]) -> Result<String, NoMemory> {
 }
 
 /// What is said of a case, over a signature and a pool of its own.
-fn linear_text(alloc: Global, lines: &[String]) -> Result<String, NoMemory> {
+fn case_text(alloc: Global, lines: &[String]) -> Result<String, NoMemory> {
     let mut pool = Pool::new(alloc)?;
     let mut sig = Signature::new(alloc, Names::new(alloc))?;
     let outcome = case(alloc, lines, &mut sig, &mut pool);
     let _names = sig.into_names();
     outcome
+}
+
+/// What the lines of a case declare.
+fn drafted(
+    alloc: Global,
+    lines: &[String],
+    sig: &mut Signature,
+    pool: &mut Pool,
+) -> Result<Draft, NoMemory>
+    ensures { pool.new.constants ≡ pool.old.constants }
+{
+    let mut draft = Draft::new(alloc)?;
+    for line in lines {
+        add_line(alloc, &mut draft, sig, pool, line.as_str())?;
+    }
+    Ok(draft)
 }
 
 /// Reads the lines, and does what the last one says.
@@ -50,31 +73,121 @@ fn case(
 ) -> Result<String, NoMemory>
     requires { pool.old.constants ≡ [] }
 {
-    let mut draft = Draft::new(alloc)?;
-    for line in lines {
-        add_line(alloc, &mut draft, sig, pool, line.as_str())?;
+    let draft = drafted(alloc, lines, sig, pool)?;
+    match lines.last() {
+        Some(line) => said(alloc, &draft, line.as_str(), sig, pool),
+        None => Ok(String::new(alloc)),
     }
-    let Draft {
-        sorts,
-        variables: _,
-        actions,
-        equations,
-        init,
-    } = draft;
-    let form = Greibach { equations, init };
-    if !may_be_encoded(alloc, &form, sig, pool)? {
+}
+
+/// What is said of the form of a case: that of its specification, if it has one, and else that of its equations.
+fn said(
+    alloc: Global,
+    draft: &Draft,
+    line: &str,
+    sig: &mut Signature,
+    pool: &mut Pool,
+) -> Result<String, NoMemory>
+    requires { pool.old.constants ≡ [] }
+{
+    match &draft.model {
+        Some(model) => said_of_model(alloc, draft, model, line, sig, pool),
+        None => said_of_form(alloc, draft, &draft.form, line, sig, pool),
+    }
+}
+
+/// What is said of the Greibach form of where a specification starts, if there is one.
+fn said_of_model(
+    alloc: Global,
+    draft: &Draft,
+    model: &Model,
+    line: &str,
+    sig: &mut Signature,
+    pool: &mut Pool,
+) -> Result<String, NoMemory>
+    requires { pool.old.constants ≡ [] }
+{
+    match unfolded(alloc, model, sig, pool)? {
+        Some(form) => said_of_form(alloc, draft, &form, line, sig, pool),
+        None => Ok(String::from_str(alloc, "no form")?),
+    }
+}
+
+/// Shows a form, or its linear process, by what the line says.
+fn said_of_form(
+    alloc: Global,
+    draft: &Draft,
+    form: &Greibach,
+    line: &str,
+    sig: &mut Signature,
+    pool: &mut Pool,
+) -> Result<String, NoMemory>
+    requires { pool.old.constants ≡ [] }
+{
+    if line.starts_with("form") {
+        return told(alloc, draft, form, line, sig, pool);
+    }
+    if !may_be_encoded(alloc, form, sig, pool)? {
         return Ok(String::from_str(alloc, "no form")?);
     }
-    let Some(last) = lines.last() else {
-        return Ok(String::new(alloc));
-    };
-    let said = (sorts.as_slice(), actions.as_slice());
-    if last.starts_with("stacked") {
-        let lin = stack_encoder::encode(alloc, &form, sig, pool)?;
-        return done(alloc, &lin, last.as_str(), said, sig, pool);
+    if line.starts_with("stacked") {
+        return stacked(alloc, draft, form, line, sig, pool);
     }
-    match encode(alloc, &form, sig, pool) {
-        Ok(lin) => done(alloc, &lin, last.as_str(), said, sig, pool),
+    regular(alloc, draft, form, line, sig, pool)
+}
+
+/// The form, or how large it is where the last word is `count`.
+fn told(
+    alloc: Global,
+    draft: &Draft,
+    form: &Greibach,
+    line: &str,
+    sig: &mut Signature,
+    pool: &Pool,
+) -> Result<String, NoMemory> {
+    if line.ends_with(" count") {
+        return form_size(alloc, form);
+    }
+    let words = Words {
+        sorts: draft.sorts.as_slice(),
+        actions: draft.actions.as_slice(),
+        variables: count_variables(sig)?,
+    };
+    form_text(alloc, sig, pool, words, form)
+}
+
+/// What is said of the linear process with a stack.
+fn stacked(
+    alloc: Global,
+    draft: &Draft,
+    form: &Greibach,
+    line: &str,
+    sig: &mut Signature,
+    pool: &mut Pool,
+) -> Result<String, NoMemory>
+    requires form { FormFits sig.old pool.old.trees (plain_form form.now) }
+    requires inhabited { NoSortIsEmpty (data_meant sig.old) }
+    requires constants { pool.old.constants ≡ [] }
+{
+    let lin = stack_encoder::encode(alloc, form, sig, pool)?;
+    done(alloc, draft, &lin, line, sig, pool)
+}
+
+/// What is said of the linear process with a control parameter, or of the first summand with two calls.
+fn regular(
+    alloc: Global,
+    draft: &Draft,
+    form: &Greibach,
+    line: &str,
+    sig: &mut Signature,
+    pool: &mut Pool,
+) -> Result<String, NoMemory>
+    requires form { FormFits sig.old pool.old.trees (plain_form form.now) }
+    requires inhabited { NoSortIsEmpty (data_meant sig.old) }
+    requires constants { pool.old.constants ≡ [] }
+{
+    match encode(alloc, form, sig, pool) {
+        Ok(lin) => done(alloc, draft, &lin, line, sig, pool),
         Err(EncodeFault::NotTail(number)) => Ok(format!(in alloc; "not tail {number}")?),
         Err(EncodeFault::NoMemory) => Err(NoMemory),
     }
@@ -147,15 +260,14 @@ fn operated(
     }
 }
 
-/// Does what stands behind the initial terms, and shows the linear process, or how large it is where the last word is `count`.
-fn done(
+/// The linear process behind all operations of a line. What stands in front of the first bar is none.
+fn operated_on(
     alloc: Global,
     first: &Linear,
     line: &str,
-    said: (&[(String, SortId)], &[String]),
     sig: &mut Signature,
     pool: &mut Pool,
-) -> Result<String, NoMemory>
+) -> Result<Linear, NoMemory>
     requires { Fits sig.old pool.old.trees (plain_linear first.now) }
 {
     let mut lin = first.copy(alloc)?;
@@ -167,18 +279,48 @@ fn done(
             lin = operated(alloc, &right, lin, operation, sig, pool)?;
         }
     }
+    Ok(lin)
+}
+
+/// Does what stands behind the initial terms, and shows the linear process, or how large it is where the last word is `count`.
+fn done(
+    alloc: Global,
+    draft: &Draft,
+    first: &Linear,
+    line: &str,
+    sig: &mut Signature,
+    pool: &mut Pool,
+) -> Result<String, NoMemory>
+    requires { Fits sig.old pool.old.trees (plain_linear first.now) }
+{
+    let lin = operated_on(alloc, first, line, sig, pool)?;
     if line.ends_with(" count") {
-        let (params, summands) = (lin.params.len(), lin.summands.len());
-        return Ok(format!(in alloc; "{params} parameters, {summands} summands")?);
+        return linear_size(alloc, &lin);
     }
-    let variables = count_variables(sig)?;
-    let terms = term_texts(alloc, sig, pool, variables)?;
-    let (sorts, actions) = said;
+    linear_text(alloc, draft, &lin, sig, pool)
+}
+
+/// How large a linear process is.
+fn linear_size(alloc: Global, lin: &Linear) -> Result<String, NoMemory> {
+    let (params, summands) = (lin.params.len(), lin.summands.len());
+    Ok(format!(in alloc; "{params} parameters, {summands} summands")?)
+}
+
+/// A linear process as text.
+fn linear_text(
+    alloc: Global,
+    draft: &Draft,
+    lin: &Linear,
+    sig: &mut Signature,
+    pool: &Pool,
+) -> Result<String, NoMemory> {
+    let count = count_variables(sig)?;
+    let variables = variable_names(alloc, sig, count)?;
     let texts = Texts {
-        sorts,
-        actions,
-        variables,
-        terms,
+        sorts: draft.sorts.as_slice(),
+        actions: draft.actions.as_slice(),
+        variables: variables.as_slice(),
+        terms: term_texts(alloc, sig, pool, variables.as_slice())?,
     };
-    shown(alloc, sig, &texts, &lin)
+    shown(alloc, &texts, lin)
 }

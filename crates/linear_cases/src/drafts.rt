@@ -3,11 +3,12 @@
 ghost use Rattle.std.specs.Prelude.{◌≡◌, IsTrue};
 ghost use Rattle.term_pool.specs.HeadTrees.{AreIn};
 
+use crate::process_drafts::{definition, process};
 use data_theory::{ActId, NameId, NoMemory, Num, Signature, SortId, TermId, VarId};
-use greibach::{GreibachEquation, GreibachSummand};
-use process_terms::{Action, Label};
+use greibach::{Greibach, GreibachEquation, GreibachSummand};
+use process_terms::{Action, Label, Model, Proc, ProcDef};
 use std::alloc::Global;
-use term_pool::{Head, Pool};
+use term_pool::{Head, Pool, Theory};
 
 const POS: SortId = SortId(1);
 
@@ -27,8 +28,9 @@ pub struct Draft {
     pub sorts: Vec<(String, SortId)>,
     pub variables: Vec<Called>,
     pub actions: Vec<String>,
-    pub equations: Vec<GreibachEquation>,
-    pub init: Vec<TermId>,
+    pub form: Greibach,
+    pub processes: Vec<ProcDef>,
+    pub model: Option<Model>,
 }
 
 impl Draft {
@@ -42,8 +44,12 @@ impl Draft {
             sorts,
             variables: Vec::new(alloc),
             actions: Vec::new(alloc),
-            equations: Vec::new(alloc),
-            init: Vec::new(alloc),
+            form: Greibach {
+                equations: Vec::new(alloc),
+                init: Vec::new(alloc),
+            },
+            processes: Vec::new(alloc),
+            model: None,
         })
     }
 
@@ -79,7 +85,7 @@ impl Draft {
     }
 
     /// The variables that the case calls so.
-    fn variables(&self, alloc: Global, names: &str) -> Result<Vec<VarId>, NoMemory> {
+    pub fn variables(&self, alloc: Global, names: &str) -> Result<Vec<VarId>, NoMemory> {
         let mut variables = Vec::new(alloc);
         for name in names.split(' ') {
             if let Some((variable, _)) = self.variable(name) {
@@ -128,6 +134,21 @@ fn is_no_constant(sig: &Signature, name: NameId) -> bool
         Some(_) => false,
         None => true,
     }
+}
+
+/// Adds the sort of the lists over a sort, unless it's there.
+fn add_list(
+    alloc: Global,
+    draft: &mut Draft,
+    sig: &mut Signature,
+    text: &str,
+    element: SortId,
+) -> Result<(), NoMemory> {
+    if element.0 < sig.next_sort().0 && sig.list_of(element).is_none() {
+        let sort = sig.add_list(element)?;
+        draft.sorts.push((String::from_str(alloc, text)?, sort))?;
+    }
+    Ok(())
 }
 
 /// Adds a constant of a sort, unless there is one of that name.
@@ -257,6 +278,21 @@ fn push_application(
     Ok(())
 }
 
+/// Pushes the empty list of a sort.
+fn push_empty_list(
+    sig: &Signature,
+    pool: &mut Pool,
+    sort: SortId,
+    stack: &mut Stack,
+) -> Result<(), NoMemory>
+    ensures { pool.new.constants ≡ pool.old.constants }
+{
+    if let Some(fun) = sig.fun("[]", &[sort]) {
+        stack.push((pool.intern(Head::Fun(fun), &[])?, sort))?;
+    }
+    Ok(())
+}
+
 /// Pushes the term of a word.
 fn push_word(
     alloc: Global,
@@ -271,6 +307,9 @@ fn push_word(
     if let Some((name, count)) = word.split_once('/') {
         let count = count.parse::<usize>().unwrap_or(0);
         return push_application(alloc, sig, pool, name, count, stack);
+    }
+    if let Some(name) = word.strip_prefix("[]") {
+        return push_empty_list(sig, pool, draft.sort(name), stack);
     }
     let Some((variable, sort)) = draft.variable(word) else {
         return push_numeral(pool, word, stack);
@@ -308,7 +347,7 @@ fn bare(alloc: Global, stack: &[(TermId, SortId)]) -> Result<Vec<TermId>, NoMemo
 }
 
 /// The terms of a text.
-fn terms(
+pub fn terms(
     alloc: Global,
     draft: &Draft,
     sig: &Signature,
@@ -328,7 +367,7 @@ pub fn first_word(text: &str) -> (&str, &str) {
 }
 
 /// The label of actions with commas between them.
-fn label(
+pub fn label(
     alloc: Global,
     draft: &Draft,
     sig: &Signature,
@@ -431,10 +470,24 @@ fn summand(
 
 /// Adds a summand to the last equation.
 fn add_summand(draft: &mut Draft, summand: GreibachSummand) -> Result<(), NoMemory> {
-    if let Some(equation) = draft.equations.last_mut() {
+    if let Some(equation) = draft.form.equations.last_mut() {
         equation.summands.push(summand)?;
     }
     Ok(())
+}
+
+/// Makes a specification of the definitions so far and of where they start.
+fn start(alloc: Global, draft: &mut Draft, init: Proc) {
+    let mut procs = Vec::new(alloc);
+    std::mem::swap(&mut procs, &mut draft.processes);
+    draft.model = Some(Model {
+        theory: Theory {
+            equations: Vec::new(alloc),
+        },
+        init_declaration: procs.len().saturating_add(1),
+        procs,
+        init,
+    });
 }
 
 /// Adds what a line says.
@@ -451,6 +504,7 @@ pub fn add_line(
     let (first, rest) = first_word(text);
     match command {
         "sort" => add_sort(alloc, draft, sig, first)?,
+        "list" => add_list(alloc, draft, sig, first, draft.sort(rest))?,
         "map" => add_constant(sig, first, draft.sort(rest))?,
         "act" => {
             let sorts = draft.sorts(alloc, rest)?;
@@ -464,15 +518,26 @@ pub fn add_line(
         "equation" => {
             let params = draft.variables(alloc, text)?;
             let summands = Vec::new(alloc);
-            draft.equations.push(GreibachEquation { params, summands })?;
+            draft
+                .form
+                .equations
+                .push(GreibachEquation { params, summands })?;
         }
         "summand" => {
             let summand = summand(alloc, draft, sig, pool, text)?;
             add_summand(draft, summand)?;
         }
+        "process" => {
+            let definition = definition(alloc, draft, sig, pool, text)?;
+            draft.processes.push(definition)?;
+        }
+        "component" => {
+            let init = process(alloc, draft, sig, pool, text)?;
+            start(alloc, draft, init);
+        }
         "linear" | "stacked" => {
             let init = terms(alloc, draft, sig, pool, first_part(text).0)?;
-            draft.init = init;
+            draft.form.init = init;
         }
         _ => {}
     }

@@ -22,10 +22,10 @@ use process_terms::Action;
 use std::alloc::Global;
 use term_pool::{Pool, has_value};
 
-const BOOL: SortId = SortId(0);
+pub const BOOL: SortId = SortId(0);
 
 /// Whether the name of a variable is taken.
-fn has_taken_name(sig: &Signature, variable: VarId) -> bool
+pub fn has_taken_name(sig: &Signature, variable: VarId) -> bool
     requires { IsVariable sig.now variable }
     ensures { IsTrue result → HasTakenName sig.now variable }
 {
@@ -34,7 +34,7 @@ fn has_taken_name(sig: &Signature, variable: VarId) -> bool
 }
 
 /// Whether the names of so many variables are taken.
-fn have_taken_names(sig: &Signature, count: usize) -> bool
+pub fn have_taken_names(sig: &Signature, count: usize) -> bool
     requires { count ≤ length sig.now.variables }
     ensures { IsTrue result → (k : ℕ) → k < count → HasTakenName sig.now (record { 0 = k }) }
 {
@@ -66,7 +66,7 @@ fn has_number(numbers: &[usize], number: usize) -> bool
 }
 
 /// Whether no number stands twice.
-fn differ(numbers: &[usize]) -> bool
+pub fn differ(numbers: &[usize]) -> bool
     ensures { result ≡ differ numbers.now }
 {
     for place in 0..numbers.len() {
@@ -78,7 +78,7 @@ fn differ(numbers: &[usize]) -> bool
 }
 
 /// The numbers of variables.
-fn numbers_of(alloc: Global, variables: &[VarId]) -> Result<Vec<usize>, NoMemory>
+pub fn numbers_of(alloc: Global, variables: &[VarId]) -> Result<Vec<usize>, NoMemory>
     ensures { IfOk result (λ numbers. numbers.items ≡ numbers_of variables.now) }
 {
     let mut numbers = Vec::new(alloc);
@@ -113,7 +113,7 @@ fn sorts_of(alloc: Global, sig: &Signature, variables: &[VarId]) -> Result<Vec<S
 }
 
 /// Whether these are variables.
-fn are_variables(known: &Known, variables: &[VarId]) -> bool
+pub fn are_variables(known: &Known, variables: &[VarId]) -> bool
     ensures { result ≡ list_all (is_known_variable (plain_known known.now)) variables.now }
 {
     variables
@@ -122,7 +122,7 @@ fn are_variables(known: &Known, variables: &[VarId]) -> bool
 }
 
 /// Whether terms are over variables, and have the sorts of parameters.
-fn are_args(
+pub fn are_args(
     alloc: Global,
     sig: &Signature,
     known: &Known,
@@ -208,7 +208,7 @@ fn are_apart(sums: &[VarId], params: &[VarId]) -> bool
 }
 
 /// Whether the sums of a summand may stand beside an equation's parameters.
-fn are_sums(
+pub fn are_sums(
     alloc: Global,
     known: &Known,
     sums: &[VarId],
@@ -221,7 +221,7 @@ fn are_sums(
 }
 
 /// Whether all actions have arguments of their sorts over variables.
-fn are_actions(sig: &Signature, known: &Known, scope: &[VarId], actions: &[Action]) -> bool
+pub fn are_actions(sig: &Signature, known: &Known, scope: &[VarId], actions: &[Action]) -> bool
     ensures { result ≡ list_all (λ a. is_action sig.now (plain_known known.now) scope.now (plain_action a)) actions.now }
 {
     actions
@@ -230,7 +230,7 @@ fn are_actions(sig: &Signature, known: &Known, scope: &[VarId], actions: &[Actio
 }
 
 /// The sums of a summand and the parameters of its equation.
-fn scope_of(alloc: Global, sums: &[VarId], params: &[VarId]) -> Result<Vec<VarId>, NoMemory>
+pub fn scope_of(alloc: Global, sums: &[VarId], params: &[VarId]) -> Result<Vec<VarId>, NoMemory>
     ensures { IfOk result (λ scope. scope.items ≡ sums.now ++ params.now) }
 {
     let mut scope = sums.to_vec(alloc)?;

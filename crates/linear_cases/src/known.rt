@@ -1,6 +1,6 @@
 //! What is known of the terms of a pool.
 
-ghost use Rattle.std.specs.Prelude.{◌≡◌, ◌≤◌, ◌++◌, length, IfOk, IfSome, OnOk};
+ghost use Rattle.std.specs.Prelude.{◌≡◌, ◌≤◌, ◌+◌, ◌++◌, length, IfOk, IfSome, OnOk};
 ghost use Rattle.std.specs.List.{list_all};
 ghost use Rattle.linear_cases.specs.FormTests.{are_over, has_sort, have_sorts, head_scope, is_among, is_known_variable, is_over, plain_known, scope_at, HasKnownSort, IsKnown};
 
@@ -17,14 +17,12 @@ pub struct Known {
     pub scopes: Vec<Vec<VarId>>,
 }
 
-/// The number of variables. It adds one, since a signature tells the number of a new one alone.
+/// The number of variables, beside the last one. It adds that one, since a signature tells the number of a new one alone.
 pub fn count_variables(sig: &mut Signature) -> Result<usize, NoMemory>
-    ensures { IfOk result (λ count. count ≤ length sig.new.variables) }
+    ensures { IfOk result (λ count. length sig.new.variables ≡ count + 1) }
 {
     let name = sig.take_name("v")?;
-    if sig.next_sort().0 == 0 {
-        return Ok(0);
-    }
+    signature_stands(sig);
     let variable = sig.add_var(name, SortId(0))?;
     Ok(variable.0)
 }

@@ -19,17 +19,34 @@ pub fn variable_text(sig: &Signature, variable: VarId) -> &str
     names.text(sig.var_name(variable))
 }
 
-/// What linear processes are shown with: the names of the sorts and of the actions, how many variables there are, and the texts of the pool's terms.
+/// What is shown with: the names of the sorts and of the actions, the texts of the variables with their sorts, and those of the pool's
+/// terms.
 #[derive(Drop)]
 pub struct Texts<'a> {
     pub sorts: &'a [(String, SortId)],
     pub actions: &'a [String],
-    pub variables: usize,
+    pub variables: &'a [(String, SortId)],
     pub terms: Vec<String>,
 }
 
+/// The names of so many variables, with their sorts.
+pub fn variable_names(
+    alloc: Global,
+    sig: &Signature,
+    count: usize,
+) -> Result<Vec<(String, SortId)>, NoMemory>
+    requires { count ≤ length sig.now.variables }
+{
+    let mut texts = Vec::new(alloc);
+    for number in 0..count {
+        let text = String::from_str(alloc, variable_text(sig, VarId(number)))?;
+        texts.push((text, sig.var_sort(VarId(number))))?;
+    }
+    Ok(texts)
+}
+
 /// Adds terms in brackets, if there are any.
-fn push_terms(texts: &[String], terms: &[TermId], out: &mut String) -> Result<(), NoMemory> {
+pub fn push_terms(texts: &[String], terms: &[TermId], out: &mut String) -> Result<(), NoMemory> {
     for (place, term) in terms.iter().enumerate() {
         out.push_str(if place == 0 { "(" } else { ", " })?;
         if let Some(text) = texts.get(term.0) {
@@ -46,17 +63,15 @@ fn push_terms(texts: &[String], terms: &[TermId], out: &mut String) -> Result<()
 fn node_text(
     alloc: Global,
     sig: &Signature,
-    variables: usize,
+    variables: &[(String, SortId)],
     node: &Node,
     texts: &[String],
-) -> Result<String, NoMemory>
-    requires { variables ≤ length sig.now.variables }
-{
+) -> Result<String, NoMemory> {
     let mut out = String::new(alloc);
     match node.head {
         Head::Var(variable) => {
-            if variable.0 < variables {
-                out.push_str(variable_text(sig, variable))?;
+            if let Some((text, _)) = variables.get(variable.0) {
+                out.push_str(text.as_str())?;
             }
         }
         Head::Num(_, num) => out.push_str(format!(in alloc; "{}", num.magnitude)?.as_str())?,
@@ -75,10 +90,8 @@ pub fn term_texts(
     alloc: Global,
     sig: &Signature,
     pool: &Pool,
-    variables: usize,
-) -> Result<Vec<String>, NoMemory>
-    requires { variables ≤ length sig.now.variables }
-{
+    variables: &[(String, SortId)],
+) -> Result<Vec<String>, NoMemory> {
     let mut texts = Vec::new(alloc);
     for number in 0..pool.len() {
         let text = node_text(
@@ -94,24 +107,31 @@ pub fn term_texts(
 }
 
 /// Adds a variable with its sort.
-fn push_variable(
-    sig: &Signature,
-    texts: &Texts<'_>,
-    variable: VarId,
-    out: &mut String,
-) -> Result<(), NoMemory>
-    requires { texts.now.variables ≤ length sig.now.variables }
-{
-    if variable.0 >= texts.variables {
+fn push_variable(texts: &Texts<'_>, variable: VarId, out: &mut String) -> Result<(), NoMemory> {
+    let Some((text, sort)) = texts.variables.get(variable.0) else {
         return Ok(());
-    }
-    out.push_str(variable_text(sig, variable))?;
-    let sort = sig.var_sort(variable);
+    };
+    out.push_str(text.as_str())?;
     for (name, known) in texts.sorts {
         if known.0 == sort.0 {
             out.push_str(": ")?;
             out.push_str(name.as_str())?;
         }
+    }
+    Ok(())
+}
+
+/// Adds variables with their sorts, and commas between them.
+pub fn push_variables(
+    texts: &Texts<'_>,
+    variables: &[VarId],
+    out: &mut String,
+) -> Result<(), NoMemory> {
+    for (place, variable) in variables.iter().enumerate() {
+        if place > 0 {
+            out.push_str(", ")?;
+        }
+        push_variable(texts, *variable, out)?;
     }
     Ok(())
 }
@@ -133,26 +153,36 @@ fn push_label(texts: &Texts<'_>, label: &Label, out: &mut String) -> Result<(), 
     Ok(())
 }
 
-/// Adds a summand.
-fn push_summand(
-    sig: &Signature,
+/// Adds a line with sums, a condition and a label.
+pub fn push_firing(
     texts: &Texts<'_>,
-    summand: &Summand,
+    sums: &[VarId],
+    condition: TermId,
+    label: &Label,
     out: &mut String,
-) -> Result<(), NoMemory>
-    requires { texts.now.variables ≤ length sig.now.variables }
-{
+) -> Result<(), NoMemory> {
     out.push_str("\n")?;
-    for sum in &summand.sums {
+    for sum in sums {
         out.push_str("sum ")?;
-        push_variable(sig, texts, *sum, out)?;
+        push_variable(texts, *sum, out)?;
         out.push_str(" . ")?;
     }
-    if let Some(condition) = texts.terms.get(summand.cond.0) {
+    if let Some(condition) = texts.terms.get(condition.0) {
         out.push_str(condition.as_str())?;
     }
     out.push_str(" -> ")?;
-    push_label(texts, &summand.label, out)?;
+    push_label(texts, label, out)
+}
+
+/// Adds a summand.
+fn push_summand(texts: &Texts<'_>, summand: &Summand, out: &mut String) -> Result<(), NoMemory> {
+    push_firing(
+        texts,
+        summand.sums.as_slice(),
+        summand.cond,
+        &summand.label,
+        out,
+    )?;
     if let Some(next) = &summand.next {
         out.push_str(" . P")?;
         push_terms(texts.terms.as_slice(), next.as_slice(), out)?;
@@ -161,24 +191,12 @@ fn push_summand(
 }
 
 /// The linear process as text.
-pub fn shown(
-    alloc: Global,
-    sig: &Signature,
-    texts: &Texts<'_>,
-    lin: &Linear,
-) -> Result<String, NoMemory>
-    requires { texts.now.variables ≤ length sig.now.variables }
-{
+pub fn shown(alloc: Global, texts: &Texts<'_>, lin: &Linear) -> Result<String, NoMemory> {
     let mut out = String::from_str(alloc, "P(")?;
-    for (place, param) in lin.params.iter().enumerate() {
-        if place > 0 {
-            out.push_str(", ")?;
-        }
-        push_variable(sig, texts, *param, &mut out)?;
-    }
+    push_variables(texts, lin.params.as_slice(), &mut out)?;
     out.push_str(")")?;
     for summand in &lin.summands {
-        push_summand(sig, texts, summand, &mut out)?;
+        push_summand(texts, summand, &mut out)?;
     }
     out.push_str("\ninit P")?;
     push_terms(texts.terms.as_slice(), lin.init.as_slice(), &mut out)?;

@@ -3,11 +3,16 @@ mod FilledLinears
 mod OneComponents
 mod TakenNames
 mod GrownModels
-mod ColumnActions
+mod ConstantGrowth
+mod ProcessNames
 mod ColumnNames
-mod CopiedParts
 mod AddedParts
+pub mod AddedConstants
 mod ModelLinears
-mod Linearised
+mod LinearisedTexts
 mod SortedTerms
 mod ElaboratedModels
+mod ModelsOfTexts
+mod OneStart
+mod Refused
+mod MadeLinears

@@ -1,5 +1,5 @@
 -- From a specification to its linear process, link by link.
-use Rattle.std.proofs.Common.{◌≡◌, inr, List, [], map, sym, ap, ap₂, subst, ◌∙◌, Some}
+use Rattle.std.proofs.Common.{◌≡◌, List, [], map, sym, ap, ap₂, subst, ◌∙◌, Some}
 use Rattle.std.specs.Prelude.{IfErr, IsErrAnd, Result, Ok, Err}
 use Rattle.std.specs.Option.{option_map}
 use Rattle.std.proofs.lemmas.Option.{slice_get-map}
@@ -35,7 +35,13 @@ use Rattle.regular_encoder.specs.EncodedForms.{EncodingIsGood}
 use Rattle.regular_encoder.specs.Refusals.{IsEncodeFaultOf}
 use Rattle.regular_encoder.specs.declared.faults.EncodeFault.{EncodeFault}
 use Rattle.regular_encoder.specs.declared.faults.EncodeFault.TheVariants.{NotTail, NoMemory}
-use Rattle.linearising.specs.Faults.{fault_of_encode}
+use Rattle.guard_check.specs.Faults.{IsGuardFaultOf}
+use Rattle.guard_check.specs.declared.checking.GuardFault.{GuardFault}
+use Rattle.guard_check.specs.declared.checking.GuardFault.TheVariants as guard
+use Rattle.proc_unfold.specs.Parallelism.{IsNetFaultOf}
+use Rattle.proc_unfold.specs.declared.faults.NetFault.{NetFault}
+use Rattle.proc_unfold.specs.declared.faults.NetFault.TheVariants as net
+use Rattle.linearising.specs.Faults.{fault_of_encode, fault_of_guard, fault_of_net}
 use Rattle.linearising.specs.declared.fault.ModelFault.{ModelFault}
 use Rattle.linearising.specs.OneComponents.{one_component}
 use Rattle.linearising.specs.ModelLinears.{component_process, IsTheComponent, LeadsToLinear, IsModelFaultOf}
@@ -111,8 +117,7 @@ from_the_component g h ts us m c l sg grow fits k leads =
     record {
       stands = leads.stands;
       inhabited = leads.inhabited;
-      grown = leads.grown;
-      actions = leads.actions;
+      grows = leads.grows;
       fits = leads.fits;
       params = leads.params;
       names = leads.names;
@@ -125,5 +130,16 @@ pub encoding_refused : {T : Type 0} (r : Result T ModelFault) (m : PlainModel) (
     → IfErr r (IsModelFaultOf m)
 encoding_refused (Ok x) m fault g ts c f is has same = absurd same
 encoding_refused (Err given) m (NotTail k) g ts c f is has same =
-    subst (IsModelFaultOf m) (sym same) (inr (record { signature = g; trees = ts; component = c; form = f; is = is; summand = k; first = has }))
+    subst (IsModelFaultOf m) (sym same) (record { signature = g; trees = ts; component = c; form = f; is = is; first = has })
 encoding_refused (Err given) m NoMemory g ts c f is has same = subst (IsModelFaultOf m) (sym same) tt
+
+pub net_refused : {T : Type 0} (r : Result T ModelFault) (m : PlainModel) (fault : NetFault) → IsNetFaultOf m fault → IsErrAnd r (λ given. given ≡ fault_of_net fault) → IfErr r (IsModelFaultOf m)
+net_refused (Ok x) m fault has same = absurd same
+net_refused (Err given) m net.NoMemory has same = subst (IsModelFaultOf m) (sym same) tt
+net_refused (Err given) m (net.ParallelRecursion names) has same = subst (IsModelFaultOf m) (sym same) (has, λ e. cc)
+net_refused (Err given) m (net.ParallelUnderSequential number) has same = subst (IsModelFaultOf m) (sym same) (has, λ e. cc)
+
+pub guard_refused : {T : Type 0} (r : Result T ModelFault) (m : PlainModel) (fault : GuardFault) → IsGuardFaultOf m fault → IsErrAnd r (λ given. given ≡ fault_of_guard fault) → IfErr r (IsModelFaultOf m)
+guard_refused (Ok x) m fault has same = absurd same
+guard_refused (Err given) m guard.NoMemory has same = subst (IsModelFaultOf m) (sym same) tt
+guard_refused (Err given) m (guard.Unguarded names) has same = subst (IsModelFaultOf m) (sym same) (has, λ e. cc)

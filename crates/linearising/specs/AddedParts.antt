@@ -10,8 +10,9 @@ use Rattle.sort_table.specs.PlacedSections.{IsPlaced}
 use Rattle.sort_checker.specs.Systems.{equations_in}
 use Rattle.lps_printer.specs.WrittenProcesses.{TextNames}
 use Rattle.lps_printer.specs.WholeTexts.{linear_declared}
-use Rattle.linearising.specs.CopiedParts.{kept_sections}
-use Rattle.linearising.specs.Headline.{data_in, IsAddition, names_of_addition, IsOfAnEmptyList, AddsOnly}
+use Rattle.lps_printer.specs.CopiedSections.{kept_sections}
+use Rattle.lps_printer.specs.CopiedParts.{data_in}
+use Rattle.linearising.specs.Headline.{IsAddition, names_of_addition, IsOfAnEmptyList, AddsOnly}
 
 -- what these sections declare may be added
 pub record MayBeAdded (own : PlainSpec) (added : List Section) : Type 0 where

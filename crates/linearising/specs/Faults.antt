@@ -1,4 +1,13 @@
--- The fault of a text, from the fault of a pass.
+-- The fault of a text or of a specification, from the fault of a pass.
+use Rattle.mcrl2_lexer.specs.declared.token.LexFault.{LexFault}
+use Rattle.mcrl2_lexer.specs.declared.token.LexFault.TheVariants as lex
+use Rattle.mcrl2_parser.specs.declared.faults.ParseFault.{ParseFault}
+use Rattle.mcrl2_parser.specs.declared.faults.ParseFault.TheVariants as parse
+use Rattle.sort_table.specs.declared.building.SortFault.{SortFault}
+use Rattle.sort_table.specs.declared.building.SortFault.TheVariants as sort
+use Rattle.sort_checker.specs.declared.elaborating.TypeFault.{TypeFault}
+use Rattle.sort_checker.specs.declared.elaborating.TypeFault.TheVariants as type
+use Rattle.std.specs.Prelude.{ℕ}
 use Rattle.proc_unfold.specs.declared.faults.NetFault.{NetFault}
 use Rattle.proc_unfold.specs.declared.faults.NetFault.TheVariants as net
 use Rattle.guard_check.specs.declared.checking.GuardFault.{GuardFault}
@@ -6,7 +15,11 @@ use Rattle.guard_check.specs.declared.checking.GuardFault.TheVariants as guard
 use Rattle.regular_encoder.specs.declared.faults.EncodeFault.{EncodeFault}
 use Rattle.regular_encoder.specs.declared.faults.EncodeFault.TheVariants as encode
 use Rattle.linearising.specs.declared.fault.ModelFault.{ModelFault}
-use Rattle.linearising.specs.declared.fault.ModelFault.TheVariants.{Net, Guard, NotBuilt, NoMemory}
+use Rattle.linearising.specs.declared.fault.ModelFault.TheVariants.{Net, NotBuilt, Guard, NotTail, NoMemory}
+use Rattle.linearising.specs.declared.fault.LinFault.{LinFault}
+use Rattle.linearising.specs.declared.fault.LinFault.TheVariants as lin
+use Rattle.linearising.specs.declared.methods.Method.{Method}
+use Rattle.linearising.specs.declared.methods.Method.TheVariants.{Auto, Regular, Stack}
 
 abbrev pub fault_of_net : NetFault → ModelFault
 fault_of_net net.NoMemory = NoMemory
@@ -17,7 +30,49 @@ abbrev pub fault_of_guard : GuardFault → ModelFault
 fault_of_guard guard.NoMemory = NoMemory
 fault_of_guard (guard.Unguarded names) = Guard (guard.Unguarded names)
 
--- a form that isn't tail has no linear process yet
 abbrev pub fault_of_encode : EncodeFault → ModelFault
 fault_of_encode encode.NoMemory = NoMemory
-fault_of_encode (encode.NotTail number) = NotBuilt
+fault_of_encode (encode.NotTail number) = NotTail number
+
+-- ---- of a text
+abbrev pub fault_of_lex : LexFault → LinFault
+fault_of_lex lex.NoMemory = lin.NoMemory
+fault_of_lex (lex.BadByte place) = lin.Lex (lex.BadByte place)
+fault_of_lex (lex.NumeralTooLarge place) = lin.Lex (lex.NumeralTooLarge place)
+fault_of_lex (lex.OutOfProfile place) = lin.Lex (lex.OutOfProfile place)
+
+abbrev pub fault_of_parse : ParseFault → LinFault
+fault_of_parse parse.NoMemory = lin.NoMemory
+fault_of_parse (parse.Syntax number) = lin.Parse (parse.Syntax number)
+fault_of_parse (parse.TooDeep number) = lin.Parse (parse.TooDeep number)
+fault_of_parse parse.NoInit = lin.Parse parse.NoInit
+fault_of_parse (parse.TwoInits number) = lin.Parse (parse.TwoInits number)
+
+abbrev pub fault_of_sort : SortFault → LinFault
+fault_of_sort sort.NoMemory = lin.NoMemory
+fault_of_sort (sort.UnknownSort number name) = lin.Sort (sort.UnknownSort number name)
+fault_of_sort (sort.SortCycle names) = lin.Sort (sort.SortCycle names)
+fault_of_sort (sort.Duplicate first second) = lin.Sort (sort.Duplicate first second)
+fault_of_sort (sort.EmptySort name) = lin.Sort (sort.EmptySort name)
+
+abbrev pub fault_of_type : TypeFault → LinFault
+fault_of_type type.NoMemory = lin.NoMemory
+fault_of_type (type.UnknownName number name) = lin.«Type» (type.UnknownName number name)
+fault_of_type (type.Untyped number) = lin.«Type» (type.Untyped number)
+fault_of_type (type.FreeVariable number name) = lin.«Type» (type.FreeVariable number name)
+fault_of_type (type.VariableLeft number) = lin.«Type» (type.VariableLeft number)
+fault_of_type (type.CommShape number) = lin.«Type» (type.CommShape number)
+fault_of_type (type.RenameTwice number name) = lin.«Type» (type.RenameTwice number name)
+
+-- the regular encoder refuses a summand of two calls where it alone was asked for; else it isn't built
+abbrev pub fault_of_tail : Method → ℕ → LinFault
+fault_of_tail Auto summand = lin.NotBuilt
+fault_of_tail Regular summand = lin.NotTail 1 summand
+fault_of_tail Stack summand = lin.NotBuilt
+
+abbrev pub fault_of_model : Method → ModelFault → LinFault
+fault_of_model method (Net fault) = lin.Net fault
+fault_of_model method NotBuilt = lin.NotBuilt
+fault_of_model method (Guard fault) = lin.Guard fault
+fault_of_model method (NotTail summand) = fault_of_tail method summand
+fault_of_model method NoMemory = lin.NoMemory

@@ -7,7 +7,7 @@ use Rattle.mcrl2_syntax.specs.Declarations.{PlainSpec}
 use Rattle.mcrl2_syntax.specs.SpelledDeclarations.{SpellsSpec}
 use Rattle.sort_table.specs.Expressions.{Name, word, listed, none}
 use Rattle.sort_table.specs.Identifiers.{copied_identifiers}
-use Rattle.sort_table.specs.BareDeclarations.{Field, Constructor, Declaration, struct, mappings, variables, equation, process, initial, Section, declarations_in, bare_sections}
+use Rattle.sort_table.specs.BareDeclarations.{Field, Constructor, Declaration, struct, mappings, bare_sections}
 use Rattle.sort_table.specs.Growth.{More, with_more}
 use Rattle.sort_checker.specs.FullVocabularies.{FullVocabulary}
 use Rattle.sort_checker.specs.Elaborations.{WrittenEquation}
@@ -16,6 +16,7 @@ use Rattle.process_terms.specs.Theories.{Theory, IsConsistent}
 use Rattle.process_terms.specs.Processes.{Process}
 use Rattle.bisim_laws.specs.LinearProcesses.{IsLinearText}
 use Rattle.bisim_laws.specs.Links.{Link, IsGood}
+use Rattle.lps_printer.specs.CopiedParts.{data_in}
 
 -- ---- what a text says
 -- The longest-match tokens of the bytes spell a specification. Over a vocabulary, which has its sorts and functions under numbers, it
@@ -28,17 +29,6 @@ pub record Specifies (text : List ℕ) (v : FullVocabulary) (th : Theory) (p : P
   pub system : IsSystem (bare_sections spec) v th p
 
 -- ---- what is printed of its data, and what is added
--- what declares sorts, functions and actions
-abbrev pub data_by : Declaration → List Declaration
-data_by (variables xs) = []
-data_by (equation c l r) = []
-data_by (process n xs p) = []
-data_by (initial p) = []
-data_by d = d ∷ []
-
-abbrev pub data_in : List Section → List Declaration
-data_in ss = flat_map data_by (declarations_in ss)
-
 -- what may be added: a `struct`, or mappings without arguments
 abbrev pub IsAddition : Declaration → Type 0
 IsAddition (struct x cs) = Unit {0}

@@ -5,7 +5,9 @@ pub mod TakenNames
 pub mod Faults
 pub mod ModelLinears
 pub mod Headline
+pub mod Refusals
 pub mod Linearised
 pub mod ElaboratedModels
-pub mod CopiedParts
+pub mod ModelsOfTexts
 pub mod AddedParts
+pub mod AddedConstants

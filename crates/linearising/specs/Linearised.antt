@@ -1,19 +1,29 @@
--- A linear process in code that stands for a text, what is printed for it, and that the printed text then stands for the text.
+-- A linear process in code that was made of a text and stands for it, what is printed for it, and that the printed text then stands for the
+-- text.
 use Rattle.std.specs.Prelude.{◌≡◌, ℕ, List}
+use Rattle.std.specs.List.{Contains}
+use Rattle.data_theory.specs.declared.ids.NameId.{NameId}
 use Rattle.data_theory.specs.Terms.{Sort, Term}
 use Rattle.data_theory.specs.Declarations.{NoSortIsEmpty}
-use Rattle.data_theory.specs.Signature.{Sig}
+use Rattle.data_theory.specs.Signature.{Sig, IsTaken}
 use Rattle.data_theory.specs.WholeSignatures.{IsSignature}
 use Rattle.data_theory.specs.IdData.{data_meant}
 use Rattle.data_theory.specs.IdTrees.{Tree}
 use Rattle.data_theory.specs.IdTerms.{IsGrown}
+use Rattle.mcrl2_lexer.specs.declared.token.Token.{Token}
+use Rattle.mcrl2_lexer.specs.Lexing.{HasTokens}
 use Rattle.mcrl2_syntax.specs.Declarations.{PlainSpec}
+use Rattle.mcrl2_syntax.specs.SpelledDeclarations.{SpellsSpec}
+use Rattle.term_pool.specs.Pools.{PoolContents}
+use Rattle.sort_table.specs.Expressions.{Name}
+use Rattle.sort_table.specs.Identifiers.{copied_identifiers}
 use Rattle.sort_table.specs.Growth.{More, with_more}
 use Rattle.sort_table.specs.SignatureVocabularies.{vocabulary_of}
 use Rattle.sort_checker.specs.FullVocabularies.{FullVocabulary}
+use Rattle.sort_checker.specs.TextModels.{IsSignatureOf, IsModelOf}
 use Rattle.process_terms.specs.Theories.{Theory, Equals, AreOfSorts}
 use Rattle.process_terms.specs.Processes.{Process}
-use Rattle.process_terms.specs.PlainProcesses.{PlainModel}
+use Rattle.process_terms.specs.PlainProcesses.{PlainEquation, PlainModel}
 use Rattle.process_terms.specs.Meanings.{process_of}
 use Rattle.process_terms.specs.SignatureEntries.{entries_of, BothGrow}
 use Rattle.bisim_laws.specs.LinearProcesses.{Linear, sorts, state_of, IsLinear, IsWellSorted, IsLinearText}
@@ -22,10 +32,35 @@ use Rattle.lps_core.specs.Fitting.{Fits}
 use Rattle.lps_core.specs.GoingOn.{IsGoodOver}
 use Rattle.lps_core.specs.PlainLinears.{PlainLinear, linear_of, initial_of, linear_state}
 use Rattle.proc_unfold.specs.FittingModels.{ModelFits}
-use Rattle.linearising.specs.ModelLinears.{LeadsToLinear}
+use Rattle.linearising.specs.ModelLinears.{IsProcessName, LeadsToLinear}
 use Rattle.linearising.specs.EqualLinears.{AreEqualLinears}
 use Rattle.linearising.specs.Headline.{Specifies, AddsOnly, StandsFor}
 
+-- ---- what it is made of
+-- A signature had what the specification declares, and the specification's identifiers were taken. Over it the specification had a model, whose
+-- equations these are. From there the linear process and the name of its process were made.
+pub record IsMadeFor (spec : PlainSpec) (h : Sig) (us : List Tree) (equations : List PlainEquation) (x : NameId) (l : PlainLinear) : Type 0 where
+  pub signature : Sig
+  pub stands : IsSignature signature
+  pub declares : IsSignatureOf spec signature
+  pub taken : (t : Name) → Contains (copied_identifiers spec) t → IsTaken signature t
+  pub pool : PoolContents
+  pub model : PlainModel
+  pub is_model : IsModelOf spec signature pool model
+  pub its_equations : model.equations ≡ equations
+  pub fits : ModelFits signature pool.trees model
+  pub grow : BothGrow signature h pool.trees us
+  pub leads : LeadsToLinear signature (process_of (entries_of h us) model) h us l
+  pub name : IsProcessName signature h x
+
+-- the tokens of the text spell the specification
+pub record IsMadeOf (text : List ℕ) (spec : PlainSpec) (h : Sig) (us : List Tree) (equations : List PlainEquation) (x : NameId) (l : PlainLinear) : Type 0 where
+  pub tokens : List Token
+  pub cut : HasTokens text tokens
+  pub spelled : SpellsSpec text spec tokens
+  pub made : IsMadeFor spec h us equations x l
+
+-- ---- what it is to the text
 -- The text has this specification. The signature has its vocabulary and more behind it, and a link leads from the text's process to
 -- the linear process, over every theory that goes on from the signature.
 pub record IsLinearised (text : List ℕ) (spec : PlainSpec) (g : Sig) (ts : List Tree) (l : PlainLinear) : Type 0 where
@@ -64,6 +99,11 @@ pub record ReadsBack (spec : PlainSpec) (g : Sig) (ts : List Tree) (l : PlainLin
   pub starts_equal : Equals theory (initial_of (entries_of g ts) l) initial
 
 -- ---- the laws
+-- what is made of a text stands for it
+abbrev pub WhatIsMadeStandsForTheText : Type 0
+WhatIsMadeStandsForTheText =
+    (text : List ℕ) (spec : PlainSpec) (h : Sig) (us : List Tree) (equations : List PlainEquation) (x : NameId) (l : PlainLinear) → IsMadeOf text spec h us equations x l → IsLinearised text spec h us l
+
 -- the linear process to which the process of a text leads stands for the text
 abbrev pub WhatIsLedToStandsForTheText : Type 0
 WhatIsLedToStandsForTheText =

@@ -1,11 +1,13 @@
 -- The linear process of a specification in code whose one component is a tail form.
-use Rattle.std.specs.Prelude.{◌≡◌, ◌⊎◌, ℕ, List, []}
+use Rattle.std.specs.Prelude.{◌≡◌, ◌≢◌, ℕ, List, [], codes, slice_get, Some}
+use Rattle.std.specs.List.{Contains}
+use Rattle.data_theory.specs.declared.ids.NameId.{NameId}
 use Rattle.data_theory.specs.Declarations.{NoSortIsEmpty}
 use Rattle.data_theory.specs.Signature.{Sig}
+use Rattle.data_theory.specs.Fresh.{IsFresh}
 use Rattle.data_theory.specs.WholeSignatures.{IsSignature}
 use Rattle.data_theory.specs.IdData.{data_meant}
 use Rattle.data_theory.specs.IdTrees.{Tree}
-use Rattle.data_theory.specs.IdTerms.{IsGrown}
 use Rattle.term_pool.specs.Pools.{PoolContents}
 use Rattle.term_pool.specs.Constants.{AreConstants}
 use Rattle.process_terms.specs.PlainProcesses.{PlainModel, PlainComponent}
@@ -27,9 +29,12 @@ use Rattle.greibach.specs.PlainForms.{PlainForm}
 use Rattle.greibach.specs.Scopes.{HaveOwnVariables, HasSequentialBodies, BindsItsVariablesOnce}
 use Rattle.regular_encoder.specs.FormColumns.{ParamsHaveOwnNames}
 use Rattle.regular_encoder.specs.Refusals.{IsFirstWithTwoCalls}
+use Rattle.lps_printer.specs.GrowingByConstants.{GrowsByConstants}
 use Rattle.linearising.specs.OneComponents.{HasParallelOperator}
+use Rattle.guard_check.specs.declared.checking.GuardFault.TheVariants as guard
+use Rattle.proc_unfold.specs.declared.faults.NetFault.TheVariants as net
 use Rattle.linearising.specs.declared.fault.ModelFault.{ModelFault}
-use Rattle.linearising.specs.declared.fault.ModelFault.TheVariants.{Net, Guard, NotBuilt, NoMemory}
+use Rattle.linearising.specs.declared.fault.ModelFault.TheVariants.{Net, NotBuilt, Guard, NotTail, NoMemory}
 
 -- What is asked of a specification: it is well formed over the signature and the pool, no binder takes a variable that is in scope, no
 -- sort is empty, and the pool's constants are those of the signature.
@@ -62,31 +67,38 @@ pub record CanBeLinearFrom (g : Sig) (p : PoolContents) (m : PlainModel) (c : Pl
   pub inhabited : NoSortIsEmpty (data_meant g)
   pub constants : AreConstants g p.constants
 
--- from this process a link leads to the linear process, over every theory that goes on from the signature at the end
+-- From this process a link leads to the linear process, over every theory that goes on from the signature at the end. Constants alone
+-- were declared meanwhile. The parameters and the sums have names of their own.
 pub record LeadsToLinear (g : Sig) (p : Process) (h : Sig) (us : List Tree) (l : PlainLinear) : Type 0 where
   pub stands : IsSignature h
   pub inhabited : NoSortIsEmpty (data_meant h)
-  pub grown : IsGrown g h
-  pub actions : h.actions ≡ g.actions
+  pub grows : GrowsByConstants g h
   pub fits : Fits h us l
   pub params : ParamsHaveOwnNames h l.params
   pub names : HaveOwnNames h l
   pub link : Link
   pub bisimilar : IsGoodOver h link p (linear_state (entries_of h us) l)
 
--- a component of the specification has a form with a summand of two calls
-pub record HasNoTailForm (m : PlainModel) : Type 0 where
+-- the name of the process, which is taken: the first of `P`, `P_1`, .. that wasn't
+pub record IsProcessName (g h : Sig) (x : NameId) : Type 0 where
+  pub text : List ℕ
+  pub fresh : IsFresh g (codes "P") text
+  pub named : slice_get h.texts x.0 ≡ Some text
+  pub taken : Contains h.taken x
+
+-- a component of the specification has a form in which this summand is the first with two calls
+pub record HasNoTailForm (m : PlainModel) (summand : ℕ) : Type 0 where
   pub signature : Sig
   pub trees : List Tree
   pub component : PlainComponent
   pub form : PlainForm
   pub is : IsFormOf signature trees m component form
-  pub summand : ℕ
   pub first : IsFirstWithTwoCalls form summand
 
 -- Why there is no linear process. Want of memory has no cause here.
 abbrev pub IsModelFaultOf : PlainModel → ModelFault → Type 0
-IsModelFaultOf m (Net fault) = IsNetFaultOf m fault
-IsModelFaultOf m (Guard fault) = IsGuardFaultOf m fault
-IsModelFaultOf m NotBuilt = HasParallelOperator m ⊎ HasNoTailForm m
+IsModelFaultOf m (Net fault) = IsNetFaultOf m fault × (fault ≢ net.NoMemory)
+IsModelFaultOf m NotBuilt = HasParallelOperator m
+IsModelFaultOf m (Guard fault) = IsGuardFaultOf m fault × (fault ≢ guard.NoMemory)
+IsModelFaultOf m (NotTail summand) = HasNoTailForm m summand
 IsModelFaultOf m NoMemory = Unit {0}

@@ -1,23 +1,30 @@
-//! Why a specification has no linear process.
+//! Why a specification or a text has no linear process.
 
 ghost use Rattle.std.specs.Prelude.{◌≡◌};
-ghost use Rattle.linearising.specs.Faults.{fault_of_encode, fault_of_guard, fault_of_net};
+ghost use Rattle.linearising.specs.Faults.{fault_of_encode, fault_of_guard, fault_of_lex, fault_of_net, fault_of_parse, fault_of_sort, fault_of_type};
+ghost use Rattle.linearising.specs.declared.fault.LinFault.TheVariants as lin;
 ghost use Rattle.linearising.specs.declared.fault.ModelFault.TheVariants.{NoMemory};
 
 use data_theory as data;
 use guard_check::GuardFault;
+use mcrl2_lexer::LexFault;
+use mcrl2_parser::ParseFault;
 use proc_unfold::NetFault;
 use regular_encoder::EncodeFault;
+use sort_checker::TypeFault;
+use sort_table::SortFault;
 
 /// Why a specification has no linear process, in the order in which causes are looked for.
 #[derive(Debug, Drop)]
 pub enum ModelFault {
     /// Parallelism doesn't stand outside recursion.
     Net(NetFault),
+    /// A parallel operator stands where `init` reaches it.
+    NotBuilt,
     /// Recursion isn't guarded.
     Guard(GuardFault),
-    /// A parallel operator stands where `init` reaches it, or a summand of the form has two calls.
-    NotBuilt,
+    /// The summand with this number, from 1, is the first of the component's form with two calls.
+    NotTail(usize),
     /// No memory was left.
     NoMemory,
 }
@@ -58,7 +65,84 @@ impl From<EncodeFault> for ModelFault {
     fn from(fault: EncodeFault) -> Self {
         match fault {
             EncodeFault::NoMemory => ModelFault::NoMemory,
-            EncodeFault::NotTail(_) => ModelFault::NotBuilt,
+            EncodeFault::NotTail(number) => ModelFault::NotTail(number),
+        }
+    }
+}
+
+/// Why there is no linear process for a text, in the order in which causes are looked for. The names of a fault stand in the table of
+/// texts that was handed in.
+#[derive(Debug, Drop)]
+pub enum LinFault {
+    /// The text has no tokens that are all accepted.
+    Lex(LexFault),
+    /// The tokens have no declarations that are all accepted.
+    Parse(ParseFault),
+    /// What the declarations declare has a fault.
+    Sort(SortFault),
+    /// The text is ill typed.
+    Type(TypeFault),
+    /// Parallelism doesn't stand outside recursion.
+    Net(NetFault),
+    /// Recursion isn't guarded.
+    Guard(GuardFault),
+    /// The component with the first number has a form whose summand with the second number is its first with two calls, and the
+    /// regular encoder alone was asked for. Both count from 1.
+    NotTail(usize, usize),
+    /// A parallel operator stands where `init` reaches it, or a summand of the form has two calls.
+    NotBuilt,
+    /// No memory was left.
+    NoMemory,
+}
+
+impl From<data::NoMemory> for LinFault {
+    ghost from_gives = { λ _ fault. fault ≡ lin.NoMemory };
+
+    fn from(_: data::NoMemory) -> Self {
+        LinFault::NoMemory
+    }
+}
+
+impl From<LexFault> for LinFault {
+    ghost from_gives = { λ lex fault. fault ≡ fault_of_lex lex };
+
+    fn from(fault: LexFault) -> Self {
+        match fault {
+            LexFault::NoMemory => LinFault::NoMemory,
+            _ => LinFault::Lex(fault),
+        }
+    }
+}
+
+impl From<ParseFault> for LinFault {
+    ghost from_gives = { λ parse fault. fault ≡ fault_of_parse parse };
+
+    fn from(fault: ParseFault) -> Self {
+        match fault {
+            ParseFault::NoMemory => LinFault::NoMemory,
+            _ => LinFault::Parse(fault),
+        }
+    }
+}
+
+impl From<SortFault> for LinFault {
+    ghost from_gives = { λ sort fault. fault ≡ fault_of_sort sort };
+
+    fn from(fault: SortFault) -> Self {
+        match fault {
+            SortFault::NoMemory => LinFault::NoMemory,
+            fault => LinFault::Sort(fault),
+        }
+    }
+}
+
+impl From<TypeFault> for LinFault {
+    ghost from_gives = { λ typed fault. fault ≡ fault_of_type typed };
+
+    fn from(fault: TypeFault) -> Self {
+        match fault {
+            TypeFault::NoMemory => LinFault::NoMemory,
+            fault => LinFault::Type(fault),
         }
     }
 }

@@ -7,11 +7,12 @@ pub fn equal_linears_are_good()
     ensures { EqualLinearsAreGood }
 {}
 
-ghost use Rattle.linearising.specs.Linearised.{WhatIsLedToStandsForTheText, WhatIsPrintedStandsForTheText};
+ghost use Rattle.linearising.specs.Linearised.{WhatIsLedToStandsForTheText, WhatIsMadeStandsForTheText, WhatIsPrintedStandsForTheText};
 
-/// The linear process to which a text's process leads stands for the text, and so does what is printed for that one.
+/// The linear process to which a text's process leads stands for the text, and so do what is made of a text and what is printed for that.
 pub fn what_is_printed_stands_for_the_text()
     ensures led_to { WhatIsLedToStandsForTheText }
+    ensures made { WhatIsMadeStandsForTheText }
     ensures printed { WhatIsPrintedStandsForTheText }
 {}
 
@@ -22,6 +23,13 @@ pub fn what_elaborates_can_be_linear()
     ensures { WhatElaboratesCanBeLinear }
 {}
 
+ghost use Rattle.linearising.specs.ModelsOfTexts.{ModelsOfTextsCanBeLinear};
+
+/// The model of a text can be linearised.
+pub fn models_of_texts_can_be_linear()
+    ensures { ModelsOfTextsCanBeLinear }
+{}
+
 ghost use Rattle.linearising.specs.FilledLinears.{FilledLinearsServe};
 
 /// With constants in the place of empty lists a linear process is equal to itself, where each constant has its equation.
@@ -29,16 +37,16 @@ pub fn filled_linears_serve()
     ensures { FilledLinearsServe }
 {}
 
-ghost use Rattle.linearising.specs.CopiedParts.{WhatIsCopiedHasAllParts};
-
-/// The sections that are copied have all declarations of data and all equations of a specification.
-pub fn what_is_copied_has_all_parts()
-    ensures { WhatIsCopiedHasAllParts }
-{}
-
 ghost use Rattle.linearising.specs.AddedParts.{WhatMayBeAddedAddsOnly};
 
 /// A specification that has the copied sections of another, what may be added to it, and a process, adds only what is allowed.
 pub fn what_may_be_added_adds_only()
     ensures { WhatMayBeAddedAddsOnly }
+{}
+
+ghost use Rattle.linearising.specs.AddedConstants.{ConstantsMayBeAdded};
+
+/// The constants by which the signature of a text grows may be added to it, with the equations of empty lists.
+pub fn constants_may_be_added()
+    ensures { ConstantsMayBeAdded }
 {}

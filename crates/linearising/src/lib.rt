@@ -1,4 +1,4 @@
-//! From a specification in code to its linear process, and from there to the text that is printed for it.
+//! From a text to its linear process, and from there to the text that is printed for it.
 //!
 //! What the printed text is to the text stands in `specs/Headline.antt`, which is to be read first, and in plain words in
 //! `docs/definitions/linearising.md`. The functions of [`laws`] have empty bodies: the contract of each is a law, so that the
@@ -7,9 +7,13 @@
 
 mod fault;
 pub mod laws;
+mod methods;
 mod model_linearising;
 mod one_component;
+mod text_linearising;
 mod variable_names;
 
-pub use fault::ModelFault;
+pub use fault::{LinFault, ModelFault};
+pub use methods::Method;
 pub use model_linearising::linear_of;
+pub use text_linearising::{Linearised, linearise};

@@ -1,6 +1,6 @@
 //! The linear process of a specification.
 
-ghost use Rattle.std.specs.Prelude.{◌≡◌, IfErr, IfOk, OnOk};
+ghost use Rattle.std.specs.Prelude.{◌≡◌, IfErr, IfOk};
 ghost use Rattle.data_theory.specs.Declarations.{NoSortIsEmpty};
 ghost use Rattle.data_theory.specs.Signature.{Sig};
 ghost use Rattle.data_theory.specs.WholeSignatures.{IsSignature};
@@ -16,7 +16,7 @@ ghost use Rattle.lps_core.specs.PlainLinears.{plain_linear};
 ghost use Rattle.proc_unfold.specs.FittingModels.{ComponentFits, IsWellFormed, ModelFits};
 ghost use Rattle.proc_unfold.specs.Parallelism.{StandsOutsideRecursion};
 ghost use Rattle.greibach.specs.Scopes.{BindsItsVariablesOnce, HasSequentialBodies};
-ghost use Rattle.linearising.specs.ModelLinears.{component_process, BindsAsItsModel, CanBeLinear, CanBeLinearFrom, IsModelFaultOf, IsTheComponent, LeadsToLinear};
+ghost use Rattle.linearising.specs.ModelLinears.{component_process, BindsAsItsModel, CanBeLinear, CanBeLinearFrom, IsModelFaultOf, IsProcessName, IsTheComponent, LeadsToLinear};
 
 use crate::fault::ModelFault;
 use crate::one_component::one_component;
@@ -57,7 +57,7 @@ fn component_of(alloc: Global, model: &Model, pool: &mut Pool) -> Result<Compone
 ///
 /// # Errors
 ///
-/// `NotBuilt` only where the component's form has a summand with two calls.
+/// `NotTail` only where the component's form has a summand with two calls, with the number of the first one.
 fn linear_of_component(
     alloc: Global,
     guarded: &Guarded<'_>,
@@ -69,6 +69,7 @@ fn linear_of_component(
     ensures grown { IsGrown sig.old sig.new }
     ensures kept { Extends pool.old.trees pool.new.trees }
     ensures linear { IfOk result (λ made. LeadsToLinear sig.old (component_process (entries_of sig.new pool.new.trees) (plain_model guarded.now.model.now) (plain_component component.now)) sig.new pool.new.trees (plain_linear made.1)) }
+    ensures name { IfOk result (λ made. IsProcessName sig.old sig.new made.0) }
     ensures refused { IfErr result (IsModelFaultOf (plain_model guarded.now.model.now)) }
 {
     signature_stands(sig);
@@ -84,8 +85,9 @@ fn linear_of_component(
 ///
 /// # Errors
 ///
-/// Those of `unfold` and of `check`, exactly as there, and `NotBuilt` only where a parallel operator stands in `init` or in a
-/// definition that it reaches, or where the component's form has a summand with two calls.
+/// Those of `unfold`, exactly as there. Then `NotBuilt` only where a parallel operator stands in `init` or in a definition that it
+/// reaches, those of `check`, exactly as there, and `NotTail` only where the component's form has a summand with two calls, with the
+/// number of the first one.
 pub fn linear_of(
     alloc: Global,
     model: &Model,
@@ -96,6 +98,7 @@ pub fn linear_of(
     ensures grown { IsGrown sig.old sig.new }
     ensures kept { Extends pool.old.trees pool.new.trees }
     ensures linear { IfOk result (λ made. LeadsToLinear sig.old (process_of (entries_of sig.new pool.new.trees) (plain_model model.now)) sig.new pool.new.trees (plain_linear made.1)) }
+    ensures name { IfOk result (λ made. IsProcessName sig.old sig.new made.0) }
     ensures outside { IfOk result (λ _. StandsOutsideRecursion (plain_model model.now)) }
     ensures guarded { IfOk result (λ _. IsGuardedModel (plain_model model.now)) }
     ensures refused { IfErr result (IsModelFaultOf (plain_model model.now)) }

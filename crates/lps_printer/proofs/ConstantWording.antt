@@ -93,7 +93,7 @@ module _ (g h : Sig) (n : ℕ) (new : HasNew g h n) where
       ∙ length-append (declared_from 0 g.functions) (declared_from (0 + length g.functions) (take i new.news))
       ∙ ap (λ m. length (declared_from 0 g.functions) + m) (all_counted new.news (0 + length g.functions) i new.plain low)
 
-  new_entry : (i : ℕ) → i < n → (e : Function) × (slice_get h.functions (length g.functions + i) ≡ Some e) × (e.word ≡ None)
+  pub new_entry : (i : ℕ) → i < n → (e : Function) × (slice_get h.functions (length g.functions + i) ≡ Some e) × (e.word ≡ None)
   new_entry i l =
       let low : i < length new.news = omega (arith, l, new.many) in
       let e = read_within new.news i low in
@@ -118,7 +118,7 @@ module _ (g h : Sig) (n : ℕ) (new : HasNew g h n) where
           by_rest (f ∷ fs) (suc j) l at = by_rest fs j (omega (arith, l)) at
 
 -- ---- the table
-tail_once : {A : Type 0} (x : A) (xs : List A) → HaveOnePlace (x ∷ xs) → HaveOnePlace xs
+pub tail_once : {A : Type 0} (x : A) (xs : List A) → HaveOnePlace (x ∷ xs) → HaveOnePlace xs
 tail_once x xs d i j u p q = let e = d (suc i) (suc j) u p q in omega (arith, e)
 
 head_once : {A : Type 0} (x : A) (xs : List A) → HaveOnePlace (x ∷ xs) → Contains xs x → ⊥

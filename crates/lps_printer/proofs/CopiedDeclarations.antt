@@ -150,7 +150,7 @@ copy_recogniser text other t o ts r us (a_recogniser k l) (alike_more h s (alike
 abbrev made : Name → List Field → Option Name → Constructor
 made n fs o = record { name = n; fields = fs; recogniser = o }
 
-three : (n m : Name) (fs gs : List Field) (o p : Option Name) → n ≡ m → fs ≡ gs → o ≡ p → made n fs o ≡ made m gs p
+pub three : (n m : Name) (fs gs : List Field) (o p : Option Name) → n ≡ m → fs ≡ gs → o ≡ p → made n fs o ≡ made m gs p
 three n m fs gs o p h i j = ap (λ (x : Name). made x fs o) h ∙ ap (λ (x : List Field). made m x o) i ∙ ap (λ (x : Option Name). made m gs x) j
 
 abbrev ConstructorCopy : List ℕ → List ℕ → PlainConstructor → List Token → List Token → Type 0

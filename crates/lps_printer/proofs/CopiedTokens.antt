@@ -118,7 +118,7 @@ gap_spaces : (t : Bool) → list_all is_space (if t then [] else 32 ∷ []) ≡ 
 gap_spaces true = refl
 gap_spaces false = refl
 
-copied_apart : (gap : List ℕ) (t : Copied) (ts : List Copied) (end : List ℕ) → list_all is_space gap ≡ true → IsCopied t → AreCopied ts → StandApart [] end → is_quiet (get_or end 0 0) ≡ true
+pub copied_apart : (gap : List ℕ) (t : Copied) (ts : List Copied) (end : List ℕ) → list_all is_space gap ≡ true → IsCopied t → AreCopied ts → StandApart [] end → is_quiet (get_or end 0 0) ≡ true
     → StandApart (record { gap = gap; kind = t.kind; bytes = t.bytes } ∷ copied_behind t.kind ts) end
 copied_apart gap t [] end g ok oks s q = (record { spaces = g; token = ok.token; kept = ok.kept; fits = ok.fits }, quiet (get_or end 0 0) ok.token q, s)
 copied_apart gap t (u ∷ us) end g ok oks s q = (

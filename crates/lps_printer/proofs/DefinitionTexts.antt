@@ -13,9 +13,7 @@ use Rattle.mcrl2_syntax.specs.Declarations.{PlainDecl}
 use Rattle.mcrl2_syntax.specs.SpelledLabels.{SpellsVars}
 use Rattle.mcrl2_syntax.specs.SpelledProcesses.{chosen, atom_delta, atom_action, operand_parts, dots_end, merge_last, SpellsChoices, choices_last, SpellsProcess, spells_process}
 use Rattle.mcrl2_syntax.specs.SpelledDeclarations.{SpellsDecl, decl_proc, decl_proc_over, decl_init}
-use Rattle.data_theory.specs.Environments.{terms_of}
 use Rattle.process_terms.specs.Processes.{Bound}
-use Rattle.bisim_laws.specs.LinearProcesses.{sorts}
 use Rattle.sort_table.specs.Expressions.{Name}
 use Rattle.sort_table.specs.BareProcesses as bare
 use Rattle.sort_table.specs.BareProcesses.{Variables, bare_variables, bare_process}
@@ -35,9 +33,7 @@ use Rattle.lps_printer.proofs.SummandsApart.{word, signed_spaced, paren_tight, v
 use Rattle.lps_printer.proofs.ProcessSpelling.{AreSpelledSummands, read_groups, read_action, read_choice}
 use Rattle.lps_printer.proofs.PrintedTrees.{action_is, groups_are}
 use Rattle.lps_printer.proofs.SummandsBack.{of_action, of_summands}
-use Rattle.lps_printer.proofs.SmallNumerals.{all_small}
-use Rattle.lps_printer.proofs.TermTexts.{all_places, spelled_all}
-use Rattle.lps_printer.proofs.SummandTexts.{named_variables, named_summands}
+use Rattle.lps_printer.proofs.SummandTexts.{named_variables, named_summands, initial_spelled}
 
 -- ---- it stands apart
 at_end : Ends [] (10 ∷ [])
@@ -140,6 +136,6 @@ as_written text x xs ys p q h k d = subst (λ (zs : Variables). SpellsDefinition
 pub linear_texts_spell_back : LinearTextsSpellBack
 linear_texts_spell_back v n l initial_terms h k = record {
   definition = as_written _ n.process _ _ _ _ (parameters_are n l.params) (body_is n l.params l.summands)
-      (definitions_spell_back n.process (map (variable_written n) l.params) (map (summand_written n l.params) l.summands) k.process (named_variables n k l.params) (named_summands v n k (scope_behind n [] l.params) l.params l.summands k.summands h.summands));
-  start = starts_spell_back (start_action n initial_terms) (k.process, all_places (spelled_all n.terms (terms_of initial_terms) k.terms (all_small v.declared.tables [] (terms_of initial_terms) (sorts l.params) h.of_sorts)));
+      (definitions_spell_back n.process (map (variable_written n) l.params) (map (summand_written n l.params) l.summands) k.process (named_variables n k.sorts l.params k.params) (named_summands v n l k (scope_behind n [] l.params) h.summands));
+  start = starts_spell_back (start_action n initial_terms) (k.process, initial_spelled v n l initial_terms k h.of_sorts);
 }

@@ -87,7 +87,7 @@ unmerged_minus c o (unknown d k) i h = h
 unmerged_minus c o (application f ts) i h = minus_over i (filled_applied c o (manner f) f (filled_all c o ts))
 
 mutual
-  fill : {g : Data} {vs : List Sort} {n : Names} {P : Sort → Type 0} (c : Sort → Option ℕ) → HasNils g P c → (b : Bool) (t : Term) (s : Sort) → HasSort g vs t s → HasNoUnknown t → NilsAmong P n.once b t → IsFilled g vs n b (filled c n.once t) s
+  pub fill : {g : Data} {vs : List Sort} {n : Names} {P : Sort → Type 0} (c : Sort → Option ℕ) → HasNils g P c → (b : Bool) (t : Term) (s : Sort) → HasSort g vs t s → HasNoUnknown t → NilsAmong P n.once b t → IsFilled g vs n b (filled c n.once t) s
   fill c nils b (variable v) s h w q = record { opened = λ e. (h, refl, tt); placed = (h, tt) }
   fill c nils b (terms.numeral a z) s h w q = record { opened = λ e. (h, refl, tt); placed = (h, tt) }
   fill c nils b (unknown d k) s h w q = absurd w

@@ -15,7 +15,7 @@ use Rattle.lps_printer.proofs.Appending.{print_inside, more_inside}
 abbrev closed : List Piece → List Piece
 closed rest = piece [] kind_.RightParen (codes ")") ∷ rest
 
-sort_inside : (s : SortExpression) (gap : List ℕ) (rest : List Piece) → all_inside (print_sort s gap rest) ≡ all_inside rest
+pub sort_inside : (s : SortExpression) (gap : List ℕ) (rest : List Piece) → all_inside (print_sort s gap rest) ≡ all_inside rest
 sort_inside truth_values gap rest = refl
 sort_inside positives gap rest = refl
 sort_inside naturals gap rest = refl

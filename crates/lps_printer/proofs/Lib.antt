@@ -68,3 +68,33 @@ mod KindTexts
 mod SpelledTokens
 mod SpelledDataTokens
 mod SpelledDeclarationTokens
+pub mod CopiedSections
+mod SpelledStructs
+pub mod SpelledAdditions
+mod DeclaredCounts
+pub mod GrownTexts
+pub mod FreshIdentifiers
+pub mod CopiedParts
+pub mod GrowingByConstants
+pub mod SectionsBehind
+pub mod GrownVocabularies
+pub mod CopiedWords
+pub mod CopiedTheories
+pub mod EmptyEquations
+pub mod FoundConstants
+pub mod NilEquations
+pub mod PrintedTheories
+pub mod TwoOfLists
+pub mod TextItems
+pub mod ConstantVocabularies
+pub mod KeptDeclarations
+pub mod ListedVariables
+pub mod PrintedDeclarations
+pub mod OwnFunctions
+pub mod SortsBack
+pub mod VariableNames
+pub mod VariableScopes
+pub mod WritableLinears
+pub mod SameNeeds
+pub mod DeclaredActions
+pub mod FittingLinears

@@ -42,7 +42,7 @@ use Rattle.lps_printer.proofs.PrintedTrees.{tree_is, choice_printed}
 use Rattle.lps_printer.proofs.Lookups.{AreApart, assigned, LooksUp, looks_up, are_assigned, own_is, left_is, in_scope, over_more, all_over_more}
 
 -- ---- actions
-sorts_themselves : (ss : List Sort) → sorts_eq ss ss ≡ true
+pub sorts_themselves : (ss : List Sort) → sorts_eq ss ss ≡ true
 sorts_themselves [] = refl
 sorts_themselves (s ∷ ss) = ap (λ (b : Bool). b && sorts_eq ss ss) (sort_told_itself s) ∙ sorts_themselves ss
 
@@ -216,13 +216,13 @@ body_printed n params [] = tt
 body_printed n params (s ∷ ss) = choice_printed (summand_written n params s) (map (summand_written n params) ss)
 
 mutual
-  closed_over : (g : Data) (t : Term) (s : Sort) → HasSort g [] t s → IsOver [] t
+  pub closed_over : (g : Data) (t : Term) (s : Sort) → HasSort g [] t s → IsOver [] t
   closed_over g (variable v) s h = absurd h
   closed_over g (terms.numeral a z) s h = tt
   closed_over g (unknown d k) s h = tt
   closed_over g (application f ts) s h = all_closed_over g ts _ h.1
 
-  all_closed_over : (g : Data) (ts : Terms) (ss : List Sort) → HaveSorts g [] ts ss → AreOver [] ts
+  pub all_closed_over : (g : Data) (ts : Terms) (ss : List Sort) → HaveSorts g [] ts ss → AreOver [] ts
   all_closed_over g terms.none ss h = tt
   all_closed_over g (terms.more t ts) [] h = absurd h
   all_closed_over g (terms.more t ts) (s ∷ ss) h = (closed_over g t s h.0, all_closed_over g ts ss h.1)

@@ -58,7 +58,7 @@ module _ (P : Sort → Type 0) (o : ℕ → Bool) where
     nils_among b (application (membership s) ts) h = all_among false ts h
     nils_among b (application (function k) ts) h = by_once (o k) ts (all_among true ts) (all_among false ts) h
 
-    all_among : (b : Bool) (ts : Terms) → Hold (all_nils o b ts) → AllNilsAmong P o b ts
+    pub all_among : (b : Bool) (ts : Terms) → Hold (all_nils o b ts) → AllNilsAmong P o b ts
     all_among b terms.none h = tt
     all_among b (terms.more t ts) h = (nils_among b t (front (nils o b t) (all_nils o b ts) h), all_among b ts (behind (nils o b t) (all_nils o b ts) h))
 

@@ -39,7 +39,7 @@ close_sort : (text : List ℕ) (s : SortExpression) (rest : List Piece) (t u : T
     → Says text (piece [] kind_.RightParen (codes ")") ∷ rest) us → SortRead text (lists_of s) rest (t ∷ u ∷ ts)
 close_sort text s rest t u ts us tree k l spells is (says_more {ts = vs} m slice says) = record { tree = _; after = vs; spells = spells_list k l spells m; says = says; is = ap (λ (x : SortExpression). lists_of x) is }
 
-read_sort : (text : List ℕ) (s : SortExpression) (gap : List ℕ) (rest : List Piece) (ts : List Token) → Says text (print_sort s gap rest) ts → SortRead text s rest ts
+pub read_sort : (text : List ℕ) (s : SortExpression) (gap : List ℕ) (rest : List Piece) (ts : List Token) → Says text (print_sort s gap rest) ts → SortRead text s rest ts
 read_sort text truth_values gap rest ts (says_more {ts = us} k slice says) = record { tree = _; after = us; spells = spells_bool k; says = says; is = refl }
 read_sort text positives gap rest ts (says_more {ts = us} k slice says) = record { tree = _; after = us; spells = spells_pos k; says = says; is = refl }
 read_sort text naturals gap rest ts (says_more {ts = us} k slice says) = record { tree = _; after = us; spells = spells_nat k; says = says; is = refl }

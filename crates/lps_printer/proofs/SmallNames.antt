@@ -130,5 +130,5 @@ fit = record {
 
 -- `f(x)` reads back with its upcast
 example : ReadsAs d scope (term_text n (application (function 0) (more (application (upcast positive natural) (more (variable 0) none)) none))) (application (function 0) (more (application (upcast positive natural) (more (variable 0) none)) none)) boolean
-example = term_texts_read_back d vs scope n fit (record { variable = λ v. (refl, refl); function = λ k. (refl, refl) }) _ boolean
+example = term_texts_read_back d vs scope n fit (record { variable = λ v i. (refl, refl); function = λ k. (refl, refl) }) _ boolean
     (omega arith, ((pos2nat, (refl, tt), refl, refl), tt), refl, refl) ((tt, λ e. refl, tt), λ e. refl, tt) (((0, omega arith, refl), tt), tt) refl

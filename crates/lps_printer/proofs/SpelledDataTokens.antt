@@ -12,9 +12,9 @@ use Rattle.mcrl2_syntax.specs.DataTrees.{PlainData, Operand, datas_of}
 use Rattle.mcrl2_syntax.specs.InfixSigns.{prefix_of, infix_of}
 use Rattle.mcrl2_syntax.specs.SpelledData.{SpellsUnit, unit_name, unit_numeral, unit_true, unit_false, unit_empty, unit_list, unit_apply, unit_brackets, unit_prefix, SpellsItems, items_last, items_more, SpellsLevel, level_unit, level_chain, SpellsTail, tail_end, tail_more}
 use Rattle.sort_table.specs.BareData.{prefix_text, infix_text}
-use Rattle.lps_printer.specs.CopiedTokens.{Copied, IsCopied, AreCopied}
+use Rattle.lps_printer.specs.CopiedTokens.{Copied, AreCopied}
 use Rattle.lps_printer.specs.DataLayout.{prefix_kind, infix_kind}
-use Rattle.lps_printer.specs.TreeTokens.{token, comma, prefix_token, infix_token, data_tokens, datas_tokens}
+use Rattle.lps_printer.specs.TreeTokens.{token, comma, data_tokens, datas_tokens}
 use Rattle.lps_printer.proofs.KindTexts.{text_of_kind}
 use Rattle.lps_printer.proofs.SpelledTokens.{said, IsSaid, fixed, named, one, signed, AreOfLevel, grouped_is}
 

@@ -14,7 +14,7 @@ use Rattle.mcrl2_syntax.specs.DataTrees.{PlainData, Operand, datas_of, operands_
 use Rattle.mcrl2_syntax.specs.InfixSigns.{level_of, joined_by, to_left, to_right, to_sum, to_product, to_and, to_or, grouped}
 use Rattle.mcrl2_syntax.specs.SpelledDeclarations.{SpellsNames, SpellsDomain}
 use Rattle.lps_printer.specs.CopiedTokens.{Copied, IsCopied, AreCopied}
-use Rattle.lps_printer.specs.TreeTokens.{token, name_token, left_paren, right_paren, sort_tokens, listed_tokens, names_tokens, domain_tokens, infix_token, conjunction, disjunction, data_tokens, further_datas_tokens, operands_tokens}
+use Rattle.lps_printer.specs.TreeTokens.{token, name_token, sort_tokens, listed_tokens, names_tokens, domain_tokens, infix_token, conjunction, disjunction, data_tokens, further_datas_tokens, operands_tokens}
 use Rattle.lps_printer.proofs.KindTexts.{text_of_kind, text_is}
 
 -- what tokens say

@@ -33,7 +33,7 @@ signed_spaced k x e l o h = record { apart = signed k x refl e l o h; quiet_ = r
 named_spaced : {rest : List Piece} {end : List ℕ} (x : List ℕ) → IsIdentifier x → Ends rest end → Ends (piece space kind_.Identifier x ∷ rest) end
 named_spaced x ok h = record { apart = in_front (name_piece refl ok) h; quiet_ = refl }
 
-signed_tight : {rest : List Piece} {end : List ℕ} (k : Kind) (b : ℕ) → is_quiet b ≡ true → sign_kind (b ∷ []) ≡ Some k → is_left_out k ≡ false → k ≢ kind_.Numeral → Ends rest end → Ends (piece [] k (b ∷ []) ∷ rest) end
+pub signed_tight : {rest : List Piece} {end : List ℕ} (k : Kind) (b : ℕ) → is_quiet b ≡ true → sign_kind (b ∷ []) ≡ Some k → is_left_out k ≡ false → k ≢ kind_.Numeral → Ends rest end → Ends (piece [] k (b ∷ []) ∷ rest) end
 signed_tight k b q e l o h = record { apart = signed k (b ∷ []) refl e l o h; quiet_ = q }
 
 pub paren_tight : (rest : List Piece) (end : List ℕ) → StandApart rest end → Ends (piece [] kind_.LeftParen (codes "(") ∷ rest) end
@@ -42,7 +42,7 @@ paren_tight rest end s = record { apart = after_paren rest end refl s; quiet_ = 
 printed_spaced : {rest : List Piece} {end : List ℕ} (e : Expression) → IsSpellable e → Ends rest end → Ends (print e space rest) end
 printed_spaced {rest = rest} {end = end} e ok h = record { apart = apart e ok space refl rest end h; quiet_ = ap is_quiet (spaced e ok rest end) }
 
-sort_apart : (s : SortExpression) → IsNamed s → (gap : List ℕ) → IsGap gap → (rest : List Piece) (end : List ℕ) → Ends rest end → StandApart (print_sort s gap rest) end
+pub sort_apart : (s : SortExpression) → IsNamed s → (gap : List ℕ) → IsGap gap → (rest : List Piece) (end : List ℕ) → Ends rest end → StandApart (print_sort s gap rest) end
 sort_apart truth_values ok gap g rest end h = word kind_.BoolWord (codes "Bool") g refl refl refl (λ e. cc) h
 sort_apart positives ok gap g rest end h = word kind_.PosWord (codes "Pos") g refl refl refl (λ e. cc) h
 sort_apart naturals ok gap g rest end h = word kind_.NatWord (codes "Nat") g refl refl refl (λ e. cc) h
@@ -51,7 +51,7 @@ sort_apart (lists_of s) ok gap g rest end h =
     word kind_.ListWord (codes "List") g refl refl refl (λ e. cc) (paren_tight (print_sort s [] (piece [] kind_.RightParen (codes ")") ∷ rest)) end (sort_apart s ok [] refl (piece [] kind_.RightParen (codes ")") ∷ rest) end (close_paren h)))
 sort_apart (a_name x) ok gap g rest end h = in_front (name_piece g ok) h
 
-sort_quiet : (s : SortExpression) (rest : List Piece) (end : List ℕ) → is_quiet (first (print_sort s space rest) end) ≡ true
+pub sort_quiet : (s : SortExpression) (rest : List Piece) (end : List ℕ) → is_quiet (first (print_sort s space rest) end) ≡ true
 sort_quiet truth_values rest end = refl
 sort_quiet positives rest end = refl
 sort_quiet naturals rest end = refl

@@ -3,6 +3,7 @@ use Rattle.std.proofs.Common.{◌≡◌, ℕ, zero, suc, Bool, true, false, cond
 use Rattle.std.specs.Prelude.{Option, Some, None, ℤ, pos, negsuc}
 use Rattle.data_theory.specs.Terms.{Sort, boolean, positive, natural, integer, list, named as declared_sort, Operation, add, subtract, multiply, divide, modulo, power, minimum, maximum, absolute, successor, predecessor, to_positive, to_natural, Symbol, truth, falsity, negation, conjunction, disjunction, implication, equality, inequality, conditional, comparison, arithmetic, minus, upcast, empty, cons, snoc, concatenation, size, element_at, head, rhead, tail, rtail, membership, function, Term, Terms, variable, unknown, application}
 use Rattle.data_theory.specs.Terms as terms
+use Rattle.data_theory.specs.Environments.{IsOver, AreOver}
 use Rattle.data_typing.specs.Meanings.{meaning}
 use Rattle.sort_table.specs.Expressions as typed
 use Rattle.data_typing.specs.Typings.{typing}
@@ -128,7 +129,7 @@ either_spelled false x y h k = k
 general : (n : Names) {ws : List Written} (f : Symbol) → NamedShape (shape n f) → AllSpelled ws → CanBeSpelled (in_both (build (shape n f) (opens ws)))
 general n {ws = ws} f i h = both_ways (build_spelled (shape n f) (opens ws) i (all_opens h))
 
-with_spelled : (n : Names) (f : Symbol) (ws : List Written) → AreIdentifiers n → AllSpelled ws → CanBeSpelled (written_with n f ws)
+with_spelled : (n : Names) (f : Symbol) (ws : List Written) → ((k : ℕ) → IsIdentifier (n.function k)) → AllSpelled ws → CanBeSpelled (written_with n f ws)
 with_spelled n truth ws ids h = general n truth tt h
 with_spelled n falsity ws ids h = general n falsity tt h
 with_spelled n negation ws ids h = general n negation tt h
@@ -151,7 +152,7 @@ with_spelled n (tail s) ws ids h = general n (tail s) (refl, refl) h
 with_spelled n (rtail s) ws ids h = general n (rtail s) (refl, refl) h
 with_spelled n (membership s) ws ids h = general n (membership s) tt h
 with_spelled n (empty s) ws ids h = record { opened = tt; placed = tt; chain = λ es e. let same : none ≡ es = cc in subst AreSpellable same tt; name = λ x e. absurd cc }
-with_spelled n (function k) ws ids h = both_ways (call_spelled (n.function k) (cond (n.once k) (places ws) (opens ws)) (ids.function k) (either_spelled (n.once k) (places ws) (opens ws) (all_places h) (all_opens h)))
+with_spelled n (function k) ws ids h = both_ways (call_spelled (n.function k) (cond (n.once k) (places ws) (opens ws)) (ids k) (either_spelled (n.once k) (places ws) (opens ws) (all_places h) (all_opens h)))
 with_spelled n (cons s) [] ids h = both_ways tt
 with_spelled n (cons s) (w ∷ []) ids h = both_ways tt
 with_spelled n (cons s) (w ∷ v ∷ []) ids (more_spelled a (more_spelled b none_spelled)) = elements_spelled v.chain w v a b refl
@@ -161,19 +162,19 @@ with_spelled n (upcast s to) (w ∷ []) ids (more_spelled a none_spelled) = cast
 with_spelled n (upcast s to) (w ∷ v ∷ ws) ids (more_spelled a (more_spelled b h)) = both_ways (upcast_named s to, a.opened, (b.opened, all_opens h))
 
 mutual
-  pub spelled : (n : Names) (t : Term) → AreIdentifiers n → HasSmallNumerals t → CanBeSpelled (written n t)
-  spelled n (variable v) ids h = record { opened = ids.variable v; placed = ids.variable v; chain = λ es e. absurd cc; name = λ x e. let same : n.variable v ≡ x = cc in subst IsIdentifier same (ids.variable v) }
-  spelled n (terms.numeral s z) ids h = record { opened = open_number s z h; placed = placed_number z h; chain = λ es e. absurd cc; name = λ x e. absurd cc }
-  spelled n (unknown d k) ids h = both_ways tt
-  spelled n (application f ts) ids h = with_spelled n f (written_all n ts) ids (spelled_all n ts ids h)
+  pub spelled : (xs : List ℕ) (n : Names) (t : Term) → AreIdentifiers xs n → IsOver xs t → HasSmallNumerals t → CanBeSpelled (written n t)
+  spelled xs n (variable v) ids o h = record { opened = ids.variable v o; placed = ids.variable v o; chain = λ es e. absurd cc; name = λ x e. let same : n.variable v ≡ x = cc in subst IsIdentifier same (ids.variable v o) }
+  spelled xs n (terms.numeral s z) ids o h = record { opened = open_number s z h; placed = placed_number z h; chain = λ es e. absurd cc; name = λ x e. absurd cc }
+  spelled xs n (unknown d k) ids o h = both_ways tt
+  spelled xs n (application f ts) ids o h = with_spelled n f (written_all n ts) ids.function (spelled_all xs n ts ids o h)
 
-  pub spelled_all : (n : Names) (ts : Terms) → AreIdentifiers n → HaveSmallNumerals ts → AllSpelled (written_all n ts)
-  spelled_all n terms.none ids h = none_spelled
-  spelled_all n (terms.more t ts) ids h = more_spelled (spelled n t ids h.0) (spelled_all n ts ids h.1)
+  pub spelled_all : (xs : List ℕ) (n : Names) (ts : Terms) → AreIdentifiers xs n → AreOver xs ts → HaveSmallNumerals ts → AllSpelled (written_all n ts)
+  spelled_all xs n terms.none ids o h = none_spelled
+  spelled_all xs n (terms.more t ts) ids o h = more_spelled (spelled xs n t ids o.0 h.0) (spelled_all xs n ts ids o.1 h.1)
 
 pub term_texts_read_back : TermTextsReadBack
 term_texts_read_back d vs scope n fit ids t s h w q o =
     let e : Expression = (written n t).opened in
-    let b = expressions_spell_back e (spelled n t ids (small d.tables vs t s h)).opened in
+    let b = expressions_spell_back e (spelled (numbers scope) n t ids q (small d.tables vs t s h)).opened in
     let r : (typing (meaning d scope) (plain e)).infers ≡ Some (record { term = t; sort = s }) = (terms_read_back d.tables vs (numbers scope) n (meaning d scope) (names_that_fit_read d vs scope n fit) t s h w q).0 o in
     record { tokens = b.tokens; cut = b.cut; tree = b.tree; spells = b.spells; infers = ap (λ (x : typed.Expression). (typing (meaning d scope) x).infers) b.is ∙ r }

@@ -9,8 +9,7 @@ use Rattle.mcrl2_syntax.specs.ProcessTrees.{PlainProcess}
 use Rattle.mcrl2_syntax.specs.SpelledProcesses.{atom_action, operand_parts, dots_end, merge_last, SpellsChoices, choices_last, spells_process}
 use Rattle.mcrl2_syntax.specs.SpelledDeclarations.{decl_init}
 use Rattle.data_theory.specs.Terms.{Term}
-use Rattle.data_theory.specs.Environments.{terms_of}
-use Rattle.bisim_laws.specs.LinearProcesses.{Linear, sorts}
+use Rattle.bisim_laws.specs.LinearProcesses.{Linear}
 use Rattle.sort_table.specs.BareProcesses as bare
 use Rattle.sort_table.specs.BareProcesses.{Variables, bare_process}
 use Rattle.sort_table.specs.BareDeclarations.{Declaration, process, initial, Section, declarations_in}
@@ -32,9 +31,7 @@ use Rattle.lps_printer.proofs.SummandsApart.{action_spaced}
 use Rattle.lps_printer.proofs.ProcessSpelling.{read_action}
 use Rattle.lps_printer.proofs.PrintedTrees.{action_is, tree_is, choice_printed}
 use Rattle.lps_printer.proofs.SummandsBack.{of_action, of_summands}
-use Rattle.lps_printer.proofs.SmallNumerals.{all_small}
-use Rattle.lps_printer.proofs.TermTexts.{all_places, spelled_all}
-use Rattle.lps_printer.proofs.SummandTexts.{named_variables, named_summands}
+use Rattle.lps_printer.proofs.SummandTexts.{named_variables, named_summands, initial_spelled}
 use Rattle.lps_printer.proofs.DefinitionTexts.{definition_apart, start_apart, read_definition, parameters_are, body_is}
 use Rattle.lps_printer.proofs.InsideDeclarations.{definition_inside, start_inside}
 use Rattle.lps_printer.proofs.TextSections.{section_texts_spell_back}
@@ -76,22 +73,22 @@ one_of h = one_declaration h no_declarations
 is_process : (x : List ℕ) (xs ys : Variables) (p q : printed_.Process) → xs ≡ ys → p ≡ q → process x xs (plain_process p) ≡ process x ys (plain_process q)
 is_process x xs ys p q h k = ap₂ (λ (vs : Variables) (r : printed_.Process). process x vs (plain_process r)) h k
 
-definition_of : (v : FullVocabulary) (n : TextNames) (l : Linear) (ts : List Term) → LinearReads v n l ts → AreNamed n l.summands
+definition_of : (v : FullVocabulary) (n : TextNames) (l : Linear) (ts : List Term) → LinearReads v n l ts → AreNamed n l
     → Declares sections.Proc (print_definition n.process (map (variable_written n) l.params) (map (summand_written n l.params) l.summands) []) (process n.process (parameters_written n l.params) (plain_process (body_written n l)))
 definition_of v n l ts h k =
     subst (Declares sections.Proc (print_definition n.process (map (variable_written n) l.params) (map (summand_written n l.params) l.summands) []))
     (is_process n.process _ _ _ _ (parameters_are n l.params) (body_is n l.params l.summands))
-    (definition_declares n.process (map (variable_written n) l.params) (map (summand_written n l.params) l.summands) k.process (named_variables n k l.params) (named_summands v n k (scope_behind n [] l.params) l.params l.summands k.summands h.summands))
+    (definition_declares n.process (map (variable_written n) l.params) (map (summand_written n l.params) l.summands) k.process (named_variables n k.sorts l.params k.params) (named_summands v n l k (scope_behind n [] l.params) h.summands))
 
-start_of : (v : FullVocabulary) (n : TextNames) (l : Linear) (ts : List Term) → LinearReads v n l ts → AreNamed n l.summands → Declares sections.Init (print_start (start_action n ts) []) (initial (start_written n ts))
-start_of v n l ts h k = start_declares (start_action n ts) (k.process, all_places (spelled_all n.terms (terms_of ts) k.terms (all_small v.declared.tables [] (terms_of ts) (sorts l.params) h.of_sorts)))
+start_of : (v : FullVocabulary) (n : TextNames) (l : Linear) (ts : List Term) → LinearReads v n l ts → AreNamed n l → Declares sections.Init (print_start (start_action n ts) []) (initial (start_written n ts))
+start_of v n l ts h k = start_declares (start_action n ts) (k.process, initial_spelled v n l ts k h.of_sorts)
 
 -- ---- behind other sections
-sections_behind : (ss : List PrintedSection) (bs : List Section) → AreSections ss bs → (rs : List PrintedSection) (cs : List Section) → AreSections rs cs → AreSections (ss ++ rs) (bs ++ cs)
+pub sections_behind : (ss : List PrintedSection) (bs : List Section) → AreSections ss bs → (rs : List PrintedSection) (cs : List Section) → AreSections rs cs → AreSections (ss ++ rs) (bs ++ cs)
 sections_behind ss bs no_sections_left rs cs h = h
 sections_behind ss bs (one_section {ss = others} {bs = more} e one k) rs cs h = one_section e one (sections_behind others more k rs cs h)
 
-behind_none : {B : Type 0} (f : Declaration → List B) (bs cs : List Section) → flat_map f (declarations_in bs) ≡ [] → flat_map f (declarations_in (bs ++ cs)) ≡ flat_map f (declarations_in cs)
+pub behind_none : {B : Type 0} (f : Declaration → List B) (bs cs : List Section) → flat_map f (declarations_in bs) ≡ [] → flat_map f (declarations_in (bs ++ cs)) ≡ flat_map f (declarations_in cs)
 behind_none f bs cs h =
     ap (flat_map f) (flat_map-append (λ (s : Section). s.declarations) bs cs) ∙ flat_map-append f (declarations_in bs) (declarations_in cs) ∙ ap (λ (xs : List _). xs ++ flat_map f (declarations_in cs)) h
 

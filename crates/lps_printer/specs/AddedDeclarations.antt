@@ -14,9 +14,9 @@ use Rattle.data_theory.specs.Functions.{Function, arguments_of, declared_functio
 use Rattle.data_theory.specs.Table.{bool_sort}
 use Rattle.data_theory.specs.Signature.{Sig}
 use Rattle.data_theory.specs.IdTerms.{sort_under}
-use Rattle.sort_table.specs.Expressions.{Name}
+use Rattle.sort_table.specs.Expressions.{Name, word, listed, none}
 use Rattle.sort_table.specs.BareSorts.{SortExpression}
-use Rattle.sort_table.specs.BareDeclarations.{Field, Constructor}
+use Rattle.sort_table.specs.BareDeclarations.{Field, Constructor, Declaration, struct, mappings, equation, Section}
 use Rattle.lps_printer.specs.declared.added_sections.Line.{Line}
 use Rattle.lps_printer.specs.declared.added_sections.Line.TheVariants as lines
 use Rattle.lps_printer.specs.Pieces.{Piece}
@@ -187,3 +187,31 @@ line_sections g n line (f ∷ fs) = record { word = line_word line; declarations
 abbrev pub added_sections : PlainSpec → Sig → TextNames → List FunId → List PrintedSection
 added_sections spec g n empty_lists =
     flat_map (struct_sections g n) (added_functions spec g) ++ (line_sections g n lines.Constant (constants_among g (added_functions spec g)) ++ line_sections g n lines.EmptyList empty_lists)
+
+-- ---- what the added sections declare
+abbrev pub struct_declared : Sig → TextNames → SortId → List FunId → List Section
+struct_declared g n s [] = []
+struct_declared g n s (c ∷ cs) = record { word = sections.Sort; declarations = struct (n.sort (sort_place g s)) (map (constructor_with g n) (c ∷ cs)) ∷ [] } ∷ []
+
+abbrev pub structs_declared : Sig → TextNames → FunId → List Section
+structs_declared g n f = struct_declared g n (function_at g f).result (struct_begun g f)
+
+-- `c: S`
+abbrev pub constant_declared : Variable → Declaration
+constant_declared v = mappings (v.name ∷ []) [] v.sort
+
+-- `n = []`
+abbrev pub empty_list_declared : Name → Declaration
+empty_list_declared x = equation None (word x none) (listed none)
+
+abbrev pub line_declared : Sig → TextNames → Line → FunId → Declaration
+line_declared g n lines.Constant f = constant_declared (constant_with g n f)
+line_declared g n lines.EmptyList f = empty_list_declared (name_at g f)
+
+abbrev pub lines_declared : Sig → TextNames → Line → List FunId → List Section
+lines_declared g n line [] = []
+lines_declared g n line (f ∷ fs) = record { word = line_word line; declarations = map (line_declared g n line) (f ∷ fs) } ∷ []
+
+abbrev pub added_declared : PlainSpec → Sig → TextNames → List FunId → List Section
+added_declared spec g n empty_lists =
+    flat_map (structs_declared g n) (added_functions spec g) ++ (lines_declared g n lines.Constant (constants_among g (added_functions spec g)) ++ lines_declared g n lines.EmptyList empty_lists)

@@ -91,4 +91,4 @@ pub record PrintsBack (n : TextNames) (l : Linear) (initial_terms : List Term) :
 
 -- The bytes that are printed for a linear process spell its definition and its start.
 abbrev pub LinearTextsSpellBack : Type 0
-LinearTextsSpellBack = (v : FullVocabulary) (n : TextNames) (l : Linear) (initial_terms : List Term) → LinearReads v n l initial_terms → AreNamed n l.summands → PrintsBack n l initial_terms
+LinearTextsSpellBack = (v : FullVocabulary) (n : TextNames) (l : Linear) (initial_terms : List Term) → LinearReads v n l initial_terms → AreNamed n l → PrintsBack n l initial_terms

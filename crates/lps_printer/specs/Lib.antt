@@ -31,6 +31,7 @@ pub mod CodeProcesses
 pub mod TreeTokens
 pub mod CopiedPlaces
 pub mod CopiedSections
+pub mod CopiedParts
 pub mod AddingSections
 pub mod SignatureNames
 pub mod AddedConstants
@@ -39,3 +40,13 @@ pub mod PrintedTexts
 pub mod NeedLaws
 pub mod AddedDeclarations
 pub mod PrintedLinears
+pub mod GrowingByConstants
+pub mod NamedStructs
+pub mod SpelledSections
+pub mod GrownTexts
+pub mod FreshIdentifiers
+pub mod EmptyEquations
+pub mod FoundConstants
+pub mod PrintedTheories
+pub mod PrintedDeclarations
+pub mod FittingLinears

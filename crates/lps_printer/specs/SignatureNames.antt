@@ -1,5 +1,5 @@
 -- The names that a signature has for a text.
-use Rattle.std.specs.Prelude.{◌≡◌, ◌==◌, ◌&&◌, ℕ, Bool, false, List, [], ◌∷◌, ◌++◌, length, map, Option, Some, None, slice_get, get_or}
+use Rattle.std.specs.Prelude.{◌≡◌, ◌==◌, ◌&&◌, ℕ, Bool, false, List, [], ◌∷◌, ◌++◌, length, map, Option, Some, None, slice_get, get_or, codes}
 use Rattle.std.specs.List.{filter}
 use Rattle.data_theory.specs.declared.ids.NameId.{NameId}
 use Rattle.data_theory.specs.declared.ids.FunId.{FunId}
@@ -52,19 +52,24 @@ abbrev pub Counts : List Key → List ℕ → Type 0
 Counts as_ counts = (n : NameId) → get_or counts n.0 0 ≡ length (actions_named as_ n)
 
 -- ---- the names of a text
--- the function that was declared in this place
-abbrev pub declared_at : Sig → ℕ → FunId
-declared_at g k = get_or g.declared k (record { 0 = 0 })
-
 abbrev pub variable_name_of : Sig → Option Variable → Name
 variable_name_of g None = []
 variable_name_of g (Some v) = text_under g v.name
 
+-- The name of a declared function, and whether it is declared once. Where no function has the number, any identifier will do.
+abbrev pub declared_name_of : Sig → Option FunId → Name
+declared_name_of g None = codes "f"
+declared_name_of g (Some i) = function_name_of g (slice_get g.functions i.0)
+
+abbrev pub is_declared_once : Sig → Option FunId → Bool
+is_declared_once g None = false
+is_declared_once g (Some i) = get_or (once_functions g) i.0 false
+
 abbrev pub names_under : Sig → Names
 names_under g = record {
   variable = λ v. variable_name_of g (slice_get g.variables v);
-  function = λ k. function_name_of g (slice_get g.functions (declared_at g k).0);
-  once = λ k. get_or (once_functions g) (declared_at g k).0 false;
+  function = λ k. declared_name_of g (slice_get g.declared k);
+  once = λ k. is_declared_once g (slice_get g.declared k);
 }
 
 abbrev pub text_or_none : Sig → Option NameId → Name
@@ -76,11 +81,11 @@ abbrev pub sort_names : Sig → List SortInfo → List Name
 sort_names g [] = []
 sort_names g (s ∷ ss) = map (λ (c : Construction). text_or_none g s.name) (construction_of s.kind) ++ sort_names g ss
 
--- with this name of the process
+-- With this name of the process. Where no sort has the number, any identifier will do.
 abbrev pub text_names_under : Sig → Name → TextNames
 text_names_under g x = record {
   terms = names_under g;
-  sort = λ d. get_or (sort_names g g.sorts) d [];
+  sort = λ d. get_or (sort_names g g.sorts) d (codes "S");
   once = λ t. is_action_once g (place_in g.texts t);
   process = x;
 }

@@ -7,11 +7,10 @@ use Rattle.mcrl2_syntax.specs.ProcessTrees.{PlainProcess}
 use Rattle.mcrl2_syntax.specs.SpelledProcesses.{SpellsProcess}
 use Rattle.process_terms.specs.Labels.{Action}
 use Rattle.process_terms.specs.Processes.{Bound, Body, choice_of}
-use Rattle.bisim_laws.specs.LinearProcesses.{Summand, summand_body}
+use Rattle.bisim_laws.specs.LinearProcesses.{Summand, Linear, summand_body}
 use Rattle.data_typing.specs.Meanings.{Scope}
 use Rattle.lps_printer.specs.Pieces.{bytes_of}
 use Rattle.lps_printer.specs.DataLayout.{IsIdentifier}
-use Rattle.lps_printer.specs.TermTexts.{AreIdentifiers}
 use Rattle.lps_printer.specs.SummandLayout.{print_summand, print_summands}
 use Rattle.sort_table.specs.BareProcesses.{bare_process}
 use Rattle.sort_checker.specs.FullVocabularies.{FullVocabulary}
@@ -20,16 +19,22 @@ use Rattle.sort_checker.specs.Elaborations.{Elaborates}
 use Rattle.lps_printer.specs.WrittenProcesses.{TextNames, summand_written, scope_behind}
 use Rattle.lps_printer.specs.LinearBack.{LinearReads}
 
--- the names of actions are identifiers
-abbrev pub HasNamedActions : Summand → Type 0
-HasNamedActions s = AllByRecursion (λ (a : Action). IsIdentifier a.name) s.label
+-- the names of these variables are identifiers
+abbrev pub HaveIdentifiers : TextNames → List Bound → Type 0
+HaveIdentifiers n xs = AllByRecursion (λ (x : Bound). IsIdentifier (n.terms.variable x.var)) xs
 
--- names are identifiers
-pub record AreNamed (n : TextNames) (ss : List Summand) : Type 0 where
-  pub terms : AreIdentifiers n.terms
+-- and so are those of the sums and the actions
+pub record HasIdentifiers (n : TextNames) (s : Summand) : Type 0 where
+  pub sums : HaveIdentifiers n s.sums
+  pub actions : AllByRecursion (λ (a : Action). IsIdentifier a.name) s.label
+
+-- the names that are printed for a linear process are identifiers
+pub record AreNamed (n : TextNames) (l : Linear) : Type 0 where
+  pub functions : (k : ℕ) → IsIdentifier (n.terms.function k)
   pub sorts : (d : ℕ) → IsIdentifier (n.sort d)
   pub process : IsIdentifier n.process
-  pub summands : AllByRecursion HasNamedActions ss
+  pub params : HaveIdentifiers n l.params
+  pub summands : AllByRecursion (HasIdentifiers n) l.summands
 
 pub record ElaboratesText (v : FullVocabulary) (scope : Scope) (text : List ℕ) (b : Body) : Type 0 where
   pub tokens : List Token
@@ -43,5 +48,5 @@ summands_text n params s ss = bytes_of (print_summand (summand_written n params 
 
 abbrev pub SummandTextsElaborate : Type 0
 SummandTextsElaborate =
-    (v : FullVocabulary) (n : TextNames) (params : List Bound) (s : Summand) (ss : List Summand) (initial : List Term) → LinearReads v n (record { params = params; summands = s ∷ ss }) initial → AreNamed n (s ∷ ss)
+    (v : FullVocabulary) (n : TextNames) (params : List Bound) (s : Summand) (ss : List Summand) (initial : List Term) → LinearReads v n (record { params = params; summands = s ∷ ss }) initial → AreNamed n (record { params = params; summands = s ∷ ss })
     → ElaboratesText v (scope_behind n [] params) (summands_text n params s ss) (choice_of (map summand_body (s ∷ ss)))

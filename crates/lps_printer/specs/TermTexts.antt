@@ -1,5 +1,6 @@
 -- From the bytes that are printed for a term back to the term.
 use Rattle.std.specs.Prelude.{◌≡◌, ℕ, false, List, [], ◌∷◌, Some}
+use Rattle.std.specs.List.{Contains}
 use Rattle.mcrl2_lexer.specs.declared.token.Token.{Token}
 use Rattle.mcrl2_lexer.specs.Lexing.{HasTokens}
 use Rattle.mcrl2_syntax.specs.DataTrees.{PlainData}
@@ -16,8 +17,9 @@ use Rattle.lps_printer.specs.WrittenTerms.{Names, written}
 use Rattle.lps_printer.specs.ReadableNames.{IsWritable, is_nil}
 use Rattle.lps_printer.specs.FittingNames.{FitNames, numbers}
 
-pub record AreIdentifiers (n : Names) : Type 0 where
-  pub variable : (v : ℕ) → IsIdentifier (n.variable v)
+-- the names of these variables and of the functions
+pub record AreIdentifiers (xs : List ℕ) (n : Names) : Type 0 where
+  pub variable : (v : ℕ) → Contains xs v → IsIdentifier (n.variable v)
   pub function : (k : ℕ) → IsIdentifier (n.function k)
 
 -- the tokens of the bytes spell a tree that infers the term and its sort
@@ -34,5 +36,5 @@ term_text n t = bytes_of (print (written n t).opened [] []) (10 ∷ [])
 
 abbrev pub TermTextsReadBack : Type 0
 TermTextsReadBack =
-    (d : Vocabulary) (vs : List Sort) (scope : Scope) (n : Names) → FitNames d vs scope n → AreIdentifiers n → (t : Term) (s : Sort) → HasSort d.tables vs t s → IsWritable n t → IsOver (numbers scope) t → is_nil t ≡ false
+    (d : Vocabulary) (vs : List Sort) (scope : Scope) (n : Names) → FitNames d vs scope n → AreIdentifiers (numbers scope) n → (t : Term) (s : Sort) → HasSort d.tables vs t s → IsWritable n t → IsOver (numbers scope) t → is_nil t ≡ false
     → ReadsAs d scope (term_text n t) t s

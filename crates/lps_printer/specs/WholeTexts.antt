@@ -43,5 +43,5 @@ pub record IsWholeText (ss : List PrintedSection) (bs : List Section) (n : TextN
 -- The text spells a specification with the sections in front, and the process and its start behind.
 abbrev pub WholeTextsSpellBack : Type 0
 WholeTextsSpellBack =
-    (v : FullVocabulary) (n : TextNames) (l : Linear) (ts : List Term) → LinearReads v n l ts → AreNamed n l.summands → (ss : List PrintedSection) (bs : List Section) → AreSections ss bs → HaveNoProcess bs
+    (v : FullVocabulary) (n : TextNames) (l : Linear) (ts : List Term) → LinearReads v n l ts → AreNamed n l → (ss : List PrintedSection) (bs : List Section) → AreSections ss bs → HaveNoProcess bs
     → IsWholeText ss bs n l ts

@@ -1,17 +1,26 @@
 //! Laws of printed text. The functions do nothing: each contract is a law.
 
+ghost use Rattle.lps_printer.specs.CopiedParts.{WhatIsCopiedHasAllParts};
 ghost use Rattle.lps_printer.specs.CopiedTokens.{CopiesLex};
 ghost use Rattle.lps_printer.specs.CopyLaws.{CopiesSpellTheSame, DeclarationCopiesSpellTheSame};
 ghost use Rattle.lps_printer.specs.DataLaws.{ExpressionsSpellBack, TermsReadBack};
 ghost use Rattle.lps_printer.specs.DefinitionTexts.{DefinitionsSpellBack, LinearTextsSpellBack, StartsSpellBack};
+ghost use Rattle.lps_printer.specs.EmptyEquations.{EmptyEquationsElaborate};
 ghost use Rattle.lps_printer.specs.EmptyLists.{FilledTermsAreWritable};
 ghost use Rattle.lps_printer.specs.FilledLinears.{FilledLinearsAreEqual};
+ghost use Rattle.lps_printer.specs.FittingLinears.{FittingLinearsRead};
 ghost use Rattle.lps_printer.specs.FittingNames.{NamesThatFitRead};
+ghost use Rattle.lps_printer.specs.FoundConstants.{ThereAreConstants, ConstantsHaveEquations};
+ghost use Rattle.lps_printer.specs.FreshIdentifiers.{ConstantNamesAreIdentifiers, FreshNamesAreIdentifiers};
+ghost use Rattle.lps_printer.specs.GrownTexts.{AddedConstantsAreNamed, EmptyListsAreAdded, WhatGrowsByConstantsAddsThem};
 ghost use Rattle.lps_printer.specs.LinearBack.{LinearProcessesElaborateBack};
 ghost use Rattle.lps_printer.specs.NamedSummands.{SummandsSpellBack};
 ghost use Rattle.lps_printer.specs.NeedLaws.{AddedConstantsAreNils, ListedNilsAreThose, WhatIsMetIsFound};
 ghost use Rattle.lps_printer.specs.Pieces.{PiecesLex};
+ghost use Rattle.lps_printer.specs.PrintedDeclarations.{AddedConstantsAreDeclared, GrowthByConstantsIsMore, PrintedDeclarationsAreSound, VariablesThatReadCanBeListed};
 ghost use Rattle.lps_printer.specs.PrintedSystems.{PrintedSystemsAreLinear};
+ghost use Rattle.lps_printer.specs.PrintedTheories.{PrintedTextsHaveTheories};
+ghost use Rattle.lps_printer.specs.SpelledSections.{AddedSectionsSpellBack, CopiedSectionsSpellBack, PrintedTextsSpellBack};
 ghost use Rattle.lps_printer.specs.SummandTexts.{SummandTextsElaborate};
 ghost use Rattle.lps_printer.specs.TermTexts.{TermTextsReadBack};
 ghost use Rattle.lps_printer.specs.TextSections.{SectionTextsSpellBack};
@@ -104,6 +113,34 @@ pub fn whole_texts_spell_back()
     ensures { WholeTextsSpellBack }
 {}
 
+/// The copied sections of a text spell its declarations, and none of these is a process.
+pub fn copied_sections_spell_back()
+    ensures { CopiedSectionsSpellBack }
+{}
+
+/// The added sections spell structs, mappings and the equations of empty lists, where their names are identifiers.
+pub fn added_sections_spell_back()
+    ensures { AddedSectionsSpellBack }
+{}
+
+/// The printed text of a linear process spells the copied declarations, the added ones, and the process and its start.
+pub fn printed_texts_spell_back()
+    ensures { PrintedTextsSpellBack }
+{}
+
+/// Where the signature of a text grows by constants, mappings of these are what is added, and their names are those of what is added.
+pub fn what_grows_by_constants_adds_them()
+    ensures added { WhatGrowsByConstantsAddsThem }
+    ensures named { AddedConstantsAreNamed }
+    ensures empty_lists { EmptyListsAreAdded }
+{}
+
+/// Names that are fresh to an identifier are identifiers, and so are those of the constants of sorts.
+pub fn fresh_names_are_identifiers()
+    ensures fresh { FreshNamesAreIdentifiers }
+    ensures constants { ConstantNamesAreIdentifiers }
+{}
+
 /// The empty lists that are listed are those that stand in open places, and each sort that is met is found.
 pub fn needed_constants_are_found()
     ensures listed { ListedNilsAreThose }
@@ -113,4 +150,44 @@ pub fn needed_constants_are_found()
 /// The constants that are added are mappings without arguments into the lists that they stand for.
 pub fn added_constants_are_nils()
     ensures { AddedConstantsAreNils }
+{}
+
+/// The sections that are copied have all declarations of data and all equations of a specification.
+pub fn what_is_copied_has_all_parts()
+    ensures { WhatIsCopiedHasAllParts }
+{}
+
+/// The equation of a constant for an empty list elaborates.
+pub fn empty_equations_elaborate()
+    ensures { EmptyEquationsElaborate }
+{}
+
+/// Sorts that differ have constants for the empty lists over them, and each constant has its equation where a theory has those of these sorts.
+pub fn constants_have_equations()
+    ensures there { ThereAreConstants }
+    ensures equations { ConstantsHaveEquations }
+{}
+
+/// The printed text of a linear process is well typed, and has the theory of its text with the equations of the constants for empty lists.
+pub fn printed_texts_have_theories()
+    ensures { PrintedTextsHaveTheories }
+{}
+
+/// A signature that has grown by constants has them behind its vocabulary, and nothing else.
+pub fn growth_by_constants_is_more()
+    ensures { GrowthByConstantsIsMore }
+{}
+
+/// Where the declarations of a text are sound and a signature has their vocabulary, those of a text that is printed for it are sound, too,
+/// and the signature that has grown by the added constants has their vocabulary. The added sections declare these constants, and the
+/// variables of a linear process that reads back can be listed.
+pub fn printed_declarations_are_sound()
+    ensures sound { PrintedDeclarationsAreSound }
+    ensures constants { AddedConstantsAreDeclared }
+    ensures variables { VariablesThatReadCanBeListed }
+{}
+
+/// What is printed for a linear process that fits a signature can be read, with the constants that are added for empty lists.
+pub fn fitting_linears_read()
+    ensures { FittingLinearsRead }
 {}

@@ -44,7 +44,8 @@ use Rattle.regular_encoder.proofs.Encoded.{is_among, place_long}
 use Rattle.regular_encoder.proofs.EncodedForms.{EncodingMeans}
 use Rattle.regular_encoder.proofs.FirstTerms.{HasNoVariable, closed_tree, value_is_closed, some_is, no_some, grow_then, grow_none}
 use Rattle.regular_encoder.proofs.Fitting.{moves_sorted}
-use Rattle.regular_encoder.proofs.PlainTerms.{all_moved, label_moved, parts_moved, parts_are_plain, joined_plain}
+use Rattle.greibach.proofs.PlainParts.{parts_are_plain, joined_plain}
+use Rattle.regular_encoder.proofs.PlainTerms.{all_moved, label_moved, parts_moved}
 
 -- ---- parameters and columns
 -- a parameter goes to a column of its sort

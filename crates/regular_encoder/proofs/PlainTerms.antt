@@ -1,19 +1,20 @@
--- Made terms and plain conditions, where terms are put in for variables and where conditions are joined.
-use Rattle.std.proofs.Common.{◌≡◌, ⊎_elim, ℕ, true, false, if◌then◌else◌, List, [], ◌∷◌, ◌++◌, map, refl, sym, ap, ◌∙◌, subst}
+-- Made terms and plain conditions, where terms are put in for variables.
+use Rattle.std.proofs.Common.{◌≡◌, ⊎_elim, ℕ, List, [], ◌∷◌, map, refl, sym, ap, ◌∙◌, subst}
 use Rattle.std.specs.Prelude.{Contains}
 use Rattle.std.specs.List.{AllByRecursion}
 use Rattle.std.proofs.lemmas.List.{length-map}
 use Rattle.data_theory.specs.Terms.{Term, positive, variable, numeral, conjunction, application, function, none, more, put}
 use Rattle.data_theory.specs.Environments.{Environment, term_in}
-use Rattle.data_theory.specs.Equations.{one, equals, trueᵗ, !ᵗ◌, ◌∧ᵗ◌}
+use Rattle.data_theory.specs.Equations.{one, equals, !ᵗ◌, ◌∧ᵗ◌}
 use Rattle.data_theory.proofs.EnvironmentLemmas.{arguments_put_in_first, putting_in_goes_through_lists}
 use Rattle.process_terms.specs.Labels.{Label, put_label}
 use Rattle.process_terms.specs.Communication.{conjunction_of}
 use Rattle.process_terms.specs.Processes.{Bound}
-use Rattle.bisim_laws.specs.LinearProcesses.{variables, sorts, is_true}
-use Rattle.bisim_laws.proofs.Firing.{contains_first, contains_later, contains_cases, contains_none}
-use Rattle.lps_core.specs.Conditions.{parts, all_parts, without_true, joined}
+use Rattle.bisim_laws.specs.LinearProcesses.{variables, sorts}
+use Rattle.bisim_laws.proofs.Firing.{contains_first, contains_later, contains_cases}
+use Rattle.lps_core.specs.Conditions.{parts}
 use Rattle.lps_core.specs.MadeTerms.{Origin, StackSort, IsStack, IsMade, a_variable, the_true, the_false, a_number, a_closed_term, of_an_action, of_a_call, no_frame, a_frame, frames_below, a_column, AreMade, none_made, more_made, IsInstance, an_instance, StandsIn, the_whole, on_the_left, on_the_right, IsActionArgument, action_argument, IsArgumentEquality, equal_arguments, IsAdded, IsPlainCondition, as_written, against_a_written_one, an_equality, against_equalities, a_flag, against_a_flag, a_control_number, a_frame_on_top, a_frame_below, no_frame_below, a_number_on_top, IsPlainPart, true_part, plain_part, HasPlainParts, HasActionArguments}
+use Rattle.greibach.proofs.PlainParts.{parts_are_plain}
 use Rattle.lps_core.proofs.SortedTerms.{HaveTheirSorts, puts_sorted, columns_long}
 
 -- ---- what stands in a condition
@@ -25,18 +26,10 @@ stands_put_in e c _ the_whole = the_whole
 stands_put_in e c _ (on_the_left {x = x} {y = y} s) = on_the_left (stands_put_in e c (x ∧ᵗ y) s)
 stands_put_in e c _ (on_the_right {x = x} {y = y} s) = on_the_right (stands_put_in e c (x ∧ᵗ y) s)
 
-parts_stand : (c p q : Term) → StandsIn c p → Contains (parts p) q → StandsIn c q
-parts_stand c (application conjunction (more x (more y none))) q s i = ⊎_elim (λ same. subst (λ z. StandsIn c z) same (on_the_left s)) (λ k. parts_stand c y q (on_the_right s) k) (contains_cases x q (parts y) i)
-parts_stand c p q s i = ⊎_elim (λ same. subst (λ z. StandsIn c z) same s) (λ k. absurd (contains_none q k)) (contains_cases p q [] i)
-
 chain_put_in : (e : Putting) (ts : List Term) → put e (conjunction_of ts) ≡ conjunction_of (map (put e) ts)
 chain_put_in e [] = refl
 chain_put_in e (t ∷ []) = refl
 chain_put_in e (t ∷ u ∷ us) = ap (λ z. put e t ∧ᵗ z) (chain_put_in e (u ∷ us))
-
-pub parts_are_plain : (o : Origin) (added ps xs : List Bound) (p : Term) → IsPlainPart o added ps xs p → HasPlainParts o added ps xs p
-parts_are_plain o added ps xs _ true_part q j = ⊎_elim (λ same. subst (λ z. IsPlainPart o added ps xs z) same true_part) (λ k. absurd (contains_none q k)) (contains_cases trueᵗ q [] j)
-parts_are_plain o added ps xs _ (plain_part {c = c} {p = p} w s) q j = plain_part w (parts_stand c p q s j)
 
 -- ---- terms put in for the variables
 module _ (o : Origin) (ps xs qs ys : List Bound) (r : Environment) (closed : (t : Term) → o.WasAnswered t → put (term_in r) t ≡ t) (moved : (x : Bound) → Contains xs x → IsMade o qs ys (term_in r x.var))
@@ -107,25 +100,3 @@ module _ (o : Origin) (ps xs qs ys : List Bound) (r : Environment) (closed : (t 
         (λ k. parts_moved y (λ p i. h p (contains_later x p (parts y) i)) q k)
         (contains_cases (put (term_in r) x) q (parts (put (term_in r) y)) j)
     parts_moved c h q j = parts_are_plain o bs qs ys (put (term_in r) c) (part_moved c (h c (contains_first c []))) q j
-
--- ---- conditions that are joined
-module _ (o : Origin) (added ps xs : List Bound) where
-  all_parts_plain : (cs : List Term) → AllByRecursion (HasPlainParts o added ps xs) cs → AllByRecursion (IsPlainPart o added ps xs) (all_parts cs)
-  all_parts_plain [] h = tt
-  all_parts_plain (c ∷ cs) h = each_then (parts c) (all_parts cs) h.0 (all_parts_plain cs h.1)
-    where
-      each_then : (ts us : List Term) → ((p : Term) → Contains ts p → IsPlainPart o added ps xs p) → AllByRecursion (IsPlainPart o added ps xs) us → AllByRecursion (IsPlainPart o added ps xs) (ts ++ us)
-      each_then [] us f k = k
-      each_then (t ∷ ts) us f k = (f t (contains_first t ts), each_then ts us (λ p i. f p (contains_later t p ts i)) k)
-
-  fewer_plain : (cs : List Term) → AllByRecursion (IsPlainPart o added ps xs) cs → AllByRecursion (IsPlainPart o added ps xs) (without_true cs)
-  fewer_plain [] h = tt
-  fewer_plain (c ∷ cs) h = elim (is_true c) as (λ b. AllByRecursion (IsPlainPart o added ps xs) (if b then without_true cs else c ∷ without_true cs)) [ true ↦ fewer_plain cs h.1 | false ↦ (h.0, fewer_plain cs h.1) ]
-
-  chain_plain : (cs : List Term) → AllByRecursion (IsPlainPart o added ps xs) cs → HasPlainParts o added ps xs (conjunction_of cs)
-  chain_plain [] h q j = parts_are_plain o added ps xs trueᵗ true_part q j
-  chain_plain (c ∷ []) h q j = parts_are_plain o added ps xs c h.0 q j
-  chain_plain (c ∷ d ∷ cs) h q j = ⊎_elim (λ same. subst (λ z. IsPlainPart o added ps xs z) same h.0) (λ k. chain_plain (d ∷ cs) h.1 q k) (contains_cases c q (parts (conjunction_of (d ∷ cs))) j)
-
-  pub joined_plain : (cs : List Term) → AllByRecursion (HasPlainParts o added ps xs) cs → HasPlainParts o added ps xs (joined cs)
-  joined_plain cs h = chain_plain (without_true (all_parts cs)) (fewer_plain (all_parts cs) (all_parts_plain cs h))

@@ -35,7 +35,7 @@ use Rattle.sort_checker.proofs.VariableWords.{variable_is_word, word_is_variable
 use Rattle.sort_checker.proofs.TypedEquations.{left_reads}
 
 -- ---- lists
-nothing_passes : {A : Type 0} (p : A → Bool) (xs : List A) → ((x : A) → Contains xs x → p x ≡ false) → find p xs ≡ None
+pub nothing_passes : {A : Type 0} (p : A → Bool) (xs : List A) → ((x : A) → Contains xs x → p x ≡ false) → find p xs ≡ None
 nothing_passes p [] h = refl
 nothing_passes p (x ∷ xs) h = ap (λ (b : Bool). cond b (Some x) (find p xs)) (h x (contains_first x xs)) ∙ nothing_passes p xs (λ y c. h y (contains_later x y xs c))
 

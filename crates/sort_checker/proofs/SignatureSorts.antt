@@ -29,6 +29,7 @@ use Rattle.sort_table.specs.SignatureVocabularies.{function_names_from, sort_nam
 use Rattle.data_typing.specs.TypingLaws.{IsOverData}
 use Rattle.sort_checker.specs.FullVocabularies.{Parameters, FullVocabulary, parameters_in, Written, processes_in, IsEntry, IsOver}
 use Rattle.sort_checker.specs.FittingBodies.{IsOverSorts}
+use Rattle.sort_checker.proofs.OverSignatures.{data_over}
 
 module _ (g : Sig) (sg : IsSignature g) where
   abbrev d : Data
@@ -38,15 +39,6 @@ module _ (g : Sig) (sg : IsSignature g) where
   is_sort s l = meant_is_sort d g.sorts sg.table.sorts refl (sort_under g s) s l refl
 
   -- ---- the tables
-  numbered_below : (k n : ℕ) (is : List FunId) → k + length is ≤ n → AllByRecursion (λ (r : Name × ℕ). r.1 < n) (function_names_from g k is)
-  numbered_below k n [] l = tt
-  numbered_below k n (i ∷ is) l = (omega (arith, l), numbered_below (suc k) n is (omega (arith, l)))
-
-  data_over : IsOverData (vocabulary_of g)
-  data_over =
-      let long : length d.functions ≡ length g.declared = length-map (declared_from 0 g.functions) (function_meant g) ∙ sym (ap length sg.table.listed) in
-      record { data_are = meant_data_are_data g sg.table sg.roles; numbers = numbered_below 0 (length d.functions) g.declared (omega (arith, long)) }
-
   names_are : (es : List (NameId × SortId)) → All (λ (e : NameId × SortId). (e.0.0 < length g.texts) × (e.1.0 < length g.sorts)) es → AllByRecursion (λ (n : Name × Sort). IsSort d n.1) (map (sort_name_under g) es)
   names_are [] h = tt
   names_are (e ∷ es) h = (is_sort e.1 (All-head (λ (e : NameId × SortId). (e.0.0 < length g.texts) × (e.1.0 < length g.sorts)) e es h).1, names_are es (All-tail (λ (e : NameId × SortId). (e.0.0 < length g.texts) × (e.1.0 < length g.sorts)) e es h))

@@ -37,7 +37,7 @@ use Rattle.sort_checker.proofs.TypedEquations.{sound_equation_elaborates}
 use Rattle.sort_checker.proofs.SoundElaborations.{both_true, none_found, no_name, not_false, sound_processes_elaborate, sound_definitions_elaborate}
 
 -- ---- nothing is found
-neither_of : {A : Type 0} (o p : Option A) → option_or o p ≡ None → (o ≡ None) × (p ≡ None)
+pub neither_of : {A : Type 0} (o p : Option A) → option_or o p ≡ None → (o ≡ None) × (p ≡ None)
 neither_of None p h = (refl, h)
 neither_of (Some x) p h = absurd (none-some x (sym h))
 
@@ -45,7 +45,7 @@ nowhere : {D A : Type 0} (f : D → Option A) (k : ℕ) (ds : List D) → first_
 nowhere f k [] h = tt
 nowhere {A = A} f k (d ∷ ds) h = let r = neither_of (option_map (λ (a : A). (k, a)) (f d)) (first_from f (suc k) ds) h in (no_name (λ (a : A). (k, a)) (f d) r.0, nowhere f (suc k) ds r.1)
 
-no_number : {D : Type 0} (t : D → Bool) (k : ℕ) (ds : List D) → number_from t k ds ≡ None → AllByRecursion (λ d. t d ≡ false) ds
+pub no_number : {D : Type 0} (t : D → Bool) (k : ℕ) (ds : List D) → number_from t k ds ≡ None → AllByRecursion (λ d. t d ≡ false) ds
 no_number t k [] h = tt
 no_number t k (d ∷ ds) h = by_test (t d) (no_number t (suc k) ds) refl h
   where
@@ -65,7 +65,7 @@ neither_true : (a b : Bool) → (a || b) ≡ false → (a ≡ false) × (b ≡ f
 neither_true true b h = let never : true ≡ false = h in cc
 neither_true false b h = (refl, h)
 
-all_false : {A : Type 0} (t : A → Bool) (xs : List A) → list_any t xs ≡ false → AllByRecursion (λ x. t x ≡ false) xs
+pub all_false : {A : Type 0} (t : A → Bool) (xs : List A) → list_any t xs ≡ false → AllByRecursion (λ x. t x ≡ false) xs
 all_false t [] h = tt
 all_false t (x ∷ xs) h = let r = neither_true (t x) (list_any t xs) h in (r.0, all_false t xs r.1)
 

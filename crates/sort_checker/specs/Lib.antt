@@ -50,3 +50,4 @@ pub mod FaultNames
 pub mod TextModels
 pub mod SortedTrees
 pub mod TypedLabels
+pub mod WellTypedTexts

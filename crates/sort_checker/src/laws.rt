@@ -11,6 +11,7 @@ ghost use Rattle.sort_checker.specs.GrowthLaws.{ProcessesStayAlike, DefinitionsS
 ghost use Rattle.sort_checker.specs.SoundTexts.{SoundProcessesElaborate, SoundDefinitionsElaborate, ElaboratedProcessesAreSound, ElaboratedEquationsAreSound};
 ghost use Rattle.sort_checker.specs.SortedTrees.{SortedTermsHaveSortedTrees};
 ghost use Rattle.sort_checker.specs.TextModels.{BuiltSignaturesAreOfTheirTexts};
+ghost use Rattle.sort_checker.specs.WellTypedTexts.{WhatElaboratesIsWellTyped, WellTypedTextsGivePlainSorts};
 ghost use Rattle.sort_checker.specs.WholeTexts.{WellTypedTextsElaborate, SoundTextsHaveVocabularies};
 ghost use Rattle.sort_checker.specs.WorkedFaults.{TheseHaveFaults};
 ghost use Rattle.sort_checker.specs.WorkedElaborations.{TheseElaborate};
@@ -92,6 +93,13 @@ pub fn what_elaborates_has_no_fault()
 /// The equations, definitions and `init` of a well-typed text elaborate.
 pub fn well_typed_texts_elaborate()
     ensures { WellTypedTextsElaborate }
+{}
+
+/// A text is well typed where its declarations are sound, its equations, definitions and `init` elaborate, and each `cons` gives a sort that is
+/// declared without a definition; and those of a well-typed text do.
+pub fn what_elaborates_is_well_typed()
+    ensures elaborates { WhatElaboratesIsWellTyped }
+    ensures plain { WellTypedTextsGivePlainSorts }
 {}
 
 /// A text whose declarations are sound has a full vocabulary over a signature of what it declares.

@@ -7,7 +7,7 @@ use Rattle.greibach.specs.PlainForms.{plain_equation}
 use Rattle.greibach.specs.PlacesInCode.{plain_place, plain_places}
 use Rattle.greibach.specs.AddedHeads.{Later}
 use Rattle.greibach.specs.MadeEquations.{Makes}
-use Rattle.greibach.specs.Surroundings.{HasTakenNames, AreEquations}
+use Rattle.greibach.specs.Surroundings.{HasUsableNames, AreEquations}
 use Rattle.greibach.proofs.normal_forms.equations.Given as goal
 
 abbrev pub invariant-loop-alloc : goal.invariant-loop-alloc
@@ -16,7 +16,7 @@ invariant-loop-alloc l =
       grown : GrowsByNames l.fn.sig l.sig;
       kept : Extends l.fn.pool.trees l.pool.trees;
       constants : l.pool.constants ≡ l.fn.pool.constants;
-      names : HasTakenNames l.sig;
+      names : HasUsableNames l.sig;
       met : All (λ (n : ℕ). n < length l.places.places.items) l.under_way.met.keys;
       waiting : l.under_way.waiting.items ≡ [];
       summands : l.under_way.summands.items ≡ [];

@@ -10,6 +10,8 @@ use Rattle.greibach.specs.PlacesInCode.{plain_place, plain_places}
 use Rattle.greibach.proofs.MadeForms.{made_fit, start_within}
 use Rattle.greibach.proofs.FormOfComponent.{form_of_component}
 use Rattle.greibach.proofs.FormsOfComponents.{forms_of_components_good}
+use Rattle.greibach.proofs.KeptShapes.{forms_keep_linear_shapes}
+use Rattle.greibach.proofs.PlainlyConditioned.{forms_of_components_plain}
 use Rattle.greibach.proofs.GrownFits.{both_by_names, pool_alone}
 use Rattle.greibach.proofs.normal_forms.normal_form.Goals as goal
 
@@ -45,7 +47,15 @@ returns-clause-unfolds c =
 pub returns-clause-bisimilar : goal.returns-clause-bisimilar
 returns-clause-bisimilar c =
     forms_of_components_good c.equations.new.sig c.equations.new.pool.trees (plain_model c.args.guarded.now.model.now) (plain_component c.args.start.now) (record { equations = map plain_equation c.in_ok-equations.equations.items; init = c.in_ok-init.init.items })
-    (form_of_component c.args.sig.now c.equations.new.sig c.args.pool.now.trees c.equations.new.pool.trees c.requires.stands c.in_ok-equations.ensures.grown.stands
-    (both_by_names c.args.sig.now c.equations.new.sig c.args.pool.now.trees c.equations.new.pool.trees c.in_ok-equations.ensures.grown c.in_ok-equations.ensures.kept) (plain_model c.args.guarded.now.model.now) c.requires.model (plain_component c.args.start.now) (plain_places c.in_ok-places.places) (map plain_equation c.in_ok-equations.equations.items) c.in_ok-init.init.items
-    c.requires.component (c.requires.sequential (entries_of c.equations.new.sig c.equations.new.pool.trees)) (c.requires.scopes (entries_of c.equations.new.sig c.equations.new.pool.trees)) c.in_ok-places.ensures.table
-    (c.in_ok-equations.ensures.heads c.equations.new.sig c.equations.new.pool.trees c.in_ok-equations.ensures.grown.stands (pool_alone c.equations.new.sig c.equations.new.pool.trees c.equations.new.pool.trees (extends_itself c.equations.new.pool.trees))) c.in_ok-init.ensures)
+    (returns-clause-unfolds c)
+
+pub returns-clause-linear : goal.returns-clause-linear
+returns-clause-linear c =
+    forms_keep_linear_shapes c.equations.new.sig c.equations.new.pool.trees (plain_model c.args.guarded.now.model.now) (plain_component c.args.start.now) (record { equations = map plain_equation c.in_ok-equations.equations.items; init = c.in_ok-init.init.items })
+    (returns-clause-unfolds c)
+
+pub returns-clause-plain : goal.returns-clause-plain
+returns-clause-plain c =
+    let stands = c.in_ok-equations.ensures.grown.stands in
+    forms_of_components_plain c.equations.new.sig c.equations.new.pool (plain_model c.args.guarded.now.model.now) (plain_component c.args.start.now) (record { equations = map plain_equation c.in_ok-equations.equations.items; init = c.in_ok-init.init.items })
+    stands.table stands.complete (returns-clause-fits c) (returns-clause-unfolds c)

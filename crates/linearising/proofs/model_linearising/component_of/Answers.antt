@@ -1,4 +1,4 @@
-use Rattle.std.proofs.Common.{sym, ap, inl, ◌∙◌}
+use Rattle.std.proofs.Common.{sym, ap, ◌∙◌}
 use Rattle.std.specs.Option.{option_map}
 use Rattle.process_terms.specs.PlainProcesses.{plain_component, plain_model}
 use Rattle.proc_unfold.specs.Networks.{plain_network}
@@ -18,5 +18,5 @@ returns-in-Some-clause-binds c = λ own.
 
 pub returns-clause-refused : goal.returns-clause-refused
 returns-clause-refused c =
-    inl (none_is_parallel (plain_model c.args.model.now) c.unfold.new.pool.trees (plain_network c.in_ok-network.network) c.in_ok-network.ensures.opened
-    (sym c.in_ok-component.ensures ∙ ap (option_map plain_component) c.in-None.is))
+    none_is_parallel (plain_model c.args.model.now) c.unfold.new.pool.trees (plain_network c.in_ok-network.network) c.in_ok-network.ensures.opened
+    (sym c.in_ok-component.ensures ∙ ap (option_map plain_component) c.in-None.is)

@@ -21,7 +21,9 @@ use Rattle.linearising.proofs.GrownModels.{model_grows, component_grows}
 use Rattle.std.proofs.Common.{◌<◌, arith, length}
 use Rattle.std.proofs.lemmas.List.{length-map}
 use Rattle.linearising.proofs.ColumnNames.{encoding_has_own_names}
-use Rattle.linearising.proofs.ColumnActions.{encoding_keeps_actions}
+use Rattle.lps_printer.proofs.GrowingByConstants.{on_names, on_then}
+use Rattle.linearising.proofs.ConstantGrowth.{encoding_grows}
+use Rattle.linearising.proofs.ProcessNames.{process_name}
 use Rattle.linearising.proofs.ModelLinears.{component_leads, encoding_refused}
 use Rattle.linearising.proofs.model_linearising.linear_of_component.Goals as goal
 
@@ -152,14 +154,25 @@ returns-clause-linear c =
     record {
       stands = sh;
       inhabited = still_inhabited e h c.in_ok-linear.ensures.stands sh c.name_sums.ensures.grown.grown c.name_sums.ensures.grown.sorts c.in_ok-linear.ensures.inhabited;
-      grown = gh;
-      actions = c.name_sums.ensures.grown.actions ∙ encoding_keeps_actions d e c.normal_form.new.pool c.encode.new.pool f made c.in_ok-linear.ensures.encoded ∙ gd.actions;
+      grows = (on_then g e h (on_then g d e (on_names g d c.requires.stands gd) (encoding_grows d e c.normal_form.new.pool c.encode.new.pool f made c.in_ok-linear.ensures.encoded)) (on_names e h c.in_ok-linear.ensures.stands c.name_sums.ensures.grown)).grows;
       fits = c.in_ok-named.ensures.fits;
       params = encoding_has_own_names d e h c.normal_form.new.pool c.encode.new.pool f made named gd.stands c.in_ok-linear.ensures.stands c.in_ok-form.ensures.fits few c.in_ok-linear.ensures.encoded c.in_ok-linear.ensures.fits c.name_sums.ensures.grown c.in_ok-named.ensures.named.params;
       names = c.in_ok-named.ensures.names;
       link = leads.link;
       bisimilar = leads.good;
     }
+
+pub returns-clause-name : goal.returns-clause-name
+returns-clause-name c =
+    let g = c.args.sig.now in
+    let a = c.fresh.new.self in
+    let b = c.take_variable_names.new.sig in
+    let d = c.normal_form.new.sig in
+    let e = c.encode.new.sig in
+    let h = c.name_sums.new.sig in
+    let ad = growth_after_growth_is_growth a b d c.take_variable_names.ensures.grown.grown c.normal_form.ensures.grown.grown in
+    let ae = growth_after_growth_is_growth a d e ad c.encode.ensures.grown in
+    process_name g a h c.in_ok-name.name c.requires.stands c.in_ok-name.ensures.fresh (growth_after_growth_is_growth a e h ae c.name_sums.ensures.grown.grown)
 
 pub returns-in_err-linear-clause-refused : goal.returns-in_err-linear-clause-refused
 returns-in_err-linear-clause-refused c =

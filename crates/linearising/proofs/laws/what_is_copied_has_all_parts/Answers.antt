@@ -1,5 +1,0 @@
-use Rattle.linearising.proofs.CopiedParts.{what_is_copied_has_all_parts}
-use Rattle.linearising.proofs.laws.what_is_copied_has_all_parts.Goals as goal
-
-pub returns : goal.returns
-returns c = what_is_copied_has_all_parts

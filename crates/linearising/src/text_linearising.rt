@@ -1,0 +1,158 @@
+//! The linear process of a text.
+
+ghost use Rattle.std.specs.Prelude.{◌≡◌, ◌≢◌, [], IfErr, IfOk, map};
+ghost use Rattle.data_theory.specs.WholeSignatures.{IsSignature};
+ghost use Rattle.mcrl2_syntax.specs.Declarations.{spec_of};
+ghost use Rattle.mcrl2_syntax.specs.TreeWords.{IsSpecOfWords};
+ghost use Rattle.process_terms.specs.PlainProcesses.{plain_equation, plain_model};
+ghost use Rattle.lps_core.specs.PlainLinears.{plain_linear};
+ghost use Rattle.sort_table.specs.BareDeclarations.{bare_sections};
+ghost use Rattle.sort_table.specs.Built.{IsBuilt};
+ghost use Rattle.sort_checker.specs.TextModels.{HasOneStart};
+ghost use Rattle.linearising.specs.Linearised.{IsLinearised, IsMadeFor, IsMadeOf};
+ghost use Rattle.linearising.specs.Refusals.{IsRefusedWith, IsSpecFault};
+
+use crate::fault::LinFault;
+use crate::methods::Method;
+use crate::model_linearising::linear_of;
+use data_theory::{NameId, Names, Signature};
+use lps_core::Linear;
+use mcrl2_lexer::lex;
+use mcrl2_parser::parse;
+use mcrl2_syntax::Spec;
+use process_terms::Model;
+use sort_checker::elaborate;
+use sort_table::build;
+use std::alloc::Global;
+use term_pool::{Pool, Theory};
+
+/// A text with its linear process.
+#[derive(Drop)]
+pub struct Linearised {
+    /// The specification that the text spells.
+    pub spec: Spec,
+    /// The signature of what it declares, with the constants and the names that linearising added.
+    pub sig: Signature,
+    /// The terms of the written equations and of the linear process.
+    pub pool: Pool,
+    /// The written equations.
+    pub theory: Theory,
+    /// The name of the linear process.
+    pub name: NameId,
+    /// The linear process.
+    pub lin: Linear,
+    /// How many parallel components the specification has.
+    pub components: usize,
+}
+
+/// The written equations of a model.
+fn equations_of(model: Model) -> Theory
+    ensures { map plain_equation result.equations.items ≡ (plain_model model).equations }
+{
+    let Model {
+        theory,
+        procs: _,
+        init: _,
+        init_declaration: _,
+    } = model;
+    theory
+}
+
+/// The equations and the linear process of a specification that its signature declares, with the name of the process.
+///
+/// # Errors
+///
+/// Those of `elaborate` and of `linear_of`.
+fn linear_of_spec(
+    alloc: Global,
+    spec: &Spec,
+    sig: &mut Signature,
+    pool: &mut Pool,
+    method: Method,
+) -> Result<(Theory, NameId, Linear), LinFault>
+    requires words { IsSpecOfWords (spec_of spec.now) }
+    requires start { HasOneStart (bare_sections (spec_of spec.now)) }
+    requires stands { IsSignature sig.old }
+    requires built { IsBuilt (spec_of spec.now) sig.old }
+    requires no_terms { pool.old.trees ≡ [] }
+    requires no_constants { pool.old.constants ≡ [] }
+    ensures made { IfOk result (λ made. IsMadeFor (spec_of spec.now) sig.new pool.new.trees (map plain_equation made.0.equations.items) made.1 (plain_linear made.2)) }
+    ensures refused { IfErr result (λ fault. fault ≢ LinFault.NoMemory → IsSpecFault (spec_of spec.now) sig.new.texts fault) }
+{
+    let model = elaborate(alloc, spec, sig, pool)?;
+    match linear_of(alloc, &model, sig, pool) {
+        Ok((name, lin)) => Ok((equations_of(model), name, lin)),
+        Err(fault) => Err(method.fault(fault)),
+    }
+}
+
+/// A text whose declarations are sound, with its linear process.
+///
+/// # Errors
+///
+/// Those of `elaborate` and of `linear_of`. `names` then has the texts of the signature.
+fn linear_of_built(
+    alloc: Global,
+    spec: Spec,
+    sig: Signature,
+    names: &mut Names,
+    method: Method,
+) -> Result<Linearised, LinFault>
+    requires words { IsSpecOfWords (spec_of spec) }
+    requires start { HasOneStart (bare_sections (spec_of spec)) }
+    requires built { IsBuilt (spec_of spec) sig }
+    ensures spec { IfOk result (λ made. spec_of made.spec ≡ spec_of spec) }
+    ensures made { IfOk result (λ made. IsMadeFor (spec_of made.spec) made.sig made.pool.trees (map plain_equation made.theory.equations.items) made.name (plain_linear made.lin)) }
+    ensures one { IfOk result (λ made. made.components ≡ 1) }
+    ensures refused { IfErr result (λ fault. fault ≢ LinFault.NoMemory → IsSpecFault (spec_of spec) names.new fault) }
+{
+    let mut sig = sig;
+    let _ = sig.next_sort();
+    let mut pool = Pool::new(alloc)?;
+    match linear_of_spec(alloc, &spec, &mut sig, &mut pool, method) {
+        Ok((theory, name, lin)) => Ok(Linearised {
+            spec,
+            sig,
+            pool,
+            theory,
+            name,
+            lin,
+            components: 1,
+        }),
+        Err(fault) => {
+            *names = sig.into_names();
+            Err(fault)
+        }
+    }
+}
+
+/// The linear process of a text without parallel operators whose form is tail, with all that it was made of.
+///
+/// The process that the text specifies is bisimilar to the linear one, over every theory whose data go on from the signature and are
+/// consistent. Constants for sorts without constructors may have been declared, and nothing else is new to the data.
+///
+/// # Errors
+///
+/// The first of these: `Lex` where the text has no tokens that are accepted; `Parse` where one of its declarations nests too deeply or
+/// spells none, or where not exactly one is in an `init` section; `Sort` where what they declare has a fault; `Type` where the text is ill
+/// typed; `Net` where parallelism doesn't stand outside recursion; `NotBuilt` for another text with a parallel operator where `init`
+/// reaches it; `Guard` where recursion isn't guarded; and for a form with a summand of two calls `NotTail` with the method `Regular`,
+/// else `NotBuilt`. `names`, which is to be empty, then has the text of each name that the fault lists. `NoMemory` comes only where
+/// memory runs out.
+pub fn linearise(
+    alloc: Global,
+    text: &[u8],
+    names: &mut Names,
+    method: Method,
+) -> Result<Linearised, LinFault>
+    requires method { method ≢ Method.Stack }
+    ensures made { IfOk result (λ made. IsMadeOf text.now (spec_of made.spec) made.sig made.pool.trees (map plain_equation made.theory.equations.items) made.name (plain_linear made.lin)) }
+    ensures linearised { IfOk result (λ made. IsLinearised text.now (spec_of made.spec) made.sig made.pool.trees (plain_linear made.lin)) }
+    ensures one { IfOk result (λ made. made.components ≡ 1) }
+    ensures refused { IfErr result (λ fault. fault ≢ LinFault.NoMemory → IsRefusedWith text.now names.new fault) }
+{
+    let tokens = lex(alloc, text)?;
+    let spec = parse(alloc, &tokens)?;
+    let sig = build(alloc, &spec, names)?;
+    linear_of_built(alloc, spec, sig, names, method)
+}
