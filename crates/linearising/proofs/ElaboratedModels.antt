@@ -51,8 +51,8 @@ use Rattle.proc_unfold.specs.FittingModels.{TermFits, TermsFit, ActionFits, Proc
 use Rattle.greibach.specs.Scopes.{BindsAnew, HasOwnVariables, HaveOwnVariables}
 use Rattle.greibach.proofs.WhateverStands.{bound_once}
 use Rattle.linearising.specs.ElaboratedModels.{IsDefinitionOf, WhatElaboratesCanBeLinear}
-use Rattle.linearising.proofs.SignatureSorts.{over_sorts}
-use Rattle.linearising.proofs.SmallNumerals.{small_definitions, small_starts}
+use Rattle.sort_checker.proofs.SignatureSorts.{over_sorts}
+use Rattle.sort_checker.proofs.SmallNumerals.{small_definitions, small_starts}
 use Rattle.sort_table.specs.BareDeclarations.{bare_sections, declarations_in}
 use Rattle.data_typing.specs.TypingLaws.{HasSmallNumerals}
 use Rattle.linearising.proofs.OneComponents.{binds_fewer}

@@ -14,8 +14,6 @@ pub mod AddedConstants
 mod ModelLinears
 mod LinearisedTexts
 mod SortedTerms
-mod SmallNumerals
-mod SignatureSorts
 mod ElaboratedModels
 mod ModelsOfTexts
 mod OneStart

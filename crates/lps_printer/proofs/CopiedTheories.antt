@@ -36,7 +36,7 @@ use Rattle.lps_printer.specs.GrowingByConstants.{GrowsByConstants}
 use Rattle.lps_printer.proofs.CopiedParts.{what_is_copied_has_all_parts}
 use Rattle.lps_printer.proofs.CopiedWords.{EquationHasNoneOf, copied_equations_apart}
 use Rattle.lps_printer.proofs.GrownVocabularies.{GrownVocabulary, grown_vocabulary}
-use Rattle.lps_printer.proofs.OverSignatures.{data_over}
+use Rattle.sort_checker.proofs.OverSignatures.{data_over}
 
 -- ---- pairs
 pub pairs_both : {A B : Type 0} (Q : A → B → Type 0) (xs : List A) (ys : List B) (us : List A) (vs : List B) → EachPair Q xs ys → EachPair Q us vs → EachPair Q (xs ++ us) (ys ++ vs)

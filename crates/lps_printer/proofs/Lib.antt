@@ -77,7 +77,6 @@ pub mod FreshIdentifiers
 pub mod CopiedParts
 pub mod GrowingByConstants
 pub mod SectionsBehind
-pub mod OverSignatures
 pub mod GrownVocabularies
 pub mod CopiedWords
 pub mod CopiedTheories

@@ -38,7 +38,7 @@ use Rattle.sort_table.specs.BareProcesses.{Action, tau, act, bare_action}
 use Rattle.sort_table.proofs.KeptFunctions.{one_more_read}
 use Rattle.sort_table.specs.Expressions.{Name, Expression}
 use Rattle.sort_table.specs.NamedLists.{all_named}
-use Rattle.sort_table.specs.SignatureVocabularies.{action_under, vocabulary_of}
+use Rattle.sort_table.specs.SignatureVocabularies.{action_under}
 use Rattle.sort_table.specs.Vocabularies.{Vocabulary}
 use Rattle.data_typing.specs.Meanings.{Scope, typing_in}
 use Rattle.data_typing.specs.Readings.{bare_trees}
@@ -46,7 +46,7 @@ use Rattle.sort_checker.specs.declared.sorted_actions.SortedAction.{SortedAction
 use Rattle.sort_checker.specs.Additions.{GoesOn}
 use Rattle.sort_checker.specs.CodeContexts.{IsElaborated}
 use Rattle.sort_checker.specs.ElaboratedLabels.{IsAction, IsWishedAction, no_action, the_action, IsWishedLabel, no_label, the_label, IsWishedCall, no_call, the_call}
-use Rattle.sort_checker.specs.ElaboratedParts.{IsTerm, AreTerms, IsLabel, IsBody}
+use Rattle.sort_checker.specs.ElaboratedParts.{AreTerms, IsLabel, IsBody}
 use Rattle.sort_checker.specs.Elaborations.{Elaborates, label, call_in_order, call_by_name}
 use Rattle.sort_checker.specs.FullVocabularies.{Parameters, FullVocabulary, process_named}
 use Rattle.sort_checker.specs.PartTypings.{action_of, label_in, arguments_in, are_assignments, assigned_in}
@@ -95,6 +95,28 @@ module _ (v : Vocabulary) (s : Scope) where
       ap (λ (b : Action). label_in v s (b ∷ as_)) (same_Some a (act x es) at) ∙ ap (option_and_then (λ b. option_map (λ (n : Label). b ∷ n) (label_in v s as_))) e
   label_has_none (tau ∷ as_) (suc i) x es at e = label_has_none as_ i x es at e
   label_has_none (act y ds ∷ as_) (suc i) x es at e = ap (λ r. option_and_then (λ a. option_map (λ (n : Label). a ∷ n) r) (action_in y ds)) (label_has_none as_ i x es at e) ∙ none_then (action_in y ds)
+
+  -- the action that stands at a place of a label's tree is one of the label
+  abbrev action_by : Action → Option written.Action
+  action_by tau = None
+  action_by (act x es) = action_in x es
+
+  pub record IsInLabel (x : Name) (es : List Expression) (m : Label) : Type 1 where
+    pub action : written.Action
+    pub is : action_in x es ≡ Some action
+    pub holds : (P : written.Action → Type 0) → AllByRecursion P m → P action
+
+  pub label_has : (as_ : List Action) (i : ℕ) (x : Name) (es : List Expression) (m : Label) → slice_get as_ i ≡ Some (act x es) → label_in v s as_ ≡ Some m → IsInLabel x es m
+  label_has [] i x es m at e = absurd (none-some (act x es) at)
+  label_has (tau ∷ as_) zero x es m at e = absurd (let never : tau ≡ act x es = same_Some tau (act x es) at in cc)
+  label_has (tau ∷ as_) (suc i) x es m at e = label_has as_ i x es m at e
+  label_has (act y ds ∷ as_) zero x es m at e =
+      let p = parts (action_in y ds) (label_in v s as_) m e in
+      record { action = p.first; is = ap action_by (sym (same_Some (act y ds) (act x es) at)) ∙ p.here; holds = λ P all. (subst (AllByRecursion P) p.are all).0 }
+  label_has (act y ds ∷ as_) (suc i) x es m at e =
+      let p = parts (action_in y ds) (label_in v s as_) m e in
+      let r = label_has as_ i x es p.rest at p.behind in
+      record { action = r.action; is = r.is; holds = λ P all. r.holds P (subst (AllByRecursion P) p.are all).1 }
 
 -- ---- in code
 entry_there : (g : Sig) (ks : List Key) (k : ℕ) (x : Name) (ss : List Sort) (d : ActionEntry) → slice_get (map (action_under g) ks) k ≡ Some (x, ss) → (k < length (map (action_entry g) ks)) × (get_or (map (action_entry g) ks) k d ≡ record { name = x; sorts = ss })
@@ -225,6 +247,11 @@ module _ (v : Vocabulary) (s : Scope) (ts : List ActionTree) (i : ℕ) (t : Acti
   no_label_here x es is none =
       label_has_none v s (map bare_action (map plain_action ts)) i x es
       (slice_get-map bare_action (map plain_action ts) i ∙ (ap (option_map bare_action) (slice_get-map plain_action ts i ∙ ap (option_map plain_action) (slice_get_read ts (length ts) i t refl inside at)) ∙ ap (λ (b : Action). Some b) is)) none
+
+  pub label_has_here : (x : Name) (es : List Expression) → bare_action (plain_action t) ≡ act x es → (m : Label) → label_in v s (map bare_action (map plain_action ts)) ≡ Some m → IsInLabel v s x es m
+  label_has_here x es is m e =
+      label_has v s (map bare_action (map plain_action ts)) i x es m
+      (slice_get-map bare_action (map plain_action ts) i ∙ (ap (option_map bare_action) (slice_get-map plain_action ts i ∙ ap (option_map plain_action) (slice_get_read ts (length ts) i t refl inside at)) ∙ ap (λ (b : Action). Some b) is)) e
 
 pub tau_bare : (t : ActionTree) → ((span : Span) (w : Word) (ds : Vec DataTree Global) → t ≡ trees.Named span w ds → ⊥) → bare_action (plain_action t) ≡ tau
 tau_bare (trees.Tau span) other = refl

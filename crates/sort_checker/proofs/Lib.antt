@@ -82,4 +82,8 @@ pub mod ElaboratedForms
 pub mod ElaboratedInside
 pub mod ElaboratedInCode
 pub mod TreeSizes
+pub mod SmallNumerals
+pub mod OverSignatures
+pub mod SignatureSorts
+pub mod LabelsOver
 pub mod WellTypedBack

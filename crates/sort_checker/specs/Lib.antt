@@ -49,4 +49,5 @@ pub mod TextProcesses
 pub mod FaultNames
 pub mod TextModels
 pub mod SortedTrees
+pub mod TypedLabels
 pub mod WellTypedTexts

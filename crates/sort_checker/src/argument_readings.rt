@@ -22,6 +22,7 @@ ghost use Rattle.sort_checker.specs.CodeContexts.{IsReady, IsWished};
 ghost use Rattle.sort_checker.specs.ElaboratedParts.{AreTerms};
 ghost use Rattle.sort_checker.specs.ReadArguments.{HaveTermsAt};
 ghost use Rattle.sort_checker.specs.TypedTrees.{AreReadings, how_of};
+ghost use Rattle.sort_checker.specs.TypedLabels.{AreFoundIn};
 
 use crate::typed_parts::Way;
 use data_theory::{NoMemory, Signature, TermId};
@@ -31,6 +32,7 @@ use data_typing::flat_sorts::FlatSort;
 use data_typing::nodes::Reading;
 use data_typing::scope::Scope;
 use data_typing::sort_tables::SortTables;
+use data_typing::standing::term_over;
 use data_typing::steps::Wanted;
 use mcrl2_syntax::DataTree;
 use std::alloc::Global;
@@ -126,4 +128,37 @@ pub(crate) fn terms_at(
         terms.push(term)?;
     }
     Ok(terms)
+}
+
+/// The terms of arguments that were read, each of which fits its sort in this way, over a signature to which nothing is added. There are none
+/// where the sort of a subterm isn't in the signature.
+///
+/// # Errors
+///
+/// `NoMemory` where there is none for the terms.
+pub(crate) fn terms_over(
+    alloc: Global,
+    sig: &Signature,
+    pool: &mut Pool,
+    tables: &SortTables,
+    readings: &[Reading],
+    sorts: &[FlatSort],
+    way: Way,
+) -> Result<Option<Vec<TermId>>, NoMemory>
+    requires ready { (bs : List Bound) × IsReady sig.now pool.old tables.now bs }
+    requires sorts { AllByRecursion (IsFlatOver sig.now) sorts.now }
+    requires fit { (ts : List Typing) × AreReadings sig.now readings.now ts × (us : List Term) × HaveTermsAt (how_of way) (map flat_sort sorts.now) ts us }
+    ensures kept { GoesOn sig.now pool.old sig.now pool.new }
+    ensures ready { OnOk result ((bs : List Bound) → IsReady sig.now pool.old tables.now bs → IsReady sig.now pool.new tables.now bs) }
+    ensures means { IfOk result (λ found. (ts : List Typing) (us : List Term) → AreReadings sig.now readings.now ts → HaveTermsAt (how_of way) (map flat_sort sorts.now) ts us → AreFoundIn sig.now pool.new (map flat_sort sorts.now) us (option_map (λ ids. ids.items) found)) }
+{
+    let mut terms = Vec::new(alloc);
+    for i in 0..readings.len() {
+        let wanted = wanted_in(way, sorts[i]);
+        let Some(term) = term_over(alloc, sig, pool, tables, &readings[i], wanted)? else {
+            return Ok(None);
+        };
+        terms.push(term)?;
+    }
+    Ok(Some(terms))
 }

@@ -10,6 +10,7 @@ mod argument_terms;
 mod assigned_terms;
 mod binders;
 mod chosen_actions;
+mod closed_labels;
 mod comm_shapes;
 mod data_names;
 mod definitions;
@@ -42,6 +43,7 @@ mod wished_terms;
 mod word_numbers;
 mod written_equations;
 
+pub use closed_labels::elaborate_label;
 pub use comm_shapes::comm_shape;
 pub use elaborating::{TypeFault, elaborate};
 pub use free_variables::free_variable;

@@ -29,7 +29,7 @@ use Rattle.sort_table.specs.SignatureVocabularies.{function_names_from, sort_nam
 use Rattle.data_typing.specs.TypingLaws.{IsOverData}
 use Rattle.sort_checker.specs.FullVocabularies.{Parameters, FullVocabulary, parameters_in, Written, processes_in, IsEntry, IsOver}
 use Rattle.sort_checker.specs.FittingBodies.{IsOverSorts}
-use Rattle.lps_printer.proofs.OverSignatures.{data_over}
+use Rattle.sort_checker.proofs.OverSignatures.{data_over}
 
 module _ (g : Sig) (sg : IsSignature g) where
   abbrev d : Data

@@ -59,7 +59,7 @@ small_action : (a : PlainAction) → IsActionOfWords a → EachArgument HasSmall
 small_action (tau_action span) h = tt
 small_action (named_action span f ds) h = each_small ds h.1
 
-small_actions : (as_ : List PlainAction) → AllByRecursion IsActionOfWords as_ → AllByRecursion (EachArgument HasSmallNumerals) (map bare_action as_)
+pub small_actions : (as_ : List PlainAction) → AllByRecursion IsActionOfWords as_ → AllByRecursion (EachArgument HasSmallNumerals) (map bare_action as_)
 small_actions [] h = tt
 small_actions (a ∷ as_) h = (small_action a h.0, small_actions as_ h.1)
 
