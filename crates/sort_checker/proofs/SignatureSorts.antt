@@ -1,23 +1,19 @@
 -- The sorts in the vocabulary of a signature are sorts of its data.
-use Rattle.std.proofs.Common.{◌≡◌, ◌+◌, ◌<◌, ◌≤◌, ℕ, suc, Bool, true, false, cond, List, [], ◌∷◌, map, length, refl, sym, ap, subst, ◌∙◌, Some, arith}
+use Rattle.std.proofs.Common.{◌≡◌, ◌<◌, Bool, true, false, cond, List, [], ◌∷◌, map, length, refl, sym, subst, Some}
 use Rattle.std.specs.Prelude.{Option, None, bytes_eq}
 use Rattle.std.specs.Option.{option_map, option_and_then}
 use Rattle.std.specs.List.{All, AllByRecursion}
-use Rattle.std.proofs.lemmas.List.{length-map}
 use Rattle.std.proofs.lemmas.List.Elements.{All-head, All-tail}
 use Rattle.data_theory.specs.declared.ids.NameId.{NameId}
 use Rattle.data_theory.specs.declared.ids.SortId.{SortId}
-use Rattle.data_theory.specs.declared.ids.FunId.{FunId}
 use Rattle.data_theory.specs.Keys.{Key}
 use Rattle.data_theory.specs.Complete.{IsActionWithin}
 use Rattle.data_theory.specs.Terms.{Sort, boolean, positive, natural, integer, list}
 use Rattle.data_theory.specs.Declarations.{Data, IsSort}
 use Rattle.data_theory.specs.Signature.{Sig}
 use Rattle.data_theory.specs.WholeSignatures.{IsSignature}
-use Rattle.data_theory.specs.IdData.{data_meant, function_meant}
-use Rattle.data_theory.specs.IdSymbols.{declared_from}
+use Rattle.data_theory.specs.IdData.{data_meant}
 use Rattle.data_theory.specs.IdTerms.{sort_under}
-use Rattle.data_theory.proofs.IdDataLemmas.{meant_data_are_data}
 use Rattle.data_theory.proofs.IdSortLemmas.{meant_is_sort}
 use Rattle.sort_table.specs.Expressions.{Name}
 use Rattle.sort_table.specs.BareSorts.{SortExpression, truth_values, positives, naturals, integers, lists_of, a_name}
@@ -25,7 +21,7 @@ use Rattle.sort_table.specs.BareProcesses.{Variables}
 use Rattle.sort_table.specs.BareDeclarations.{Section, declarations_in}
 use Rattle.sort_table.specs.NamedLists.{first_named}
 use Rattle.sort_table.specs.Vocabularies.{Vocabulary, sort_in, EachPair}
-use Rattle.sort_table.specs.SignatureVocabularies.{function_names_from, sort_name_under, action_under, vocabulary_of}
+use Rattle.sort_table.specs.SignatureVocabularies.{sort_name_under, action_under}
 use Rattle.data_typing.specs.TypingLaws.{IsOverData}
 use Rattle.sort_checker.specs.FullVocabularies.{Parameters, FullVocabulary, parameters_in, Written, processes_in, IsEntry, IsOver}
 use Rattle.sort_checker.specs.FittingBodies.{IsOverSorts}
