@@ -114,3 +114,7 @@ if_ok (Err e) P Q follows holds = tt
 pub no_fault_refused : {T : Type 0} (r : Result T LinFault) (text : List ℕ) (texts : List (List ℕ)) → IfErr r (λ fault. fault ≡ NoMemory) → IsRefused r text texts
 no_fault_refused (Ok x) text texts none = tt
 no_fault_refused (Err e) text texts none = λ some. absurd (some none)
+
+pub is_told : {T E : Type 0} (r : Result T E) (P : E → Type 0) → IsErrAnd r P → IfErr r P
+is_told (Ok x) P h = absurd h
+is_told (Err e) P h = h
