@@ -2,6 +2,7 @@
 #![tactic(auto)]
 
 mod command;
+mod printed;
 mod real;
 mod refusal;
 mod stop;
