@@ -1,6 +1,5 @@
 -- Texts and bytes that are told.
-use Rattle.std.proofs.Common.{◌≡◌, ◌≢◌, ◌≤◌, ℕ, List, Option, None, Some, IfSome, length, option_and_then, sym, subst, Result, Ok, Err}
-use Rattle.std.specs.Prelude.{IfOk, IfErr}
+use Rattle.std.proofs.Common.{◌≡◌, ◌≢◌, ◌≤◌, ℕ, List, Option, None, Some, IfSome, length, option_and_then, sym, subst}
 use Rattle.mcrl2_text.specs.declared.loading.TheConstants.{MAX_TEXT_LEN}
 use Rattle.linearising.specs.Refusals.{IsRefusedWith}
 use Rattle.linearising.specs.declared.fault.LinFault.{LinFault}
@@ -36,12 +35,3 @@ has_cause text_of words file bytes texts fault (Refused line) asked told short r
   due = of_loaded text_of words file bytes (λ text. (length text ≤ MAX_TEXT_LEN) × IsRefusedWith text texts fault) asked told (short, refused is.0);
 }
 has_cause text_of words file bytes texts fault NoMemory asked told short refused is = tt
-
-pub if_ok : {T E : Type 0} (r : Result T E) (P Q : T → Type 0) → ((x : T) → P x → Q x) → IfOk r P → IfOk r Q
-if_ok (Ok x) P Q follows holds = follows x holds
-if_ok (Err e) P Q follows holds = tt
-
--- where there is no fault but want of memory, none is told
-pub no_fault_refused : {T : Type 0} (r : Result T LinFault) (text : List ℕ) (texts : List (List ℕ)) → IfErr r (λ fault. fault ≡ lin.NoMemory) → IfErr r (λ fault. fault ≢ lin.NoMemory → IsRefusedWith text texts fault)
-no_fault_refused (Ok x) text texts none = tt
-no_fault_refused (Err e) text texts none = λ some. absurd (some none)

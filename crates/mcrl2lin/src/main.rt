@@ -2,7 +2,6 @@
 #![tactic(auto)]
 
 mod command;
-mod printed;
 mod real;
 mod refusal;
 mod stop;

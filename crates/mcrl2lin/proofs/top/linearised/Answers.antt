@@ -7,8 +7,8 @@ use Rattle.mcrl2lin.proofs.top.linearised.Goals as goal
 pub returns-clause-refused : goal.returns-clause-refused
 returns-clause-refused g c =
     let asked : file_asked (map string_bytes c.args.words.now) ≡ Some c.in_ok-file.file.now = search rules in
-    has_cause (g.H.Shelf.text_of c.args.shelf.now) (map string_bytes c.args.words.now) c.in_ok-file.file.now c.in_ok-text.text.items c.printed.new.names c.in-Err.fault c.for_fault.result asked (search rules) (search rules)
+    has_cause (g.H.Shelf.text_of c.args.shelf.now) (map string_bytes c.args.words.now) c.in_ok-file.file.now c.in_ok-text.text.items c.linear_text.new.names c.in-Err.fault c.for_fault.result asked (search rules) (search rules)
     (search (rules, c.in-Err.ensures.refused)) c.for_fault.ensures
 
 pub for_fault-requires : goal.for_fault-requires
-for_fault-requires g c = are_named c.deref.result.now c.printed.new.names c.in-Err.fault c.in-Err.ensures.refused
+for_fault-requires g c = are_named c.deref.result.now c.linear_text.new.names c.in-Err.fault c.in-Err.ensures.refused
