@@ -1,6 +1,6 @@
 -- Why a text is refused.
 use Rattle.std.proofs.Common.{◌≡◌, ◌≢◌, ◌⊎◌, inl, inr, ℕ, List, refl, sym, subst, ◌∙◌, Result, Ok, Err}
-use Rattle.std.specs.Prelude.{IfErr, IsErrAnd}
+use Rattle.std.specs.Prelude.{IfErr, IfOk, IsErrAnd}
 use Rattle.mcrl2_lexer.specs.declared.token.LexFault.{LexFault}
 use Rattle.mcrl2_lexer.specs.declared.token.LexFault.TheVariants as lex
 use Rattle.mcrl2_lexer.specs.declared.token.Token.{Token}
@@ -105,3 +105,12 @@ module _ (spec : PlainSpec) (g : Sig) (p : PoolContents) (m : PlainModel) (is : 
 
   pub model_refused : (method : Method) (fault : ModelFault) (given : LinFault) → IsModelFaultOf m fault → given ≡ fault_of_model method fault → given ≢ NoMemory → IsSpecFault spec texts given
   model_refused method fault given has same some = subst (IsSpecFault spec texts) (sym same) (by_method method fault has (λ e. some (same ∙ e)))
+
+-- ---- want of memory alone
+pub if_ok : {T E : Type 0} (r : Result T E) (P Q : T → Type 0) → ((x : T) → P x → Q x) → IfOk r P → IfOk r Q
+if_ok (Ok x) P Q follows holds = follows x holds
+if_ok (Err e) P Q follows holds = tt
+
+pub no_fault_refused : {T : Type 0} (r : Result T LinFault) (text : List ℕ) (texts : List (List ℕ)) → IfErr r (λ fault. fault ≡ NoMemory) → IsRefused r text texts
+no_fault_refused (Ok x) text texts none = tt
+no_fault_refused (Err e) text texts none = λ some. absurd (some none)

@@ -7,6 +7,7 @@
 
 mod fault;
 pub mod laws;
+mod linear_texts;
 mod methods;
 mod model_linearising;
 mod one_component;
@@ -14,6 +15,7 @@ mod text_linearising;
 mod variable_names;
 
 pub use fault::{LinFault, ModelFault};
+pub use linear_texts::linear_text;
 pub use methods::Method;
 pub use model_linearising::linear_of;
 pub use text_linearising::{Linearised, linearise};

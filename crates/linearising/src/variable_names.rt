@@ -46,7 +46,7 @@ pub(crate) fn take_variable_names(
     requires { name.0 < length sig.old.texts }
     ensures grown { GrowsByNames sig.old sig.new }
     ensures taken { OnOk result (HaveTakenNames sig.new (length sig.new.variables)) }
-    ensures named { HasIdentifierText sig.old name → HaveIdentifiers sig.old → OnOk result (HaveIdentifiers sig.new) }
+    ensures named { OnOk result (HasIdentifierText sig.old name → HaveIdentifiers sig.old → HaveIdentifiers sig.new) }
 {
     signature_stands(sig);
     let last = sig.add_var(name, SortId(0))?;

@@ -64,7 +64,7 @@ normal_form-requires-clause-names c =
     let a = c.fresh.new.self in
     let b = c.take_variable_names.new.sig in
     let f = c.in_ok-name.ensures.fresh in
-    named_usable b c.in_ok-take_variable_names.ensures.taken (c.take_variable_names.ensures.named (fresh_text g a (codes "P") c.in_ok-name.name (refl, refl) f) (fresh_named g a (codes "P") c.in_ok-name.name f c.requires.names))
+    named_usable b c.in_ok-take_variable_names.ensures.taken (c.in_ok-take_variable_names.ensures.named (fresh_text g a (codes "P") c.in_ok-name.name (refl, refl) f) (fresh_named g a (codes "P") c.in_ok-name.name f c.requires.names))
 
 pub returns-in_err-form-clause-grown : goal.returns-in_err-form-clause-grown
 returns-in_err-form-clause-grown c =

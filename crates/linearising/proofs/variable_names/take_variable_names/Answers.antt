@@ -4,7 +4,7 @@ use Rattle.lps_core.proofs.NamedSums.{names_none}
 use Rattle.std.proofs.Common.{length}
 use Rattle.lps_core.specs.Fitting.{HasTakenName}
 use Rattle.data_theory.specs.declared.signature.Variable.{Variable}
-use Rattle.linearising.specs.TakenNames.{HaveIdentifiers, HaveTakenNames}
+use Rattle.linearising.specs.TakenNames.{HasIdentifierText, HaveIdentifiers, HaveTakenNames}
 use Rattle.linearising.proofs.NamedVariables.{named_more, named_still}
 use Rattle.linearising.proofs.TakenNames.{all_taken, on_ok, on_any}
 use Rattle.linearising.proofs.variable_names.take_variable_names.Goals as goal
@@ -22,12 +22,12 @@ returns-clause-taken c =
     c.take_name_of.ensures.taken
 
 pub returns-clause-named : goal.returns-clause-named
-returns-clause-named c = λ text all.
+returns-clause-named c =
     let g = c.args.sig.now in
     let i = c.add_var.new.self in
     let j = c.take_names_below.new.sig in
     let h = c.take_name_of.new.sig in
     let x : Variable = record { name = c.args.name; sort = record { 0 = 0 } } in
+    on_any c.take_name_of.result (HasIdentifierText g c.args.name → HaveIdentifiers g → HaveIdentifiers h) (λ text all.
     let one : HaveIdentifiers i = subst HaveIdentifiers (sym c.in_ok-last.ensures.added) (named_more g x text all) in
-    on_any c.take_name_of.result (HaveIdentifiers h)
-    (named_still j h c.take_name_of.ensures.grown.grown c.take_name_of.ensures.variables (named_still i j c.take_names_below.ensures.grown.grown c.take_names_below.ensures.variables one))
+    named_still j h c.take_name_of.ensures.grown.grown c.take_name_of.ensures.variables (named_still i j c.take_names_below.ensures.grown.grown c.take_names_below.ensures.variables one))
