@@ -1,10 +1,9 @@
 -- Texts and bytes that are told.
 use Rattle.std.proofs.Common.{◌≡◌, ◌≢◌, ◌≤◌, ℕ, List, Option, None, Some, IfSome, length, option_and_then, sym, subst}
 use Rattle.mcrl2_text.specs.declared.loading.TheConstants.{MAX_TEXT_LEN}
-use Rattle.lin_driver.specs.FirstForm.{HasFirstForm}
-use Rattle.lin_driver.specs.Refusals.{IsRefusedWith}
-use Rattle.lin_driver.specs.declared.fault.LinFault.{LinFault}
-use Rattle.lin_driver.specs.declared.fault.LinFault.TheVariants as lin
+use Rattle.linearising.specs.Refusals.{IsRefusedWith}
+use Rattle.linearising.specs.declared.fault.LinFault.{LinFault}
+use Rattle.linearising.specs.declared.fault.LinFault.TheVariants as lin
 use Rattle.mcrl2lin.specs.Commands.{file_asked, text_asked}
 use Rattle.mcrl2lin.specs.Stops.{HasCause, IsStopFor}
 use Rattle.mcrl2lin.specs.declared.stop.Stop.{Stop}
@@ -25,14 +24,14 @@ of_loaded text_of words file bytes P is told holds =
 -- a stop for a fault of the bytes that were loaded has its cause in the text asked for
 pub has_cause : (text_of : List ℕ → Option (List ℕ)) (words : List (List ℕ)) (file bytes : List ℕ) (texts : List (List ℕ)) (fault : LinFault) (stop : Stop) → file_asked words ≡ Some file
     → IfSome (text_of file) (λ text. bytes ≡ text) → length bytes ≤ MAX_TEXT_LEN → (fault ≢ lin.NoMemory → IsRefusedWith bytes texts fault)
-    → (fault ≢ lin.NoMemory → HasFirstForm bytes → ⊥) → IsStopFor texts fault stop → HasCause stop (text_asked text_of words)
-has_cause text_of words file bytes texts fault Words asked told short refused none is = absurd is
-has_cause text_of words file bytes texts fault ReadFault asked told short refused none is = absurd is
-has_cause text_of words file bytes texts fault TooLong asked told short refused none is = absurd is
-has_cause text_of words file bytes texts fault (Refused line) asked told short refused none is = record {
+    → IsStopFor texts fault stop → HasCause stop (text_asked text_of words)
+has_cause text_of words file bytes texts fault Words asked told short refused is = absurd is
+has_cause text_of words file bytes texts fault ReadFault asked told short refused is = absurd is
+has_cause text_of words file bytes texts fault TooLong asked told short refused is = absurd is
+has_cause text_of words file bytes texts fault (Refused line) asked told short refused is = record {
   texts = texts;
   fault = fault;
   says = is.1;
-  due = of_loaded text_of words file bytes (λ text. (length text ≤ MAX_TEXT_LEN) × IsRefusedWith text texts fault × (¬ (HasFirstForm text))) asked told (short, refused is.0, none is.0);
+  due = of_loaded text_of words file bytes (λ text. (length text ≤ MAX_TEXT_LEN) × IsRefusedWith text texts fault) asked told (short, refused is.0);
 }
-has_cause text_of words file bytes texts fault NoMemory asked told short refused none is = tt
+has_cause text_of words file bytes texts fault NoMemory asked told short refused is = tt

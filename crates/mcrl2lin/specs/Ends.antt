@@ -3,8 +3,7 @@ use Rattle.std.specs.Prelude.{⊤, ℕ, List, Option, Some, ◌++◌, [], ◌≡
 use Rattle.mcrl2_text.specs.Bytes.{TakesPrefix}
 use Rattle.mcrl2_text.specs.declared.loading.TheConstants.{MAX_TEXT_LEN}
 use Rattle.mcrl2_text.specs.Faults.{Rose}
-use Rattle.lin_driver.specs.Headline.{StandsFor}
-use Rattle.lin_driver.specs.Systems.{System}
+use Rattle.linearising.specs.Headline.{StandsFor}
 use Rattle.mcrl2lin.specs.Lines.{line_of, write_fault_line}
 use Rattle.mcrl2lin.specs.Stops.{IsRefusal}
 use Rattle.mcrl2lin.specs.declared.stop.Stop.TheVariants as stop
@@ -29,13 +28,13 @@ pub record EndsWithLine (status : Status) (text : Option (List ℕ)) (before aft
   pub prefix : IfSome before (λ bytes. TakesPrefix bytes after line)
   pub whole : Rose faults_before faults_after ⊎ IfSome before (λ bytes. after ≡ Some (bytes ++ line))
 
--- the run is done, and the bytes that the output took stand for the system; or memory ran out
-abbrev pub EndsWell : Status → System → Option (List ℕ) → Option (List ℕ) → Type 0
-EndsWell Done system before after = IfSome before (λ bytes. (printed : List ℕ) × (after ≡ Some (bytes ++ printed)) × StandsFor system printed)
-EndsWell NoMemory system before after = ⊤
-EndsWell Refused system before after = ⊥
-EndsWell Words system before after = ⊥
-EndsWell ReadFault system before after = ⊥
-EndsWell WriteFault system before after = ⊥
-EndsWell Undecided system before after = ⊥
-EndsWell No system before after = ⊥
+-- the run is done, and the bytes that the output took stand for the text; or memory ran out
+abbrev pub EndsWell : Status → List ℕ → Option (List ℕ) → Option (List ℕ) → Type 0
+EndsWell Done text before after = IfSome before (λ bytes. (printed : List ℕ) × (after ≡ Some (bytes ++ printed)) × StandsFor text printed)
+EndsWell NoMemory text before after = ⊤
+EndsWell Refused text before after = ⊥
+EndsWell Words text before after = ⊥
+EndsWell ReadFault text before after = ⊥
+EndsWell WriteFault text before after = ⊥
+EndsWell Undecided text before after = ⊥
+EndsWell No text before after = ⊥

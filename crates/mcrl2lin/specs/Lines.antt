@@ -10,8 +10,12 @@ use Rattle.sort_table.specs.declared.building.SortFault.{SortFault}
 use Rattle.sort_table.specs.declared.building.SortFault.TheVariants as sort
 use Rattle.sort_checker.specs.declared.elaborating.TypeFault.{TypeFault}
 use Rattle.sort_checker.specs.declared.elaborating.TypeFault.TheVariants as type
-use Rattle.lin_driver.specs.declared.fault.LinFault.{LinFault}
-use Rattle.lin_driver.specs.declared.fault.LinFault.TheVariants as lin
+use Rattle.proc_unfold.specs.declared.faults.NetFault.{NetFault}
+use Rattle.proc_unfold.specs.declared.faults.NetFault.TheVariants as net
+use Rattle.guard_check.specs.declared.checking.GuardFault.{GuardFault}
+use Rattle.guard_check.specs.declared.checking.GuardFault.TheVariants as guard
+use Rattle.linearising.specs.declared.fault.LinFault.{LinFault}
+use Rattle.linearising.specs.declared.fault.LinFault.TheVariants as lin
 use Rattle.mcrl2lin.specs.declared.stop.Stop.{Stop}
 use Rattle.mcrl2lin.specs.declared.stop.Stop.TheVariants.{Words, ReadFault, TooLong, Refused, NoMemory}
 
@@ -46,9 +50,13 @@ text_of texts name = get_or texts name.0 []
 abbrev pub spaced : List ℕ → List ℕ
 spaced detail = codes " " ++ detail
 
+-- a refusal that lists names
+abbrev pub listed : List ℕ → List (List ℕ) → List NameId → List ℕ
+listed start texts names = start ++ flat_map (λ (n : NameId). spaced (text_of texts n)) names ++ codes "\n"
+
 abbrev pub sort_line : List (List ℕ) → SortFault → List ℕ
 sort_line texts (sort.UnknownSort number name) = codes "refused 8 UnknownSort" ++ spaced (decimal number) ++ spaced (text_of texts name) ++ codes "\n"
-sort_line texts (sort.SortCycle names) = codes "refused 9 SortCycle" ++ flat_map (λ (n : NameId). spaced (text_of texts n)) names.items ++ codes "\n"
+sort_line texts (sort.SortCycle names) = listed (codes "refused 9 SortCycle") texts names.items
 sort_line texts (sort.Duplicate first second) = codes "refused 10 Duplicate" ++ spaced (decimal first) ++ spaced (decimal second) ++ codes "\n"
 sort_line texts (sort.EmptySort name) = codes "refused 11 EmptySort" ++ spaced (text_of texts name) ++ codes "\n"
 sort_line texts sort.NoMemory = no_memory_line
@@ -66,12 +74,24 @@ type_line texts (type.CommShape number) = numbered (codes "refused 16 CommShape 
 type_line texts (type.RenameTwice number name) = named (codes "refused 17 RenameTwice") number (text_of texts name)
 type_line texts type.NoMemory = no_memory_line
 
+abbrev pub net_line : List (List ℕ) → NetFault → List ℕ
+net_line texts (net.ParallelRecursion names) = listed (codes "refused 18 ParallelRecursion") texts names.items
+net_line texts (net.ParallelUnderSequential number) = numbered (codes "refused 19 ParallelUnderSequential ") number
+net_line texts net.NoMemory = no_memory_line
+
+abbrev pub guard_line : List (List ℕ) → GuardFault → List ℕ
+guard_line texts (guard.Unguarded names) = listed (codes "refused 20 Unguarded") texts names.items
+guard_line texts guard.NoMemory = no_memory_line
+
 -- the line that refuses a text with that fault, whose names stand among these texts
 abbrev pub refusal_line : List (List ℕ) → LinFault → List ℕ
 refusal_line texts (lin.Lex fault) = lex_line fault
 refusal_line texts (lin.Parse fault) = parse_line fault
 refusal_line texts (lin.Sort fault) = sort_line texts fault
 refusal_line texts (lin.«Type» fault) = type_line texts fault
+refusal_line texts (lin.Net fault) = net_line texts fault
+refusal_line texts (lin.Guard fault) = guard_line texts fault
+refusal_line texts (lin.NotTail component summand) = codes "refused 21 NotTail" ++ spaced (decimal component) ++ spaced (decimal summand) ++ codes "\n"
 refusal_line texts lin.NotBuilt = codes "refused 90 NotBuilt\n"
 refusal_line texts lin.NoMemory = no_memory_line
 
@@ -92,9 +112,19 @@ names_of_type_fault (type.FreeVariable number name) = name ∷ []
 names_of_type_fault (type.RenameTwice number name) = name ∷ []
 names_of_type_fault _ = []
 
+abbrev pub names_of_net_fault : NetFault → List NameId
+names_of_net_fault (net.ParallelRecursion names) = names.items
+names_of_net_fault _ = []
+
+abbrev pub names_of_guard_fault : GuardFault → List NameId
+names_of_guard_fault (guard.Unguarded names) = names.items
+names_of_guard_fault guard.NoMemory = []
+
 abbrev pub names_of_fault : LinFault → List NameId
 names_of_fault (lin.Sort fault) = names_of_sort_fault fault
 names_of_fault (lin.«Type» fault) = names_of_type_fault fault
+names_of_fault (lin.Net fault) = names_of_net_fault fault
+names_of_fault (lin.Guard fault) = names_of_guard_fault fault
 names_of_fault _ = []
 
 abbrev pub line_of : Stop → List ℕ

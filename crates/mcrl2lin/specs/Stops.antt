@@ -3,10 +3,9 @@ use Rattle.std.specs.Prelude.{⊤, ◌≡◌, ◌≢◌, ◌≤◌, ◌<◌, ℕ
 use Rattle.mcrl2_text.specs.declared.loading.LoadFault.{LoadFault}
 use Rattle.mcrl2_text.specs.declared.loading.LoadFault.TheVariants as load
 use Rattle.mcrl2_text.specs.declared.loading.TheConstants.{MAX_TEXT_LEN}
-use Rattle.lin_driver.specs.FirstForm.{HasFirstForm}
-use Rattle.lin_driver.specs.Refusals.{IsRefusedWith}
-use Rattle.lin_driver.specs.declared.fault.LinFault.{LinFault}
-use Rattle.lin_driver.specs.declared.fault.LinFault.TheVariants as lin
+use Rattle.linearising.specs.Refusals.{IsRefusedWith}
+use Rattle.linearising.specs.declared.fault.LinFault.{LinFault}
+use Rattle.linearising.specs.declared.fault.LinFault.TheVariants as lin
 use Rattle.mcrl2lin.specs.Lines.{refusal_line}
 use Rattle.mcrl2lin.specs.declared.stop.Stop.{Stop}
 use Rattle.mcrl2lin.specs.declared.stop.Stop.TheVariants.{Words, ReadFault, TooLong, Refused, NoMemory}
@@ -31,7 +30,7 @@ pub record IsRefusal (text : Option (List ℕ)) (line : List ℕ) : Type 0 where
   pub texts : List (List ℕ)
   pub fault : LinFault
   pub says : line ≡ refusal_line texts fault
-  pub due : IfSome text (λ bytes. (length bytes ≤ MAX_TEXT_LEN) × IsRefusedWith bytes texts fault × (¬ (HasFirstForm bytes)))
+  pub due : IfSome text (λ bytes. (length bytes ≤ MAX_TEXT_LEN) × IsRefusedWith bytes texts fault)
 
 -- a stop that refuses has its cause in the text, where that is told
 abbrev pub HasCause : Stop → Option (List ℕ) → Type 0

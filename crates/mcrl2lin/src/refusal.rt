@@ -2,13 +2,15 @@
 ghost use Rattle.std.specs.Prelude.{◌≡◌, ◌<◌, ◌++◌, codes, decimal, IfOk, OnOk, length, string_bytes};
 ghost use Rattle.std.specs.List.{flat_map};
 ghost use Rattle.data_theory.specs.declared.ids.NameId.{NameId};
-ghost use Rattle.mcrl2lin.specs.Lines.{AreNamed, lex_line, named, names_of_fault, names_of_sort_fault, names_of_type_fault, parse_line, refusal_line, sort_line, spaced, text_of, type_line};
+ghost use Rattle.mcrl2lin.specs.Lines.{AreNamed, guard_line, lex_line, listed, named, names_of_fault, names_of_guard_fault, names_of_net_fault, names_of_sort_fault, names_of_type_fault, net_line, parse_line, refusal_line, sort_line, spaced, text_of, type_line};
 
 use data_theory::{NameId, Names};
+use guard_check::GuardFault;
 use itoa::Buffer;
-use lin_driver::LinFault;
+use linearising::LinFault;
 use mcrl2_lexer::LexFault;
 use mcrl2_parser::ParseFault;
+use proc_unfold::NetFault;
 use sort_checker::TypeFault;
 use sort_table::SortFault;
 use std::alloc::{AllocError, Global};
@@ -23,6 +25,9 @@ pub fn refusal(alloc: Global, names: &Names, fault: &LinFault) -> Result<Vec<u8>
         LinFault::Parse(fault) => parse_refusal(alloc, *fault),
         LinFault::Sort(fault) => sort_refusal(alloc, names, fault),
         LinFault::Type(fault) => type_refusal(alloc, names, fault),
+        LinFault::Net(fault) => net_refusal(alloc, names, fault),
+        LinFault::Guard(fault) => guard_refusal(alloc, names, fault),
+        LinFault::NotTail(component, summand) => tail_refusal(alloc, *component, *summand),
         LinFault::NotBuilt => Vec::from_slice(alloc, b"refused 90 NotBuilt\n"),
         LinFault::NoMemory => Vec::from_slice(alloc, b"no memory\n"),
     }
@@ -100,6 +105,57 @@ fn type_refusal(alloc: Global, names: &Names, fault: &TypeFault) -> Result<Vec<u
         }
         TypeFault::NoMemory => Vec::from_slice(alloc, b"no memory\n"),
     }
+}
+
+fn net_refusal(alloc: Global, names: &Names, fault: &NetFault) -> Result<Vec<u8>, AllocError>
+    requires { AreNamed names.now (names_of_net_fault fault.now) }
+    ensures { IfOk result (λ line. line.items ≡ net_line names.now fault.now) }
+{
+    match fault {
+        NetFault::ParallelRecursion(cycle) => {
+            listed(alloc, b"refused 18 ParallelRecursion", names, cycle)
+        }
+        NetFault::ParallelUnderSequential(number) => {
+            numbered(alloc, b"refused 19 ParallelUnderSequential ", *number)
+        }
+        NetFault::NoMemory => Vec::from_slice(alloc, b"no memory\n"),
+    }
+}
+
+fn guard_refusal(alloc: Global, names: &Names, fault: &GuardFault) -> Result<Vec<u8>, AllocError>
+    requires { AreNamed names.now (names_of_guard_fault fault.now) }
+    ensures { IfOk result (λ line. line.items ≡ guard_line names.now fault.now) }
+{
+    match fault {
+        GuardFault::Unguarded(cycle) => listed(alloc, b"refused 20 Unguarded", names, cycle),
+        GuardFault::NoMemory => Vec::from_slice(alloc, b"no memory\n"),
+    }
+}
+
+fn tail_refusal(alloc: Global, component: usize, summand: usize) -> Result<Vec<u8>, AllocError>
+    ensures { IfOk result (λ line. line.items ≡ codes "refused 21 NotTail" ++ spaced (decimal component) ++ spaced (decimal summand) ++ codes "\n") }
+{
+    let mut line = Vec::from_slice(alloc, b"refused 21 NotTail")?;
+    push_number(&mut line, component)?;
+    push_number(&mut line, summand)?;
+    line.extend_from_slice(b"\n")?;
+    Ok(line)
+}
+
+/// A line with names at its end.
+fn listed(
+    alloc: Global,
+    start: &[u8],
+    names: &Names,
+    list: &[NameId],
+) -> Result<Vec<u8>, AllocError>
+    requires { AreNamed names.now list.now }
+    ensures { IfOk result (λ line. line.items ≡ listed start.now names.now list.now) }
+{
+    let mut line = Vec::from_slice(alloc, start)?;
+    push_names(&mut line, names, list)?;
+    line.extend_from_slice(b"\n")?;
+    Ok(line)
 }
 
 /// A line with a number and a name at its end.

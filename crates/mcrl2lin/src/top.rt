@@ -2,10 +2,9 @@
 ghost use Rattle.std.specs.Prelude.{◌≡◌, ◌≢◌, ◌≤◌, ◌<◌, ◌⊎◌, ◌↔◌, ◌++◌, List, ℕ, Some, None, IfErr, IfOk, IfSome, IsErrOf, length, map, string_bytes};
 ghost use Rattle.mcrl2_text.specs.Bytes.{TakesPrefix};
 ghost use Rattle.mcrl2_text.specs.Faults.{Rose};
-ghost use Rattle.lin_driver.specs.Headline.{StandsFor};
-ghost use Rattle.lin_driver.specs.Systems.{System};
-ghost use Rattle.lin_driver.specs.FirstForm.{HasFirstForm, IsFirstForm};
-ghost use Rattle.lin_driver.specs.Linearised.{IsLinearisedTo};
+ghost use Rattle.linearising.specs.Headline.{StandsFor};
+ghost use Rattle.linearising.specs.Refusals.{IsRefusedWith};
+ghost use Rattle.linearising.specs.declared.fault.LinFault.{LinFault};
 ghost use Rattle.mcrl2lin.specs.Commands.{file_asked, text_asked};
 ghost use Rattle.mcrl2lin.specs.Ends.{EndsWell, EndsWithLine};
 ghost use Rattle.mcrl2lin.specs.Stops.{HasCause, status_of_stop};
@@ -13,7 +12,7 @@ ghost use Rattle.mcrl2lin.specs.Stops.{HasCause, status_of_stop};
 use crate::command::file_of;
 use crate::stop::Stop;
 use data_theory::Names;
-use lin_driver::plain;
+use linearising::linear_text;
 use mcrl2_text::{MAX_TEXT_LEN, Shelf, Sink, load, write_all};
 use std::alloc::Global;
 
@@ -55,10 +54,10 @@ pub fn run<H: Shelf, O: Sink, E: Sink>(
 
     // What the output gets: the whole linear process, a prefix of it after a fault of its own, or nothing.
     ensures done { result ≡ Status.Done → IfSome (text_asked (H.text_of shelf.old) (map string_bytes words.now.items))
-        (λ text. (length text ≤ MAX_TEXT_LEN) × (printed : List ℕ) × IsLinearisedTo text printed
+        (λ text. (length text ≤ MAX_TEXT_LEN) × (printed : List ℕ) × StandsFor text printed
         × IfSome (O.taken out.old) (λ before. O.taken out.new ≡ Some (before ++ printed))) }
     ensures cut_off { result ≡ Status.WriteFault → IfSome (text_asked (H.text_of shelf.old) (map string_bytes words.now.items))
-        (λ text. (length text ≤ MAX_TEXT_LEN) × (printed : List ℕ) × IsLinearisedTo text printed
+        (λ text. (length text ≤ MAX_TEXT_LEN) × (printed : List ℕ) × StandsFor text printed
         × IfSome (O.taken out.old) (λ before. TakesPrefix before (O.taken out.new) printed)) }
     ensures out_kept { result ≢ Status.Done → result ≢ Status.WriteFault → out.new ≡ out.old }
 
@@ -69,12 +68,10 @@ pub fn run<H: Shelf, O: Sink, E: Sink>(
 
     ensures shelf_kept { result ≡ Status.Words → shelf.new ≡ shelf.old }
 
-    // A text of the first form is linearised, and what is written has its steps; any other text is refused.
-    ensures headline { IfSome (text_asked (H.text_of shelf.old) (map string_bytes words.now.items)) (λ text. (system : System) → IsFirstForm text system
+    // A text without a fault is linearised, and what is written stands for it.
+    ensures headline { IfSome (text_asked (H.text_of shelf.old) (map string_bytes words.now.items)) (λ text. ((texts : List (List ℕ)) (fault : LinFault) → ¬ (IsRefusedWith text texts fault))
         → length text ≤ MAX_TEXT_LEN → ¬ (Rose (H.faults shelf.old) (H.faults shelf.new)) → ¬ (Rose (O.faults out.old) (O.faults out.new))
-        → EndsWell result system (O.taken out.old) (O.taken out.new)) }
-    ensures refused { IfSome (text_asked (H.text_of shelf.old) (map string_bytes words.now.items)) (λ text. (MAX_TEXT_LEN < length text) ⊎ (¬ (HasFirstForm text))
-        → ¬ (Rose (H.faults shelf.old) (H.faults shelf.new)) → (result ≡ Status.Refused) ⊎ (result ≡ Status.NoMemory)) }
+        → EndsWell result text (O.taken out.old) (O.taken out.new)) }
 {
     match linearised(alloc, words, shelf) {
         Ok(printed) => {
@@ -97,15 +94,13 @@ fn linearised<H: Shelf>(alloc: Global, words: &[String], shelf: &mut H) -> Resul
     ensures read_fault { IsErrOf result Stop.ReadFault → Rose (H.faults shelf.old) (H.faults shelf.new) }
     ensures refused { IfErr result (λ stop. HasCause stop (text_asked (H.text_of shelf.old) (map string_bytes words.now))) }
     ensures linearised { IfOk result (λ printed. IfSome (text_asked (H.text_of shelf.old) (map string_bytes words.now))
-        (λ text. (length text ≤ MAX_TEXT_LEN) × IsLinearisedTo text printed.items)) }
-    ensures headline { IfOk result (λ printed. IfSome (text_asked (H.text_of shelf.old) (map string_bytes words.now))
-        (λ text. (system : System) → IsFirstForm text system → StandsFor system printed.items)) }
+        (λ text. (length text ≤ MAX_TEXT_LEN) × StandsFor text printed.items)) }
     ensures shelf_kept { IsErrOf result Stop.Words → shelf.new ≡ shelf.old }
 {
     let file = file_of(words).ok_or(Stop::Words)?;
     let text = load(alloc, shelf, file)?;
     let mut names = Names::new(alloc);
-    match plain(alloc, &text, &mut names) {
+    match linear_text(alloc, &text, &mut names) {
         Ok(printed) => Ok(printed),
         Err(fault) => Err(Stop::for_fault(alloc, &names, &fault)),
     }

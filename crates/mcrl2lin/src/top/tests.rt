@@ -40,7 +40,7 @@ const TWO: Row = Row {
     err: b"",
 };
 
-const ROWS: [Row; 15] = [
+const ROWS: [Row; 16] = [
     TWO,
     Row {
         name: "the empty text",
@@ -99,8 +99,16 @@ const ROWS: [Row; 15] = [
         ..TWO
     },
     Row {
-        name: "a text with data",
-        text: b"act a: Nat; init a(1);",
+        name: "a text whose recursion isn't guarded",
+        text: b"act a; proc X = Y; Y = X + a; init X;",
+        status: Status::Refused,
+        out: b"",
+        err: b"refused 20 Unguarded X Y\n",
+        ..TWO
+    },
+    Row {
+        name: "a text with a parallel operator",
+        text: b"act a, b; init a || b;",
         status: Status::Refused,
         out: b"",
         err: b"refused 90 NotBuilt\n",
