@@ -1,13 +1,13 @@
 -- Identifiers are names that are no word, and no signs.
-use Rattle.std.proofs.Common.{◌≡◌, ℕ, Bool, true, false, cond, List, [], ◌∷◌, ◌++◌, length, get_or, Option, Some, None, bytes_eq, eqb, refl, sym, ap, ◌∙◌, codes}
+use Rattle.std.proofs.Common.{◌≡◌, ℕ, Bool, true, false, cond, List, [], ◌∷◌, ◌++◌, length, Option, Some, None, bytes_eq, eqb, refl, sym, ap, ◌∙◌, codes}
 use Rattle.std.specs.List.{list_all}
 use Rattle.std.proofs.lemmas.Bool.{and_from}
 use Rattle.std.proofs.lemmas.List.Elements.{All-head, All-tail}
 use Rattle.mcrl2_lexer.specs.declared.kind.Kind.{Kind}
 use Rattle.mcrl2_lexer.specs.declared.kind.Kind.TheVariants.{Identifier, LeftParen, RightParen, LeftBracket, RightBracket, LeftBrace, RightBrace, Comma, Semicolon, Colon, Equals, Question, Hash, Exclamation, Dot, Plus, Minus, Star, Bar, Less, Greater, At, Slash, BarBar, AndAnd, Implies, EqualsEquals, NotEquals, LessEquals, GreaterEquals, Prepend, Append, Concat, Arrow, Else, Before, LeftMerge}
 use Rattle.mcrl2_lexer.specs.Words.{word_kind, sign_kind, sign_of_one, sign_of_two, sign_of_three, is_letter, is_name_byte, is_name}
-use Rattle.mcrl2_lexer.specs.Tokens.{AreNameBytes, IsToken, TokenAt, name_or_word, zero_numeral, numeral, sign}
-use Rattle.mcrl2_lexer.proofs.Spelled.{name_front}
+use Rattle.mcrl2_lexer.specs.Tokens.{AreNameBytes, IsToken, name_or_word, zero_numeral, numeral, sign}
+use Rattle.lps_printer.specs.DataLayout.{IsIdentifier}
 
 -- no sign is an identifier
 
@@ -58,6 +58,6 @@ name_token zero_numeral is = absurd cc
 name_token (numeral some digit digits) is = absurd cc
 name_token {bytes = bytes} (sign found) is = let none = no_name bytes in absurd (none.other (found ∙ ap (λ (k : Kind). Some k) is))
 
--- an identifier in front of a byte that can't go on with it
-pub identifier_front : (name rest : List ℕ) → IsToken name Identifier → is_name_byte (get_or rest 0 0) ≡ false → TokenAt (name ++ rest) (length name) Identifier
-identifier_front name rest token stops = let parts = name_token token refl in name_front name rest Identifier parts.0 parts.1 stops
+-- a token that is an identifier is a name that is no word
+pub identifier_named : (t : List ℕ) → IsToken t Identifier → IsIdentifier t
+identifier_named t token = let parts = name_token token refl in (parts.0, sym parts.1)

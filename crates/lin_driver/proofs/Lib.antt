@@ -1,31 +1,24 @@
-pub mod Alternating
-pub mod Cutting
-pub mod DeltaText
-pub mod FirstForms
-pub mod Found
-pub mod FreeNames
-pub mod Freshness
-pub mod Identifiers
-pub mod KnownNames
-pub mod Linearises
-pub mod Lists
-pub mod Mapped
-pub mod Meets
-pub mod MetOrder
-pub mod Numbered
-pub mod Numbers
-pub mod Numerals
-pub mod OnlyItems
-pub mod OnlySystems
-pub mod Orders
-pub mod Pieces
-pub mod Printable
-pub mod PrintedTexts
-pub mod Readings
-pub mod Refused
-pub mod SmallSystems
-pub mod Standing
-pub mod SystemLists
-pub mod Taking
-pub mod WellNamed
-pub mod OneStart
+mod EqualLinears
+mod FilledLinears
+mod OneComponents
+mod TakenNames
+mod GrownModels
+mod ConstantGrowth
+mod Identifiers
+mod NamedSignatures
+mod NamedVariables
+mod ProcessNames
+mod ColumnNames
+mod AddedParts
+pub mod AddedConstants
+mod ModelLinears
+mod LinearisedTexts
+mod SortedTerms
+mod ElaboratedModels
+mod ModelsOfTexts
+mod OneStart
+mod Refused
+mod MadeLinears
+mod ReadingBack
+mod MadeNames
+pub mod MadeTexts

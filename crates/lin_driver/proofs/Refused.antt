@@ -1,77 +1,120 @@
 -- Why a text is refused.
-use Rattle.std.proofs.Common.{◌≡◌, ◌≢◌, ℕ, List, refl, ap, subst, ◌∙◌, Result, Ok, Err}
-use Rattle.std.specs.Prelude.{IfErr, IsErrAnd}
+use Rattle.std.proofs.Common.{◌≡◌, ◌≢◌, ◌⊎◌, inl, inr, ℕ, List, refl, sym, subst, ◌∙◌, Result, Ok, Err}
+use Rattle.std.specs.Prelude.{IfErr, IfOk, IsErrAnd}
 use Rattle.mcrl2_lexer.specs.declared.token.LexFault.{LexFault}
 use Rattle.mcrl2_lexer.specs.declared.token.LexFault.TheVariants as lex
 use Rattle.mcrl2_lexer.specs.declared.token.Token.{Token}
 use Rattle.mcrl2_lexer.specs.Lexing as lexing
 use Rattle.mcrl2_lexer.specs.Lexing.{HasTokens}
-use Rattle.mcrl2_lexer.proofs.Faulty.{fault_no_tokens}
 use Rattle.mcrl2_syntax.specs.Declarations.{PlainSpec}
 use Rattle.mcrl2_parser.specs.declared.faults.ParseFault.{ParseFault}
+use Rattle.mcrl2_parser.specs.declared.faults.ParseFault.TheVariants as parse
 use Rattle.mcrl2_parser.specs.Faults as parsing
-use Rattle.sort_table.specs.BareDeclarations.{bare_sections}
-use Rattle.sort_table.specs.declared.building.SortFault.{SortFault}
-use Rattle.sort_checker.specs.FullVocabularies.{FullVocabulary}
-use Rattle.sort_checker.specs.Refusals.{IsWellTyped}
-use Rattle.sort_checker.specs.declared.elaborating.TypeFault.{TypeFault}
-use Rattle.lin_driver.specs.FirstForm.{HasFirstForm}
+use Rattle.data_theory.specs.Complete.{BeginsWith}
 use Rattle.data_theory.specs.Signature.{Sig}
-use Rattle.sort_checker.specs.TextModels.{IsTypeFaultOf}
+use Rattle.term_pool.specs.Pools.{PoolContents}
+use Rattle.process_terms.specs.PlainProcesses.{PlainModel}
+use Rattle.sort_table.specs.Built.{IsFaultOf}
+use Rattle.sort_table.specs.declared.building.SortFault.{SortFault}
+use Rattle.sort_table.specs.declared.building.SortFault.TheVariants as sort
+use Rattle.sort_checker.specs.TextModels.{IsModelOf, IsTypeFaultOf}
+use Rattle.sort_checker.specs.declared.elaborating.TypeFault.{TypeFault}
 use Rattle.sort_checker.specs.declared.elaborating.TypeFault.TheVariants as type
-use Rattle.lin_driver.specs.Faults.{fault_of_lex, fault_of_type}
-use Rattle.lin_driver.specs.Refusals.{HasSortFault, HasTypeFault, IsParsedAs, IsRefusedWith, IsTypeFaultOver}
+use Rattle.lin_driver.specs.Faults.{fault_of_lex, fault_of_parse, fault_of_sort, fault_of_type, fault_of_model}
+use Rattle.lin_driver.specs.ModelLinears.{IsModelFaultOf}
+use Rattle.lin_driver.specs.Refusals.{IsParsedAs, IsModelFaultOver, IsSpecFault, IsRefusedWith}
 use Rattle.lin_driver.specs.declared.fault.LinFault.{LinFault}
-use Rattle.lin_driver.specs.declared.fault.LinFault.TheVariants.{Lex, Parse, Sort, «Type», NotBuilt, NoMemory}
+use Rattle.lin_driver.specs.declared.fault.LinFault.TheVariants.{Lex, Parse, Sort, «Type», Net, Guard, NotTail, NotBuilt, NoMemory}
+use Rattle.lin_driver.specs.declared.fault.ModelFault.{ModelFault}
+use Rattle.lin_driver.specs.declared.fault.ModelFault.TheVariants as model
+use Rattle.lin_driver.specs.declared.methods.Method.{Method}
+use Rattle.lin_driver.specs.declared.methods.Method.TheVariants.{Auto, Regular, Stack}
 
--- a text whose tokens have a fault hasn't the first form
-pub lex_no_first_form : {T : Type 0} (text : List ℕ) (fault : LexFault) (result : Result T LinFault) → (fault ≢ lex.NoMemory → lexing.HasFault text fault)
-    → IsErrAnd result (λ given. given ≡ fault_of_lex fault) → IfErr result (λ given. given ≢ NoMemory → HasFirstForm text → ⊥)
-lex_no_first_form text fault (Ok x) has is = absurd is
-lex_no_first_form text fault (Err given) has is = λ no_want form.
-    fault_no_tokens text fault form.1.tokens (has (λ none. no_want (is ∙ ap fault_of_lex none))) form.1.has_tokens
+abbrev IsRefused : {T : Type 0} → Result T LinFault → List ℕ → List (List ℕ) → Type 0
+IsRefused r text texts = IfErr r (λ given. given ≢ NoMemory → IsRefusedWith text texts given)
 
--- a fault of typing that was found is the one that is told
-type_is : (spec : PlainSpec) (g : Sig) (texts : List (List ℕ)) (found fault : TypeFault) → g.texts ≡ texts → IsTypeFaultOf spec g found → fault_of_type found ≡ «Type» fault → found ≢ type.NoMemory → IsTypeFaultOver spec texts fault
-type_is spec g texts found fault names has same some =
-    let is : found ≡ fault = of_type found same in
-    record { signature = g; names = names; has_fault = subst (IsTypeFaultOf spec g) is has; some = λ none. some (is ∙ none) }
-  where
-    of_type : (f : TypeFault) → fault_of_type f ≡ «Type» fault → f ≡ fault
-    of_type type.NoMemory e = cc
-    of_type (type.UnknownName number name) e = cc
-    of_type (type.Untyped number) e = cc
-    of_type (type.FreeVariable number name) e = cc
-    of_type (type.VariableLeft number) e = cc
-    of_type (type.CommShape number) e = cc
-    of_type (type.RenameTwice number name) e = cc
+-- ---- tokens and declarations
+pub lex_refused : {T : Type 0} (r : Result T LinFault) (text : List ℕ) (texts : List (List ℕ)) (fault : LexFault) → (fault ≢ lex.NoMemory → lexing.HasFault text fault) → IsErrAnd r (λ given. given ≡ fault_of_lex fault) → IsRefused r text texts
+lex_refused (Ok x) text texts fault has same = absurd same
+lex_refused (Err given) text texts lex.NoMemory has same = λ some. absurd (some same)
+lex_refused (Err given) text texts (lex.BadByte place) has same = λ some. subst (IsRefusedWith text texts) (sym same) (has (λ e. cc))
+lex_refused (Err given) text texts (lex.NumeralTooLarge place) has same = λ some. subst (IsRefusedWith text texts) (sym same) (has (λ e. cc))
+lex_refused (Err given) text texts (lex.OutOfProfile place) has same = λ some. subst (IsRefusedWith text texts) (sym same) (has (λ e. cc))
 
--- want of memory isn't told as one
-no_type : (found fault : TypeFault) → fault_of_type found ≡ «Type» fault → found ≢ type.NoMemory
-no_type type.NoMemory fault e = cc
-no_type (type.UnknownName number name) fault e = λ none. cc
-no_type (type.Untyped number) fault e = λ none. cc
-no_type (type.FreeVariable number name) fault e = λ none. cc
-no_type (type.VariableLeft number) fault e = λ none. cc
-no_type (type.CommShape number) fault e = λ none. cc
-no_type (type.RenameTwice number name) fault e = λ none. cc
+pub parse_refused : {T : Type 0} (r : Result T LinFault) (text its_text : List ℕ) (texts : List (List ℕ)) (tokens : List Token) (fault : ParseFault) → its_text ≡ text → HasTokens text tokens → (fault ≢ parse.NoMemory → parsing.HasFault its_text tokens fault)
+    → IsErrAnd r (λ given. given ≡ fault_of_parse fault) → IsRefused r text texts
+parse_refused (Ok x) text its_text texts tokens fault own cut has same = absurd same
+parse_refused (Err given) text its_text texts tokens parse.NoMemory own cut has same = λ some. absurd (some same)
+parse_refused (Err given) text its_text texts tokens (parse.Syntax number) own cut has same = λ some.
+    subst (IsRefusedWith text texts) (sym same) (record { tokens = tokens; has_tokens = cut; has_fault = subst (λ x. parsing.HasFault x tokens (parse.Syntax number)) own (has (λ e. cc)) })
+parse_refused (Err given) text its_text texts tokens (parse.TooDeep number) own cut has same = λ some.
+    subst (IsRefusedWith text texts) (sym same) (record { tokens = tokens; has_tokens = cut; has_fault = subst (λ x. parsing.HasFault x tokens (parse.TooDeep number)) own (has (λ e. cc)) })
+parse_refused (Err given) text its_text texts tokens parse.NoInit own cut has same = λ some.
+    subst (IsRefusedWith text texts) (sym same) (record { tokens = tokens; has_tokens = cut; has_fault = subst (λ x. parsing.HasFault x tokens parse.NoInit) own (has (λ e. cc)) })
+parse_refused (Err given) text its_text texts tokens (parse.TwoInits number) own cut has same = λ some.
+    subst (IsRefusedWith text texts) (sym same) (record { tokens = tokens; has_tokens = cut; has_fault = subst (λ x. parsing.HasFault x tokens (parse.TwoInits number)) own (has (λ e. cc)) })
 
-pub type_told : (spec : PlainSpec) (g : Sig) (texts : List (List ℕ)) (found fault : TypeFault) → g.texts ≡ texts → IsTypeFaultOf spec g found → fault_of_type found ≡ «Type» fault → IsTypeFaultOver spec texts fault
-type_told spec g texts found fault names has same = type_is spec g texts found fault names has same (no_type found fault same)
+-- ---- a fault of the specification is one of its text
+of_spec : (text : List ℕ) (spec : PlainSpec) (texts : List (List ℕ)) → IsParsedAs text spec → (fault : LinFault) → IsSpecFault spec texts fault → IsRefusedWith text texts fault
+of_spec text spec texts parsed (Lex fault) has = absurd has
+of_spec text spec texts parsed (Parse fault) has = absurd has
+of_spec text spec texts parsed (Sort fault) has = record { spec = spec; parsed = parsed; has_fault = has }
+of_spec text spec texts parsed («Type» fault) has = record { spec = spec; parsed = parsed; has_fault = has }
+of_spec text spec texts parsed (Net fault) has = record { spec = spec; parsed = parsed; has_fault = has }
+of_spec text spec texts parsed (Guard fault) has = record { spec = spec; parsed = parsed; has_fault = has }
+of_spec text spec texts parsed (NotTail component summand) has = record { spec = spec; parsed = parsed; has_fault = has }
+of_spec text spec texts parsed NotBuilt has = record { spec = spec; parsed = parsed; has_fault = has }
+of_spec text spec texts parsed NoMemory has = absurd has
 
--- a text with these tokens is refused for a fault of its declarations, or for want of the first form
-pub refused_with : (text its_text : List ℕ) (texts : List (List ℕ)) (tokens : List Token) (fault : LinFault) → its_text ≡ text → HasTokens text tokens → (HasFirstForm text → ⊥)
-    → ((parse : ParseFault) → fault ≡ Parse parse → parsing.HasFault its_text tokens parse)
-    → ((sort : SortFault) → fault ≡ Sort sort → HasSortFault its_text texts sort)
-    → ((typed : TypeFault) → fault ≡ «Type» typed → HasTypeFault its_text texts typed)
-    → (fault ≡ NotBuilt → (spec : PlainSpec) × IsParsedAs its_text spec × (v : FullVocabulary) × IsWellTyped v (bare_sections spec))
-    → ((lex : LexFault) → fault ≢ Lex lex) → fault ≢ NoMemory → IsRefusedWith text texts fault
-refused_with text its_text texts tokens (Lex fault) same has none parse sort typed sound no_lex no_want = absurd (no_lex fault refl)
-refused_with text its_text texts tokens (Parse fault) same has none parse sort typed sound no_lex no_want =
-    record { tokens = tokens; has_tokens = has; has_fault = subst (λ (x : List ℕ). parsing.HasFault x tokens fault) same (parse fault refl) }
-refused_with text its_text texts tokens (Sort fault) same has none parse sort typed sound no_lex no_want = subst (λ (x : List ℕ). HasSortFault x texts fault) same (sort fault refl)
-refused_with text its_text texts tokens («Type» fault) same has none parse sort typed sound no_lex no_want = subst (λ (x : List ℕ). HasTypeFault x texts fault) same (typed fault refl)
-refused_with text its_text texts tokens NotBuilt same has none parse sort typed sound no_lex no_want =
-    let known = sound refl in
-    record { spec = known.0; parsed = subst (λ (x : List ℕ). IsParsedAs x known.0) same known.1; vocabulary = known.2; well_typed = known.3; no_first_form = none }
-refused_with text its_text texts tokens NoMemory same has none parse sort typed sound no_lex no_want = absurd (no_want refl)
+pub spec_refused : {T : Type 0} (r : Result T LinFault) (text : List ℕ) (spec : PlainSpec) (texts : List (List ℕ)) → IsParsedAs text spec → IfErr r (λ given. given ≢ NoMemory → IsSpecFault spec texts given) → IsRefused r text texts
+spec_refused (Ok x) text spec texts parsed has = tt
+spec_refused (Err given) text spec texts parsed has = λ some. of_spec text spec texts parsed given (has some)
+
+pub sort_refused : {T : Type 0} (r : Result T LinFault) (text : List ℕ) (spec : PlainSpec) (texts : List (List ℕ)) (fault : SortFault) → IsParsedAs text spec → IsFaultOf spec texts fault → IsErrAnd r (λ given. given ≡ fault_of_sort fault) → IsRefused r text texts
+sort_refused (Ok x) text spec texts fault parsed has same = absurd same
+sort_refused (Err given) text spec texts sort.NoMemory parsed has same = λ some. absurd (some same)
+sort_refused (Err given) text spec texts (sort.UnknownSort number name) parsed has same = λ some. subst (IsRefusedWith text texts) (sym same) (record { spec = spec; parsed = parsed; has_fault = (has, λ e. cc) })
+sort_refused (Err given) text spec texts (sort.SortCycle names) parsed has same = λ some. subst (IsRefusedWith text texts) (sym same) (record { spec = spec; parsed = parsed; has_fault = (has, λ e. cc) })
+sort_refused (Err given) text spec texts (sort.Duplicate first second) parsed has same = λ some. subst (IsRefusedWith text texts) (sym same) (record { spec = spec; parsed = parsed; has_fault = (has, λ e. cc) })
+sort_refused (Err given) text spec texts (sort.EmptySort name) parsed has same = λ some. subst (IsRefusedWith text texts) (sym same) (record { spec = spec; parsed = parsed; has_fault = (has, λ e. cc) })
+
+-- ---- typing
+pub type_refused : {T : Type 0} (r : Result T LinFault) (spec : PlainSpec) (g : Sig) (fault : TypeFault) → IsTypeFaultOf spec g fault → IsErrAnd r (λ given. given ≡ fault_of_type fault) → IfErr r (λ given. given ≢ NoMemory → IsSpecFault spec g.texts given)
+type_refused (Ok x) spec g fault has same = absurd same
+type_refused (Err given) spec g type.NoMemory has same = λ some. absurd (some same)
+type_refused (Err given) spec g (type.UnknownName number name) has same = λ some. subst (IsSpecFault spec g.texts) (sym same) (record { signature = g; names = refl; has_fault = has }, λ e. cc)
+type_refused (Err given) spec g (type.Untyped number) has same = λ some. subst (IsSpecFault spec g.texts) (sym same) (record { signature = g; names = refl; has_fault = has }, λ e. cc)
+type_refused (Err given) spec g (type.FreeVariable number name) has same = λ some. subst (IsSpecFault spec g.texts) (sym same) (record { signature = g; names = refl; has_fault = has }, λ e. cc)
+type_refused (Err given) spec g (type.VariableLeft number) has same = λ some. subst (IsSpecFault spec g.texts) (sym same) (record { signature = g; names = refl; has_fault = has }, λ e. cc)
+type_refused (Err given) spec g (type.CommShape number) has same = λ some. subst (IsSpecFault spec g.texts) (sym same) (record { signature = g; names = refl; has_fault = has }, λ e. cc)
+type_refused (Err given) spec g (type.RenameTwice number name) has same = λ some. subst (IsSpecFault spec g.texts) (sym same) (record { signature = g; names = refl; has_fault = has }, λ e. cc)
+
+-- ---- the model
+module _ (spec : PlainSpec) (g : Sig) (p : PoolContents) (m : PlainModel) (is : IsModelOf spec g p m) (texts : List (List ℕ)) (names : BeginsWith g.texts texts) where
+  over : (fault : ModelFault) → IsModelFaultOf m fault → IsModelFaultOver spec texts fault
+  over fault has = record { signature = g; pool = p; model = m; is_model = is; names = names; has_fault = has }
+
+  by_method : (method : Method) (fault : ModelFault) → IsModelFaultOf m fault → fault_of_model method fault ≢ NoMemory → IsSpecFault spec texts (fault_of_model method fault)
+  by_method method (model.Net fault) has some = over (model.Net fault) has
+  by_method method model.NotBuilt has some = inl (over model.NotBuilt has)
+  by_method method (model.Guard fault) has some = over (model.Guard fault) has
+  by_method Auto (model.NotTail summand) has some = inr (summand, over (model.NotTail summand) has)
+  by_method Regular (model.NotTail summand) has some = (refl, over (model.NotTail summand) has)
+  by_method Stack (model.NotTail summand) has some = inr (summand, over (model.NotTail summand) has)
+  by_method method model.NoMemory has some = absurd (some refl)
+
+  pub model_refused : (method : Method) (fault : ModelFault) (given : LinFault) → IsModelFaultOf m fault → given ≡ fault_of_model method fault → given ≢ NoMemory → IsSpecFault spec texts given
+  model_refused method fault given has same some = subst (IsSpecFault spec texts) (sym same) (by_method method fault has (λ e. some (same ∙ e)))
+
+-- ---- want of memory alone
+pub if_ok : {T E : Type 0} (r : Result T E) (P Q : T → Type 0) → ((x : T) → P x → Q x) → IfOk r P → IfOk r Q
+if_ok (Ok x) P Q follows holds = follows x holds
+if_ok (Err e) P Q follows holds = tt
+
+pub no_fault_refused : {T : Type 0} (r : Result T LinFault) (text : List ℕ) (texts : List (List ℕ)) → IfErr r (λ fault. fault ≡ NoMemory) → IsRefused r text texts
+no_fault_refused (Ok x) text texts none = tt
+no_fault_refused (Err e) text texts none = λ some. absurd (some none)
+
+pub is_told : {T E : Type 0} (r : Result T E) (P : E → Type 0) → IsErrAnd r P → IfErr r P
+is_told (Ok x) P h = absurd h
+is_told (Err e) P h = h

@@ -1,4 +1,4 @@
--- The fault of a text, from the fault of a part of its reading.
+-- The fault of a text or of a specification, from the fault of a pass.
 use Rattle.mcrl2_lexer.specs.declared.token.LexFault.{LexFault}
 use Rattle.mcrl2_lexer.specs.declared.token.LexFault.TheVariants as lex
 use Rattle.mcrl2_parser.specs.declared.faults.ParseFault.{ParseFault}
@@ -7,40 +7,72 @@ use Rattle.sort_table.specs.declared.building.SortFault.{SortFault}
 use Rattle.sort_table.specs.declared.building.SortFault.TheVariants as sort
 use Rattle.sort_checker.specs.declared.elaborating.TypeFault.{TypeFault}
 use Rattle.sort_checker.specs.declared.elaborating.TypeFault.TheVariants as type
-use Rattle.lin_driver.specs.declared.fault.PlainFault.{PlainFault}
-use Rattle.lin_driver.specs.declared.fault.PlainFault.TheVariants as plain
+use Rattle.std.specs.Prelude.{ℕ}
+use Rattle.proc_unfold.specs.declared.faults.NetFault.{NetFault}
+use Rattle.proc_unfold.specs.declared.faults.NetFault.TheVariants as net
+use Rattle.guard_check.specs.declared.checking.GuardFault.{GuardFault}
+use Rattle.guard_check.specs.declared.checking.GuardFault.TheVariants as guard
+use Rattle.regular_encoder.specs.declared.faults.EncodeFault.{EncodeFault}
+use Rattle.regular_encoder.specs.declared.faults.EncodeFault.TheVariants as encode
+use Rattle.lin_driver.specs.declared.fault.ModelFault.{ModelFault}
+use Rattle.lin_driver.specs.declared.fault.ModelFault.TheVariants.{Net, NotBuilt, Guard, NotTail, NoMemory}
 use Rattle.lin_driver.specs.declared.fault.LinFault.{LinFault}
-use Rattle.lin_driver.specs.declared.fault.LinFault.TheVariants.{Lex, Parse, Sort, «Type», NotBuilt, NoMemory}
+use Rattle.lin_driver.specs.declared.fault.LinFault.TheVariants as lin
+use Rattle.lin_driver.specs.declared.methods.Method.{Method}
+use Rattle.lin_driver.specs.declared.methods.Method.TheVariants.{Auto, Regular, Stack}
 
+abbrev pub fault_of_net : NetFault → ModelFault
+fault_of_net net.NoMemory = NoMemory
+fault_of_net (net.ParallelRecursion names) = Net (net.ParallelRecursion names)
+fault_of_net (net.ParallelUnderSequential number) = Net (net.ParallelUnderSequential number)
+
+abbrev pub fault_of_guard : GuardFault → ModelFault
+fault_of_guard guard.NoMemory = NoMemory
+fault_of_guard (guard.Unguarded names) = Guard (guard.Unguarded names)
+
+abbrev pub fault_of_encode : EncodeFault → ModelFault
+fault_of_encode encode.NoMemory = NoMemory
+fault_of_encode (encode.NotTail number) = NotTail number
+
+-- ---- of a text
 abbrev pub fault_of_lex : LexFault → LinFault
-fault_of_lex lex.NoMemory = NoMemory
-fault_of_lex (lex.BadByte place) = Lex (lex.BadByte place)
-fault_of_lex (lex.NumeralTooLarge place) = Lex (lex.NumeralTooLarge place)
-fault_of_lex (lex.OutOfProfile place) = Lex (lex.OutOfProfile place)
+fault_of_lex lex.NoMemory = lin.NoMemory
+fault_of_lex (lex.BadByte place) = lin.Lex (lex.BadByte place)
+fault_of_lex (lex.NumeralTooLarge place) = lin.Lex (lex.NumeralTooLarge place)
+fault_of_lex (lex.OutOfProfile place) = lin.Lex (lex.OutOfProfile place)
 
 abbrev pub fault_of_parse : ParseFault → LinFault
-fault_of_parse parse.NoMemory = NoMemory
-fault_of_parse (parse.Syntax number) = Parse (parse.Syntax number)
-fault_of_parse (parse.TooDeep number) = Parse (parse.TooDeep number)
-fault_of_parse parse.NoInit = Parse parse.NoInit
-fault_of_parse (parse.TwoInits number) = Parse (parse.TwoInits number)
+fault_of_parse parse.NoMemory = lin.NoMemory
+fault_of_parse (parse.Syntax number) = lin.Parse (parse.Syntax number)
+fault_of_parse (parse.TooDeep number) = lin.Parse (parse.TooDeep number)
+fault_of_parse parse.NoInit = lin.Parse parse.NoInit
+fault_of_parse (parse.TwoInits number) = lin.Parse (parse.TwoInits number)
 
 abbrev pub fault_of_sort : SortFault → LinFault
-fault_of_sort sort.NoMemory = NoMemory
-fault_of_sort (sort.UnknownSort number name) = Sort (sort.UnknownSort number name)
-fault_of_sort (sort.SortCycle names) = Sort (sort.SortCycle names)
-fault_of_sort (sort.Duplicate first second) = Sort (sort.Duplicate first second)
-fault_of_sort (sort.EmptySort name) = Sort (sort.EmptySort name)
+fault_of_sort sort.NoMemory = lin.NoMemory
+fault_of_sort (sort.UnknownSort number name) = lin.Sort (sort.UnknownSort number name)
+fault_of_sort (sort.SortCycle names) = lin.Sort (sort.SortCycle names)
+fault_of_sort (sort.Duplicate first second) = lin.Sort (sort.Duplicate first second)
+fault_of_sort (sort.EmptySort name) = lin.Sort (sort.EmptySort name)
 
 abbrev pub fault_of_type : TypeFault → LinFault
-fault_of_type type.NoMemory = NoMemory
-fault_of_type (type.UnknownName number name) = «Type» (type.UnknownName number name)
-fault_of_type (type.Untyped number) = «Type» (type.Untyped number)
-fault_of_type (type.FreeVariable number name) = «Type» (type.FreeVariable number name)
-fault_of_type (type.VariableLeft number) = «Type» (type.VariableLeft number)
-fault_of_type (type.CommShape number) = «Type» (type.CommShape number)
-fault_of_type (type.RenameTwice number name) = «Type» (type.RenameTwice number name)
+fault_of_type type.NoMemory = lin.NoMemory
+fault_of_type (type.UnknownName number name) = lin.«Type» (type.UnknownName number name)
+fault_of_type (type.Untyped number) = lin.«Type» (type.Untyped number)
+fault_of_type (type.FreeVariable number name) = lin.«Type» (type.FreeVariable number name)
+fault_of_type (type.VariableLeft number) = lin.«Type» (type.VariableLeft number)
+fault_of_type (type.CommShape number) = lin.«Type» (type.CommShape number)
+fault_of_type (type.RenameTwice number name) = lin.«Type» (type.RenameTwice number name)
 
-abbrev pub fault_of_plain : PlainFault → LinFault
-fault_of_plain plain.NotBuilt = NotBuilt
-fault_of_plain plain.NoMemory = NoMemory
+-- the regular encoder refuses a summand of two calls where it alone was asked for; else it isn't built
+abbrev pub fault_of_tail : Method → ℕ → LinFault
+fault_of_tail Auto summand = lin.NotBuilt
+fault_of_tail Regular summand = lin.NotTail 1 summand
+fault_of_tail Stack summand = lin.NotBuilt
+
+abbrev pub fault_of_model : Method → ModelFault → LinFault
+fault_of_model method (Net fault) = lin.Net fault
+fault_of_model method NotBuilt = lin.NotBuilt
+fault_of_model method (Guard fault) = lin.Guard fault
+fault_of_model method (NotTail summand) = fault_of_tail method summand
+fault_of_model method NoMemory = lin.NoMemory

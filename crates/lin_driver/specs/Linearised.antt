@@ -1,21 +1,116 @@
--- The linear process of a text of the first form, as it is printed.
-use Rattle.std.specs.Prelude.{◌≡◌, ℕ, List, ◌∷◌, codes}
-use Rattle.process_terms.specs.Names.{Name}
-use Rattle.lin_driver.specs.Systems.{System}
-use Rattle.lin_driver.specs.Numbering.{IsNumbering}
-use Rattle.lin_driver.specs.Fresh.{IsFresh, taken_at_start}
-use Rattle.lin_driver.specs.Printed.{printed}
-use Rattle.lin_driver.specs.FirstForm.{IsFirstForm}
+-- A linear process in code that was made of a text and stands for it, what is printed for it, and that the printed text then stands for the
+-- text.
+use Rattle.std.specs.Prelude.{◌≡◌, ℕ, List}
+use Rattle.std.specs.List.{Contains}
+use Rattle.data_theory.specs.declared.ids.NameId.{NameId}
+use Rattle.data_theory.specs.Terms.{Sort, Term}
+use Rattle.data_theory.specs.Declarations.{NoSortIsEmpty}
+use Rattle.data_theory.specs.Signature.{Sig, IsTaken}
+use Rattle.data_theory.specs.WholeSignatures.{IsSignature}
+use Rattle.data_theory.specs.IdData.{data_meant}
+use Rattle.data_theory.specs.IdTrees.{Tree}
+use Rattle.data_theory.specs.IdTerms.{IsGrown}
+use Rattle.mcrl2_lexer.specs.declared.token.Token.{Token}
+use Rattle.mcrl2_lexer.specs.Lexing.{HasTokens}
+use Rattle.mcrl2_syntax.specs.Declarations.{PlainSpec}
+use Rattle.mcrl2_syntax.specs.SpelledDeclarations.{SpellsSpec}
+use Rattle.term_pool.specs.Pools.{PoolContents}
+use Rattle.sort_table.specs.Expressions.{Name}
+use Rattle.sort_table.specs.Identifiers.{copied_identifiers}
+use Rattle.sort_table.specs.Growth.{More, with_more}
+use Rattle.sort_table.specs.SignatureVocabularies.{vocabulary_of}
+use Rattle.sort_checker.specs.FullVocabularies.{FullVocabulary}
+use Rattle.sort_checker.specs.TextModels.{IsSignatureOf, IsModelOf}
+use Rattle.process_terms.specs.Theories.{Theory, Equals, AreOfSorts}
+use Rattle.process_terms.specs.Processes.{Process}
+use Rattle.process_terms.specs.PlainProcesses.{PlainEquation, PlainModel}
+use Rattle.process_terms.specs.Meanings.{process_of}
+use Rattle.process_terms.specs.SignatureEntries.{entries_of, BothGrow}
+use Rattle.bisim_laws.specs.LinearProcesses.{Linear, sorts, state_of, IsLinear, IsWellSorted, IsLinearText}
+use Rattle.bisim_laws.specs.Links.{Link}
+use Rattle.lps_core.specs.Fitting.{Fits}
+use Rattle.lps_core.specs.GoingOn.{IsGoodOver}
+use Rattle.lps_core.specs.PlainLinears.{PlainLinear, linear_of, initial_of, linear_state}
+use Rattle.proc_unfold.specs.FittingModels.{ModelFits}
+use Rattle.lin_driver.specs.ModelLinears.{IsProcessName, LeadsToLinear}
+use Rattle.lin_driver.specs.EqualLinears.{AreEqualLinears}
+use Rattle.lin_driver.specs.Headline.{Specifies, AddsOnly, StandsFor}
 
--- The equations of the text's system are numbered in the order in which they are met. The process has the first free name
--- of `P`, `P_1`, `P_2`, .., and its parameter, where there is more than one equation, that of `s`, `s_1`, `s_2`, ..
-pub record IsLinearisedTo (text : List ℕ) (bytes : List ℕ) : Type 0 where
-  pub its_system : System
-  pub first_form : IsFirstForm text its_system
-  pub order : List Name
-  pub numbering : IsNumbering its_system order
-  pub process : Name
-  pub process_fresh : IsFresh (taken_at_start its_system.acts) (codes "P") process
-  pub control : Name
-  pub control_fresh : IsFresh (process ∷ taken_at_start its_system.acts) (codes "s") control
-  pub prints : bytes ≡ printed its_system order process control
+-- ---- what it is made of
+-- A signature had what the specification declares, and the specification's identifiers were taken. Over it the specification had a model, whose
+-- equations these are. From there the linear process and the name of its process were made.
+pub record IsMadeFor (spec : PlainSpec) (h : Sig) (us : List Tree) (equations : List PlainEquation) (x : NameId) (l : PlainLinear) : Type 0 where
+  pub signature : Sig
+  pub stands : IsSignature signature
+  pub declares : IsSignatureOf spec signature
+  pub taken : (t : Name) → Contains (copied_identifiers spec) t → IsTaken signature t
+  pub pool : PoolContents
+  pub model : PlainModel
+  pub is_model : IsModelOf spec signature pool model
+  pub its_equations : model.equations ≡ equations
+  pub fits : ModelFits signature pool.trees model
+  pub grow : BothGrow signature h pool.trees us
+  pub leads : LeadsToLinear signature (process_of (entries_of h us) model) h us l
+  pub name : IsProcessName signature h x
+
+-- the tokens of the text spell the specification
+pub record IsMadeOf (text : List ℕ) (spec : PlainSpec) (h : Sig) (us : List Tree) (equations : List PlainEquation) (x : NameId) (l : PlainLinear) : Type 0 where
+  pub tokens : List Token
+  pub cut : HasTokens text tokens
+  pub spelled : SpellsSpec text spec tokens
+  pub made : IsMadeFor spec h us equations x l
+
+-- ---- what it is to the text
+-- The text has this specification. The signature has its vocabulary and more behind it, and a link leads from the text's process to
+-- the linear process, over every theory that goes on from the signature.
+pub record IsLinearised (text : List ℕ) (spec : PlainSpec) (g : Sig) (ts : List Tree) (l : PlainLinear) : Type 0 where
+  pub vocabulary : FullVocabulary
+  pub theory : Theory
+  pub process : Process
+  pub specifies : Specifies text vocabulary theory process
+  pub spec_is : specifies.spec ≡ spec
+  pub stands : IsSignature g
+  pub numbers : (m : More) × (vocabulary_of g ≡ with_more vocabulary.declared m)
+  pub fits : Fits g ts l
+  pub link : Link
+  pub bisimilar : IsGoodOver g link process (linear_state (entries_of g ts) l)
+
+-- The bytes have a specification with the declarations of the given one and at most what may be added, over the vocabulary of a signature
+-- that has grown. It is a linear text, of a linear process that is provably equal to the one in code.
+pub record ReadsBack (spec : PlainSpec) (g : Sig) (ts : List Tree) (l : PlainLinear) (printed : List ℕ) : Type 0 where
+  pub signature : Sig
+  pub stands : IsSignature signature
+  pub grown : IsGrown g signature
+  pub actions : signature.actions ≡ g.actions
+  pub inhabited : NoSortIsEmpty (data_meant signature)
+  pub vocabulary : FullVocabulary
+  pub declared : vocabulary.declared ≡ vocabulary_of signature
+  pub theory : Theory
+  pub linear : Linear
+  pub initial : List Term
+  pub specifies : Specifies printed vocabulary theory (state_of linear initial)
+  pub adds_only : AddsOnly spec specifies.spec
+  pub is_linear_text : IsLinearText theory (state_of linear initial)
+  pub is_linear : IsLinear linear
+  pub variable_sorts : List Sort
+  pub is_sorted : IsWellSorted theory.declared variable_sorts linear
+  pub of_sorts : AreOfSorts theory (sorts linear.params) initial
+  pub equal : AreEqualLinears theory (linear_of (entries_of g ts) l) linear
+  pub starts_equal : Equals theory (initial_of (entries_of g ts) l) initial
+
+-- ---- the laws
+-- what is made of a text stands for it
+abbrev pub WhatIsMadeStandsForTheText : Type 0
+WhatIsMadeStandsForTheText =
+    (text : List ℕ) (spec : PlainSpec) (h : Sig) (us : List Tree) (equations : List PlainEquation) (x : NameId) (l : PlainLinear) → IsMadeOf text spec h us equations x l → IsLinearised text spec h us l
+
+-- the linear process to which the process of a text leads stands for the text
+abbrev pub WhatIsLedToStandsForTheText : Type 0
+WhatIsLedToStandsForTheText =
+    (text : List ℕ) (v : FullVocabulary) (th : Theory) (g h : Sig) (ts us : List Tree) (m : PlainModel) (l : PlainLinear) → (s : Specifies text v th (process_of (entries_of g ts) m)) → v.declared ≡ vocabulary_of g
+    → IsSignature g → ModelFits g ts m → BothGrow g h ts us → LeadsToLinear g (process_of (entries_of h us) m) h us l → IsLinearised text s.spec h us l
+
+-- and what is printed for that one stands for the text, too
+abbrev pub WhatIsPrintedStandsForTheText : Type 0
+WhatIsPrintedStandsForTheText =
+    (text printed : List ℕ) (spec : PlainSpec) (g : Sig) (ts : List Tree) (l : PlainLinear) → IsLinearised text spec g ts l → ReadsBack spec g ts l printed → StandsFor text printed

@@ -1,5 +1,5 @@
 -- Why a text is refused.
-use Rattle.std.specs.Prelude.{◌≡◌, ◌≢◌, ℕ, List, All, count_by}
+use Rattle.std.specs.Prelude.{◌≡◌, ◌≢◌, ◌⊎◌, ℕ, List, All, count_by}
 use Rattle.mcrl2_lexer.specs.declared.token.Token.{Token}
 use Rattle.mcrl2_lexer.specs.Lexing as lexing
 use Rattle.mcrl2_lexer.specs.Lexing.{HasTokens}
@@ -9,19 +9,20 @@ use Rattle.mcrl2_parser.specs.declared.faults.ParseFault.{ParseFault}
 use Rattle.mcrl2_parser.specs.Declarations.{declarations_of}
 use Rattle.mcrl2_parser.specs.Faults as parsing
 use Rattle.mcrl2_parser.specs.Faults.{IsSound, is_init}
+use Rattle.data_theory.specs.Complete.{BeginsWith}
 use Rattle.data_theory.specs.Signature.{Sig}
-use Rattle.sort_table.specs.BareDeclarations.{bare_sections}
+use Rattle.term_pool.specs.Pools.{PoolContents}
+use Rattle.process_terms.specs.PlainProcesses.{PlainModel}
 use Rattle.sort_table.specs.Built.{IsFaultOf}
-use Rattle.sort_table.specs.declared.building.SortFault.{SortFault}
 use Rattle.sort_table.specs.declared.building.SortFault.TheVariants as sort
-use Rattle.sort_checker.specs.FullVocabularies.{FullVocabulary}
-use Rattle.sort_checker.specs.Refusals.{IsWellTyped}
-use Rattle.sort_checker.specs.TextModels.{IsTypeFaultOf}
+use Rattle.sort_checker.specs.TextModels.{IsModelOf, IsTypeFaultOf}
 use Rattle.sort_checker.specs.declared.elaborating.TypeFault.{TypeFault}
 use Rattle.sort_checker.specs.declared.elaborating.TypeFault.TheVariants as type
-use Rattle.lin_driver.specs.FirstForm.{HasFirstForm}
+use Rattle.lin_driver.specs.ModelLinears.{IsModelFaultOf}
+use Rattle.lin_driver.specs.declared.fault.ModelFault.{ModelFault}
+use Rattle.lin_driver.specs.declared.fault.ModelFault.TheVariants as model
 use Rattle.lin_driver.specs.declared.fault.LinFault.{LinFault}
-use Rattle.lin_driver.specs.declared.fault.LinFault.TheVariants.{Lex, Parse, Sort, «Type», NotBuilt, NoMemory}
+use Rattle.lin_driver.specs.declared.fault.LinFault.TheVariants.{Lex, Parse, Sort, «Type», Net, Guard, NotTail, NotBuilt, NoMemory}
 
 -- the text has tokens, and their declarations have the fault
 pub record HasParseFault (text : List ℕ) (fault : ParseFault) : Type 0 where
@@ -37,39 +38,50 @@ pub record IsParsedAs (text : List ℕ) (spec : PlainSpec) : Type 0 where
   pub sound : All (IsSound text tokens) (declarations_of tokens)
   pub one_init : count_by is_init (declarations_of tokens) ≡ 1
 
--- the text spells a specification whose declarations have the fault, with names by their places among these texts
-pub record HasSortFault (text : List ℕ) (texts : List (List ℕ)) (fault : SortFault) : Type 0 where
-  pub spec : PlainSpec
-  pub parsed : IsParsedAs text spec
-  pub has_fault : IsFaultOf spec texts fault
-  pub some : fault ≢ sort.NoMemory
-
--- over a signature with these texts the specification has the fault of typing
+-- ---- of a specification, with names by their places among texts
+-- it has the fault of typing over a signature with these texts
 pub record IsTypeFaultOver (spec : PlainSpec) (texts : List (List ℕ)) (fault : TypeFault) : Type 0 where
   pub signature : Sig
   pub names : signature.texts ≡ texts
   pub has_fault : IsTypeFaultOf spec signature fault
-  pub some : fault ≢ type.NoMemory
 
--- the text spells a specification that has the fault of typing
-pub record HasTypeFault (text : List ℕ) (texts : List (List ℕ)) (fault : TypeFault) : Type 0 where
+-- it is well typed, and its model has the fault; the texts begin with those of the signature
+pub record IsModelFaultOver (spec : PlainSpec) (texts : List (List ℕ)) (fault : ModelFault) : Type 0 where
+  pub signature : Sig
+  pub pool : PoolContents
+  pub model : PlainModel
+  pub is_model : IsModelOf spec signature pool model
+  pub names : BeginsWith signature.texts texts
+  pub has_fault : IsModelFaultOf model fault
+
+-- What isn't built are parallel operators, and forms with a summand of two calls. Such a summand is that of component 1. Want of memory is
+-- no fault of a specification, nor are those of its tokens and its declarations.
+abbrev pub IsSpecFault : PlainSpec → List (List ℕ) → LinFault → Type 0
+IsSpecFault spec texts (Lex fault) = ⊥
+IsSpecFault spec texts (Parse fault) = ⊥
+IsSpecFault spec texts (Sort fault) = IsFaultOf spec texts fault × (fault ≢ sort.NoMemory)
+IsSpecFault spec texts («Type» fault) = IsTypeFaultOver spec texts fault × (fault ≢ type.NoMemory)
+IsSpecFault spec texts (Net fault) = IsModelFaultOver spec texts (model.Net fault)
+IsSpecFault spec texts (Guard fault) = IsModelFaultOver spec texts (model.Guard fault)
+IsSpecFault spec texts (NotTail component summand) = (component ≡ 1) × IsModelFaultOver spec texts (model.NotTail summand)
+IsSpecFault spec texts NotBuilt = IsModelFaultOver spec texts model.NotBuilt ⊎ ((summand : ℕ) × IsModelFaultOver spec texts (model.NotTail summand))
+IsSpecFault spec texts NoMemory = ⊥
+
+-- ---- of a text
+-- it spells a specification with the fault
+pub record HasSpecFault (text : List ℕ) (texts : List (List ℕ)) (fault : LinFault) : Type 0 where
   pub spec : PlainSpec
   pub parsed : IsParsedAs text spec
-  pub over : IsTypeFaultOver spec texts fault
+  pub has_fault : IsSpecFault spec texts fault
 
--- the text spells a specification that is well typed, and hasn't the first form
-pub record IsNotBuilt (text : List ℕ) : Type 0 where
-  pub spec : PlainSpec
-  pub parsed : IsParsedAs text spec
-  pub vocabulary : FullVocabulary
-  pub well_typed : IsWellTyped vocabulary (bare_sections spec)
-  pub no_first_form : ¬ (HasFirstForm text)
-
--- the fault is that of the text, with names by their places among these texts; want of memory is none
+-- the fault is that of the text
 abbrev pub IsRefusedWith : List ℕ → List (List ℕ) → LinFault → Type 0
 IsRefusedWith text texts (Lex fault) = lexing.HasFault text fault
 IsRefusedWith text texts (Parse fault) = HasParseFault text fault
-IsRefusedWith text texts (Sort fault) = HasSortFault text texts fault
-IsRefusedWith text texts («Type» fault) = HasTypeFault text texts fault
-IsRefusedWith text texts NotBuilt = IsNotBuilt text
+IsRefusedWith text texts (Sort fault) = HasSpecFault text texts (Sort fault)
+IsRefusedWith text texts («Type» fault) = HasSpecFault text texts («Type» fault)
+IsRefusedWith text texts (Net fault) = HasSpecFault text texts (Net fault)
+IsRefusedWith text texts (Guard fault) = HasSpecFault text texts (Guard fault)
+IsRefusedWith text texts (NotTail component summand) = HasSpecFault text texts (NotTail component summand)
+IsRefusedWith text texts NotBuilt = HasSpecFault text texts NotBuilt
 IsRefusedWith text texts NoMemory = ⊥

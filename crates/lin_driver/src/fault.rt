@@ -1,29 +1,106 @@
-//! Why there is no linear process for a text.
-ghost use Rattle.std.specs.Prelude.{◌≡◌};
-ghost use Rattle.lin_driver.specs.Faults.{fault_of_lex, fault_of_parse, fault_of_plain, fault_of_sort, fault_of_type};
-ghost use Rattle.lin_driver.specs.declared.fault.PlainFault.TheVariants.{NoMemory};
+//! Why a specification or a text has no linear process.
 
+ghost use Rattle.std.specs.Prelude.{◌≡◌};
+ghost use Rattle.lin_driver.specs.Faults.{fault_of_encode, fault_of_guard, fault_of_lex, fault_of_net, fault_of_parse, fault_of_sort, fault_of_type};
+ghost use Rattle.lin_driver.specs.declared.fault.LinFault.TheVariants as lin;
+ghost use Rattle.lin_driver.specs.declared.fault.ModelFault.TheVariants.{NoMemory};
+
+use data_theory as data;
+use guard_check::GuardFault;
 use mcrl2_lexer::LexFault;
 use mcrl2_parser::ParseFault;
+use proc_unfold::NetFault;
+use regular_encoder::EncodeFault;
 use sort_checker::TypeFault;
 use sort_table::SortFault;
-use std::alloc::{AllocError, AllocFailed};
 
-/// Why there is no linear process for a text, in the order in which causes are looked for.
+/// Why a specification has no linear process, in the order in which causes are looked for.
+#[derive(Debug, Drop)]
+pub enum ModelFault {
+    /// Parallelism doesn't stand outside recursion.
+    Net(NetFault),
+    /// A parallel operator stands where `init` reaches it.
+    NotBuilt,
+    /// Recursion isn't guarded.
+    Guard(GuardFault),
+    /// The summand with this number, from 1, is the first of the component's form with two calls.
+    NotTail(usize),
+    /// No memory was left.
+    NoMemory,
+}
+
+impl From<data::NoMemory> for ModelFault {
+    ghost from_gives = { λ _ fault. fault ≡ NoMemory };
+
+    fn from(_: data::NoMemory) -> Self {
+        ModelFault::NoMemory
+    }
+}
+
+impl From<NetFault> for ModelFault {
+    ghost from_gives = { λ net fault. fault ≡ fault_of_net net };
+
+    fn from(fault: NetFault) -> Self {
+        match fault {
+            NetFault::NoMemory => ModelFault::NoMemory,
+            fault => ModelFault::Net(fault),
+        }
+    }
+}
+
+impl From<GuardFault> for ModelFault {
+    ghost from_gives = { λ guard fault. fault ≡ fault_of_guard guard };
+
+    fn from(fault: GuardFault) -> Self {
+        match fault {
+            GuardFault::NoMemory => ModelFault::NoMemory,
+            fault => ModelFault::Guard(fault),
+        }
+    }
+}
+
+impl From<EncodeFault> for ModelFault {
+    ghost from_gives = { λ encode fault. fault ≡ fault_of_encode encode };
+
+    fn from(fault: EncodeFault) -> Self {
+        match fault {
+            EncodeFault::NoMemory => ModelFault::NoMemory,
+            EncodeFault::NotTail(number) => ModelFault::NotTail(number),
+        }
+    }
+}
+
+/// Why there is no linear process for a text, in the order in which causes are looked for. The names of a fault stand in the table of
+/// texts that was handed in.
 #[derive(Debug, Drop)]
 pub enum LinFault {
     /// The text has no tokens that are all accepted.
     Lex(LexFault),
     /// The tokens have no declarations that are all accepted.
     Parse(ParseFault),
-    /// What the declarations declare has a fault. Its names stand in the table of texts that was handed in.
+    /// What the declarations declare has a fault.
     Sort(SortFault),
-    /// The text is ill typed. The name stands in the table of texts that was handed in.
+    /// The text is ill typed.
     Type(TypeFault),
-    /// The text hasn't the first form.
+    /// Parallelism doesn't stand outside recursion.
+    Net(NetFault),
+    /// Recursion isn't guarded.
+    Guard(GuardFault),
+    /// The component with the first number has a form whose summand with the second number is its first with two calls, and the
+    /// regular encoder alone was asked for. Both count from 1.
+    NotTail(usize, usize),
+    /// A parallel operator stands where `init` reaches it, or a summand of the form has two calls.
     NotBuilt,
     /// No memory was left.
     NoMemory,
+}
+
+impl From<data::NoMemory> for LinFault {
+    ghost from_gives = { λ _ fault. fault ≡ lin.NoMemory };
+
+    fn from(_: data::NoMemory) -> Self {
+        LinFault::NoMemory
+    }
 }
 
 impl From<LexFault> for LinFault {
@@ -67,41 +144,5 @@ impl From<TypeFault> for LinFault {
             TypeFault::NoMemory => LinFault::NoMemory,
             fault => LinFault::Type(fault),
         }
-    }
-}
-
-impl From<PlainFault> for LinFault {
-    ghost from_gives = { λ plain fault. fault ≡ fault_of_plain plain };
-
-    fn from(fault: PlainFault) -> Self {
-        match fault {
-            PlainFault::NotBuilt => LinFault::NotBuilt,
-            PlainFault::NoMemory => LinFault::NoMemory,
-        }
-    }
-}
-
-/// Why tokens aren't linearised.
-#[derive(Clone, Copy, Debug, PartialEq, Eq)]
-pub(crate) enum PlainFault {
-    /// The text hasn't the first form.
-    NotBuilt,
-    /// No memory was left.
-    NoMemory,
-}
-
-impl From<AllocError> for PlainFault {
-    ghost from_gives = { λ _ fault. fault ≡ NoMemory };
-
-    fn from(_: AllocError) -> Self {
-        PlainFault::NoMemory
-    }
-}
-
-impl<T: Drop> From<AllocFailed<T>> for PlainFault {
-    ghost from_gives = { λ _ fault. fault ≡ NoMemory };
-
-    fn from(_: AllocFailed<T>) -> Self {
-        PlainFault::NoMemory
     }
 }

@@ -1,33 +1,74 @@
-//! What is proved of systems, linear processes and links. The functions do nothing: each contract is a law.
+//! Laws of the way from a text to its printed text. The functions do nothing: each contract is a law.
 
-ghost use Rattle.lin_driver.specs.Headline.{NumberingsAreSingle, FreshNamesAreSingle, TextsAreSingle, NumberingIsGood, PrintedSpells, Headline};
+ghost use Rattle.lin_driver.specs.EqualLinears.{EqualLinearsAreGood};
 
-/// A system has one numbering at most.
-pub fn numberings_are_single()
-    ensures { NumberingsAreSingle }
+/// Linear processes with provably equal data are bisimilar.
+pub fn equal_linears_are_good()
+    ensures { EqualLinearsAreGood }
 {}
 
-/// A base has one fresh name at most.
-pub fn fresh_names_are_single()
-    ensures { FreshNamesAreSingle }
+ghost use Rattle.lin_driver.specs.Linearised.{WhatIsLedToStandsForTheText, WhatIsMadeStandsForTheText, WhatIsPrintedStandsForTheText};
+
+/// The linear process to which a text's process leads stands for the text, and so do what is made of a text and what is printed for that.
+pub fn what_is_printed_stands_for_the_text()
+    ensures led_to { WhatIsLedToStandsForTheText }
+    ensures made { WhatIsMadeStandsForTheText }
+    ensures printed { WhatIsPrintedStandsForTheText }
 {}
 
-/// Bytes spell one linear process at most.
-pub fn texts_are_single()
-    ensures { TextsAreSingle }
+ghost use Rattle.lin_driver.specs.ElaboratedModels.{WhatElaboratesCanBeLinear};
+
+/// A specification for which a well-typed text stands can be linearised.
+pub fn what_elaborates_can_be_linear()
+    ensures { WhatElaboratesCanBeLinear }
 {}
 
-/// The numbering of a well-named system is a good link between it and its linear process.
-pub fn numbering_is_good()
-    ensures { NumberingIsGood }
+ghost use Rattle.lin_driver.specs.ModelsOfTexts.{ModelsOfTextsCanBeLinear};
+
+/// The model of a text can be linearised.
+pub fn models_of_texts_can_be_linear()
+    ensures { ModelsOfTextsCanBeLinear }
 {}
 
-/// What is printed for a well-named system, by its numbering and with fresh names, spells its linear process.
-pub fn printed_spells()
-    ensures { PrintedSpells }
+ghost use Rattle.lin_driver.specs.FilledLinears.{FilledLinearsServe};
+
+/// With constants in the place of empty lists a linear process is equal to itself, where each constant has its equation.
+pub fn filled_linears_serve()
+    ensures { FilledLinearsServe }
 {}
 
-/// What is printed for a well-named system, by its numbering and with fresh names, stands for the system.
-pub fn headline()
-    ensures { Headline }
+ghost use Rattle.lin_driver.specs.AddedParts.{WhatMayBeAddedAddsOnly};
+
+/// A specification that has the copied sections of another, what may be added to it, and a process, adds only what is allowed.
+pub fn what_may_be_added_adds_only()
+    ensures { WhatMayBeAddedAddsOnly }
+{}
+
+ghost use Rattle.lin_driver.specs.AddedConstants.{ConstantsMayBeAdded};
+
+/// The constants by which the signature of a text grows may be added to it, with the equations of empty lists.
+pub fn constants_may_be_added()
+    ensures { ConstantsMayBeAdded }
+{}
+
+ghost use Rattle.lin_driver.specs.ReadingBack.{PrintedTextsReadBack};
+
+/// What is printed for a linear process that fits reads back.
+pub fn printed_texts_read_back()
+    ensures { PrintedTextsReadBack }
+{}
+
+ghost use Rattle.lin_driver.specs.MadeTexts.{WhatIsMadeCanBePrinted, WhatIsPrintedForATextStandsForIt};
+
+/// What is made of a text can be printed, and what is printed for it stands for the text.
+pub fn what_is_printed_for_a_text_stands_for_it()
+    ensures can_be_printed { WhatIsMadeCanBePrinted }
+    ensures stands_for { WhatIsPrintedForATextStandsForIt }
+{}
+
+ghost use Rattle.lin_driver.specs.NamedSignatures.{TextsDeclareIdentifiers};
+
+/// The functions, the sorts and the actions of a text are named by identifiers.
+pub fn texts_declare_identifiers()
+    ensures { TextsDeclareIdentifiers }
 {}

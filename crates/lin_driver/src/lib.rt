@@ -1,17 +1,21 @@
-//! From the bytes of a specification to the bytes of its linear process.
+//! From a text to its linear process, and from there to the text that is printed for it.
+//!
+//! What the printed text is to the text stands in `specs/Headline.antt`, which is to be read first, and in plain words in
+//! `docs/definitions/linearising.md`. The functions of [`laws`] have empty bodies: the contract of each is a law, so that the
+//! crates above can cite it.
 #![tactic(auto)]
 
-pub mod examples;
 mod fault;
-mod fresh;
 pub mod laws;
+mod linear_texts;
 mod linearising;
-mod name_set;
-mod naming;
-mod numbering;
-mod printing;
-mod reading;
-mod system;
+mod methods;
+mod model_linearising;
+mod one_component;
+mod variable_names;
 
-pub use fault::LinFault;
-pub use linearising::plain;
+pub use fault::{LinFault, ModelFault};
+pub use linear_texts::linear_text;
+pub use linearising::{Linearised, linearise};
+pub use methods::Method;
+pub use model_linearising::linear_of;

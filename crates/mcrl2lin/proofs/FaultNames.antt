@@ -23,10 +23,10 @@ use Rattle.sort_table.specs.Vocabularies.{EachPair}
 use Rattle.sort_checker.specs.FullVocabularies.{Written}
 use Rattle.sort_checker.specs.TextModels.{IsNamedAs}
 use Rattle.sort_checker.specs.declared.elaborating.TypeFault.TheVariants as type
-use Rattle.linearising.specs.declared.fault.LinFault.{LinFault}
-use Rattle.linearising.specs.declared.fault.LinFault.TheVariants as lin
-use Rattle.linearising.specs.declared.fault.ModelFault.TheVariants as model
-use Rattle.linearising.specs.Refusals.{IsModelFaultOver, IsRefusedWith}
+use Rattle.lin_driver.specs.declared.fault.LinFault.{LinFault}
+use Rattle.lin_driver.specs.declared.fault.LinFault.TheVariants as lin
+use Rattle.lin_driver.specs.declared.fault.ModelFault.TheVariants as model
+use Rattle.lin_driver.specs.Refusals.{IsModelFaultOver, IsRefusedWith}
 use Rattle.mcrl2lin.specs.Lines.{AreNamed, names_of_fault}
 
 within : {A : Type 0} (xs : List A) (i : ℕ) (x : A) → slice_get xs i ≡ Some x → i < length xs

@@ -1,9 +1,9 @@
 -- Texts and bytes that are told.
 use Rattle.std.proofs.Common.{◌≡◌, ◌≢◌, ◌≤◌, ℕ, List, Option, None, Some, IfSome, length, option_and_then, sym, subst}
 use Rattle.mcrl2_text.specs.declared.loading.TheConstants.{MAX_TEXT_LEN}
-use Rattle.linearising.specs.Refusals.{IsRefusedWith}
-use Rattle.linearising.specs.declared.fault.LinFault.{LinFault}
-use Rattle.linearising.specs.declared.fault.LinFault.TheVariants as lin
+use Rattle.lin_driver.specs.Refusals.{IsRefusedWith}
+use Rattle.lin_driver.specs.declared.fault.LinFault.{LinFault}
+use Rattle.lin_driver.specs.declared.fault.LinFault.TheVariants as lin
 use Rattle.mcrl2lin.specs.Commands.{file_asked, text_asked}
 use Rattle.mcrl2lin.specs.Stops.{HasCause, IsStopFor}
 use Rattle.mcrl2lin.specs.declared.stop.Stop.{Stop}

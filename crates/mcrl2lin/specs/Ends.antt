@@ -3,7 +3,7 @@ use Rattle.std.specs.Prelude.{⊤, ℕ, List, Option, Some, ◌++◌, [], ◌≡
 use Rattle.mcrl2_text.specs.Bytes.{TakesPrefix}
 use Rattle.mcrl2_text.specs.declared.loading.TheConstants.{MAX_TEXT_LEN}
 use Rattle.mcrl2_text.specs.Faults.{Rose}
-use Rattle.linearising.specs.Headline.{StandsFor}
+use Rattle.lin_driver.specs.Headline.{StandsFor}
 use Rattle.mcrl2lin.specs.Lines.{line_of, write_fault_line}
 use Rattle.mcrl2lin.specs.Stops.{IsRefusal}
 use Rattle.mcrl2lin.specs.declared.stop.Stop.TheVariants as stop

@@ -14,8 +14,8 @@ use Rattle.proc_unfold.specs.declared.faults.NetFault.{NetFault}
 use Rattle.proc_unfold.specs.declared.faults.NetFault.TheVariants as net
 use Rattle.guard_check.specs.declared.checking.GuardFault.{GuardFault}
 use Rattle.guard_check.specs.declared.checking.GuardFault.TheVariants as guard
-use Rattle.linearising.specs.declared.fault.LinFault.{LinFault}
-use Rattle.linearising.specs.declared.fault.LinFault.TheVariants as lin
+use Rattle.lin_driver.specs.declared.fault.LinFault.{LinFault}
+use Rattle.lin_driver.specs.declared.fault.LinFault.TheVariants as lin
 use Rattle.mcrl2lin.specs.declared.stop.Stop.{Stop}
 use Rattle.mcrl2lin.specs.declared.stop.Stop.TheVariants.{Words, ReadFault, TooLong, Refused, NoMemory}
 

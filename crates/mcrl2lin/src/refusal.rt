@@ -7,7 +7,7 @@ ghost use Rattle.mcrl2lin.specs.Lines.{AreNamed, guard_line, lex_line, listed, n
 use data_theory::{NameId, Names};
 use guard_check::GuardFault;
 use itoa::Buffer;
-use linearising::LinFault;
+use lin_driver::LinFault;
 use mcrl2_lexer::LexFault;
 use mcrl2_parser::ParseFault;
 use proc_unfold::NetFault;

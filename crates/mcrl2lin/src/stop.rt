@@ -5,7 +5,7 @@ ghost use Rattle.mcrl2lin.specs.Stops.{IsStopFor, stop_of_load};
 
 use crate::refusal::refusal;
 use data_theory::Names;
-use linearising::LinFault;
+use lin_driver::LinFault;
 use mcrl2_text::LoadFault;
 use std::alloc::Global;
 

@@ -2,9 +2,9 @@
 ghost use Rattle.std.specs.Prelude.{◌≡◌, ◌≢◌, ◌≤◌, ◌<◌, ◌⊎◌, ◌↔◌, ◌++◌, List, ℕ, Some, None, IfErr, IfOk, IfSome, IsErrOf, length, map, string_bytes};
 ghost use Rattle.mcrl2_text.specs.Bytes.{TakesPrefix};
 ghost use Rattle.mcrl2_text.specs.Faults.{Rose};
-ghost use Rattle.linearising.specs.Headline.{StandsFor};
-ghost use Rattle.linearising.specs.Refusals.{IsRefusedWith};
-ghost use Rattle.linearising.specs.declared.fault.LinFault.{LinFault};
+ghost use Rattle.lin_driver.specs.Headline.{StandsFor};
+ghost use Rattle.lin_driver.specs.Refusals.{IsRefusedWith};
+ghost use Rattle.lin_driver.specs.declared.fault.LinFault.{LinFault};
 ghost use Rattle.mcrl2lin.specs.Commands.{file_asked, text_asked};
 ghost use Rattle.mcrl2lin.specs.Ends.{EndsWell, EndsWithLine};
 ghost use Rattle.mcrl2lin.specs.Stops.{HasCause, status_of_stop};
@@ -12,7 +12,7 @@ ghost use Rattle.mcrl2lin.specs.Stops.{HasCause, status_of_stop};
 use crate::command::file_of;
 use crate::stop::Stop;
 use data_theory::Names;
-use linearising::linear_text;
+use lin_driver::linear_text;
 use mcrl2_text::{MAX_TEXT_LEN, Shelf, Sink, load, write_all};
 use std::alloc::Global;
 

@@ -1,9 +1,9 @@
 use Rattle.std.proofs.Common.{rules, ◌≡◌, ◌≤◌, ◌++◌, ℕ, List, Some, IfSome, length, map, string_bytes}
 use Rattle.mcrl2_text.specs.Faults.{Rose}
 use Rattle.mcrl2_text.specs.declared.loading.TheConstants.{MAX_TEXT_LEN}
-use Rattle.linearising.specs.Headline.{StandsFor}
-use Rattle.linearising.specs.Refusals.{IsRefusedWith}
-use Rattle.linearising.specs.declared.fault.LinFault.{LinFault}
+use Rattle.lin_driver.specs.Headline.{StandsFor}
+use Rattle.lin_driver.specs.Refusals.{IsRefusedWith}
+use Rattle.lin_driver.specs.declared.fault.LinFault.{LinFault}
 use Rattle.mcrl2lin.specs.Ends.{EndsWell}
 use Rattle.mcrl2lin.specs.declared.top.Status.TheVariants.{Done}
 use Rattle.mcrl2lin.specs.Commands.{text_asked}

@@ -1,0 +1,106 @@
+-- From a specification in code to the text that is printed for it.
+use Rattle.std.proofs.Common.{◌≡◌, ℕ, List, [], ◌++◌, refl, sym, ap, subst, ◌∙◌, append_assoc, append-nil}
+use Rattle.data_theory.specs.Declarations.{Data, IsData, NoSortIsEmpty}
+use Rattle.data_theory.specs.Environments.{terms_of}
+use Rattle.data_theory.specs.Signature.{Sig}
+use Rattle.data_theory.specs.IdData.{data_meant}
+use Rattle.data_theory.specs.IdTerms.{variable_sorts}
+use Rattle.data_theory.proofs.IdDataLemmas.{meant_data_are_data}
+use Rattle.sort_table.specs.Growth.{More, with_more}
+use Rattle.sort_table.specs.Vocabularies.{Vocabulary}
+use Rattle.sort_table.specs.SignatureVocabularies.{vocabulary_of}
+use Rattle.sort_table.proofs.GrowingSignatures.{grown_signatures_have_more}
+use Rattle.sort_checker.specs.FullVocabularies.{FullVocabulary}
+use Rattle.process_terms.specs.Theories.{Theory, AreOfSorts}
+use Rattle.process_terms.specs.Processes.{Process}
+use Rattle.process_terms.specs.Meanings.{theory_of, process_of}
+use Rattle.process_terms.specs.SignatureEntries.{entries_of}
+use Rattle.bisim_laws.specs.LinearProcesses.{sorts, state_of}
+use Rattle.bisim_laws.specs.Links.{Then, Dropped}
+use Rattle.bisim_laws.proofs.ComposedLinks.{then_good}
+use Rattle.lps_core.specs.GoingOn.{GoesOn, IsGoodOver}
+use Rattle.lps_core.specs.Moving.{all_kept}
+use Rattle.lps_core.specs.PlainLinears.{linear_of, initial_of, linear_state}
+use Rattle.lps_core.proofs.GrowingData.{goes_back, linear_grown, terms_grown}
+use Rattle.lps_core.proofs.Staying.{what_fits_is_sorted}
+use Rattle.lin_driver.specs.Headline.{Specifies, AddsOnly}
+use Rattle.lin_driver.specs.Linearised.{WhatIsLedToStandsForTheText, WhatIsMadeStandsForTheText, WhatIsPrintedStandsForTheText}
+use Rattle.lin_driver.proofs.EqualLinears.{equal_linears_are_good}
+use Rattle.lin_driver.proofs.GrownModels.{model_stays}
+
+-- ---- more behind more
+both_more : More → More → More
+both_more m n = record { sorts = m.sorts ++ n.sorts; functions = m.functions ++ n.functions; sort_names = m.sort_names ++ n.sort_names; function_names = m.function_names ++ n.function_names }
+
+more_twice : (v : Vocabulary) (m n : More) → with_more (with_more v m) n ≡ with_more v (both_more m n)
+unfolding both_more
+more_twice v m n =
+    let a = append_assoc v.tables.sorts m.sorts n.sorts in
+    let b = append_assoc v.tables.functions m.functions n.functions in
+    let c = append_assoc v.sort_names m.sort_names n.sort_names in
+    let d = append_assoc v.function_names m.function_names n.function_names in
+    (λ i. record { tables = record { sorts = a i; functions = b i }; sort_names = c i; function_names = d i; actions = v.actions })
+
+-- ---- theories
+-- the data of a text over the vocabulary of a signature are those of the signature
+pub text_has_data : (text : List ℕ) (w : FullVocabulary) (th : Theory) (p : Process) (h : Sig) → Specifies text w th p → w.declared ≡ vocabulary_of h → th.declared ≡ data_meant h
+text_has_data text w th p h s same = s.system.data_of ∙ ap (λ (v : Vocabulary). v.tables) same
+
+-- ---- from a specification in code
+pub led_to_stands_for : WhatIsLedToStandsForTheText
+led_to_stands_for text v th g h ts us m l s same sg fits grow leads =
+    let grown = grown_signatures_have_more g h sg.complete sg.table sg.roles leads.stands.roles leads.grows.grown leads.grows.actions in
+    record {
+      vocabulary = v;
+      theory = th;
+      process = process_of (entries_of g ts) m;
+      specifies = s;
+      spec_is = refl;
+      stands = leads.stands;
+      numbers = (grown.0, subst (λ z. vocabulary_of h ≡ with_more z grown.0) (sym same) grown.1);
+      fits = leads.fits;
+      link = leads.link;
+      bisimilar = subst (λ q. IsGoodOver h leads.link q (linear_state (entries_of h us) l)) (model_stays g h ts us sg grow m fits) leads.bisimilar;
+    }
+
+-- what is made of a text
+pub made_stands_for : WhatIsMadeStandsForTheText
+made_stands_for text spec h us equations x l made =
+    let m = made.made in
+    let is = m.is_model in
+    let ts = m.pool.trees in
+    let specifies : Specifies text is.vocabulary (theory_of (data_meant m.signature) (entries_of m.signature ts) m.model) (process_of (entries_of m.signature ts) m.model) = record { tokens = made.tokens; cut = made.cut; spec = spec; spelled = made.spelled; system = is.system } in
+    led_to_stands_for text is.vocabulary (theory_of (data_meant m.signature) (entries_of m.signature ts) m.model) m.signature h ts us m.model l specifies is.over.declared m.stands m.fits m.grow m.leads
+
+-- ---- to the printed text
+pub printed_stands_for : WhatIsPrintedStandsForTheText
+printed_stands_for text printed spec g ts l a b =
+    let h = b.signature in
+    let L = linear_of (entries_of g ts) l in
+    let own_data : b.theory.declared ≡ data_meant h = text_has_data printed b.vocabulary b.theory (state_of b.linear b.initial) h b.specifies b.declared in
+    let on : GoesOn h b.theory = record {
+      grows = record { new_sorts = []; new_functions = []; sorts = ap (λ (d : Data). d.sorts) own_data ∙ sym (append-nil (data_meant h).sorts); functions = ap (λ (d : Data). d.functions) own_data ∙ sym (append-nil (data_meant h).functions) };
+      is_data = subst IsData (sym own_data) (meant_data_are_data h b.stands.table b.stands.roles);
+      inhabited = subst NoSortIsEmpty (sym own_data) b.inhabited;
+    } in
+    let from_g : GoesOn g b.theory = goes_back g h a.stands.table a.stands.roles b.stands.roles b.grown b.theory on in
+    let more = grown_signatures_have_more g h a.stands.complete a.stands.table a.stands.roles b.stands.roles b.grown b.actions in
+    let sorted = linear_grown (data_meant g) b.theory.declared from_g.grows (variable_sorts g) L (what_fits_is_sorted g ts l a.stands.table a.stands.complete a.fits) in
+    let from : AreOfSorts b.theory (sorts L.params) (initial_of (entries_of g ts) l) = terms_grown (data_meant g) b.theory.declared from_g.grows [] (terms_of (initial_of (entries_of g ts) l)) (sorts L.params) a.fits.closed in
+    let to : AreOfSorts b.theory (sorts L.params) b.initial = subst (λ ps. AreOfSorts b.theory (sorts ps) b.initial) b.equal.params b.of_sorts in
+    record {
+      vocabulary = a.vocabulary;
+      own_theory = a.theory;
+      process = a.process;
+      specifies = a.specifies;
+      printed_vocabulary = b.vocabulary;
+      theory = b.theory;
+      linear = state_of b.linear b.initial;
+      printed_specifies = b.specifies;
+      adds_only = subst (λ s. AddsOnly s b.specifies.spec) (sym a.spec_is) b.adds_only;
+      numbers = (both_more a.numbers.0 more.0, b.declared ∙ more.1 ∙ ap (λ v. with_more v more.0) a.numbers.1 ∙ more_twice a.vocabulary.declared a.numbers.0 more.0);
+      is_linear = b.is_linear_text;
+      link = Then a.link (Dropped (all_kept L.params) L b.linear);
+      bisimilar = λ con. then_good b.theory a.link (Dropped (all_kept L.params) L b.linear) a.process (linear_state (entries_of g ts) l) (state_of b.linear b.initial) (a.bisimilar b.theory from_g con)
+          (equal_linears_are_good b.theory (variable_sorts g) b.variable_sorts L b.linear (initial_of (entries_of g ts) l) b.initial a.fits.linear b.is_linear sorted b.is_sorted b.equal from to b.starts_equal);
+    }

@@ -1,0 +1,28 @@
+use Rattle.std.proofs.Common.{map}
+use Rattle.std.proofs.lemmas.Option.{slice_get_within}
+use Rattle.data_theory.specs.Signature.{Sig}
+use Rattle.data_theory.specs.WholeSignatures.{IsSignature}
+use Rattle.mcrl2_syntax.specs.Declarations.{spec_of}
+use Rattle.process_terms.specs.PlainProcesses.{plain_equation}
+use Rattle.lps_core.specs.PlainLinears.{plain_linear}
+use Rattle.lps_printer.specs.PrintedLinears.{IsPrinted}
+use Rattle.lin_driver.specs.Headline.{StandsFor}
+use Rattle.lin_driver.proofs.MadeTexts.{printed_for_stands_for}
+use Rattle.lin_driver.proofs.Refused.{if_ok, no_fault_refused}
+use Rattle.lin_driver.proofs.linear_texts.linear_text.Goals as goal
+
+pub print_out-requires-clause-fits : goal.print_out-requires-clause-fits
+print_out-requires-clause-fits c = c.in_ok-made.ensures.linearised.fits
+
+pub print_out-requires-clause-name : goal.print_out-requires-clause-name
+print_out-requires-clause-name c = let n = c.in_ok-made.ensures.made.made.name in slice_get_within c.in_ok-made.made.sig.texts c.in_ok-made.made.name.0 n.text n.named
+
+pub returns-clause-stands_for : goal.returns-clause-stands_for
+returns-clause-stands_for c =
+    let made = c.in_ok-made.made in
+    if_ok c.print_out.result (λ text. (h : Sig) × IsSignature h × IsPrinted (spec_of made.spec) made.sig h made.pool.trees made.name (plain_linear made.lin) text.items) (λ printed. StandsFor c.args.text.now printed.items)
+    (λ printed w. printed_for_stands_for c.args.text.now printed.items (spec_of made.spec) made.sig w.0 made.pool.trees (map plain_equation made.theory.equations.items) made.name (plain_linear made.lin) c.in_ok-made.ensures.made w.1 w.2)
+    c.print_out.ensures.written
+
+pub returns-clause-refused : goal.returns-clause-refused
+returns-clause-refused c = no_fault_refused c.print_out.result c.args.text.now c.linearise.new.names c.print_out.ensures.no_fault

@@ -1,0 +1,7 @@
+use Rattle.std.proofs.Common.{◌≡◌}
+use Rattle.lin_driver.specs.declared.fault.LinFault.TheVariants.{NoMemory}
+use Rattle.lin_driver.proofs.Refused.{is_told}
+use Rattle.lin_driver.proofs.linear_texts.print_out.Goals as goal
+
+pub returns-in_err-text-clause-no_fault : goal.returns-in_err-text-clause-no_fault
+returns-in_err-text-clause-no_fault c = is_told c.from_residual.result (λ fault. fault ≡ NoMemory) c.from_residual.ensures.1

@@ -1,0 +1,56 @@
+//! The text of the linear process of a text.
+
+ghost use Rattle.std.specs.Prelude.{◌≡◌, ◌≢◌, ◌<◌, IfErr, IfOk, length};
+ghost use Rattle.data_theory.specs.Signature.{Sig};
+ghost use Rattle.data_theory.specs.WholeSignatures.{IsSignature};
+ghost use Rattle.mcrl2_syntax.specs.Declarations.{spec_of};
+ghost use Rattle.lps_core.specs.Fitting.{Fits};
+ghost use Rattle.lps_core.specs.PlainLinears.{plain_linear};
+ghost use Rattle.lps_printer.specs.PrintedLinears.{IsPrinted};
+ghost use Rattle.lin_driver.specs.Headline.{StandsFor};
+ghost use Rattle.lin_driver.specs.Refusals.{IsRefusedWith};
+
+use crate::fault::LinFault;
+use crate::linearising::{Linearised, linearise};
+use crate::methods::Method;
+use data_theory::Names;
+use lps_printer::print;
+use std::alloc::Global;
+
+/// What was made of a text, printed.
+fn print_out(alloc: Global, made: Linearised) -> Result<Vec<u8>, LinFault>
+    requires fits { Fits made.sig made.pool.trees (plain_linear made.lin) }
+    requires name { made.name.0 < length made.sig.texts }
+    ensures written { IfOk result (λ text. (h : Sig) × IsSignature h × IsPrinted (spec_of made.spec) made.sig h made.pool.trees made.name (plain_linear made.lin) text.items) }
+    ensures no_fault { IfErr result (λ fault. fault ≡ LinFault.NoMemory) }
+{
+    let Linearised {
+        spec,
+        sig,
+        pool,
+        theory: _,
+        name,
+        lin,
+        components: _,
+    } = made;
+    let mut sig = sig;
+    let text = print(alloc, &spec, &mut sig, &pool, name, &lin)?;
+    let _ = sig.next_sort();
+    Ok(text)
+}
+
+/// The text of the linear process of a text without parallel operators whose form is tail.
+///
+/// It stands for the given text: it has the same data and at most constants behind them, and where these are consistent, both processes
+/// are bisimilar by a named link (Groote and Mousavi, strong bisimilarity).
+///
+/// # Errors
+///
+/// Those of [`linearise`](crate::linearise) with the method `Auto`.
+pub fn linear_text(alloc: Global, text: &[u8], names: &mut Names) -> Result<Vec<u8>, LinFault>
+    ensures stands_for { IfOk result (λ printed. StandsFor text.now printed.items) }
+    ensures refused { IfErr result (λ fault. fault ≢ LinFault.NoMemory → IsRefusedWith text.now names.new fault) }
+{
+    let made = linearise(alloc, text, names, Method::Auto)?;
+    print_out(alloc, made)
+}

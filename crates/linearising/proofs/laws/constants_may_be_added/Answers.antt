@@ -1,5 +1,0 @@
-use Rattle.linearising.proofs.AddedConstants.{constants_may_be_added}
-use Rattle.linearising.proofs.laws.constants_may_be_added.Goals as goal
-
-pub returns : goal.returns
-returns c = constants_may_be_added

@@ -1,5 +1,0 @@
-use Rattle.linearising.proofs.EqualLinears.{equal_linears_are_good}
-use Rattle.linearising.proofs.laws.equal_linears_are_good.Goals as goal
-
-pub returns : goal.returns
-returns c = equal_linears_are_good

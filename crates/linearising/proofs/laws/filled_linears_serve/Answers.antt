@@ -1,5 +1,0 @@
-use Rattle.linearising.proofs.FilledLinears.{filled_linears_serve}
-use Rattle.linearising.proofs.laws.filled_linears_serve.Goals as goal
-
-pub returns : goal.returns
-returns c = filled_linears_serve
