@@ -3,7 +3,7 @@
 use crate::refusals::refusal;
 use crate::texts::{push_line, text_of};
 use data_theory::Names;
-use linearising::linear_text;
+use lin_driver::linear_text;
 use std::alloc::{AllocError, Global};
 
 /// What is printed for a text, as a line, or the line that says why there is nothing.

@@ -2,7 +2,7 @@
 
 use data_theory::{NameId, Names};
 use guard_check::GuardFault;
-use linearising::LinFault;
+use lin_driver::LinFault;
 use mcrl2_lexer::LexFault;
 use mcrl2_parser::ParseFault;
 use proc_unfold::NetFault;
