@@ -1,42 +1,84 @@
 //! What is said of a text.
 
 ghost use Rattle.std.specs.List.{All, Contains};
+ghost use Rattle.data_theory.specs.IdTerms.{IsTreeWithin};
 ghost use Rattle.mcrl2_syntax.specs.Declarations.{spec_of};
-ghost use Rattle.mcrl2_syntax.specs.TreeWords.{IsSpecOfWords};
+ghost use Rattle.mcrl2_syntax.specs.ProcessParts.{label_of};
+ghost use Rattle.mcrl2_syntax.specs.TreeWords.{IsLabelOfWords, IsSpecOfWords};
 ghost use Rattle.sort_table.specs.Identifiers.{identifiers_in};
 ghost use Rattle.sort_table.specs.PlacedSections.{IsPlaced};
 
 use data_theory::{Names, Signature};
 use mcrl2_lexer::lex;
-use mcrl2_parser::parse;
-use mcrl2_syntax::Spec;
-use sort_checker::{FoundFault, ill_typed};
+use mcrl2_parser::{LabelFault, parse, parse_label};
+use mcrl2_syntax::{LabelTree, Spec};
+use sort_checker::{FoundFault, elaborate_label, ill_typed};
 use sort_table::build;
 use std::alloc::{AllocError, Global};
+use term_pool::Pool;
 
 /// The answer to a line.
 pub fn answer(alloc: Global, line: &str) -> Result<Vec<u8>, AllocError> {
     if line.starts_with('%') {
         return line.as_bytes().to_vec(alloc);
     }
-    let Ok(tokens) = lex(alloc, line.as_bytes()) else {
+    let (text, label) = match line.split_once('@') {
+        Some((text, label)) => (text, Some(label)),
+        None => (line, None),
+    };
+    let Ok(tokens) = lex(alloc, text.as_bytes()) else {
         return b"no tokens".to_vec(alloc);
     };
     let Ok(spec) = parse(alloc, &tokens) else {
         return b"no tree".to_vec(alloc);
     };
-    spec_text(alloc, &spec)
+    spec_text(alloc, &spec, label)
 }
 
-/// The first fault of a specification, over the signature that is built of it.
-fn spec_text(alloc: Global, spec: &Spec) -> Result<Vec<u8>, AllocError>
+/// The first fault of a specification, over the signature that is built of it, or what a label is over it.
+fn spec_text(alloc: Global, spec: &Spec, label: Option<&str>) -> Result<Vec<u8>, AllocError>
     requires words { IsSpecOfWords (spec_of spec.now) }
     requires placed { IsPlaced (spec_of spec.now) }
 {
     let mut names = Names::new(alloc);
     match build(alloc, spec, &mut names) {
-        Ok(sig) => typed_text(alloc, &sig, spec),
+        Ok(sig) => match label {
+            Some(line) => label_text(alloc, &sig, line),
+            None => typed_text(alloc, &sig, spec),
+        },
         Err(_) => b"refused declarations".to_vec(alloc),
+    }
+}
+
+/// What a line is over a signature: a label, with the number of its actions and of the terms that are made for it, or none.
+fn label_text(alloc: Global, sig: &Signature, line: &str) -> Result<Vec<u8>, AllocError> {
+    let Ok(tree) = parse_label(alloc, line.as_bytes()) else {
+        return b"spells no label".to_vec(alloc);
+    };
+    match Pool::new(alloc) {
+        Ok(pool) => found_label(alloc, sig, pool, &tree),
+        Err(_) => b"no memory".to_vec(alloc),
+    }
+}
+
+/// What a tree is over a signature.
+fn found_label(
+    alloc: Global,
+    sig: &Signature,
+    pool: Pool,
+    tree: &LabelTree,
+) -> Result<Vec<u8>, AllocError>
+    requires words { IsLabelOfWords (label_of tree.now) }
+    requires trees { All (IsTreeWithin sig.now) pool.trees }
+{
+    let mut pool = pool;
+    match elaborate_label(alloc, tree, sig, &mut pool) {
+        Ok(label) => {
+            let text = format!(in alloc; "{} actions, {} terms", label.actions.len(), pool.len())?;
+            text.as_bytes().to_vec(alloc)
+        }
+        Err(LabelFault::NotALabel) => b"not a label".to_vec(alloc),
+        Err(LabelFault::NoMemory) => b"no memory".to_vec(alloc),
     }
 }
 
