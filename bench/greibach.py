@@ -73,9 +73,9 @@ def conditions(count):
 
 
 def parameters(count):
-    """So many parameters, each of which one summand needs."""
+    """So many parameters of one name, each of which one summand needs."""
     names = [f"x{i}" for i in range(count)]
-    declared = ["act a Nat", *(f"var {name} {name} Nat" for name in names)]
+    declared = ["act a Nat", *(f"var {name} x Nat" for name in names)]
     steps = "".join(f"do a {name}; " for name in names) + f"choice {count}"
     return case(declared, [" ".join(names) + " | " + steps], "call 1 " + " ".join(["0n"] * count))
 

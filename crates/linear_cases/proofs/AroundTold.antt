@@ -18,7 +18,7 @@ use Rattle.lps_core.proofs.Members.{contains_map}
 use Rattle.action_filters.specs.Filters.{HaveTargets, RenamesOnce}
 use Rattle.communication.specs.PlaceConditions.{AllHave, HaveResults}
 use Rattle.linear_cases.specs.AroundTests.{agree, are_once, IsLed, IsLedAlong, LeadsTo, LeftLeadsToResult}
-use Rattle.linear_cases.proofs.TestedForms.{all_passed}
+use Rattle.linear_cases.proofs.TestedTerms.{all_passed}
 
 pub led_told : (g : Sig) (from to : NameId) (es : List ActEntry) → actions_of es ≡ g.actions → All (IsLed g from to) es → LeadsTo g from to
 led_told g from to es q h = λ ss i.

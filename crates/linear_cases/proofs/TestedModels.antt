@@ -1,5 +1,5 @@
 -- A specification that passes the test may be brought into Greibach form.
-use Rattle.std.proofs.Common.{◌≡◌, ◌<◌, ◌+◌, ◌&&◌, ⊎_elim, ℕ, true, List, [], ◌∷◌, ◌++◌, map, length, refl, sym, ap, subst, arith, Some, Option, None}
+use Rattle.std.proofs.Common.{◌≡◌, ◌<◌, ◌+◌, ◌&&◌, ⊎_elim, ℕ, true, List, [], ◌∷◌, ◌++◌, map, length, get_or, refl, sym, ap, ◌∙◌, subst, arith, Some, Option, None}
 use Rattle.std.specs.Prelude.{slice_get, Contains}
 use Rattle.std.specs.List.{All, list_all}
 use Rattle.std.proofs.lemmas.Bool.{cases_lt}
@@ -25,7 +25,10 @@ use Rattle.lps_core.proofs.Staying.{term_is}
 use Rattle.proc_unfold.specs.FittingModels.{TermFits, TermsFit, ActionFits, CallFits, ProcessFits, ProcessesFit, DefinitionFits, ModelFits, ComponentFits}
 use Rattle.proc_unfold.specs.Parallel.{HasParallel, HasParallelBody, IsParallelName, IsSequential}
 use Rattle.greibach.specs.Scopes.{BindsAnew, HasOwnVariables, HaveOwnVariables, HasSequentialBodies, BindsItsVariablesOnce}
-use Rattle.greibach.specs.Surroundings.{HasTakenNames}
+use Rattle.greibach.specs.Surroundings.{HasUsableName, HasUsableNames, IsIdentifier}
+use Rattle.mcrl2_lexer.specs.Words.{is_letter}
+use Rattle.data_theory.specs.declared.signature.Variable.{Variable}
+use Rattle.std.proofs.lemmas.Option.{get_or_from_slice_get}
 use Rattle.greibach.proofs.ScopeLemmas.{binds_moved}
 use Rattle.linear_cases.specs.FormTests.{PlainKnown, IsKnown, is_known_variable, has_sort, have_sorts, is_over, are_over, differ, are_apart, params_sorts, are_sums, is_action}
 use Rattle.linear_cases.specs.ModelTests.{is_called_of, is_called, is_process, are_processes, is_definition, is_model, started}
@@ -33,11 +36,25 @@ use Rattle.linear_cases.proofs.KnownTerms.{both, term_sorted}
 use Rattle.linear_cases.proofs.TestedTerms.{all_passed, differ_told, apart_told, variables_known, over_told, terms_told, action_told}
 
 -- the last variable, and those before it
-pub taken_names : (g : Sig) (n : ℕ) → length g.variables ≡ n + 1 → ((k : ℕ) → k < n → HasTakenName g (record { 0 = k })) → HasTakenName g (record { 0 = n }) → HasTakenNames g
-taken_names g n l others last x v = ⊎_elim
+pub usable_names : (g : Sig) (n : ℕ) → length g.variables ≡ n + 1 → ((k : ℕ) → k < n → HasUsableName g (record { 0 = k })) → HasUsableName g (record { 0 = n }) → HasUsableNames g
+usable_names g n l others last x v = ⊎_elim
     (λ m. others x.0 m)
-    (λ m. let e : n ≡ x.0 = omega (arith, v, l, m) in subst (λ k. HasTakenName g (record { 0 = k })) e last)
+    (λ m. let e : n ≡ x.0 = omega (arith, v, l, m) in subst (λ k. HasUsableName g (record { 0 = k })) e last)
     (cases_lt x.0 n)
+
+-- a letter is an identifier
+pub one_letter : (t : List ℕ) → length t ≡ 1 → is_letter (get_or t 0 0) ≡ true → IsIdentifier t
+one_letter [] l e = cc
+one_letter (b ∷ []) l e = (ap (λ z. z && true) e, refl)
+one_letter (b ∷ c ∷ t) l e = absurd (omega (arith, l))
+
+pub usable_name : (g : Sig) (x : VarId) (v : Variable) (t : List ℕ) → slice_get g.variables x.0 ≡ Some v → slice_get g.texts v.name.0 ≡ Some t → HasTakenName g x → IsIdentifier t → HasUsableName g x
+usable_name g x v t at named taken is = record {
+  taken = taken;
+  text = t;
+  named = ap (λ (z : Variable). slice_get g.texts z.name.0) (get_or_from_slice_get g.variables x.0 v (record { name = record { 0 = 0 }; sort = record { 0 = 0 } }) at) ∙ named;
+  identifier = is;
+}
 
 -- the operands one by one
 pub processes_listed : (g : Sig) (k : PlainKnown) (ds : List PlainDefinition) (scope : List VarId) (ps : List PlainProcess) → are_processes g k ds scope (processes_of ps) ≡ list_all (is_process g k ds scope) ps

@@ -34,7 +34,7 @@ pub fn has_taken_name(sig: &Signature, variable: VarId) -> bool
 }
 
 /// Whether the names of so many variables are taken.
-pub fn have_taken_names(sig: &Signature, count: usize) -> bool
+fn have_taken_names(sig: &Signature, count: usize) -> bool
     requires { count ≤ length sig.now.variables }
     ensures { IsTrue result → (k : ℕ) → k < count → HasTakenName sig.now (record { 0 = k }) }
 {

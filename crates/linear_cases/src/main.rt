@@ -7,7 +7,8 @@
 //!   of a sort, and an action with its sorts.
 //! - `var x n D` is a variable with the name `n`, which the case calls `x`.
 //! - `process x y | steps` is a definition with these parameters. Definitions are numbered from 1.
-//! - `component steps` is where they start: a call, or a term. Then the form is the Greibach form of that, if there is one.
+//! - `component steps` is where they start: a call, or a term. Then the form is the Greibach form of that, if there is one. All variables of
+//!   the case have to be named by one letter then.
 //! - `equation x y` begins an equation with these parameters.
 //! - `summand x | condition | a t, b | 2 t u` is a summand of the last equation: its sum variables, its condition, the actions of its
 //!   label with their arguments, and its calls with theirs.

@@ -1,20 +1,23 @@
 //! The Greibach form of a specification's start, where a test says that it may be made.
 
-ghost use Rattle.std.specs.Prelude.{◌≡◌, ◌≤◌, ◌&&◌, length, map, IfOk, IsTrue};
+ghost use Rattle.std.specs.Prelude.{◌≡◌, ◌≤◌, ◌<◌, ◌&&◌, ℕ, length, map, IfOk, IsTrue};
 ghost use Rattle.std.specs.List.{list_all};
 ghost use Rattle.data_theory.specs.Table.{bool_sort};
 ghost use Rattle.process_terms.specs.PlainProcesses.{plain_component, plain_definition, plain_label, plain_model, plain_process, processes_of};
 ghost use Rattle.proc_unfold.specs.FittingModels.{ComponentFits, ModelFits};
 ghost use Rattle.greibach.specs.Scopes.{BindsItsVariablesOnce, HasSequentialBodies};
-ghost use Rattle.greibach.specs.Surroundings.{HasTakenNames};
+ghost use Rattle.mcrl2_lexer.specs.Words.{is_letter};
+ghost use Rattle.lps_core.specs.Fitting.{IsVariable};
+ghost use Rattle.greibach.specs.Surroundings.{HasUsableName, HasUsableNames, IsIdentifier};
 ghost use Rattle.linear_cases.specs.FormTests.{has_sort, is_action, is_over, plain_known};
 ghost use Rattle.linear_cases.specs.ModelTests.{are_processes, is_called, is_definition, is_model, is_process, started};
 
 use crate::fitting::{
-    BOOL, are_actions, are_args, are_sums, are_variables, differ, has_taken_name, have_taken_names,
-    numbers_of, scope_of,
+    BOOL, are_actions, are_args, are_sums, are_variables, differ, has_taken_name, numbers_of,
+    scope_of,
 };
 use crate::known::{Known, count_variables, what_is_known};
+use crate::shown::variable_text;
 use data_theory::{NoMemory, ProcId, Signature, TermId, VarId};
 use greibach::{Greibach, normal_form};
 use guard_check::{GuardFault, check, has_declared_calls};
@@ -148,6 +151,48 @@ fn is_model(alloc: Global, sig: &Signature, known: &Known, model: &Model) -> Res
     is_process(tested, &[], &model.init)
 }
 
+/// Whether a byte is a letter or `_`.
+fn is_letter(byte: u8) -> bool
+    ensures { result ≡ is_letter byte }
+{
+    byte.is_ascii_alphabetic() || byte == b'_'
+}
+
+/// Whether a text is one letter. Then it is an identifier.
+fn is_one_letter(text: &str) -> bool
+    ensures { IsTrue result → IsIdentifier text.now }
+{
+    let bytes = text.as_bytes();
+    if bytes.len() != 1 {
+        return false;
+    }
+    is_letter(bytes[0])
+}
+
+/// Whether the name of a variable is taken, and is one letter.
+fn has_usable_name(sig: &Signature, variable: VarId) -> bool
+    requires { IsVariable sig.now variable }
+    ensures { IsTrue result → HasUsableName sig.now variable }
+{
+    if !has_taken_name(sig, variable) {
+        return false;
+    }
+    is_one_letter(variable_text(sig, variable))
+}
+
+/// Whether the names of so many variables are.
+fn have_usable_names(sig: &Signature, count: usize) -> bool
+    requires { count ≤ length sig.now.variables }
+    ensures { IsTrue result → (k : ℕ) → k < count → HasUsableName sig.now (record { 0 = k }) }
+{
+    for number in 0..count {
+        if !has_usable_name(sig, VarId(number)) {
+            return false;
+        }
+    }
+    true
+}
+
 /// Whether the start of a specification may be brought into Greibach form. A variable is added, to tell how many there are.
 fn may_be_unfolded(
     alloc: Global,
@@ -155,7 +200,7 @@ fn may_be_unfolded(
     sig: &mut Signature,
     pool: &Pool,
 ) -> Result<bool, NoMemory>
-    ensures names { IfOk result (λ yes. IsTrue yes → HasTakenNames sig.new) }
+    ensures names { IfOk result (λ yes. IsTrue yes → HasUsableNames sig.new) }
     ensures model { IfOk result (λ yes. IsTrue yes → ModelFits sig.new pool.now.trees (plain_model model.now)) }
     ensures component { IfOk result (λ yes. IsTrue yes → ComponentFits sig.new pool.now.trees (plain_model model.now).definitions (started (plain_process model.now.init))) }
     ensures sequential { IfOk result (λ yes. IsTrue yes → HasSequentialBodies (plain_model model.now) (started (plain_process model.now.init))) }
@@ -164,7 +209,7 @@ fn may_be_unfolded(
     let count = count_variables(sig)?;
     let known = what_is_known(alloc, sig, pool, count)?;
     signature_stands(sig);
-    if !have_taken_names(sig, count) || !has_taken_name(sig, VarId(count)) {
+    if !have_usable_names(sig, count) || !has_usable_name(sig, VarId(count)) {
         return Ok(false);
     }
     let fits = is_model(alloc, sig, &known, model)?;
