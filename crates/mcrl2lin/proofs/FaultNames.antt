@@ -1,6 +1,7 @@
 -- The names of a fault have texts.
 use Rattle.std.proofs.Common.{◌≡◌, ◌≢◌, ◌<◌, ◌+◌, ℕ, zero, suc, List, [], ◌∷◌, ◌++◌, Some, map, length, slice_get, sym, ap, subst, ◌∙◌, arith, length-append}
 use Rattle.std.specs.Prelude.{slice_index}
+use Rattle.std.proofs.lemmas.Option.{none-some}
 use Rattle.std.specs.List.{AllByRecursion}
 use Rattle.data_theory.specs.declared.ids.NameId.{NameId}
 use Rattle.data_theory.specs.Complete.{BeginsWith}
@@ -58,7 +59,7 @@ definitions_named g texts begins (w ∷ ws) (d ∷ ds) all =
 
 -- what is called from there is a definition
 called : (e : Entries) (ds : List PlainDefinition) (n : Extent) (x y : ℕ) → Calls n (table_of e ds) x y → x < length ds
-called e [] n x y c = cc
+called e [] n x y c = absurd (none-some c.0 c.1)
 called e (d ∷ ds) n zero y c = omega arith
 called e (d ∷ ds) n (suc x) y c = let inside = called e ds n x y c in omega (arith, inside)
 
