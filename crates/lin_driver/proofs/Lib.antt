@@ -16,7 +16,7 @@ mod LinearisedTexts
 mod SortedTerms
 mod ElaboratedModels
 mod ModelsOfTexts
-mod OneStart
+pub mod OneStart
 mod Refused
 mod MadeLinears
 mod ReadingBack
