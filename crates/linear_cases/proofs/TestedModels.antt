@@ -35,12 +35,13 @@ use Rattle.linear_cases.specs.ModelTests.{is_called_of, is_called, is_process, a
 use Rattle.linear_cases.proofs.KnownTerms.{both, term_sorted}
 use Rattle.linear_cases.proofs.TestedTerms.{all_passed, differ_told, apart_told, variables_known, over_told, terms_told, action_told}
 
+-- what holds of each number below one, and of that one
+pub before_or_there : (P : ℕ → Type 0) (n : ℕ) → ((k : ℕ) → k < n → P k) → P n → (k : ℕ) → k < n + 1 → P k
+before_or_there P n before there k l = ⊎_elim (λ m. before k m) (λ m. let e : n ≡ k = omega (arith, l, m) in subst P e there) (cases_lt k n)
+
 -- the last variable, and those before it
 pub usable_names : (g : Sig) (n : ℕ) → length g.variables ≡ n + 1 → ((k : ℕ) → k < n → HasUsableName g (record { 0 = k })) → HasUsableName g (record { 0 = n }) → HasUsableNames g
-usable_names g n l others last x v = ⊎_elim
-    (λ m. others x.0 m)
-    (λ m. let e : n ≡ x.0 = omega (arith, v, l, m) in subst (λ k. HasUsableName g (record { 0 = k })) e last)
-    (cases_lt x.0 n)
+usable_names g n l others last x v = let below : x.0 < n + 1 = omega (arith, v, l) in before_or_there (λ (k : ℕ). HasUsableName g (record { 0 = k })) n others last x.0 below
 
 -- a letter is an identifier
 pub one_letter : (t : List ℕ) → length t ≡ 1 → is_letter (get_or t 0 0) ≡ true → IsIdentifier t
