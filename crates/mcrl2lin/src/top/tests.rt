@@ -148,7 +148,7 @@ const ROWS: [Row; 16] = [
     },
     Row {
         name: "the error output fails at its second write",
-        text: b"init delta;",
+        text: b"init forall;",
         err_fails: &[2],
         status: Status::Refused,
         out: b"",
