@@ -3,6 +3,7 @@ pub mod FilledLinears
 pub mod OneComponents
 pub mod TakenNames
 pub mod NamedSignatures
+pub mod FittingOperators
 pub mod Faults
 pub mod ModelLinears
 pub mod Headline
