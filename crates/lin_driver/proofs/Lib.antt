@@ -14,6 +14,7 @@ pub mod AddedConstants
 mod ModelLinears
 mod LinearisedTexts
 mod SortedTerms
+mod FittingOperators
 mod ElaboratedModels
 mod ModelsOfTexts
 pub mod OneStart

@@ -30,6 +30,7 @@ use Rattle.greibach.specs.Scopes.{HaveOwnVariables, HasSequentialBodies, BindsIt
 use Rattle.regular_encoder.specs.FormColumns.{ParamsHaveOwnNames}
 use Rattle.regular_encoder.specs.Refusals.{IsFirstWithTwoCalls}
 use Rattle.lps_printer.specs.GrowingByConstants.{GrowsByConstants}
+use Rattle.lin_driver.specs.FittingOperators.{OperatorsFit}
 use Rattle.lin_driver.specs.OneComponents.{HasParallelOperator}
 use Rattle.lin_driver.specs.TakenNames.{HaveIdentifiers}
 use Rattle.guard_check.specs.declared.checking.GuardFault.TheVariants as guard
@@ -38,7 +39,7 @@ use Rattle.lin_driver.specs.declared.fault.ModelFault.{ModelFault}
 use Rattle.lin_driver.specs.declared.fault.ModelFault.TheVariants.{Net, NotBuilt, Guard, NotTail, NoMemory}
 
 -- What is asked of a specification: it is well formed over the signature and the pool, no binder takes a variable that is in scope, no
--- sort is empty, the pool's constants are those of the signature, and variables are named by identifiers.
+-- sort is empty, the pool's constants are those of the signature, variables are named by identifiers, and its operators fit the actions.
 pub record CanBeLinear (g : Sig) (p : PoolContents) (m : PlainModel) : Type 0 where
   pub stands : IsSignature g
   pub fits : ModelFits g p.trees m
@@ -46,6 +47,7 @@ pub record CanBeLinear (g : Sig) (p : PoolContents) (m : PlainModel) : Type 0 wh
   pub inhabited : NoSortIsEmpty (data_meant g)
   pub constants : AreConstants g p.constants
   pub names : HaveIdentifiers g
+  pub operators : OperatorsFit g m
 
 abbrev pub component_process : Entries → PlainModel → PlainComponent → Process
 component_process e m c = close (table_of e m.definitions) [] (component_body e c)
