@@ -15,6 +15,7 @@ mod ModelLinears
 mod LinearisedTexts
 mod SortedTerms
 mod FittingOperators
+mod OpenedOperators
 mod ElaboratedModels
 mod ModelsOfTexts
 pub mod OneStart
