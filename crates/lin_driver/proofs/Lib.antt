@@ -16,6 +16,7 @@ mod LinearisedTexts
 mod SortedTerms
 mod FittingOperators
 mod OpenedOperators
+mod ProductNames
 mod ElaboratedModels
 mod ModelsOfTexts
 pub mod OneStart

@@ -139,7 +139,7 @@ encoding_named g h p q f l fits e all =
     firsts_named c.values (control_named c.control (columns_named c.columns (kinds_named g f all params) all))
 
 -- ---- sums
-sum_named : {IsOne : NameId → Type 0} {g h : Sig} {x y : VarId} → IsNamed IsOne g x h y → IsVariable g x → HaveIdentifiers g → HaveIdentifiers h
+pub sum_named : {IsOne : NameId → Type 0} {g h : Sig} {x y : VarId} → IsNamed IsOne g x h y → IsVariable g x → HaveIdentifiers g → HaveIdentifiers h
 sum_named (it_stays n) l all = all
 sum_named {g = g} {x = x} (it_is_new {h = h} {base = base} {name = name} i at f) l all =
     let u = all x l in
