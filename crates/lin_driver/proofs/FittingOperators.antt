@@ -16,7 +16,7 @@ use Rattle.data_theory.specs.IdTrees.{Tree}
 use Rattle.data_theory.specs.WholeSignatures.{IsSignature}
 use Rattle.term_pool.specs.Pools.{PoolContents}
 use Rattle.process_terms.specs.Processes as written
-use Rattle.process_terms.specs.Processes.{Renaming, Bound, Body, written_delta, written_act, written_choice, written_seq, written_cond, written_sum, written_call, written_merge, written_around, chain_of, merge_of, merged_with, sums_around}
+use Rattle.process_terms.specs.Processes.{Renaming, Bound, Body, written_delta, written_act, written_choice, written_seq, written_cond, written_sum, written_call, written_merge, written_around, sums_around}
 use Rattle.process_terms.specs.PlainProcesses.{PlainRule, PlainAround, allow, block, hide, rename, comm, PlainProcess, PlainProcesses, delta, act, call, choice, seq, cond as either, sum, merge, around, no_processes, more_processes, PlainDefinition, PlainModel}
 use Rattle.process_terms.specs.Meanings.{Entries, name_at, bound_at, rule_of, renaming_of, around_of, body_of, bodies_of, HasRenaming, HasAround, HasProcess, HasProcesses, HasDefinition}
 use Rattle.process_terms.specs.SignatureEntries.{entries_of}
@@ -40,6 +40,7 @@ use Rattle.sort_checker.proofs.SoundElaborations.{both_true, not_false}
 use Rattle.lps_core.proofs.Members.{map_contains, contains_map}
 use Rattle.action_filters.specs.Filters.{IsNameIn, RenamesOnce, HaveTargets}
 use Rattle.communication.specs.PlaceConditions.{RuleNamesIn, HaveResults}
+use Rattle.lin_driver.proofs.BodyLists.{chain_holds, chain_parts, merge_holds, merge_parts}
 use Rattle.lin_driver.specs.ElaboratedModels.{IsDefinitionOf, IsElaborated}
 use Rattle.lin_driver.specs.FittingOperators.{OperatorFits, HasFittingOperators, HaveFittingOperators, OperatorsFit}
 
@@ -57,35 +58,6 @@ FitsIn v (written_merge p q) = FitsIn v p × FitsIn v q
 FitsIn v (written_around o p) = Fits v o × FitsIn v p
 
 module _ (v : FullVocabulary) where
-  abbrev Each : List Body → Type 0
-  Each bs = AllByRecursion (FitsIn v) bs
-
-  chain_fits : (op : Body → Body → Body) → ((p q : Body) → FitsIn v p → FitsIn v q → FitsIn v (op p q)) → (bs : List Body) → Each bs → FitsIn v (chain_of op bs)
-  chain_fits op w [] h = tt
-  chain_fits op w (b ∷ []) h = h.0
-  chain_fits op w (b ∷ c ∷ bs) h = w b (chain_of op (c ∷ bs)) h.0 (chain_fits op w (c ∷ bs) h.1)
-
-  chain_parts : (op : Body → Body → Body) → ((p q : Body) → FitsIn v (op p q) → FitsIn v p × FitsIn v q) → (bs : List Body) → FitsIn v (chain_of op bs) → Each bs
-  chain_parts op w [] h = tt
-  chain_parts op w (b ∷ []) h = (h, tt)
-  chain_parts op w (b ∷ c ∷ bs) h = let r = w b (chain_of op (c ∷ bs)) h in (r.0, chain_parts op w (c ∷ bs) r.1)
-
-  merged_fits : (b : Body) (bs : List Body) → FitsIn v b → Each bs → FitsIn v (merged_with b bs)
-  merged_fits b [] one h = one
-  merged_fits b (c ∷ bs) one h = merged_fits (written_merge b c) bs (one, h.0) h.1
-
-  merge_fits : (bs : List Body) → Each bs → FitsIn v (merge_of bs)
-  merge_fits [] h = tt
-  merge_fits (b ∷ bs) h = merged_fits b bs h.0 h.1
-
-  merged_parts : (b : Body) (bs : List Body) → FitsIn v (merged_with b bs) → FitsIn v b × Each bs
-  merged_parts b [] h = (h, tt)
-  merged_parts b (c ∷ bs) h = let r = merged_parts (written_merge b c) bs h in (r.0.0, (r.0.1, r.1))
-
-  merge_parts : (bs : List Body) → FitsIn v (merge_of bs) → Each bs
-  merge_parts [] h = tt
-  merge_parts (b ∷ bs) h = merged_parts b bs h
-
   around_sums : (xs : List Bound) (b : Body) → FitsIn v b → FitsIn v (sums_around xs b)
   around_sums [] b h = h
   around_sums (x ∷ xs) b h = around_sums xs b h
@@ -106,14 +78,14 @@ module _ (v : FullVocabulary) where
     fits_in (unseen f d) = (f, fits_in d)
     fits_in (renamed f d) = (f, fits_in d)
     fits_in (joined f d) = (f, fits_in d)
-    fits_in (in_sequence {bs = bs} ds) = chain_fits written_seq (λ p q h k. (h, k)) bs (each_fits_in ds)
-    fits_in (one_of {bs = bs} ds) = chain_fits written_choice (λ p q h k. (h, k)) bs (each_fits_in ds)
-    fits_in (side_by_side {bs = bs} ds) = merge_fits bs (each_fits_in ds)
+    fits_in (in_sequence {bs = bs} ds) = chain_holds (FitsIn v) written_seq tt (λ p q h k. (h, k)) bs (each_fits_in ds)
+    fits_in (one_of {bs = bs} ds) = chain_holds (FitsIn v) written_choice tt (λ p q h k. (h, k)) bs (each_fits_in ds)
+    fits_in (side_by_side {bs = bs} ds) = merge_holds (FitsIn v) tt (λ p q h k. (h, k)) bs (each_fits_in ds)
     fits_in (for_each {bounds = bounds} {b = b} s d) = around_sums bounds b (fits_in d)
     fits_in (where_true f d) = (fits_in d, tt)
     fits_in (by_truth f d k) = (fits_in d, fits_in k)
 
-    each_fits_in : {scope : Scope} {ps : bare.Processes} {bs : List Body} → AllElaborate v scope ps bs → Each bs
+    each_fits_in : {scope : Scope} {ps : bare.Processes} {bs : List Body} → AllElaborate v scope ps bs → AllByRecursion (FitsIn v) bs
     each_fits_in all_done = tt
     each_fits_in (one_and_more d ds) = (fits_in d, each_fits_in ds)
 
@@ -227,11 +199,11 @@ module _ (g : Sig) (sg : IsSignature g) where
         process_fits delta there h = tt
         process_fits (act m) there h = tt
         process_fits (call x ids) there h = tt
-        process_fits (choice ps) there h = processes_fit ps there (chain_parts v written_choice (λ p q k. k) (bodies_of e ps) h)
-        process_fits (seq ps) there h = processes_fit ps there (chain_parts v written_seq (λ p q k. k) (bodies_of e ps) h)
+        process_fits (choice ps) there h = processes_fit ps there (chain_parts (FitsIn v) written_choice (λ p q k. k) (bodies_of e ps) h)
+        process_fits (seq ps) there h = processes_fit ps there (chain_parts (FitsIn v) written_seq (λ p q k. k) (bodies_of e ps) h)
         process_fits (either c p q) there h = (process_fits p there.1 h.0, process_fits q there.2 h.1)
         process_fits (sum xs p) there h = process_fits p there.1 (inside_sums v (map (bound_at e) xs) (body_of e p) h)
-        process_fits (merge ps) there h = processes_fit ps there (merge_parts v (bodies_of e ps) h)
+        process_fits (merge ps) there h = processes_fit ps there (merge_parts (FitsIn v) (λ p q k. k) (bodies_of e ps) h)
         process_fits (around o p) there h = (operator_fits o there.0 (over_declared o h.0), process_fits p there.1 h.1)
 
         processes_fit : (ps : PlainProcesses) → HasProcesses e ps → AllByRecursion (FitsIn v) (bodies_of e ps) → HaveFittingOperators g ps

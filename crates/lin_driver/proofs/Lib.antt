@@ -14,6 +14,7 @@ pub mod AddedConstants
 mod ModelLinears
 mod LinearisedTexts
 mod SortedTerms
+mod BodyLists
 mod FittingOperators
 mod OpenedOperators
 mod ProductNames
