@@ -2,8 +2,8 @@
 use Rattle.std.proofs.Common.{◌≡◌, ◌<◌, ◌&&◌, ⊎_elim, ℕ, Bool, true, false, not, cond, List, [], ◌∷◌, length, map, refl, sym, ap, subst, ◌∙◌, Some, Option, bytes_eq}
 use Rattle.std.specs.Prelude.{None, slice_get}
 use Rattle.std.specs.List.{All, AllByRecursion, Contains, list_any, list_all}
-use Rattle.std.proofs.lemmas.Bool.{and_from}
 use Rattle.std.proofs.lemmas.List.Elements.{All-nil, All-cons, All-head, All-tail, All-contains}
+use Rattle.std.proofs.lemmas.List.Sums.{list_all-from_AllPass}
 use Rattle.std.proofs.lemmas.Slice.Eq.{bytes_eq-Decides}
 use Rattle.data_theory.specs.declared.ids.NameId.{NameId}
 use Rattle.data_theory.specs.declared.ids.SortId.{SortId}
@@ -37,7 +37,7 @@ use Rattle.sort_checker.proofs.CommRules.{all_of}
 use Rattle.sort_checker.proofs.ElaboratedEquations.{among_stands}
 use Rattle.sort_checker.proofs.NumberedActions.{actions_are_found_by_numbers, text_there}
 use Rattle.sort_checker.proofs.SoundElaborations.{both_true, not_false}
-use Rattle.lps_core.proofs.Members.{map_contains, contains_map}
+use Rattle.lps_core.proofs.Members.{all_from, map_contains, contains_map}
 use Rattle.action_filters.specs.Filters.{IsNameIn, RenamesOnce, HaveTargets}
 use Rattle.communication.specs.PlaceConditions.{RuleNamesIn, HaveResults}
 use Rattle.lin_driver.proofs.BodyLists.{chain_holds, chain_parts, merge_holds, merge_parts}
@@ -153,10 +153,6 @@ module _ (g : Sig) (sg : IsSignature g) where
         declared_is y ss (All-contains (HasRenaming e) rs (x, y) there i).1 (sorts_within x ss j) (all_of (has_action v (text_under g y)) (map (sort_under g) ss) (all_named (text_under g x) v.actions) fits old)
 
     -- ---- rules
-    to_all : {A : Type 0} (p : A → Bool) (xs : List A) → ((x : A) → Contains xs x → p x ≡ true) → list_all p xs ≡ true
-    to_all p [] h = refl
-    to_all p (x ∷ xs) h = and_from (p x) (list_all p xs) (h x (contains_first x xs)) (to_all p xs (λ y c. h y (contains_later x y xs c)))
-
     have_results : (cs : List PlainRule) → All (RuleNamesIn g) cs → list_all (rule_fits (vocabulary_of g)) (map (rule_of e) cs) ≡ true → HaveResults g cs
     have_results cs there h c n ss i j all =
         let v = vocabulary_of g in
@@ -166,9 +162,9 @@ module _ (g : Sig) (sg : IsSignature g) where
         let own : Contains g.actions (key n ss) = All-contains (λ (m : NameId). Contains g.actions (key m ss)) c.left n all j in
         let fits = all_of (rule_fits v) rule (map (rule_of e) cs) h (map_contains (rule_of e) cs c i) in
         let at = all_of (λ (a : Name × List Sort). rule_fits_at v rule a.1) (action_under g (key n ss)) v.actions fits (map_contains (action_under g) g.actions (key n ss) own) in
-        let left : list_all (λ x. has_action v x sorts) rule.left ≡ true = to_all (λ x. has_action v x sorts) rule.left (λ x k.
+        let left : list_all (λ x. has_action v x sorts) rule.left ≡ true = list_all-from_AllPass (λ x. has_action v x sorts) rule.left (all_from (λ x. has_action v x sorts ≡ true) rule.left (λ x k.
         let r = contains_map (name_at e) c.left x k in
-        subst (λ (t : Name). has_action v t sorts ≡ true) (sym r.1.1) (is_declared r.0 ss (All-contains (IsNameIn g) c.left r.0 names.0 r.1.0) (All-contains (λ (m : NameId). Contains g.actions (key m ss)) c.left r.0 all r.1.0))) in
+        subst (λ (t : Name). has_action v t sorts ≡ true) (sym r.1.1) (is_declared r.0 ss (All-contains (IsNameIn g) c.left r.0 names.0 r.1.0) (All-contains (λ (m : NameId). Contains g.actions (key m ss)) c.left r.0 all r.1.0)))) in
         declared_is c.result ss names.1 (sorts_within n ss own) (subst (λ (b : Bool). cond b (has_action v rule.result sorts) true ≡ true) left at)
 
     -- ---- operators

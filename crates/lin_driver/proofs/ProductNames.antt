@@ -7,6 +7,7 @@ use Rattle.std.proofs.lemmas.List.{map-append}
 use Rattle.std.proofs.lemmas.List.Elements.{All-contains, All-weaker, Contains-append_cases}
 use Rattle.data_theory.specs.declared.ids.NameId.{NameId}
 use Rattle.data_theory.specs.declared.ids.VarId.{VarId}
+use Rattle.data_theory.specs.declared.signature.Variable.{Variable}
 use Rattle.data_theory.specs.Environments.{AreDistinct}
 use Rattle.data_theory.specs.IdTerms.{IsGrown}
 use Rattle.data_theory.specs.IdTrees.{Tree}
@@ -36,7 +37,7 @@ use Rattle.summand_expander.specs.WholeProducts.{can_end, renewed_number, side_o
 use Rattle.summand_expander.proofs.DifferentNames.{run_grows, right_apart, all_names_differ}
 use Rattle.summand_expander.proofs.GivingWay.{HasGivenWay, has_given_way, none_new, all_stand, all_each}
 use Rattle.summand_expander.proofs.MadeProducts.{all_sums_are_variables}
-use Rattle.summand_expander.proofs.NewVariables.{variable_renewed, all_renewed}
+use Rattle.summand_expander.proofs.NewVariables.{variable_renewed}
 use Rattle.summand_expander.proofs.Separating.{IsNewFlag, FlagStands, flag_stands}
 use Rattle.lin_driver.specs.TakenNames.{HaveIdentifiers}
 use Rattle.lin_driver.proofs.NamedVariables.{fresh_text, fresh_named, named_more, sum_named}
@@ -180,18 +181,18 @@ record StillNamed (g h : Sig) : Type 0 where
 
 new_named : {P : NameId → Type 0} {g h : Sig} {x y : VarId} → IsNew P g x h y → IsVariable g x → HaveIdentifiers g → StillNamed g h
 new_named {g = g} {x = x} (under_its_name n) l all =
-    let v = record { name = name_of g x; sort = sort_of_variable g x } in
+    let v : Variable = record { name = name_of g x; sort = sort_of_variable g x } in
     record { grown = with_a_variable_it_is_grown g v; all = named_more g v (all x l) all }
-new_named {g = g} {x = x} (under_a_fresh_name {h = h} {base = base} {name = name} p at f) l all =
-    let v = record { name = name; sort = sort_of_variable g x } in
-    record { grown = growth_after_growth_is_growth g h (with_variable h v) (fresh_grows g base name h f) (with_a_variable_it_is_grown h v); all = sum_named (it_is_new p at f) l all }
+new_named {P = P} {g = g} {x = x} (under_a_fresh_name {h = h} {base = base} {name = name} p at f) l all =
+    let v : Variable = record { name = name; sort = sort_of_variable g x } in
+    record { grown = growth_after_growth_is_growth g h (with_variable h v) (fresh_grows g base name h f) (with_a_variable_it_is_grown h v); all = sum_named {IsOne = P} (it_is_new p at f) l all }
 
-one_named : {P : NameId → Type 0} {A : VarId → Type 0} {g h : Sig} {os ns us vs : List VarId} {x : VarId} → OneIsRenewed P A g os ns x h us vs → IsVariable g x → HaveIdentifiers g → StillNamed g h
+one_named : {P : NameId → Type 0} {A : VarId → Type 0} {g : Sig} {os ns : List VarId} {x : VarId} {h : Sig} {us vs : List VarId} → OneIsRenewed P A g os ns x h us vs → IsVariable g x → HaveIdentifiers g → StillNamed g h
 one_named {g = g} (it_has_been i) l all = record { grown = grown_itself g; all = all }
 one_named {g = g} (it_stays n o) l all = record { grown = grown_itself g; all = all }
 one_named (it_is_renewed a u i) l all = new_named i l all
 
-run_named : {P : NameId → Type 0} {A : VarId → Type 0} {g h : Sig} {os ns xs us vs : List VarId} → AreRenewed P A g os ns xs h us vs → All (IsVariable g) xs → HaveIdentifiers g → StillNamed g h
+run_named : {P : NameId → Type 0} {A : VarId → Type 0} {g : Sig} {os ns xs : List VarId} {h : Sig} {us vs : List VarId} → AreRenewed P A g os ns xs h us vs → All (IsVariable g) xs → HaveIdentifiers g → StillNamed g h
 run_named {g = g} no_variable l all = record { grown = grown_itself g; all = all }
 run_named {g = g} (one_variable {xs = xs} {h = h} {k = k} {x = x} a o) l all =
     let r = run_named a (all_front (IsVariable g) xs x l) all in
