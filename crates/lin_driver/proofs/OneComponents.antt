@@ -1,13 +1,14 @@
 -- The one component of a network: what it is, and why there is none.
 use Rattle.std.proofs.Common.{◌≡◌, ◌≤◌, ◌||◌, ◌⊎◌, inl, inr, ⊎_elim, ℕ, Bool, true, false, List, [], ◌∷◌, length, map, refl, ap, subst, Some, arith}
 use Rattle.std.specs.Prelude.{None, slice_get, Contains}
+use Rattle.std.specs.List.{AllByRecursion}
 use Rattle.std.proofs.lemmas.List.Elements.{Contains-append_left}
 use Rattle.data_theory.specs.declared.ids.VarId.{VarId}
 use Rattle.data_theory.specs.declared.ids.TermId.{TermId}
 use Rattle.data_theory.specs.Signature.{Sig}
 use Rattle.data_theory.specs.IdTrees.{Tree}
 use Rattle.graphs.specs.Graphs.{IsMarked}
-use Rattle.process_terms.specs.Processes.{Body, written_delta, written_act, written_choice, written_seq, written_cond, written_sum, written_call, written_merge, written_around, choice_of, seq_of, merged_with, merge_of, sums_around}
+use Rattle.process_terms.specs.Processes.{Body, written_delta, written_act, written_choice, written_seq, written_cond, written_sum, written_call, written_merge, written_around, merge_of, sums_around}
 use Rattle.process_terms.specs.PlainProcesses.{PlainProcess, PlainProcesses, delta, no_processes, more_processes, PlainDefinition, PlainModel, PlainComponent, term_of}
 use Rattle.process_terms.specs.Meanings.{Entries, bound_at, body_of, bodies_of, table_of, component_body}
 use Rattle.guard_check.specs.declared.calls.Extent.TheVariants.{Everywhere}
@@ -23,6 +24,7 @@ use Rattle.proc_unfold.specs.Opening.{Opens, AllOpen, term_kept, call_kept, call
 use Rattle.proc_unfold.specs.Unfolded.{IsOpened, IsComponentOf}
 use Rattle.proc_unfold.proofs.ParallelLemmas.{parallel_tells}
 use Rattle.greibach.specs.Scopes.{BindsAnew}
+use Rattle.lin_driver.proofs.BodyLists.{chain_holds, chain_parts, merge_holds, merge_parts}
 use Rattle.lin_driver.specs.OneComponents.{one_component, one_of, ReachesParallel, HasParallelOperator}
 
 pub not_one : (ns : List Network) → 2 ≤ length ns → None ≡ one_of (networks_of (map plain_network ns))
@@ -139,53 +141,19 @@ module _ (e : Entries) (ts : List Tree) where
     put_binds put_delta xs h = tt
     put_binds (put_act k) xs h = tt
     put_binds (put_call k) xs h = tt
-    put_binds (put_choice k) xs h = choice_binds k xs h
-    put_binds (put_seq k) xs h = seq_binds k xs h
+    put_binds (put_choice {ps = ps} {qs = qs} k) xs h = chain_holds (BindsAnew xs) written_choice tt (λ p q i j. (i, j)) (bodies_of e qs) (each_put_binds k xs (chain_parts (BindsAnew xs) written_choice (λ p q i. i) (bodies_of e ps) h))
+    put_binds (put_seq {ps = ps} {qs = qs} k) xs h = chain_holds (BindsAnew xs) written_seq tt (λ p q i j. (i, j)) (bodies_of e qs) (each_put_binds k xs (chain_parts (BindsAnew xs) written_seq (λ p q i. i) (bodies_of e ps) h))
     put_binds (put_cond k l r) xs h = (put_binds l xs h.0, put_binds r xs h.1)
     put_binds (put_sum {xs = zs} {p = p} {q = q} k) xs h = sums_put zs (body_of e p) (body_of e q) (λ ys j. put_binds k ys j) xs h
-    put_binds (put_merge none_put) xs h = tt
-    put_binds (put_merge (more_put {p = p} {q = q} k l)) xs h = merged_binds l xs (body_of e p) (body_of e q) (λ j. put_binds k xs j) h
+    put_binds (put_merge {ps = ps} {qs = qs} k) xs h = merge_holds (BindsAnew xs) tt (λ p q i j. (i, j)) (bodies_of e qs) (each_put_binds k xs (merge_parts (BindsAnew xs) (λ p q i. i) (bodies_of e ps) h))
     put_binds (put_around k) xs h = put_binds k xs h
 
-    choice_binds : {by : List (VarId × TermId)} {ps qs : PlainProcesses} → ArePutIn ts by ps qs → (xs : List ℕ) → BindsAnew xs (choice_of (bodies_of e ps)) → BindsAnew xs (choice_of (bodies_of e qs))
-    choice_binds none_put xs h = tt
-    choice_binds (more_put k none_put) xs h = put_binds k xs h
-    choice_binds (more_put k (more_put l r)) xs h = (put_binds k xs h.0, choice_binds (more_put l r) xs h.1)
-
-    seq_binds : {by : List (VarId × TermId)} {ps qs : PlainProcesses} → ArePutIn ts by ps qs → (xs : List ℕ) → BindsAnew xs (seq_of (bodies_of e ps)) → BindsAnew xs (seq_of (bodies_of e qs))
-    seq_binds none_put xs h = tt
-    seq_binds (more_put k none_put) xs h = put_binds k xs h
-    seq_binds (more_put k (more_put l r)) xs h = (put_binds k xs h.0, seq_binds (more_put l r) xs h.1)
-
-    merged_binds : {by : List (VarId × TermId)} {ps qs : PlainProcesses} → ArePutIn ts by ps qs → (xs : List ℕ) (b c : Body) → (BindsAnew xs b → BindsAnew xs c) → BindsAnew xs (merged_with b (bodies_of e ps)) → BindsAnew xs (merged_with c (bodies_of e qs))
-    merged_binds none_put xs b c w h = w h
-    merged_binds (more_put {p = p} {q = q} k l) xs b c w h = merged_binds l xs (written_merge b (body_of e p)) (written_merge c (body_of e q)) (λ j. (w j.0, put_binds k xs j.1)) h
-
--- each of these
-abbrev AllBind : List ℕ → List Body → Type 0
-AllBind xs [] = Unit {0}
-AllBind xs (b ∷ bs) = BindsAnew xs b × AllBind xs bs
-
-merged_parts : (xs : List ℕ) (b : Body) (bs : List Body) → BindsAnew xs (merged_with b bs) → BindsAnew xs b × AllBind xs bs
-merged_parts xs b [] h = (h, tt)
-merged_parts xs b (c ∷ bs) h = let r = merged_parts xs (written_merge b c) bs h in (r.0.0, (r.0.1, r.1))
-
-merge_parts : (xs : List ℕ) (bs : List Body) → BindsAnew xs (merge_of bs) → AllBind xs bs
-merge_parts xs [] h = tt
-merge_parts xs (b ∷ bs) h = merged_parts xs b bs h
+    each_put_binds : {by : List (VarId × TermId)} {ps qs : PlainProcesses} → ArePutIn ts by ps qs → (xs : List ℕ) → AllByRecursion (BindsAnew xs) (bodies_of e ps) → AllByRecursion (BindsAnew xs) (bodies_of e qs)
+    each_put_binds none_put xs h = tt
+    each_put_binds (more_put k l) xs h = (put_binds k xs h.0, each_put_binds l xs h.1)
 
 abbrev Binds : Entries → PlainComponent → Type 0
 Binds e c = BindsAnew [] (component_body e c)
-
-one_choice_part : (e : Entries) (xs : List ℕ) (ps : PlainProcesses) → has_one ps ≡ true → BindsAnew xs (choice_of (bodies_of e ps)) → AllBind xs (bodies_of e ps)
-one_choice_part e xs no_processes one h = absurd cc
-one_choice_part e xs (more_processes p no_processes) one h = (h, tt)
-one_choice_part e xs (more_processes p (more_processes q ps)) one h = absurd cc
-
-one_step_part : (e : Entries) (xs : List ℕ) (ps : PlainProcesses) → has_one ps ≡ true → BindsAnew xs (seq_of (bodies_of e ps)) → AllBind xs (bodies_of e ps)
-one_step_part e xs no_processes one h = absurd cc
-one_step_part e xs (more_processes p no_processes) one h = (h, tt)
-one_step_part e xs (more_processes p (more_processes q ps)) one h = absurd cc
 
 -- a component of an opened network binds no variable that is in scope
 module _ (e : Entries) (ds : List PlainDefinition) (own : (x : ℕ) (f : PlainDefinition) → slice_get ds x ≡ Some f → BindsAnew (map (λ (y : VarId). y.0) f.params) (body_of e f.body)) (marks : List Bool) (ts : List Tree) where
@@ -194,13 +162,13 @@ module _ (e : Entries) (ds : List PlainDefinition) (own : (x : ℕ) (f : PlainDe
     opened_binds (term_kept {q = q} s k) xs h = no_scope xs (body_of e q) (put_binds e ts k xs h)
     opened_binds (call_kept k a) xs h = tt
     opened_binds (call_opened {x = x} f at k a o) xs h = opened_binds o (map (λ (y : VarId). y.0) f.params) (own x.0 f at)
-    opened_binds (beside {ps = ps} o) xs h = all_opened_bind o xs (merge_parts xs (bodies_of e ps) h)
-    opened_binds (one_choice {ps = ps} one o) xs h = all_opened_bind o xs (one_choice_part e xs ps one h)
-    opened_binds (one_step {ps = ps} one o) xs h = all_opened_bind o xs (one_step_part e xs ps one h)
+    opened_binds (beside {ps = ps} o) xs h = all_opened_bind o xs (merge_parts (BindsAnew xs) (λ p q i. i) (bodies_of e ps) h)
+    opened_binds (one_choice {ps = ps} one o) xs h = all_opened_bind o xs (chain_parts (BindsAnew xs) written_choice (λ p q i. i) (bodies_of e ps) h)
+    opened_binds (one_step {ps = ps} one o) xs h = all_opened_bind o xs (chain_parts (BindsAnew xs) written_seq (λ p q i. i) (bodies_of e ps) h)
     opened_binds (no_sum o) xs h = opened_binds o xs h
     opened_binds (within o) xs h = opened_binds o xs h
 
-    all_opened_bind : {by : List (VarId × TermId)} {ps : PlainProcesses} {ns : PlainNetworks} → AllOpen ds marks ts by ps ns → (xs : List ℕ) → AllBind xs (bodies_of e ps) → AllComponentsOfEach (Binds e) ns
+    all_opened_bind : {by : List (VarId × TermId)} {ps : PlainProcesses} {ns : PlainNetworks} → AllOpen ds marks ts by ps ns → (xs : List ℕ) → AllByRecursion (BindsAnew xs) (bodies_of e ps) → AllComponentsOfEach (Binds e) ns
     all_opened_bind none_open xs h = tt
     all_opened_bind (more_open o os) xs h = (opened_binds o xs h.0, all_opened_bind os xs h.1)
 
