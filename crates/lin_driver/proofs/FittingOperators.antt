@@ -1,21 +1,20 @@
 -- The operators of the specification that a text elaborates to fit.
-use Rattle.std.proofs.Common.{◌≡◌, ◌<◌, ◌&&◌, ⊎_elim, ℕ, Bool, true, false, not, cond, List, [], ◌∷◌, length, map, refl, sym, ap, subst, ◌∙◌, Some, Option, bytes_eq}
+use Rattle.std.proofs.Common.{◌≡◌, ◌<◌, ◌&&◌, ⊎_elim, ℕ, Bool, true, false, cond, List, [], ◌∷◌, length, map, refl, sym, ap, subst, ◌∙◌, Some, Option, bytes_eq}
 use Rattle.std.specs.Prelude.{None, slice_get}
-use Rattle.std.specs.List.{All, AllByRecursion, Contains, list_any, list_all}
+use Rattle.std.specs.List.{All, AllByRecursion, Contains, list_all}
 use Rattle.std.proofs.lemmas.List.Elements.{All-nil, All-cons, All-head, All-tail, All-contains}
 use Rattle.std.proofs.lemmas.List.Sums.{list_all-from_AllPass}
 use Rattle.std.proofs.lemmas.Slice.Eq.{bytes_eq-Decides}
 use Rattle.data_theory.specs.declared.ids.NameId.{NameId}
 use Rattle.data_theory.specs.declared.ids.SortId.{SortId}
 use Rattle.data_theory.specs.Complete.{IsActionWithin}
-use Rattle.data_theory.specs.Keys.{Key, key}
+use Rattle.data_theory.specs.Keys.{key}
 use Rattle.data_theory.specs.Signature.{Sig}
 use Rattle.data_theory.specs.Terms.{Sort}
 use Rattle.data_theory.specs.IdTerms.{sort_under}
 use Rattle.data_theory.specs.IdTrees.{Tree}
 use Rattle.data_theory.specs.WholeSignatures.{IsSignature}
 use Rattle.term_pool.specs.Pools.{PoolContents}
-use Rattle.process_terms.specs.Processes as written
 use Rattle.process_terms.specs.Processes.{Renaming, Bound, Body, written_delta, written_act, written_choice, written_seq, written_cond, written_sum, written_call, written_merge, written_around, sums_around}
 use Rattle.process_terms.specs.PlainProcesses.{PlainRule, PlainAround, allow, block, hide, rename, comm, PlainProcess, PlainProcesses, delta, act, call, choice, seq, cond as either, sum, merge, around, no_processes, more_processes, PlainDefinition, PlainModel}
 use Rattle.process_terms.specs.Meanings.{Entries, name_at, bound_at, rule_of, renaming_of, around_of, body_of, bodies_of, HasRenaming, HasAround, HasProcess, HasProcesses, HasDefinition}

@@ -1,5 +1,5 @@
 -- The operators of an opened network are those of the specification: they fit as these do, and still as names are added.
-use Rattle.std.proofs.Common.{◌≡◌, List, [], length, sym, subst, Bool}
+use Rattle.std.proofs.Common.{◌≡◌, List, [], sym, subst, Bool}
 use Rattle.std.specs.List.{All, Contains}
 use Rattle.std.proofs.lemmas.List.Elements.{All-weaker}
 use Rattle.data_theory.specs.declared.ids.NameId.{NameId}

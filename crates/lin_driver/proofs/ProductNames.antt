@@ -1,6 +1,6 @@
 -- The names behind a product: its parameters have names of their own where those of its sides have, and its variables are named by
 -- identifiers.
-use Rattle.std.proofs.Common.{◌≡◌, ◌++◌, ◌∷◌, ℕ, Bool, List, [], map, length, codes, refl, sym, ap, ap₂, ◌∙◌, subst, ⊎_elim, Option, Some, None}
+use Rattle.std.proofs.Common.{◌≡◌, ◌++◌, ◌∷◌, Bool, List, [], map, codes, refl, sym, ap, ap₂, ◌∙◌, subst, ⊎_elim, Option, Some, None}
 use Rattle.std.specs.Prelude.{option_map, option_to_list, IfSome}
 use Rattle.std.specs.List.{All, Contains}
 use Rattle.std.proofs.lemmas.List.{map-append}
@@ -20,10 +20,10 @@ use Rattle.process_terms.specs.Meanings.{Entries, bound_at}
 use Rattle.process_terms.specs.Processes.{Bound}
 use Rattle.process_terms.specs.SignatureEntries.{entries_of}
 use Rattle.bisim_laws.specs.LinearProcesses.{Linear}
-use Rattle.bisim_laws.proofs.Firing.{contains_first, contains_cases, contains_none}
+use Rattle.bisim_laws.proofs.Firing.{contains_cases, contains_none}
 use Rattle.lps_core.specs.Fitting.{Fits, IsVariable, sort_of_variable, HasTakenName}
 use Rattle.lps_core.specs.Naming.{name_of, function_names, GrowsByNames, it_is_new}
-use Rattle.lps_core.specs.PlainLinears.{PlainLinear, linear_of}
+use Rattle.lps_core.specs.PlainLinears.{PlainLinear}
 use Rattle.lps_core.proofs.FunctionNames.{functions_taken, function_names_stay}
 use Rattle.lps_core.proofs.Members.{all_from, contains_map}
 use Rattle.lps_core.proofs.NamedSums.{names_then, variable_kept, name_kept, all_front, all_last}
