@@ -56,7 +56,7 @@ use Rattle.sort_checker.proofs.SmallNumerals.{small_definitions, small_starts}
 use Rattle.sort_table.specs.BareDeclarations.{bare_sections, declarations_in}
 use Rattle.data_typing.specs.TypingLaws.{HasSmallNumerals}
 use Rattle.lin_driver.proofs.FittingOperators.{operators_fit}
-use Rattle.lin_driver.proofs.OneComponents.{binds_fewer}
+use Rattle.lin_driver.proofs.OpenedComponents.{binds_fewer}
 use Rattle.lin_driver.proofs.SortedTerms.{tree_sorted, trees_sorted}
 
 -- ---- a term that is sorted whatever sorts other variables have is over these

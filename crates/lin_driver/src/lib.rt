@@ -5,13 +5,15 @@
 //! crates above can cite it.
 #![tactic(auto)]
 
+mod components;
+mod composing;
 mod fault;
 pub mod laws;
+mod leaves;
 mod linear_texts;
 mod linearising;
 mod methods;
 mod model_linearising;
-mod one_component;
 mod variable_names;
 
 pub use fault::{LinFault, ModelFault};
