@@ -20,7 +20,8 @@ use std::collections::VecDeque;
 use summand_expander::product;
 use term_pool::Pool;
 
-/// An operator around a linear process.
+/// An operator around a linear process. Kept out of the frames of the cycle below, which goes as deep as a network nests.
+#[inline(never)]
 fn around(
     alloc: Global,
     operator: &NetOp,
