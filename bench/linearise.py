@@ -51,12 +51,34 @@ def declarations(count):
     return "\n".join(["act a: Nat;", "map", *maps, "var n: Nat;", "eqn", *equations, process, "init X(0);", ""])
 
 
+def buffers(count):
+    """A line of so many buffers with room for one item, each hidden from the next one's user."""
+    links = range(1, count)
+    acts = ["act read, write: D;", *(f"    give_{k}, take_{k}, pass_{k}: D;" for k in links)]
+    ends = lambda k: ("read" if k == 1 else f"take_{k - 1}", "write" if k == count else f"give_{k}")
+    definitions = (f"  B{k} = sum d: D . {ends(k)[0]}(d) . {ends(k)[1]}(d) . B{k};" for k in range(1, count + 1))
+    passed = ", ".join(f"pass_{k}" for k in links)
+    joined = ", ".join(f"give_{k}|take_{k} -> pass_{k}" for k in links)
+    line = " || ".join(f"B{k}" for k in range(1, count + 1))
+    start = f"init hide({{{passed}}}, allow({{read, write, {passed}}}, comm({{{joined}}}, {line})));"
+    return "\n".join(["sort D = struct d1 | d2;", *acts, "proc", *definitions, start, ""])
+
+
+def example(name):
+    """An example of the repository, whatever the number."""
+    return lambda _: (TOP / "examples" / f"{name}.mcrl2").read_text()
+
+
 KINDS = [
     ("equations", ring, (100, 1_000, 10_000)),
     ("parameters", many_parameters, (10, 20, 40)),
     ("summands", summands, (1_000, 10_000, 30_000)),
     ("actions in sequence", long_sequences, (500, 1_000, 2_000)),
     ("declarations", declarations, (1_000, 4_000, 16_000)),
+    ("buffers in a line", buffers, (2, 4, 6, 8)),
+    ("alternating bit", example("alternating_bit"), (1,)),
+    ("bakery", example("bakery"), (1,)),
+    ("sliding window", example("sliding_window"), (1,)),
 ]
 
 
