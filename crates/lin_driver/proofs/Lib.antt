@@ -22,3 +22,12 @@ mod MadeLinears
 mod ReadingBack
 mod MadeNames
 pub mod MadeTexts
+mod AlikeTypings
+mod SameSorts
+mod AlikeParts
+mod AlikeFaults
+mod ApartNames
+mod SameShapes
+mod UpToRecursion
+mod AcceptedTexts
+mod ReadTexts

@@ -5,6 +5,7 @@
 //! crates above can cite it.
 #![tactic(auto)]
 
+mod checking;
 mod fault;
 pub mod laws;
 mod linear_texts;
@@ -12,8 +13,10 @@ mod linearising;
 mod methods;
 mod model_linearising;
 mod one_component;
+mod reading;
 mod variable_names;
 
+pub use checking::check_text;
 pub use fault::{LinFault, ModelFault};
 pub use linear_texts::linear_text;
 pub use linearising::{Linearised, linearise};
