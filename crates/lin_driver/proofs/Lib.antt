@@ -29,5 +29,5 @@ mod AlikeFaults
 mod ApartNames
 mod SameShapes
 mod UpToRecursion
-mod AcceptedTexts
+pub mod AcceptedTexts
 mod ReadTexts
