@@ -55,7 +55,8 @@ use Rattle.sort_checker.proofs.SignatureSorts.{over_sorts}
 use Rattle.sort_checker.proofs.SmallNumerals.{small_definitions, small_starts}
 use Rattle.sort_table.specs.BareDeclarations.{bare_sections, declarations_in}
 use Rattle.data_typing.specs.TypingLaws.{HasSmallNumerals}
-use Rattle.lin_driver.proofs.OneComponents.{binds_fewer}
+use Rattle.lin_driver.proofs.FittingOperators.{operators_fit}
+use Rattle.lin_driver.proofs.OpenedComponents.{binds_fewer}
 use Rattle.lin_driver.proofs.SortedTerms.{tree_sorted, trees_sorted}
 
 -- ---- a term that is sorted whatever sorts other variables have is over these
@@ -474,4 +475,5 @@ what_elaborates_can_be_linear v g p spec m words sg inhabited constants names x 
       inhabited = inhabited;
       constants = constants;
       names = names;
+      operators = operators_fit v g p spec m sg x;
     }

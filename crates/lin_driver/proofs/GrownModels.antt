@@ -45,7 +45,7 @@ module _ (g h : Sig) (ts us : List Tree) (sg : IsSignature g) (grow : BothGrow g
   around_grows (rename rs) k = All-weaker (HasRenaming (entries_of g ts)) (HasRenaming (entries_of h us)) (λ r l. (name_grows r.0 l.0, name_grows r.1 l.1)) rs k
   around_grows (comm cs) k = All-weaker (HasRule (entries_of g ts)) (HasRule (entries_of h us)) (λ c l. (names_grow c.left l.0, name_grows c.result l.1)) cs k
 
-  around_stays : (o : PlainAround) → HasAround (entries_of g ts) o → around_of (entries_of h us) o ≡ around_of (entries_of g ts) o
+  pub around_stays : (o : PlainAround) → HasAround (entries_of g ts) o → around_of (entries_of h us) o ≡ around_of (entries_of g ts) o
   around_stays (allow sets) k = ap written.allow (all_same (All (HasName (entries_of g ts))) (map (name_at (entries_of g ts))) (map (name_at (entries_of h us))) names_stay sets k)
   around_stays (block ns) k = ap written.block (names_stay ns k)
   around_stays (hide ns) k = ap written.hide (names_stay ns k)

@@ -1,6 +1,9 @@
 mod EqualLinears
 mod FilledLinears
-mod OneComponents
+mod Links
+mod BodyLists
+mod OpenedComponents
+mod NetworkLeaves
 mod TakenNames
 mod GrownModels
 mod ConstantGrowth
@@ -11,9 +14,17 @@ mod ProcessNames
 mod ColumnNames
 mod AddedParts
 pub mod AddedConstants
-mod ModelLinears
 mod LinearisedTexts
 mod SortedTerms
+mod FittingOperators
+mod OpenedOperators
+mod ProductNames
+mod TakenColumns
+mod StayingLinears
+mod ComposedParts
+mod ComposedNetworks
+mod MadeLeaves
+mod ModelLinears
 mod ElaboratedModels
 mod ModelsOfTexts
 pub mod OneStart

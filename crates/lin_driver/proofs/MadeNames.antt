@@ -15,7 +15,7 @@ use Rattle.mcrl2_syntax.specs.Declarations.{PlainSpec}
 use Rattle.mcrl2_syntax.proofs.WordsOfTokens.{specs_are_of_words}
 use Rattle.process_terms.specs.PlainProcesses.{PlainEquation}
 use Rattle.sort_table.specs.SignatureVocabularies.{text_under}
-use Rattle.lps_core.specs.Fitting.{IsVariable, SummandFits, Fits}
+use Rattle.lps_core.specs.Fitting.{IsVariable, SummandFits}
 use Rattle.lps_core.specs.Naming.{name_of}
 use Rattle.lps_core.specs.PlainLinears.{PlainSummand, PlainLinear}
 use Rattle.lps_printer.specs.DataLayout.{IsIdentifier}

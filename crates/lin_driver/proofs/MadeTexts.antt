@@ -1,20 +1,14 @@
 -- What is made of a text can be printed, and then stands for the text.
-use Rattle.std.proofs.Common.{◌≡◌, ℕ, List, [], codes, refl, sym, ◌∙◌, subst}
+use Rattle.std.proofs.Common.{◌≡◌, [], codes, refl, sym, ◌∙◌, subst}
 use Rattle.std.proofs.lemmas.Option.{slice_get_within, get_or_from_slice_get}
-use Rattle.data_theory.specs.declared.ids.NameId.{NameId}
 use Rattle.data_theory.specs.IdData.{data_meant}
-use Rattle.data_theory.specs.IdTrees.{Tree}
-use Rattle.data_theory.specs.Signature.{Sig, IsTaken}
-use Rattle.mcrl2_syntax.specs.Declarations.{PlainSpec}
-use Rattle.process_terms.specs.PlainProcesses.{PlainEquation}
+use Rattle.data_theory.specs.Signature.{IsTaken}
 use Rattle.process_terms.specs.Meanings.{theory_of, process_of}
 use Rattle.process_terms.specs.SignatureEntries.{entries_of}
 use Rattle.sort_table.specs.SignatureVocabularies.{text_under}
 use Rattle.sort_table.proofs.SpelledPlaces.{spelled_specs_are_placed}
-use Rattle.lps_core.specs.PlainLinears.{PlainLinear}
 use Rattle.lps_printer.specs.DataLayout.{IsIdentifier}
 use Rattle.lps_printer.proofs.FreshIdentifiers.{fresh_names_are_identifiers}
-use Rattle.lin_driver.specs.Linearised.{IsMadeOf}
 use Rattle.lin_driver.specs.MadeTexts.{WhatIsMadeCanBePrinted, WhatIsPrintedForATextStandsForIt}
 use Rattle.lin_driver.proofs.LinearisedTexts.{made_stands_for, printed_stands_for}
 use Rattle.lin_driver.proofs.MadeNames.{made_names}

@@ -1,138 +1,155 @@
 -- From a specification to its linear process, link by link.
-use Rattle.std.proofs.Common.{◌≡◌, List, [], map, sym, ap, ap₂, subst, ◌∙◌, Some}
+use Rattle.std.proofs.Common.{◌≡◌, List, [], sym, ap, subst, ◌∙◌, append-nil}
 use Rattle.std.specs.Prelude.{IfErr, IsErrAnd, Result, Ok, Err}
+use Rattle.std.specs.List.{All}
 use Rattle.std.specs.Option.{option_map}
 use Rattle.std.proofs.lemmas.Option.{slice_get-map}
 use Rattle.data_theory.specs.Signature.{Sig}
 use Rattle.data_theory.specs.WholeSignatures.{IsSignature}
 use Rattle.data_theory.specs.IdTrees.{Tree}
-use Rattle.data_theory.specs.IdTerms.{IsGrown}
-use Rattle.process_terms.specs.Theories.{Theory}
-use Rattle.process_terms.specs.Processes.{Process, call, close}
-use Rattle.process_terms.specs.PlainProcesses.{PlainModel, PlainComponent}
-use Rattle.process_terms.specs.Meanings.{Entries, term_at, body_of, definition_of, table_of, process_of}
+use Rattle.term_pool.specs.Pools.{PoolContents, Extends}
+use Rattle.term_pool.specs.Constants.{AreConstants}
+use Rattle.term_pool.proofs.DeclaredConstants.{constants_stay}
+use Rattle.process_terms.specs.PlainProcesses.{delta, PlainModel, PlainComponent, term_of}
+use Rattle.process_terms.specs.Meanings.{Entries, body_of, definition_of, table_of, process_of, component_body}
 use Rattle.process_terms.specs.SignatureEntries.{entries_of, BothGrow}
-use Rattle.bisim_laws.specs.LinearProcesses.{state_of}
-use Rattle.bisim_laws.specs.Links.{Link, Same, Then, Form, Regular, Dropped, Pairs, IsGood}
-use Rattle.bisim_laws.proofs.ComposedLinks.{same_good, then_good}
+use Rattle.bisim_laws.specs.Links.{Same, Then, Dropped}
+use Rattle.bisim_laws.proofs.ComposedLinks.{then_good}
+use Rattle.bisim_laws.proofs.Firing.{contains_none}
 use Rattle.lps_core.specs.Fitting.{Fits}
 use Rattle.lps_core.specs.GoingOn.{IsGoodOver}
 use Rattle.lps_core.specs.Moving.{all_kept}
-use Rattle.lps_core.specs.Naming.{NamingIsGood}
+use Rattle.lps_core.specs.Naming.{NamingIsGood, GrowsByNames, SumsAreNamed, HaveOwnNames}
 use Rattle.lps_core.specs.PlainLinears.{PlainLinear, linear_of, linear_state}
-use Rattle.lps_core.proofs.GrowingData.{good_stay_good}
-use Rattle.lps_core.proofs.Staying.{terms_stay, what_fits_stays}
-use Rattle.proc_unfold.specs.FittingModels.{ModelFits, ComponentFits}
-use Rattle.proc_unfold.specs.Networks.{PlainNetwork}
+use Rattle.lps_core.proofs.NamedSums.{names_then}
+use Rattle.lps_core.proofs.PoolTrees.{extends_itself}
+use Rattle.proc_unfold.specs.FittingModels.{ModelFits}
+use Rattle.proc_unfold.specs.Networks.{PlainNetwork, network_process, AllComponents}
+use Rattle.proc_unfold.specs.Parallelism.{IsNetFaultOf}
 use Rattle.proc_unfold.specs.Unfolded.{IsOpened, IsSameNetwork, IsComponentOf, HasItsComponents}
-use Rattle.greibach.specs.ComponentForms.{IsFormOf, IsBisimilarForm}
-use Rattle.greibach.specs.FittingForms.{FormFits}
-use Rattle.greibach.specs.Forms.{form_table}
-use Rattle.greibach.specs.PlainForms.{PlainForm, form_of}
-use Rattle.greibach.specs.Scopes.{HaveOwnVariables, BindsItsVariablesOnce}
-use Rattle.greibach.proofs.StayingForms.{forms_stay}
-use Rattle.regular_encoder.specs.EncodedForms.{EncodingIsGood}
-use Rattle.regular_encoder.specs.Refusals.{IsEncodeFaultOf}
-use Rattle.regular_encoder.specs.declared.faults.EncodeFault.{EncodeFault}
-use Rattle.regular_encoder.specs.declared.faults.EncodeFault.TheVariants.{NotTail, NoMemory}
+use Rattle.proc_unfold.specs.declared.faults.NetFault.{NetFault}
+use Rattle.proc_unfold.specs.declared.faults.NetFault.TheVariants as net
 use Rattle.guard_check.specs.Faults.{IsGuardFaultOf}
 use Rattle.guard_check.specs.declared.checking.GuardFault.{GuardFault}
 use Rattle.guard_check.specs.declared.checking.GuardFault.TheVariants as guard
-use Rattle.proc_unfold.specs.Parallelism.{IsNetFaultOf}
-use Rattle.proc_unfold.specs.declared.faults.NetFault.{NetFault}
-use Rattle.proc_unfold.specs.declared.faults.NetFault.TheVariants as net
-use Rattle.lin_driver.specs.Faults.{fault_of_encode, fault_of_guard, fault_of_net}
+use Rattle.greibach.specs.Scopes.{BindsAnew, HaveOwnVariables}
+use Rattle.greibach.specs.Surroundings.{HasUsableNames}
+use Rattle.greibach.proofs.GrownFits.{both_by_names}
+use Rattle.greibach.proofs.WhateverStands.{sequential_bodies, bound_once}
+use Rattle.regular_encoder.specs.FormColumns.{ParamsHaveOwnNames}
+use Rattle.regular_encoder.proofs.InhabitedColumns.{still_inhabited}
+use Rattle.lps_printer.proofs.GrowingByConstants.{on_names, grows_then}
+use Rattle.lin_driver.specs.Faults.{fault_of_guard, fault_of_net}
+use Rattle.lin_driver.specs.Leaves.{leaves}
+use Rattle.lin_driver.specs.LinearLeaves.{IsLeafOf, AreLeavesMade, IsLeavesFaultOf}
+use Rattle.lin_driver.specs.ModelLinears.{CanBeLinear, CanBeLinearFrom, LeadsToLinear, IsModelFaultOf}
+use Rattle.lin_driver.specs.Parts.{network_in, CanBeComposed, IsComposed}
 use Rattle.lin_driver.specs.declared.fault.ModelFault.{ModelFault}
-use Rattle.lin_driver.specs.OneComponents.{one_component}
-use Rattle.lin_driver.specs.ModelLinears.{component_process, IsTheComponent, LeadsToLinear, IsModelFaultOf}
-use Rattle.lin_driver.proofs.OneComponents.{one_body, one_holds, delta_is_component, one_binds}
-use Rattle.lin_driver.proofs.GrownModels.{table_stays, model_stays, component_stays}
+use Rattle.lin_driver.specs.declared.fault.ModelFault.TheVariants.{Net, Guard, NotTail, NoMemory}
+use Rattle.lin_driver.proofs.GrownModels.{model_grows, model_stays}
+use Rattle.lin_driver.proofs.Links.{then_over, same_over}
+use Rattle.lin_driver.proofs.NamedVariables.{usable_named, summands_named, sums_there}
+use Rattle.lin_driver.proofs.NetworkLeaves.{all_leaves, both_hold}
+use Rattle.lin_driver.proofs.OpenedComponents.{opened_binds}
+use Rattle.lin_driver.proofs.OpenedOperators.{opened_operators_fit, network_fits_still}
+use Rattle.lin_driver.proofs.StayingLinears.{both_named, fresh_by_names, own_names_stay, state_stays}
 
--- ---- the component
-pub the_component : (g : Sig) (ts : List Tree) (m : PlainModel) (n : PlainNetwork) (c : PlainComponent) → one_component n ≡ Some c → HasItsComponents g ts m n → IsSameNetwork g ts m n → IsTheComponent g ts m c
-the_component g ts m n c one components same = record {
-  is = one_holds (IsComponentOf g ts m) (delta_is_component g ts m) n c one components;
-  same = λ th. subst (λ q. Pairs th Same (process_of (entries_of g ts) m) q) (ap (close (table_of (entries_of g ts) m.definitions) []) (one_body (entries_of g ts) n c one)) (same th);
+-- ---- the leaves
+delta_is_leaf : (g : Sig) (ts : List Tree) (m : PlainModel) → ((e : Entries) → HaveOwnVariables (table_of e m.definitions) (body_of e m.init)) → IsLeafOf g ts m (term_of delta)
+delta_is_leaf g ts m own = record {
+  fits = tt;
+  sequential = λ e. ((λ j. j), λ x i. absurd (contains_none x i));
+  own = λ e. record { definitions = (own e).definitions; start = tt };
 }
 
-pub own_component : (m : PlainModel) (ts : List Tree) (n : PlainNetwork) (c : PlainComponent) → ((e : Entries) → HaveOwnVariables (table_of e m.definitions) (body_of e m.init)) → IsOpened m ts n → one_component n ≡ Some c → BindsItsVariablesOnce m c
-own_component m ts n c own opened one = λ e. record {
-  definitions = (own e).definitions;
-  start = one_binds e m ts n c (λ x f at. ((own e).definitions x (definition_of e f) (slice_get-map (definition_of e) m.definitions x ∙ ap (option_map (definition_of e)) at)).binds) (own e).start opened one;
+opened_leaves : (g : Sig) (ts : List Tree) (m : PlainModel) (n : PlainNetwork) → ((e : Entries) → HaveOwnVariables (table_of e m.definitions) (body_of e m.init)) → IsOpened m ts n → HasItsComponents g ts m n → All (IsLeafOf g ts m) (leaves n)
+opened_leaves g ts m n own opened components =
+    let e = entries_of g ts in
+    let Binds : PlainComponent → Type 0 = λ c. BindsAnew [] (component_body e c) in
+    let binds : AllComponents Binds n =
+    opened_binds e m.definitions (λ x f at. ((own e).definitions x (definition_of e f) (slice_get-map (definition_of e) m.definitions x ∙ ap (option_map (definition_of e)) at)).binds) opened.parallel ts opened.opens [] (own e).start in
+    all_leaves (IsLeafOf g ts m) (delta_is_leaf g ts m own) n
+    (both_hold (IsComponentOf g ts m) Binds (IsLeafOf g ts m)
+    (λ c k b. record { fits = k.fits; sequential = sequential_bodies e m c k.sequential; own = bound_once e m c (record { definitions = (own e).definitions; start = b }) }) n components binds)
+
+-- once the process has its name
+pub network_can_be_linear : (g b : Sig) (p q : PoolContents) (m : PlainModel) (n : PlainNetwork) → CanBeLinear g p m → GrowsByNames g b → HasUsableNames b → Extends p.trees q.trees → q.constants ≡ p.constants
+    → IsOpened m q.trees n → ((g : Sig) → IsSignature g → ModelFits g p.trees m → HasItsComponents g q.trees m n) → CanBeLinearFrom b q m n
+network_can_be_linear g b p q m n can w names kept same opened components = record {
+  ready = record {
+    stands = w.stands;
+    fits = model_grows g b p.trees q.trees can.stands (both_by_names g b p.trees q.trees w kept) m can.fits;
+    inhabited = still_inhabited g b can.stands w.stands w.grown w.sorts can.inhabited;
+    constants = constants_stay g b q.constants w.grown (subst (AreConstants g) (sym same) can.constants);
+    names = names;
+  };
+  leaves_fit = opened_leaves b q.trees m n can.own opened (components b w.stands (model_grows g b p.trees p.trees can.stands (both_by_names g b p.trees p.trees w (extends_itself p.trees)) m can.fits));
+  operators = network_fits_still g b w.grown w.actions n (opened_operators_fit g m q.trees n opened can.operators);
 }
 
--- ---- links
--- one behind the other, where a signature has grown
-pub then_over : (g h : Sig) → IsSignature g → IsSignature h → IsGrown g h → (k l : Link) (p q r s : Process) → q ≡ r → IsGoodOver g k p q → IsGoodOver h l r s → IsGoodOver h (Then k l) p s
-then_over g h sg sh grown k l p q r s same a b th on con =
-    then_good th k l p r s (subst (λ z. IsGood th k p z) same (good_stay_good g h sg.table sg.roles sh.roles grown k p q a th on con)) (b th on con)
+-- ---- what is composed
+pub network_can_be_composed : (g d : Sig) (p q : PoolContents) (m : PlainModel) (n : PlainNetwork) (ls : List PlainLinear) → CanBeLinearFrom g p m n → AreLeavesMade g p d q m (leaves n) ls
+    → CanBeComposed (record { signature = g; trees = p.trees; model = m }) d q.trees n ls []
+network_can_be_composed g d p q m n ls can made = record {
+  since = record { stands = can.ready.stands; grown = made.grows.grown; actions = made.grows.actions };
+  identifiers = usable_named d made.ready.names;
+  operators = can.operators;
+  parts = record { parts = ls; are = made.linears; first = sym (append-nil ls) };
+}
 
-pub same_over : (h : Sig) (p q : Process) → ((th : Theory) → Pairs th Same p q) → IsGoodOver h Same p q
-same_over h p q same th on con = same_good th p q (same th)
+-- from the network to the linear process with named sums
+pub network_leads : (g d e h : Sig) (p q : PoolContents) (ws us : List Tree) (m : PlainModel) (n : PlainNetwork) (ls left : List PlainLinear) (l named : PlainLinear) → AreLeavesMade g p d q m (leaves n) ls → GrowsByNames d e → GrowsByNames e h
+    → Extends ws us → IsComposed (network_in (record { signature = g; trees = p.trees; model = m }) n) e ws left [] l → SumsAreNamed e h ws us l named → Fits h us named → HaveOwnNames h named → NamingIsGood h us l named
+    → LeadsToLinear g (network_process (entries_of g p.trees) m n) h us named
+network_leads g d e h p q ws us m n ls left l named made de eh kept composed sums fits names naming =
+    let dh = names_then d e h de eh in
+    let own = composed.linear in
+    let both = both_by_names e h ws us eh kept in
+    let grow = both_named e h ws us de.stands eh both in
+    let start = network_process (entries_of g p.trees) m n in
+    let last = Dropped (all_kept (linear_of (entries_of h us) l).params) (linear_of (entries_of h us) l) (linear_of (entries_of h us) named) in
+    record {
+      stands = eh.stands;
+      inhabited = still_inhabited d h made.ready.stands eh.stands dh.grown dh.sorts made.ready.inhabited;
+      grows = grows_then g d h made.ready.stands made.grows (on_names d h made.ready.stands dh).grows;
+      fits = fits;
+      identifiers = summands_named sums.names (sums_there e ws l own.fits) composed.identifiers;
+      params = subst (ParamsHaveOwnNames h) (sym sums.params) (own_names_stay e h l.params eh.grown (fresh_by_names e h de.stands eh) own.fits.params own.fits.taken own.params);
+      names = names;
+      link = Then own.link last;
+      bisimilar = then_over e h de.stands eh.stands eh.grown own.link last start (linear_state (entries_of e ws) l) (linear_state (entries_of h us) l) (linear_state (entries_of h us) named) (sym (state_stays e h ws us grow l own.fits)) own.bisimilar naming;
+    }
 
-component_stays_so : (g h : Sig) (ts us : List Tree) (m : PlainModel) (c : PlainComponent) → IsSignature g → BothGrow g h ts us → ModelFits g ts m → ComponentFits g ts m.definitions c
-    → component_process (entries_of h us) m c ≡ component_process (entries_of g ts) m c
-component_stays_so g h ts us m c sg grow fits k = ap₂ (λ d b. close d [] b) (table_stays g h ts us sg grow m fits) (component_stays g h ts us sg grow m fits c k)
-
-pub record LeadsOver (h : Sig) (p q : Process) : Type 0 where
-  pub link : Link
-  pub good : IsGoodOver h link p q
-
--- from the component by its form and the form's encoding to the linear process with named sums
-pub component_leads : (g a b h : Sig) (ts as_ bs us : List Tree) (m : PlainModel) (c : PlainComponent) (f : PlainForm) (made named : PlainLinear) → IsSignature g → IsSignature a → IsSignature b → IsSignature h
-    → BothGrow g a ts as_ → BothGrow a b as_ bs → BothGrow b h bs us → BothGrow g h ts us → IsGrown a h → ModelFits g ts m → ComponentFits g ts m.definitions c
-    → FormFits a as_ f → IsBisimilarForm a as_ m c f → EncodingIsGood b bs f made → Fits b bs made → NamingIsGood h us made named
-    → LeadsOver h (component_process (entries_of h us) m c) (linear_state (entries_of h us) named)
-component_leads g a b h ts as_ bs us m c f made named sg sa sb sh ga ab bh gh ah fits k form_fits form encoded made_fits naming =
-    let ea = entries_of a as_ in
-    let eb = entries_of b bs in
+-- from the specification to its network, and on
+pub from_the_network : (g b h : Sig) (ts us : List Tree) (m : PlainModel) (n : PlainNetwork) (l : PlainLinear) → IsSignature g → GrowsByNames g b → BothGrow b h ts us → ModelFits b ts m → IsSameNetwork b ts m n
+    → LeadsToLinear b (network_process (entries_of b ts) m n) h us l → LeadsToLinear g (process_of (entries_of h us) m) h us l
+from_the_network g b h ts us m n l sg w grow fits same leads =
+    let eb = entries_of b ts in
     let eh = entries_of h us in
-    let forms = form_table (form_of ea f) in
-    let forms' = form_table (form_of eb f) in
-    let k1 = Form (table_of ea m.definitions) form.0 forms in
-    let k2 = Regular forms' encoded.0 (linear_of eb made) in
-    let k3 = Dropped (all_kept (linear_of eh made).params) (linear_of eh made) (linear_of eh named) in
-    let start = component_process ea m c in
-    let q = call forms 0 (map (term_at ea) f.init) in
-    let q' = call forms' 0 (map (term_at eb) f.init) in
-    let r = linear_state eb made in
-    let r' = linear_state eh made in
-    let end = linear_state eh named in
-    let same_call : q ≡ q' = ap₂ (λ d us. call d 0 us) (ap form_table (sym (forms_stay a b as_ bs f sa.table sa.complete ab form_fits))) (sym (terms_stay a b as_ bs sa.table sa.complete ab _ f.init form_fits.init)) in
-    let stays = what_fits_stays b h bs us made sb.table sb.complete bh made_fits in
-    let same_state : r ≡ r' = ap₂ state_of (sym stays.0) (sym stays.1) in
-    let same_start : start ≡ component_process eh m c = component_stays_so g a ts as_ m c sg ga fits k ∙ sym (component_stays_so g h ts us m c sg gh fits k) in
-    let behind : IsGoodOver h (Then k2 k3) q' end = then_over b h sb sh bh.signature k2 k3 q' r r' end same_state encoded.1 naming in
-    record { link = Then k1 (Then k2 k3); good = subst (λ z. IsGoodOver h (Then k1 (Then k2 k3)) z end) same_start (then_over a h sa sh ah k1 (Then k2 k3) start q q' end same_call form.1 behind) }
-
--- from the specification to its component, and on
-pub from_the_component : (g h : Sig) (ts us : List Tree) (m : PlainModel) (c : PlainComponent) (l : PlainLinear) → IsSignature g → BothGrow g h ts us → ModelFits g ts m → IsTheComponent g ts m c
-    → LeadsToLinear g (component_process (entries_of h us) m c) h us l → LeadsToLinear g (process_of (entries_of h us) m) h us l
-from_the_component g h ts us m c l sg grow fits k leads =
-    let eg = entries_of g ts in
-    let eh = entries_of h us in
-    let here : IsGoodOver h Same (process_of eg m) (component_process eg m c) = same_over h (process_of eg m) (component_process eg m c) k.same in
-    let start : IsGoodOver h Same (process_of eh m) (component_process eh m c) =
-    subst (λ p. IsGoodOver h Same p (component_process eh m c)) (sym (model_stays g h ts us sg grow m fits)) (subst (λ p. IsGoodOver h Same (process_of eg m) p) (sym (component_stays_so g h ts us m c sg grow fits k.is.fits)) here) in
+    let here : IsGoodOver h Same (process_of eb m) (network_process eb m n) = same_over h (process_of eb m) (network_process eb m n) same in
+    let start : IsGoodOver h Same (process_of eh m) (network_process eb m n) = subst (λ p. IsGoodOver h Same p (network_process eb m n)) (sym (model_stays b h ts us w.stands grow m fits)) here in
     record {
       stands = leads.stands;
       inhabited = leads.inhabited;
-      grows = leads.grows;
+      grows = grows_then g b h w.stands (on_names g b sg w).grows leads.grows;
       fits = leads.fits;
       identifiers = leads.identifiers;
       params = leads.params;
       names = leads.names;
       link = Then Same leads.link;
-      bisimilar = λ th on con. then_good th Same leads.link (process_of eh m) (component_process eh m c) (linear_state eh l) (start th on con) (leads.bisimilar th on con);
+      bisimilar = λ th on con. then_good th Same leads.link (process_of eh m) (network_process eb m n) (linear_state eh l) (start th on con) (leads.bisimilar th on con);
     }
 
 -- ---- why there is none
-pub encoding_refused : {T : Type 0} (r : Result T ModelFault) (m : PlainModel) (fault : EncodeFault) (g : Sig) (ts : List Tree) (c : PlainComponent) (f : PlainForm) → IsFormOf g ts m c f → IsEncodeFaultOf f fault → IsErrAnd r (λ given. given ≡ fault_of_encode fault)
-    → IfErr r (IsModelFaultOf m)
-encoding_refused (Ok x) m fault g ts c f is has same = absurd same
-encoding_refused (Err given) m (NotTail k) g ts c f is has same =
-    subst (IsModelFaultOf m) (sym same) (record { signature = g; trees = ts; component = c; form = f; is = is; first = has })
-encoding_refused (Err given) m NoMemory g ts c f is has same = subst (IsModelFaultOf m) (sym same) tt
+leaves_are_of : (m : PlainModel) (ts : List Tree) (n : PlainNetwork) (fault : ModelFault) → IsOpened m ts n → IsLeavesFaultOf m (leaves n) fault → IsModelFaultOf m fault
+leaves_are_of m ts n (Net fault) opened has = absurd has
+leaves_are_of m ts n (Guard fault) opened has = absurd has
+leaves_are_of m ts n (NotTail number summand) opened has = record { trees = ts; network = n; opened = opened; leaf = has }
+leaves_are_of m ts n NoMemory opened has = tt
+
+pub leaves_refused : {T : Type 0} (r : Result T ModelFault) (m : PlainModel) (ts : List Tree) (n : PlainNetwork) (fault : ModelFault) → IsOpened m ts n → IsLeavesFaultOf m (leaves n) fault → IsErrAnd r (λ given. given ≡ fault) → IfErr r (IsModelFaultOf m)
+leaves_refused (Ok x) m ts n fault opened has same = absurd same
+leaves_refused (Err given) m ts n fault opened has same = subst (IsModelFaultOf m) (sym same) (leaves_are_of m ts n fault opened has)
 
 pub net_refused : {T : Type 0} (r : Result T ModelFault) (m : PlainModel) (fault : NetFault) → IsNetFaultOf m fault → IsErrAnd r (λ given. given ≡ fault_of_net fault) → IfErr r (IsModelFaultOf m)
 net_refused (Ok x) m fault has same = absurd same

@@ -1,5 +1,5 @@
 -- The model of a text is one for which a well-typed text stands.
-use Rattle.std.proofs.Common.{◌≡◌, ℕ, List, [], ◌∷◌, map, sym, ap, subst, ◌∙◌, Some}
+use Rattle.std.proofs.Common.{◌≡◌, ℕ, List, [], ◌∷◌, map, sym, ap, subst, ◌∙◌}
 use Rattle.std.proofs.lemmas.Option.{same_Some}
 use Rattle.data_theory.specs.Signature.{Sig}
 use Rattle.mcrl2_syntax.specs.Declarations.{PlainSpec}

@@ -1,20 +1,16 @@
 -- What a text of words declares is named by identifiers.
-use Rattle.std.proofs.Common.{◌≡◌, ◌≢◌, ℕ, zero, suc, Bool, true, false, cond, bytes_eq, List, [], ◌∷◌, ◌++◌, map, refl, sym, ap, subst, ◌∙◌, ⊎_elim, Option, Some, None}
+use Rattle.std.proofs.Common.{◌≡◌, ℕ, suc, Bool, true, false, cond, bytes_eq, List, [], ◌∷◌, ◌++◌, map, refl, sym, ap, subst, ◌∙◌, ⊎_elim, Option, Some, None}
 use Rattle.std.specs.Prelude.{slice_get, Contains}
 use Rattle.std.specs.List.{All, AllByRecursion, flat_map}
 use Rattle.std.proofs.lemmas.Grind.{flat_map-append}
 use Rattle.std.proofs.lemmas.List.Elements.{All-nil, All-cons}
 use Rattle.std.proofs.lemmas.Slice.Eq.{bytes_eq-Decides}
 use Rattle.data_theory.specs.declared.ids.FunId.{FunId}
-use Rattle.data_theory.specs.declared.ids.NameId.{NameId}
-use Rattle.data_theory.specs.declared.ids.SortId.{SortId}
-use Rattle.data_theory.specs.Keys.{Key}
 use Rattle.data_theory.specs.Signature.{Sig}
-use Rattle.data_theory.specs.Terms.{Sort}
 use Rattle.mcrl2_syntax.specs.Words.{PlainWord}
 use Rattle.mcrl2_syntax.specs.Declarations as trees
 use Rattle.mcrl2_syntax.specs.Declarations.{PlainField, PlainConstructor, PlainDecl, PlainSection, PlainSpec}
-use Rattle.mcrl2_syntax.specs.TreeWords.{IsName, AreNames, IsOptionalName, IsFieldOfWords, IsConstructorOfWords, IsDeclarationOfWords, IsSectionOfWords, IsSpecOfWords}
+use Rattle.mcrl2_syntax.specs.TreeWords.{AreNames, IsOptionalName, IsFieldOfWords, IsConstructorOfWords, IsDeclarationOfWords, IsSectionOfWords}
 use Rattle.mcrl2_syntax.proofs.Lists.{all_both}
 use Rattle.bisim_laws.proofs.Firing.{contains_first, contains_later, contains_none, contains_cases}
 use Rattle.lps_core.proofs.Members.{all_from, map_contains}
@@ -23,13 +19,13 @@ use Rattle.sort_table.specs.NamedLists.{all_named, first_named}
 use Rattle.sort_table.specs.BareSorts.{SortExpression, truth_values, a_name, bare_sort}
 use Rattle.sort_table.specs.BareProcesses.{bare_names}
 use Rattle.sort_table.specs.BareDeclarations.{Constructor, Declaration, bare_word, bare_field, bare_constructor, bare_declaration, bare_section, bare_sections, declarations_in}
-use Rattle.sort_table.specs.SignatureVocabularies.{text_under, function_name_of, function_names_from, sort_name_under, action_under, vocabulary_of}
+use Rattle.sort_table.specs.SignatureVocabularies.{function_name_of, function_names_from, sort_name_under, action_under, vocabulary_of}
 use Rattle.sort_table.specs.SortMeanings as texts
 use Rattle.sort_table.specs.SortMeanings.{kinds_by, kinds_in, actions_by, actions_in, under_names, StandsFor, for_truth_values, for_positives, for_naturals, for_integers, for_lists, for_plain, for_struct, for_alias}
-use Rattle.sort_table.specs.TextFunctions.{TextFunction, TextRole, Named, declared, where_named, projections_from, projection, recogniser, struct_constructor, declared_constructor, mapping, fields_of, functions_by, functions_in}
-use Rattle.sort_table.specs.Vocabularies.{EachPair, IsFunction, AreSortsOf, IsVocabularyOf}
+use Rattle.sort_table.specs.TextFunctions.{TextRole, Named, declared, where_named, projections_from, projection, recogniser, struct_constructor, declared_constructor, mapping, fields_of, functions_by, functions_in}
+use Rattle.sort_table.specs.Vocabularies.{EachPair, IsFunction, AreSortsOf}
 use Rattle.lps_printer.specs.DataLayout.{IsIdentifier}
-use Rattle.lin_driver.specs.NamedSignatures.{DeclaresIdentifiers, TextsDeclareIdentifiers}
+use Rattle.lin_driver.specs.NamedSignatures.{TextsDeclareIdentifiers}
 use Rattle.lin_driver.proofs.Identifiers.{identifier_named}
 
 -- ---- rows under names

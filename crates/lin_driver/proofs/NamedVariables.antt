@@ -1,6 +1,5 @@
 -- Variables are named by identifiers, and stay so.
-use Rattle.std.proofs.Common.{◌≡◌, ◌<◌, ◌+◌, ◌==◌, ◌⊎◌, inl, inr, ⊎_elim, ℕ, zero, suc, Bool, true, false, cond, List, [], ◌∷◌, ◌++◌, map, length, get_or, codes, Some, Option, refl, sym, ap, ◌∙◌, subst, arith, length-append}
-use Rattle.std.specs.Prelude.{slice_get, Contains}
+use Rattle.std.proofs.Common.{◌≡◌, ◌<◌, ◌+◌, ◌⊎◌, inl, inr, ⊎_elim, ℕ, zero, suc, Bool, true, false, cond, List, [], ◌∷◌, ◌++◌, map, length, get_or, codes, Option, refl, sym, ap, ◌∙◌, subst, arith, length-append}
 use Rattle.std.specs.List.{All, list_any}
 use Rattle.std.proofs.lemmas.List.Elements.{All-nil, All-cons, All-head, All-tail, All-append, All-weaker, All-contains}
 use Rattle.std.proofs.lemmas.Option.{same_Some}
@@ -14,7 +13,6 @@ use Rattle.data_theory.specs.Table.{pos_sort}
 use Rattle.data_theory.specs.Signature.{Sig, with_variable}
 use Rattle.data_theory.specs.Fresh.{IsFreshIn}
 use Rattle.data_theory.specs.IdTerms.{IsGrown}
-use Rattle.data_theory.specs.WholeSignatures.{IsSignature}
 use Rattle.data_theory.proofs.IdGrowthLemmas.{with_a_variable_it_is_grown}
 use Rattle.term_pool.specs.Pools.{PoolContents}
 use Rattle.term_pool.specs.Constants.{DeclaresConstants, none_left, declares}
@@ -38,7 +36,7 @@ use Rattle.sort_checker.specs.Additions.{AddsVariables, nothing, one_list, one_v
 use Rattle.lin_driver.proofs.Identifiers.{identifier_named}
 use Rattle.lin_driver.proofs.ConstantGrowth.{on_columns}
 
-below_or_last : (a b : ℕ) → a < b + 1 → (a < b) ⊎ (a ≡ b)
+pub below_or_last : (a b : ℕ) → a < b + 1 → (a < b) ⊎ (a ≡ b)
 below_or_last zero zero m = inr refl
 below_or_last zero (suc b) m = inl (omega arith)
 below_or_last (suc a) zero m = absurd (omega (arith, m))
@@ -120,7 +118,7 @@ control_named no_control all = all
 control_named {g = g} (a_control {h = h} {name = name} l f) all = named_more h (record { name = name; sort = pos_sort }) (fresh_text g h (codes "s") name (refl, refl) f) (fresh_named g h (codes "s") name f all)
 
 -- constants are no variables
-constants_variables : {sorts : List SortId} {g h : Sig} {cs ds : List (SortId × FunId)} → DeclaresConstants sorts g cs h ds → h.variables ≡ g.variables
+pub constants_variables : {sorts : List SortId} {g h : Sig} {cs ds : List (SortId × FunId)} → DeclaresConstants sorts g cs h ds → h.variables ≡ g.variables
 constants_variables none_left = refl
 constants_variables (declares one rest) = constants_variables rest ∙ ap (λ (z : Sig). z.variables) one.declared ∙ ap (λ (z : Sig). z.variables) one.fresh.taken
 
@@ -139,7 +137,7 @@ encoding_named g h p q f l fits e all =
     firsts_named c.values (control_named c.control (columns_named c.columns (kinds_named g f all params) all))
 
 -- ---- sums
-sum_named : {IsOne : NameId → Type 0} {g h : Sig} {x y : VarId} → IsNamed IsOne g x h y → IsVariable g x → HaveIdentifiers g → HaveIdentifiers h
+pub sum_named : {IsOne : NameId → Type 0} {g h : Sig} {x y : VarId} → IsNamed IsOne g x h y → IsVariable g x → HaveIdentifiers g → HaveIdentifiers h
 sum_named (it_stays n) l all = all
 sum_named {g = g} {x = x} (it_is_new {h = h} {base = base} {name = name} i at f) l all =
     let u = all x l in

@@ -1,6 +1,6 @@
 -- The name of the process stays as the signature grows.
-use Rattle.std.proofs.Common.{◌≡◌, codes, Some, sym, ap, subst}
-use Rattle.std.specs.Prelude.{slice_get, Contains}
+use Rattle.std.proofs.Common.{◌≡◌, codes, sym, subst}
+use Rattle.std.specs.Prelude.{Contains}
 use Rattle.std.proofs.lemmas.List.Elements.{Contains-append_left}
 use Rattle.data_theory.specs.declared.ids.NameId.{NameId}
 use Rattle.data_theory.specs.Names.{place_in, with_text}
@@ -24,3 +24,11 @@ process_name g a h x s f w =
       named = still_read a.texts h.texts w.new_texts w.texts x.0 f.text f.named;
       taken = subst (λ ns. Contains ns x) (sym w.taken) (Contains-append_left a.taken w.new_taken x has);
     }
+
+pub name_stays : (g h k : Sig) (x : NameId) → IsProcessName g h x → IsGrown h k → IsProcessName g k x
+name_stays g h k x n w = record {
+  text = n.text;
+  fresh = n.fresh;
+  named = still_read h.texts k.texts w.new_texts w.texts x.0 n.text n.named;
+  taken = subst (λ ns. Contains ns x) (sym w.taken) (Contains-append_left h.taken w.new_taken x n.taken);
+}

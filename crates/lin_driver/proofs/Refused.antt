@@ -1,5 +1,5 @@
 -- Why a text is refused.
-use Rattle.std.proofs.Common.{◌≡◌, ◌≢◌, ◌⊎◌, inl, inr, ℕ, List, refl, sym, subst, ◌∙◌, Result, Ok, Err}
+use Rattle.std.proofs.Common.{◌≡◌, ◌≢◌, ℕ, List, refl, sym, subst, ◌∙◌, Result, Ok, Err}
 use Rattle.std.specs.Prelude.{IfErr, IfOk, IsErrAnd}
 use Rattle.mcrl2_lexer.specs.declared.token.LexFault.{LexFault}
 use Rattle.mcrl2_lexer.specs.declared.token.LexFault.TheVariants as lex
@@ -96,11 +96,10 @@ module _ (spec : PlainSpec) (g : Sig) (p : PoolContents) (m : PlainModel) (is : 
 
   by_method : (method : Method) (fault : ModelFault) → IsModelFaultOf m fault → fault_of_model method fault ≢ NoMemory → IsSpecFault spec texts (fault_of_model method fault)
   by_method method (model.Net fault) has some = over (model.Net fault) has
-  by_method method model.NotBuilt has some = inl (over model.NotBuilt has)
   by_method method (model.Guard fault) has some = over (model.Guard fault) has
-  by_method Auto (model.NotTail summand) has some = inr (summand, over (model.NotTail summand) has)
-  by_method Regular (model.NotTail summand) has some = (refl, over (model.NotTail summand) has)
-  by_method Stack (model.NotTail summand) has some = inr (summand, over (model.NotTail summand) has)
+  by_method Auto (model.NotTail component summand) has some = (component, summand, over (model.NotTail component summand) has)
+  by_method Regular (model.NotTail component summand) has some = over (model.NotTail component summand) has
+  by_method Stack (model.NotTail component summand) has some = (component, summand, over (model.NotTail component summand) has)
   by_method method model.NoMemory has some = absurd (some refl)
 
   pub model_refused : (method : Method) (fault : ModelFault) (given : LinFault) → IsModelFaultOf m fault → given ≡ fault_of_model method fault → given ≢ NoMemory → IsSpecFault spec texts given

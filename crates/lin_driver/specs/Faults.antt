@@ -15,7 +15,7 @@ use Rattle.guard_check.specs.declared.checking.GuardFault.TheVariants as guard
 use Rattle.regular_encoder.specs.declared.faults.EncodeFault.{EncodeFault}
 use Rattle.regular_encoder.specs.declared.faults.EncodeFault.TheVariants as encode
 use Rattle.lin_driver.specs.declared.fault.ModelFault.{ModelFault}
-use Rattle.lin_driver.specs.declared.fault.ModelFault.TheVariants.{Net, NotBuilt, Guard, NotTail, NoMemory}
+use Rattle.lin_driver.specs.declared.fault.ModelFault.TheVariants.{Net, Guard, NotTail, NoMemory}
 use Rattle.lin_driver.specs.declared.fault.LinFault.{LinFault}
 use Rattle.lin_driver.specs.declared.fault.LinFault.TheVariants as lin
 use Rattle.lin_driver.specs.declared.methods.Method.{Method}
@@ -30,9 +30,10 @@ abbrev pub fault_of_guard : GuardFault → ModelFault
 fault_of_guard guard.NoMemory = NoMemory
 fault_of_guard (guard.Unguarded names) = Guard (guard.Unguarded names)
 
-abbrev pub fault_of_encode : EncodeFault → ModelFault
-fault_of_encode encode.NoMemory = NoMemory
-fault_of_encode (encode.NotTail number) = NotTail number
+-- the number is that of the leaf
+abbrev pub fault_of_encode : ℕ → EncodeFault → ModelFault
+fault_of_encode number encode.NoMemory = NoMemory
+fault_of_encode number (encode.NotTail summand) = NotTail number summand
 
 -- ---- of a text
 abbrev pub fault_of_lex : LexFault → LinFault
@@ -65,14 +66,13 @@ fault_of_type (type.CommShape number) = lin.«Type» (type.CommShape number)
 fault_of_type (type.RenameTwice number name) = lin.«Type» (type.RenameTwice number name)
 
 -- the regular encoder refuses a summand of two calls where it alone was asked for; else it isn't built
-abbrev pub fault_of_tail : Method → ℕ → LinFault
-fault_of_tail Auto summand = lin.NotBuilt
-fault_of_tail Regular summand = lin.NotTail 1 summand
-fault_of_tail Stack summand = lin.NotBuilt
+abbrev pub fault_of_tail : Method → ℕ → ℕ → LinFault
+fault_of_tail Auto component summand = lin.NotBuilt
+fault_of_tail Regular component summand = lin.NotTail component summand
+fault_of_tail Stack component summand = lin.NotBuilt
 
 abbrev pub fault_of_model : Method → ModelFault → LinFault
 fault_of_model method (Net fault) = lin.Net fault
-fault_of_model method NotBuilt = lin.NotBuilt
 fault_of_model method (Guard fault) = lin.Guard fault
-fault_of_model method (NotTail summand) = fault_of_tail method summand
+fault_of_model method (NotTail component summand) = fault_of_tail method component summand
 fault_of_model method NoMemory = lin.NoMemory

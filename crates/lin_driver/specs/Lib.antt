@@ -1,9 +1,11 @@
 pub mod EqualLinears
 pub mod FilledLinears
-pub mod OneComponents
+pub mod Leaves
 pub mod TakenNames
 pub mod NamedSignatures
 pub mod FittingOperators
+pub mod Parts
+pub mod LinearLeaves
 pub mod Faults
 pub mod ModelLinears
 pub mod Headline

@@ -32,6 +32,7 @@ use Rattle.lps_core.specs.Fitting.{Fits}
 use Rattle.lps_core.specs.GoingOn.{IsGoodOver}
 use Rattle.lps_core.specs.PlainLinears.{PlainLinear, linear_of, initial_of, linear_state}
 use Rattle.proc_unfold.specs.FittingModels.{ModelFits}
+use Rattle.lin_driver.specs.Leaves.{HasLeaves}
 use Rattle.lin_driver.specs.ModelLinears.{IsProcessName, LeadsToLinear}
 use Rattle.lin_driver.specs.EqualLinears.{AreEqualLinears}
 use Rattle.lin_driver.specs.Headline.{Specifies, AddsOnly, StandsFor}
@@ -59,6 +60,14 @@ pub record IsMadeOf (text : List ℕ) (spec : PlainSpec) (h : Sig) (us : List Tr
   pub cut : HasTokens text tokens
   pub spelled : SpellsSpec text spec tokens
   pub made : IsMadeFor spec h us equations x l
+
+-- a model of the specification has a network with so many components
+pub record HasComponents (spec : PlainSpec) (count : ℕ) : Type 0 where
+  pub signature : Sig
+  pub pool : PoolContents
+  pub model : PlainModel
+  pub is_model : IsModelOf spec signature pool model
+  pub leaves : HasLeaves model count
 
 -- ---- what it is to the text
 -- The text has this specification. The signature has its vocabulary and more behind it, and a link leads from the text's process to

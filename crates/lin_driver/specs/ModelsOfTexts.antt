@@ -1,5 +1,4 @@
 -- The model of a text can be linearised.
-use Rattle.std.specs.Prelude.{◌≡◌}
 use Rattle.data_theory.specs.Declarations.{NoSortIsEmpty}
 use Rattle.data_theory.specs.Signature.{Sig}
 use Rattle.data_theory.specs.WholeSignatures.{IsSignature}

@@ -1,5 +1,5 @@
 -- What a text of words declares is named by identifiers.
-use Rattle.std.specs.Prelude.{List, slice_get}
+use Rattle.std.specs.Prelude.{slice_get}
 use Rattle.std.specs.List.{All}
 use Rattle.data_theory.specs.declared.ids.FunId.{FunId}
 use Rattle.data_theory.specs.declared.ids.NameId.{NameId}

@@ -1,5 +1,5 @@
 -- Why a text is refused.
-use Rattle.std.specs.Prelude.{◌≡◌, ◌≢◌, ◌⊎◌, ℕ, List, All, count_by}
+use Rattle.std.specs.Prelude.{◌≡◌, ◌≢◌, ℕ, List, All, count_by}
 use Rattle.mcrl2_lexer.specs.declared.token.Token.{Token}
 use Rattle.mcrl2_lexer.specs.Lexing as lexing
 use Rattle.mcrl2_lexer.specs.Lexing.{HasTokens}
@@ -54,8 +54,8 @@ pub record IsModelFaultOver (spec : PlainSpec) (texts : List (List ℕ)) (fault 
   pub names : BeginsWith signature.texts texts
   pub has_fault : IsModelFaultOf model fault
 
--- What isn't built are parallel operators, and forms with a summand of two calls. Such a summand is that of component 1. Want of memory is
--- no fault of a specification, nor are those of its tokens and its declarations.
+-- What isn't built are forms with a summand of two calls. Want of memory is no fault of a specification, nor are those of its tokens and its
+-- declarations.
 abbrev pub IsSpecFault : PlainSpec → List (List ℕ) → LinFault → Type 0
 IsSpecFault spec texts (Lex fault) = ⊥
 IsSpecFault spec texts (Parse fault) = ⊥
@@ -63,8 +63,8 @@ IsSpecFault spec texts (Sort fault) = IsFaultOf spec texts fault × (fault ≢ s
 IsSpecFault spec texts («Type» fault) = IsTypeFaultOver spec texts fault × (fault ≢ type.NoMemory)
 IsSpecFault spec texts (Net fault) = IsModelFaultOver spec texts (model.Net fault)
 IsSpecFault spec texts (Guard fault) = IsModelFaultOver spec texts (model.Guard fault)
-IsSpecFault spec texts (NotTail component summand) = (component ≡ 1) × IsModelFaultOver spec texts (model.NotTail summand)
-IsSpecFault spec texts NotBuilt = IsModelFaultOver spec texts model.NotBuilt ⊎ ((summand : ℕ) × IsModelFaultOver spec texts (model.NotTail summand))
+IsSpecFault spec texts (NotTail component summand) = IsModelFaultOver spec texts (model.NotTail component summand)
+IsSpecFault spec texts NotBuilt = (component : ℕ) × (summand : ℕ) × IsModelFaultOver spec texts (model.NotTail component summand)
 IsSpecFault spec texts NoMemory = ⊥
 
 -- ---- of a text

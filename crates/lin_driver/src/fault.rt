@@ -19,12 +19,11 @@ use sort_table::SortFault;
 pub enum ModelFault {
     /// Parallelism doesn't stand outside recursion.
     Net(NetFault),
-    /// A parallel operator stands where `init` reaches it.
-    NotBuilt,
     /// Recursion isn't guarded.
     Guard(GuardFault),
-    /// The summand with this number, from 1, is the first of the component's form with two calls.
-    NotTail(usize),
+    /// The component with the first number is the first one whose form isn't tail, and the summand with the second number is the first
+    /// of that form with two calls. Both count from 1.
+    NotTail(usize, usize),
     /// No memory was left.
     NoMemory,
 }
@@ -59,13 +58,14 @@ impl From<GuardFault> for ModelFault {
     }
 }
 
-impl From<EncodeFault> for ModelFault {
-    ghost from_gives = { λ encode fault. fault ≡ fault_of_encode encode };
-
-    fn from(fault: EncodeFault) -> Self {
+impl ModelFault {
+    /// The fault of a specification whose component with this number, from 1, has a form that isn't encoded.
+    pub(crate) fn of_component(number: usize, fault: EncodeFault) -> Self
+        ensures { result ≡ fault_of_encode number fault }
+    {
         match fault {
             EncodeFault::NoMemory => ModelFault::NoMemory,
-            EncodeFault::NotTail(number) => ModelFault::NotTail(number),
+            EncodeFault::NotTail(summand) => ModelFault::NotTail(number, summand),
         }
     }
 }
@@ -86,10 +86,10 @@ pub enum LinFault {
     Net(NetFault),
     /// Recursion isn't guarded.
     Guard(GuardFault),
-    /// The component with the first number has a form whose summand with the second number is its first with two calls, and the
-    /// regular encoder alone was asked for. Both count from 1.
+    /// The component with the first number is the first one whose form isn't tail, the summand with the second number is the first of
+    /// that form with two calls, and the regular encoder alone was asked for. Both count from 1.
     NotTail(usize, usize),
-    /// A parallel operator stands where `init` reaches it, or a summand of the form has two calls.
+    /// A component's form has a summand with two calls.
     NotBuilt,
     /// No memory was left.
     NoMemory,

@@ -6,13 +6,15 @@
 #![tactic(auto)]
 
 mod checking;
+mod components;
+mod composing;
 mod fault;
 pub mod laws;
+mod leaves;
 mod linear_texts;
 mod linearising;
 mod methods;
 mod model_linearising;
-mod one_component;
 mod reading;
 mod variable_names;
 

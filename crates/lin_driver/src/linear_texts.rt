@@ -40,7 +40,7 @@ fn print_out(alloc: Global, made: Linearised) -> Result<Vec<u8>, LinFault>
     Ok(text)
 }
 
-/// The text of the linear process of a text without parallel operators whose form is tail.
+/// The text of the linear process of a text whose components have tail forms.
 ///
 /// It stands for the given text: it has the same data and at most constants behind them, and where these are consistent, both processes
 /// are bisimilar by a named link (Groote and Mousavi, strong bisimilarity).

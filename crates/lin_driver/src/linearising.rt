@@ -11,7 +11,7 @@ ghost use Rattle.sort_table.specs.Built.{IsBuilt};
 ghost use Rattle.sort_checker.specs.FullVocabularies.{FullVocabulary};
 ghost use Rattle.sort_checker.specs.TextModels.{HasOneStart};
 ghost use Rattle.lin_driver.specs.Accepted.{CanBeLinearised, IsGuardedSystem};
-ghost use Rattle.lin_driver.specs.Linearised.{IsLinearised, IsMadeFor, IsMadeOf};
+ghost use Rattle.lin_driver.specs.Linearised.{HasComponents, IsLinearised, IsMadeFor, IsMadeOf};
 ghost use Rattle.lin_driver.specs.Refusals.{IsRefusedWith, IsSpecFault};
 
 use crate::fault::LinFault;
@@ -58,7 +58,8 @@ fn equations_of(model: Model) -> Theory
     theory
 }
 
-/// The equations and the linear process of a specification that its signature declares, with the name of the process.
+/// The equations and the linear process of a specification that its signature declares, with the name of the process and the number of
+/// components.
 ///
 /// # Errors
 ///
@@ -69,7 +70,7 @@ fn linear_of_spec(
     sig: &mut Signature,
     pool: &mut Pool,
     method: Method,
-) -> Result<(Theory, NameId, Linear), LinFault>
+) -> Result<(Theory, NameId, Linear, usize), LinFault>
     requires words { IsSpecOfWords (spec_of spec.now) }
     requires start { HasOneStart (bare_sections (spec_of spec.now)) }
     requires stands { IsSignature sig.old }
@@ -78,11 +79,12 @@ fn linear_of_spec(
     requires no_constants { pool.old.constants ≡ [] }
     ensures accepted { OnOk result ((v : FullVocabulary) × IsGuardedSystem (bare_sections (spec_of spec.now)) v) }
     ensures made { IfOk result (λ made. IsMadeFor (spec_of spec.now) sig.new pool.new.trees (map plain_equation made.0.equations.items) made.1 (plain_linear made.2)) }
+    ensures components { IfOk result (λ made. HasComponents (spec_of spec.now) made.3) }
     ensures refused { IfErr result (λ fault. fault ≢ LinFault.NoMemory → IsSpecFault (spec_of spec.now) sig.new.texts fault) }
 {
     let model = elaborate(alloc, spec, sig, pool)?;
     match linear_of(alloc, &model, sig, pool) {
-        Ok((name, lin)) => Ok((equations_of(model), name, lin)),
+        Ok((name, lin, components)) => Ok((equations_of(model), name, lin, components)),
         Err(fault) => Err(method.fault(fault)),
     }
 }
@@ -105,21 +107,21 @@ fn linear_of_built(
     ensures accepted { OnOk result ((v : FullVocabulary) × IsGuardedSystem (bare_sections (spec_of spec)) v) }
     ensures spec { IfOk result (λ made. spec_of made.spec ≡ spec_of spec) }
     ensures made { IfOk result (λ made. IsMadeFor (spec_of made.spec) made.sig made.pool.trees (map plain_equation made.theory.equations.items) made.name (plain_linear made.lin)) }
-    ensures one { IfOk result (λ made. made.components ≡ 1) }
+    ensures components { IfOk result (λ made. HasComponents (spec_of made.spec) made.components) }
     ensures refused { IfErr result (λ fault. fault ≢ LinFault.NoMemory → IsSpecFault (spec_of spec) names.new fault) }
 {
     let mut sig = sig;
     let _ = sig.next_sort();
     let mut pool = Pool::new(alloc)?;
     match linear_of_spec(alloc, &spec, &mut sig, &mut pool, method) {
-        Ok((theory, name, lin)) => Ok(Linearised {
+        Ok((theory, name, lin, components)) => Ok(Linearised {
             spec,
             sig,
             pool,
             theory,
             name,
             lin,
-            components: 1,
+            components,
         }),
         Err(fault) => {
             *names = sig.into_names();
@@ -128,7 +130,7 @@ fn linear_of_built(
     }
 }
 
-/// The linear process of a text without parallel operators whose form is tail, with all that it was made of.
+/// The linear process of a text whose components have tail forms, with all that it was made of.
 ///
 /// The process that the text specifies is bisimilar to the linear one, over every theory whose data go on from the signature and are
 /// consistent. Constants for sorts without constructors may have been declared, and nothing else is new to the data. The text is one that
@@ -138,10 +140,9 @@ fn linear_of_built(
 ///
 /// The first of these: `Lex` where the text has no tokens that are accepted; `Parse` where one of its declarations nests too deeply or
 /// spells none, or where not exactly one is in an `init` section; `Sort` where what they declare has a fault; `Type` where the text is ill
-/// typed; `Net` where parallelism doesn't stand outside recursion; `NotBuilt` for another text with a parallel operator where `init`
-/// reaches it; `Guard` where recursion isn't guarded; and for a form with a summand of two calls `NotTail` with the method `Regular`,
-/// else `NotBuilt`. `names`, which is to be empty, then has the text of each name that the fault lists. `NoMemory` comes only where
-/// memory runs out.
+/// typed; `Net` where parallelism doesn't stand outside recursion; `Guard` where recursion isn't guarded; and for a component whose form
+/// has a summand of two calls `NotTail` with the method `Regular`, else `NotBuilt`. `names`, which is to be empty, then has the text of
+/// each name that the fault lists. `NoMemory` comes only where memory runs out.
 pub fn linearise(
     alloc: Global,
     text: &[u8],
@@ -152,7 +153,7 @@ pub fn linearise(
     ensures accepted { OnOk result (CanBeLinearised text.now) }
     ensures made { IfOk result (λ made. IsMadeOf text.now (spec_of made.spec) made.sig made.pool.trees (map plain_equation made.theory.equations.items) made.name (plain_linear made.lin)) }
     ensures linearised { IfOk result (λ made. IsLinearised text.now (spec_of made.spec) made.sig made.pool.trees (plain_linear made.lin)) }
-    ensures one { IfOk result (λ made. made.components ≡ 1) }
+    ensures components { IfOk result (λ made. HasComponents (spec_of made.spec) made.components) }
     ensures refused { IfErr result (λ fault. fault ≢ LinFault.NoMemory → IsRefusedWith text.now names.new fault) }
 {
     let (spec, sig) = read_text(alloc, text, names)?;

@@ -17,16 +17,15 @@ pub enum Method {
 }
 
 impl Method {
-    /// The fault of a text whose specification has this fault. The one component is the first one.
+    /// The fault of a text whose specification has this fault.
     pub(crate) fn fault(self, fault: ModelFault) -> LinFault
         ensures { result ≡ fault_of_model self fault }
     {
         match fault {
             ModelFault::Net(fault) => LinFault::Net(fault),
-            ModelFault::NotBuilt => LinFault::NotBuilt,
             ModelFault::Guard(fault) => LinFault::Guard(fault),
-            ModelFault::NotTail(summand) => match self {
-                Method::Regular => LinFault::NotTail(1, summand),
+            ModelFault::NotTail(component, summand) => match self {
+                Method::Regular => LinFault::NotTail(component, summand),
                 Method::Auto | Method::Stack => LinFault::NotBuilt,
             },
             ModelFault::NoMemory => LinFault::NoMemory,

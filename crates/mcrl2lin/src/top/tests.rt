@@ -110,10 +110,8 @@ const ROWS: [Row; 22] = [
     },
     Row {
         name: "a text with a parallel operator",
-        text: b"act a, b; init a || b;",
-        status: Status::Refused,
-        out: b"",
-        err: b"refused 90 NotBuilt\n",
+        text: b"act a, b; init rename({a -> b}, a);",
+        out: b"act a, b;\nproc P = b;\ninit P;\n",
         ..TWO
     },
     Row {

@@ -1,11 +1,11 @@
-use Rattle.std.proofs.Common.{sym, ap, subst, ◌∙◌, inr}
+use Rattle.std.proofs.Common.{sym, subst, inr}
 use Rattle.std.specs.List.{All}
 use Rattle.std.proofs.lemmas.List.Elements.{All-nil}
 use Rattle.data_theory.specs.IdTerms.{IsTreeWithin}
 use Rattle.mcrl2_syntax.specs.Declarations.{spec_of}
 use Rattle.process_terms.specs.PlainProcesses.{plain_model}
 use Rattle.sort_checker.specs.Additions.{nothing}
-use Rattle.sort_checker.proofs.Adding.{signature_stays, it_is_grown}
+use Rattle.sort_checker.proofs.Adding.{it_is_grown}
 use Rattle.sort_checker.proofs.WholeModels.{built_signatures_are_of_their_texts}
 use Rattle.lps_printer.proofs.GrowingByConstants.{still_taken}
 use Rattle.lin_driver.proofs.AcceptedTexts.{accepted_model}
@@ -56,3 +56,6 @@ pub returns-in-Err-clause-refused : goal.returns-in-Err-clause-refused
 returns-in-Err-clause-refused c =
     model_refused (spec_of c.args.spec.now) c.elaborate.new.sig c.elaborate.new.pool (plain_model c.in_ok-model.model) c.in_ok-model.ensures.means c.linear_of.new.sig.texts (c.linear_of.ensures.grown.new_texts, c.linear_of.ensures.grown.texts)
     c.args.method c.in-Err.fault c.fault.result c.in-Err.ensures.refused c.fault.ensures
+
+pub returns-in-Ok-clause-components : goal.returns-in-Ok-clause-components
+returns-in-Ok-clause-components c = record { signature = c.elaborate.new.sig; pool = c.elaborate.new.pool; model = plain_model c.in_ok-model.model; is_model = c.in_ok-model.ensures.means; leaves = c.in-Ok.ensures.components }

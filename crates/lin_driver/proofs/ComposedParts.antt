@@ -1,0 +1,219 @@
+-- Linear processes composed along a network.
+use Rattle.std.proofs.Common.{◌≡◌, List, [], ◌∷◌, ◌++◌, refl, sym, ap, subst, ◌∙◌, append_assoc}
+use Rattle.std.specs.List.{AllZip}
+use Rattle.data_theory.specs.Signature.{Sig}
+use Rattle.data_theory.specs.WholeSignatures.{IsSignature}
+use Rattle.data_theory.specs.IdTrees.{Tree}
+use Rattle.data_theory.proofs.IdGrowthLemmas.{growth_after_growth_is_growth}
+use Rattle.term_pool.specs.Pools.{Extends}
+use Rattle.process_terms.specs.PlainProcesses.{PlainAround, allow, block, hide, rename, comm, PlainComponent}
+use Rattle.process_terms.specs.Processes.{Body, written_merge, Process, merge, around, merged_with}
+use Rattle.process_terms.specs.Meanings.{around_of, HasAround}
+use Rattle.process_terms.specs.SignatureEntries.{entries_of}
+use Rattle.bisim_laws.specs.Links.{Beside, Under}
+use Rattle.bisim_laws.proofs.ComposedLinks.{beside_good, under_good}
+use Rattle.lps_core.specs.Fitting.{Fits}
+use Rattle.lps_core.specs.GoingOn.{IsGoodOver}
+use Rattle.lps_core.specs.Naming.{GrowsByNames}
+use Rattle.lps_core.specs.PlainLinears.{PlainLinear, linear_of, linear_state}
+use Rattle.lps_core.proofs.PoolTrees.{extends_itself}
+use Rattle.summand_expander.specs.WholeProducts.{IsProduct, IsGoodProduct}
+use Rattle.action_filters.specs.Filters.{IsGoodAround}
+use Rattle.greibach.proofs.GrownFits.{both_by_names, pool_alone}
+use Rattle.regular_encoder.specs.FormColumns.{ParamsHaveOwnNames}
+use Rattle.proc_unfold.specs.Networks.{PlainNetwork, PlainNetworks, side_by_side, under, no_networks, more_networks, network_body, network_bodies}
+use Rattle.lin_driver.specs.FittingOperators.{OperatorFits, NetworksFit}
+use Rattle.lin_driver.specs.Leaves.{leaves, more_leaves}
+use Rattle.lin_driver.specs.Parts.{IsLinearFor, Origin, entries_in, closed_in, component_in, network_in, HasGrownFrom, HasParts, CanBeComposed, IsComposed, Composes}
+use Rattle.lin_driver.specs.TakenNames.{HaveIdentifiers}
+use Rattle.lin_driver.proofs.GrownModels.{around_stays}
+use Rattle.lin_driver.proofs.OpenedOperators.{operator_fits_still}
+use Rattle.lin_driver.proofs.ProductNames.{product_named, product_params_have_own_names}
+use Rattle.lin_driver.proofs.StayingLinears.{GrowsOnBoth, both_named, linear_stays, zip_weaker}
+
+-- ---- the linear processes in front
+-- those of two lists of components
+pub zip_parted : {A B : Type 0} (R : A → B → Type 0) (xs ys : List A) (zs : List B) → AllZip R (xs ++ ys) zs → (us : List B) × (vs : List B) × (zs ≡ us ++ vs) × AllZip R xs us × AllZip R ys vs
+zip_parted R [] ys zs k = ([], zs, refl, tt, k)
+zip_parted R (x ∷ xs) ys [] k = absurd k
+zip_parted R (x ∷ xs) ys (z ∷ zs) k =
+    let r = zip_parted R xs ys zs k.1 in
+    (z ∷ r.0, r.1, ap (λ w. z ∷ w) r.2, (k.0, r.3), r.4)
+
+-- those of the first components are in front of those of the others
+pub parts_parted : (o : Origin) (g : Sig) (ts : List Tree) (cs ds : List PlainComponent) (queue rest : List PlainLinear) → HasParts o g ts (cs ++ ds) queue rest
+    → (between : List PlainLinear) × HasParts o g ts cs queue between × HasParts o g ts ds between rest
+parts_parted o g ts cs ds queue rest k =
+    let r = zip_parted (λ c l. IsLinearFor g ts (component_in o c) l) cs ds k.parts k.are in (
+      r.1 ++ rest,
+      record { parts = r.0; are = r.3; first = k.first ∙ ap (λ ls. ls ++ rest) r.2 ∙ append_assoc r.0 r.1 rest },
+      record { parts = r.1; are = r.4; first = refl },
+    )
+
+-- the first one is that of the first component
+pub first_part : (o : Origin) (g : Sig) (ts : List Tree) (c : PlainComponent) (queue rest : List PlainLinear) → HasParts o g ts (c ∷ []) queue rest → (l : PlainLinear) × (queue ≡ l ∷ rest) × IsLinearFor g ts (component_in o c) l
+first_part o g ts c queue rest k = by_parts k.parts k.are k.first
+  where
+    by_parts : (ls : List PlainLinear) → AllZip (λ c l. IsLinearFor g ts (component_in o c) l) (c ∷ []) ls → queue ≡ ls ++ rest → (l : PlainLinear) × (queue ≡ l ∷ rest) × IsLinearFor g ts (component_in o c) l
+    by_parts [] k e = absurd k
+    by_parts (l ∷ []) k e = (l, e, k.0)
+    by_parts (l ∷ m ∷ ls) k e = absurd k.1
+
+pub parts_stay : (o : Origin) (g h : Sig) (ts us : List Tree) (cs : List PlainComponent) (queue rest : List PlainLinear) → GrowsOnBoth g h ts us → HasParts o g ts cs queue rest → HasParts o h us cs queue rest
+parts_stay o g h ts us cs queue rest w k = record {
+  parts = k.parts;
+  are = zip_weaker (λ c l. IsLinearFor g ts (component_in o c) l) (λ c l. IsLinearFor h us (component_in o c) l) (λ c l. linear_stays g h ts us w (component_in o c) l) cs k.parts k.are;
+  first = k.first;
+}
+
+-- ---- growth
+pub since_then : (o : Origin) (g h : Sig) → GrowsByNames g h → HasGrownFrom o g → HasGrownFrom o h
+since_then o g h w k = record { stands = k.stands; grown = growth_after_growth_is_growth o.signature g h k.grown w.grown; actions = w.actions ∙ k.actions }
+
+pub fits_now : (o : Origin) (g : Sig) (a : PlainAround) → HasGrownFrom o g → OperatorFits o.signature a → OperatorFits g a
+fits_now o g a k fits = operator_fits_still o.signature g k.grown k.actions a fits
+
+-- an operator that fits has its names
+operator_named : (g : Sig) (ts : List Tree) (a : PlainAround) → OperatorFits g a → HasAround (entries_of g ts) a
+operator_named g ts (allow sets) k = k
+operator_named g ts (block names) k = k
+operator_named g ts (hide names) k = k
+operator_named g ts (rename pairs) k = k.names
+operator_named g ts (comm rules) k = k.names
+
+same_operator : (o : Origin) (g : Sig) (ts : List Tree) (a : PlainAround) → HasGrownFrom o g → OperatorFits o.signature a → around_of (entries_of g ts) a ≡ around_of (entries_in o) a
+same_operator o g ts a k fits = around_stays o.signature g [] [] k.stands (record { signature = k.grown; pool = extends_itself [] }) a (operator_named o.signature [] a fits)
+
+both_pool : (g : Sig) (ts us : List Tree) → IsSignature g → Extends ts us → GrowsOnBoth g g ts us
+both_pool g ts us s kept = record { old = s; new = s; both = pool_alone g ts us kept; fresh = λ n t i. i }
+
+-- ---- links
+pub around_linear : (o : Origin) (g : Sig) (ts us : List Tree) (a : PlainAround) (p : Process) (l k : PlainLinear) → IsSignature g → HasGrownFrom o g → OperatorFits o.signature a → Extends ts us → IsLinearFor g ts p l
+    → Fits g us k → k.params ≡ l.params → IsGoodAround g us a l k → IsLinearFor g us (around (around_of (entries_in o) a) p) k
+around_linear o g ts us a p l k sg since fits kept is made_fits params good =
+    let e = entries_of g us in
+    let now = linear_stays g g ts us (both_pool g ts us sg kept) p l is in
+    let operator = around_of e a in
+    let same = same_operator o g us a since fits in
+    record {
+      fits = made_fits;
+      params = subst (ParamsHaveOwnNames g) (sym params) now.params;
+      link = Under operator (linear_of e l) (linear_of e k) now.link;
+      bisimilar = subst (λ z. IsGoodOver g (Under operator (linear_of e l) (linear_of e k) now.link) (around z p) (linear_state e k)) same
+          (λ th on con. under_good th operator (linear_of e l) (linear_of e k) now.link p (linear_state e l) (linear_state e k) (now.bisimilar th on con) (good th on con));
+    }
+
+pub beside_linear : (g h : Sig) (ts us : List Tree) (p q : Process) (l r k : PlainLinear) → GrowsOnBoth g h ts us → IsLinearFor g ts p l → IsLinearFor g ts q r → Fits h us k → IsProduct g h us l r k → IsGoodProduct h us l r k → IsLinearFor h us (merge p q) k
+beside_linear g h ts us p q l r k w a b fits made good =
+    let e = entries_of h us in
+    let left = linear_stays g h ts us w p l a in
+    let right = linear_stays g h ts us w q r b in
+    record {
+      fits = fits;
+      params = product_params_have_own_names g h ts us l r k w.old a.fits b.fits made a.params b.params;
+      link = Beside good.left good.right (linear_of e k) left.link right.link;
+      bisimilar = λ th on con. beside_good th good.left good.right (linear_of e k) left.link right.link p (linear_state e l) q (linear_state e r) (linear_state e k) (left.bisimilar th on con) (right.bisimilar th on con) (good.good th on con);
+    }
+
+-- ---- networks
+the_last : {A : Type 0} (x y : A) (xs ys : List A) → x ∷ xs ≡ y ∷ ys → (x ≡ y) × (xs ≡ ys)
+the_last x y xs ys e = (cc, cc)
+
+-- a network of one leaf has the first one
+pub leaf_composed : (o : Origin) (g : Sig) (ts : List Tree) (c : PlainComponent) (queue left rest : List PlainLinear) (l : PlainLinear) → HaveIdentifiers g → HasParts o g ts (c ∷ []) queue rest → queue ≡ l ∷ left → IsComposed (component_in o c) g ts left rest l
+leaf_composed o g ts c queue left rest l all k e =
+    let p = first_part o g ts c queue rest k in
+    let same = the_last p.0 l rest left (sym p.1 ∙ e) in
+    record { identifiers = all; linear = subst (IsLinearFor g ts (component_in o c)) same.0 p.2; is_left = sym same.1 }
+
+pub there_is_one : (o : Origin) (g : Sig) (ts : List Tree) (c : PlainComponent) (queue rest : List PlainLinear) → HasParts o g ts (c ∷ []) queue rest → queue ≡ [] → ⊥
+there_is_one o g ts c queue rest k e = let p = first_part o g ts c queue rest k in let never : p.0 ∷ rest ≡ [] = sym p.1 ∙ e in absurd cc
+
+-- the linear process stands for what the networks are to join, and those of their leaves are the first
+pub record CanBeJoined (o : Origin) (whole : Process) (g : Sig) (ts : List Tree) (l : PlainLinear) (ns : PlainNetworks) (queue rest : List PlainLinear) : Type 0 where
+  pub since : HasGrownFrom o g
+  pub identifiers : HaveIdentifiers g
+  pub operators : NetworksFit o.signature ns
+  pub parts : HasParts o g ts (more_leaves ns) queue rest
+  pub so_far : Body
+  pub linear : IsLinearFor g ts (closed_in o so_far) l
+  pub joined : closed_in o (merged_with so_far (network_bodies (entries_in o) ns)) ≡ whole
+
+-- under an operator
+pub inside_can : (o : Origin) (g : Sig) (ts : List Tree) (a : PlainAround) (n : PlainNetwork) (queue rest : List PlainLinear) → CanBeComposed o g ts (under a n) queue rest → CanBeComposed o g ts n queue rest
+inside_can o g ts a n queue rest k = record { since = k.since; identifiers = k.identifiers; operators = k.operators.1; parts = k.parts }
+
+pub operator_can : (o : Origin) (g h : Sig) (ts : List Tree) (a : PlainAround) (n : PlainNetwork) (queue rest : List PlainLinear) → CanBeComposed o g ts (under a n) queue rest → GrowsByNames g h → OperatorFits h a
+operator_can o g h ts a n queue rest k w = fits_now o h a (since_then o g h w k.since) k.operators.0
+
+pub under_composed : (o : Origin) (g h : Sig) (ts us vs : List Tree) (a : PlainAround) (n : PlainNetwork) (queue left rest : List PlainLinear) (l k : PlainLinear) → CanBeComposed o g ts (under a n) queue rest → GrowsByNames g h
+    → Composes g ts n queue h us left l → Extends us vs → Fits h vs k → k.params ≡ l.params → IsGoodAround h vs a l k → IsComposed (network_in o (under a n)) h vs left rest k
+under_composed o g h ts us vs a n queue left rest l k can w f kept fits params good =
+    let c = f o rest (inside_can o g ts a n queue rest can) in
+    record {
+      identifiers = c.identifiers;
+      linear = around_linear o h us vs a (network_in o n) l k w.stands (since_then o g h w can.since) can.operators.0 kept c.linear fits params good;
+      is_left = c.is_left;
+    }
+
+-- side by side
+pub first_can : (o : Origin) (g : Sig) (ts : List Tree) (n : PlainNetwork) (ns : PlainNetworks) (queue rest : List PlainLinear) → CanBeComposed o g ts (side_by_side (more_networks n ns)) queue rest → (between : List PlainLinear) × CanBeComposed o g ts n queue between
+first_can o g ts n ns queue rest k =
+    let p = parts_parted o g ts (leaves n) (more_leaves ns) queue rest k.parts in
+    (p.0, record { since = k.since; identifiers = k.identifiers; operators = k.operators.0; parts = p.1 })
+
+pub first_joined : (o : Origin) (g h : Sig) (ts us : List Tree) (n : PlainNetwork) (ns : PlainNetworks) (queue left rest : List PlainLinear) (l : PlainLinear) → IsSignature g → CanBeComposed o g ts (side_by_side (more_networks n ns)) queue rest
+    → GrowsByNames g h → Extends ts us → Composes g ts n queue h us left l → CanBeJoined o (network_in o (side_by_side (more_networks n ns))) h us l ns left rest
+first_joined o g h ts us n ns queue left rest l s k w kept f =
+    let p = parts_parted o g ts (leaves n) (more_leaves ns) queue rest k.parts in
+    let c = f o p.0 (record { since = k.since; identifiers = k.identifiers; operators = k.operators.0; parts = p.1 }) in
+    record {
+      since = since_then o g h w k.since;
+      identifiers = c.identifiers;
+      operators = k.operators.1;
+      parts = subst (λ ls. HasParts o h us (more_leaves ns) ls rest) (sym c.is_left) (parts_stay o g h ts us (more_leaves ns) p.0 rest (both_named g h ts us s w (both_by_names g h ts us w kept)) p.2);
+      so_far = network_body (entries_in o) n;
+      linear = c.linear;
+      joined = refl;
+    }
+
+pub next_can : (o : Origin) (whole : Process) (g : Sig) (ts : List Tree) (l : PlainLinear) (n : PlainNetwork) (ns : PlainNetworks) (queue rest : List PlainLinear) → CanBeJoined o whole g ts l (more_networks n ns) queue rest
+    → (between : List PlainLinear) × CanBeComposed o g ts n queue between
+next_can o whole g ts l n ns queue rest k =
+    let p = parts_parted o g ts (leaves n) (more_leaves ns) queue rest k.parts in
+    (p.0, record { since = k.since; identifiers = k.identifiers; operators = k.operators.0; parts = p.1 })
+
+pub so_far_fits : (o : Origin) (whole : Process) (g h : Sig) (ts us : List Tree) (l : PlainLinear) (ns : PlainNetworks) (queue rest : List PlainLinear) → IsSignature g → CanBeJoined o whole g ts l ns queue rest → GrowsByNames g h → Extends ts us → Fits h us l
+so_far_fits o whole g h ts us l ns queue rest s k w kept = (linear_stays g h ts us (both_named g h ts us s w (both_by_names g h ts us w kept)) (closed_in o k.so_far) l k.linear).fits
+
+pub next_fits : (o : Origin) (whole : Process) (g h : Sig) (ts us : List Tree) (l r : PlainLinear) (n : PlainNetwork) (ns : PlainNetworks) (queue left rest : List PlainLinear) → CanBeJoined o whole g ts l (more_networks n ns) queue rest → Composes g ts n queue h us left r → Fits h us r
+next_fits o whole g h ts us l r n ns queue left rest k f = let p = next_can o whole g ts l n ns queue rest k in (f o p.0 p.1).linear.fits
+
+pub next_joined : (o : Origin) (whole : Process) (g h i : Sig) (ts us vs : List Tree) (l r k : PlainLinear) (n : PlainNetwork) (ns : PlainNetworks) (queue left rest : List PlainLinear) → IsSignature g → CanBeJoined o whole g ts l (more_networks n ns) queue rest
+    → GrowsByNames g h → Extends ts us → Composes g ts n queue h us left r → GrowsByNames h i → Extends us vs → Fits i vs k → IsProduct h i vs l r k → IsGoodProduct i vs l r k → CanBeJoined o whole i vs k ns left rest
+next_joined o whole g h i ts us vs l r k n ns queue left rest s can w kept f w' kept' fits made good =
+    let p = parts_parted o g ts (leaves n) (more_leaves ns) queue rest can.parts in
+    let c = f o p.0 (record { since = can.since; identifiers = can.identifiers; operators = can.operators.0; parts = p.1 }) in
+    let one = both_named g h ts us s w (both_by_names g h ts us w kept) in
+    let two = both_named h i us vs w.stands w' (both_by_names h i us vs w' kept') in
+    let left_now = linear_stays g h ts us one (closed_in o can.so_far) l can.linear in
+    record {
+      since = since_then o h i w' (since_then o g h w can.since);
+      identifiers = product_named h i us vs l r k w.stands left_now.fits c.linear.fits made c.identifiers;
+      operators = can.operators.1;
+      parts = subst (λ ls. HasParts o i vs (more_leaves ns) ls rest) (sym c.is_left) (parts_stay o h i us vs (more_leaves ns) p.0 rest two (parts_stay o g h ts us (more_leaves ns) p.0 rest one p.2));
+      so_far = written_merge can.so_far (network_body (entries_in o) n);
+      linear = beside_linear h i us vs (closed_in o can.so_far) (network_in o n) l r k two left_now c.linear fits made good;
+      joined = can.joined;
+    }
+
+pub all_joined : (o : Origin) (whole : Process) (g : Sig) (ts : List Tree) (l : PlainLinear) (queue rest : List PlainLinear) → CanBeJoined o whole g ts l no_networks queue rest → IsComposed whole g ts queue rest l
+all_joined o whole g ts l queue rest k = record {
+  identifiers = k.identifiers;
+  linear = subst (λ p. IsLinearFor g ts p l) k.joined k.linear;
+  is_left = none_in_front k.parts.parts k.parts.are k.parts.first;
+}
+  where
+    none_in_front : (ls : List PlainLinear) → AllZip (λ c l. IsLinearFor g ts (component_in o c) l) [] ls → queue ≡ ls ++ rest → queue ≡ rest
+    none_in_front [] a e = e
+    none_in_front (m ∷ ls) a e = absurd a

@@ -1,0 +1,119 @@
+use Rattle.std.proofs.Common.{◌≡◌, ◌≤◌, ◌∙◌, map, length, arith}
+use Rattle.lps_core.specs.PlainLinears.{plain_linear}
+use Rattle.lps_core.specs.Fitting.{Fits}
+use Rattle.lps_core.proofs.NamedSums.{names_none, names_then}
+use Rattle.action_filters.specs.Filters.{IsGoodAround}
+use Rattle.proc_unfold.specs.Networks.{plain_network, plain_operator}
+use Rattle.lin_driver.specs.Parts.{Composes}
+use Rattle.lin_driver.proofs.TakenNames.{if_ok}
+use Rattle.lin_driver.proofs.ComposedNetworks.{operator_parts, part_fits, operator_fits_then, operator_composes, beside_parts, beside_composes, beside_all, none_composes, first_has, joins_first, next_has, joined_fits, next_one_fits, joins_next, joins_all, if_ok_all, no_part, some_part, parts_smaller, inner_smaller, part_no_larger}
+use Rattle.lin_driver.proofs.composing.+compose.Goals as goal
+
+pub compose-compose_beside-requires : goal.compose-compose_beside-requires
+compose-compose_beside-requires t c = (
+  omega (arith, parts_smaller c.args.network.now c.in-Merge.networks c.deref.result.now c.in-Merge.is c.deref.ensures.value, c.decreases),
+  beside_parts c.args.sig.now c.args.pool.now.trees c.args.network.now c.in-Merge.networks c.deref.result.now (map plain_linear c.args.parts.now.items) c.in-Merge.is c.deref.ensures.value c.requires,
+)
+
+pub compose-compose-requires : goal.compose-compose-requires
+compose-compose-requires t c = (
+  omega (arith, inner_smaller c.args.network.now c.in-Op.operator c.in-Op.part c.deref-in-Op.result.now c.in-Op.is c.deref-in-Op.ensures, c.decreases),
+  operator_parts c.args.sig.now c.args.pool.now.trees c.args.network.now c.in-Op.operator c.in-Op.part c.deref-in-Op.result.now (map plain_linear c.args.parts.now.items) c.in-Op.is c.deref-in-Op.ensures c.requires,
+)
+
+pub compose-around-requires-clause-fits : goal.compose-around-requires-clause-fits
+compose-around-requires-clause-fits t c =
+    let queue = map plain_linear c.args.parts.now.items in
+    part_fits c.args.sig.now c.compose.new.sig c.args.pool.now.trees c.compose.new.pool.trees (plain_network c.deref-in-Op.result.now) queue (map plain_linear c.compose.new.parts.items) (plain_linear c.in_ok-linear-in-Op.linear)
+    (operator_parts c.args.sig.now c.args.pool.now.trees c.args.network.now c.in-Op.operator c.in-Op.part c.deref-in-Op.result.now queue c.in-Op.is c.deref-in-Op.ensures c.requires) c.in_ok-linear-in-Op.ensures.composed
+
+pub compose-around-requires-clause-operator : goal.compose-around-requires-clause-operator
+compose-around-requires-clause-operator t c =
+    operator_fits_then c.args.sig.now c.compose.new.sig c.args.pool.now.trees c.args.network.now c.in-Op.operator c.in-Op.part (map plain_linear c.args.parts.now.items) c.in-Op.is c.compose.ensures.grown c.requires
+
+pub compose-returns-in-Leaf-clause-grown : goal.compose-returns-in-Leaf-clause-grown
+compose-returns-in-Leaf-clause-grown t c = names_none c.args.sig.now c.signature_stands.ensures
+
+pub compose-returns-in-Merge-clause-composed : goal.compose-returns-in-Merge-clause-composed
+compose-returns-in-Merge-clause-composed t c =
+    let g = c.args.sig.now in
+    let h = c.compose_beside.new.sig in
+    let ts = c.args.pool.now.trees in
+    let us = c.compose_beside.new.pool.trees in
+    let queue = map plain_linear c.args.parts.now.items in
+    let left = map plain_linear c.compose_beside.new.parts.items in
+    if_ok c.compose_beside.result (λ made. Composes g ts (beside_all c.deref.result.now) queue h us left (plain_linear made)) (λ made. Composes g ts (plain_network c.args.network.now) queue h us left (plain_linear made))
+    (λ made f. beside_composes g h ts us c.args.network.now c.in-Merge.networks c.deref.result.now queue left (plain_linear made) c.in-Merge.is c.deref.ensures.value f) c.compose_beside.ensures.composed
+
+pub compose-returns-in_ok-linear-in-Op-clause-composed : goal.compose-returns-in_ok-linear-in-Op-clause-composed
+compose-returns-in_ok-linear-in-Op-clause-composed t c =
+    let g = c.args.sig.now in
+    let h = c.compose.new.sig in
+    let ts = c.args.pool.now.trees in
+    let us = c.compose.new.pool.trees in
+    let vs = c.around.new.pool.trees in
+    let queue = map plain_linear c.args.parts.now.items in
+    let left = map plain_linear c.compose.new.parts.items in
+    let l = plain_linear c.in_ok-linear-in-Op.linear in
+    let a = plain_operator c.in-Op.operator in
+    if_ok_all c.around.result (λ made. (plain_linear made).params ≡ l.params) (λ made. Fits h vs (plain_linear made)) (λ made. IsGoodAround h vs a l (plain_linear made)) (λ made. Composes g ts (plain_network c.args.network.now) queue h vs left (plain_linear made))
+    (λ made params fits good.
+    operator_composes g h ts us vs c.args.network.now c.in-Op.operator c.in-Op.part c.deref-in-Op.result.now queue left l (plain_linear made) c.in-Op.is c.deref-in-Op.ensures c.compose.ensures.grown c.in_ok-linear-in-Op.ensures.composed c.around.ensures.kept params fits good)
+    c.around.ensures.params c.around.ensures.fits c.around.ensures.bisimilar
+
+pub compose_beside-returns-then-is_empty-clause-grown : goal.compose_beside-returns-then-is_empty-clause-grown
+compose_beside-returns-then-is_empty-clause-grown t c = names_none c.args.sig.now c.signature_stands.ensures
+
+pub compose_beside-returns-then-is_empty-clause-composed : goal.compose_beside-returns-then-is_empty-clause-composed
+compose_beside-returns-then-is_empty-clause-composed t c =
+    none_composes c.args.sig.now c.args.pool.now.trees c.args.networks.now (map plain_linear c.args.parts.now.items) (map plain_linear c.take_first.new.parts.items) (plain_linear c.take_first.result)
+    (no_part c.args.networks.now c.is_empty.result c.is_empty.ensures c.if-is_empty.true) c.take_first.ensures
+
+pub compose_beside-compose-requires : goal.compose_beside-compose-requires
+compose_beside-compose-requires t c =
+    let some = some_part c.args.networks.now c.is_empty.result c.is_empty.ensures c.if-is_empty.false in
+    (omega (arith, part_no_larger c.args.networks.now 0 c.index-networks-0.result some c.index-networks-0.is, c.decreases), first_has c.args.sig.now c.args.pool.now.trees c.args.networks.now c.index-networks-0.result (map plain_linear c.args.parts.now.items) some c.index-networks-0.is c.requires)
+
+pub compose_beside-loop-place-init : goal.compose_beside-loop-place-init
+compose_beside-loop-place-init t c =
+    let some = some_part c.args.networks.now c.is_empty.result c.is_empty.ensures c.if-is_empty.false in (
+      joins_first c.args.sig.now c.compose.new.sig c.args.pool.now.trees c.compose.new.pool.trees c.args.networks.now c.index-networks-0.result (map plain_linear c.args.parts.now.items) (map plain_linear c.compose.new.parts.items) (plain_linear c.in_ok-joined.joined)
+          c.signature_stands.ensures some c.index-networks-0.is c.compose.ensures.grown c.compose.ensures.kept c.in_ok-joined.ensures.composed,
+      c.compose.ensures.constants,
+    )
+
+pub compose_beside-compose-requires-in-loop-place : goal.compose_beside-compose-requires-in-loop-place
+compose_beside-compose-requires-in-loop-place t c = (
+  omega (arith, part_no_larger c.args.networks.now c.loop-place.place c.index-networks-place.result c.loop-place-test.true c.index-networks-place.is, c.decreases),
+  next_has c.args.sig.now c.args.pool.now.trees c.args.networks.now (map plain_linear c.args.parts.now.items) c.loop-place.place c.loop-place.sig c.loop-place.pool.trees (map plain_linear c.loop-place.parts.items) (plain_linear c.loop-place.joined) c.index-networks-place.result
+      c.loop-place-test.true c.index-networks-place.is c.requires c.loop-place.invariant.0,
+)
+
+pub compose_beside-product-requires-clause-left : goal.compose_beside-product-requires-clause-left
+compose_beside-product-requires-clause-left t c =
+    joined_fits c.args.sig.now c.args.pool.now.trees c.args.networks.now (map plain_linear c.args.parts.now.items) c.loop-place.place c.loop-place.sig c.compose-in-loop-place.new.sig c.loop-place.pool.trees c.compose-in-loop-place.new.pool.trees (map plain_linear c.loop-place.parts.items)
+    (plain_linear c.loop-place.joined) c.requires c.loop-place.invariant.0 c.compose-in-loop-place.ensures.grown c.compose-in-loop-place.ensures.kept
+
+pub compose_beside-product-requires-clause-right : goal.compose_beside-product-requires-clause-right
+compose_beside-product-requires-clause-right t c =
+    next_one_fits c.args.sig.now c.args.pool.now.trees c.args.networks.now (map plain_linear c.args.parts.now.items) c.loop-place.place c.loop-place.sig c.compose-in-loop-place.new.sig c.loop-place.pool.trees c.compose-in-loop-place.new.pool.trees (map plain_linear c.loop-place.parts.items)
+    (map plain_linear c.compose-in-loop-place.new.parts.items) (plain_linear c.loop-place.joined) (plain_linear c.in_ok-linear.linear) c.index-networks-place.result c.loop-place-test.true c.index-networks-place.is c.requires c.loop-place.invariant.0 c.in_ok-linear.ensures.composed
+
+pub compose_beside-returns-in_err-joined-2-clause-grown : goal.compose_beside-returns-in_err-joined-2-clause-grown
+compose_beside-returns-in_err-joined-2-clause-grown t c =
+    names_then c.args.sig.now c.loop-place.sig c.product.new.sig c.loop-place.invariant.0.grown (names_then c.loop-place.sig c.compose-in-loop-place.new.sig c.product.new.sig c.compose-in-loop-place.ensures.grown c.product.ensures.grown)
+
+pub compose_beside-loop-place-preserved : goal.compose_beside-loop-place-preserved
+compose_beside-loop-place-preserved t c = (
+  joins_next c.args.sig.now c.args.pool.now.trees c.args.networks.now (map plain_linear c.args.parts.now.items) c.loop-place.place c.loop-place.sig c.compose-in-loop-place.new.sig c.product.new.sig c.loop-place.pool.trees c.compose-in-loop-place.new.pool.trees c.product.new.pool.trees
+      (map plain_linear c.loop-place.parts.items) (map plain_linear c.compose-in-loop-place.new.parts.items) (plain_linear c.loop-place.joined) (plain_linear c.in_ok-linear.linear) (plain_linear c.in_ok-joined-2.joined) c.index-networks-place.result c.loop-place-test.true
+      c.index-networks-place.is c.loop-place.invariant.0 c.compose-in-loop-place.ensures.grown c.compose-in-loop-place.ensures.kept c.in_ok-linear.ensures.composed c.product.ensures.grown c.product.ensures.kept c.in_ok-joined-2.ensures.fits c.in_ok-joined-2.ensures.made
+      c.in_ok-joined-2.ensures.bisimilar,
+  c.product.ensures.constants ∙ c.compose-in-loop-place.ensures.constants ∙ c.loop-place.invariant.1,
+)
+
+pub compose_beside-returns-clause-composed : goal.compose_beside-returns-clause-composed
+compose_beside-returns-clause-composed t c =
+    let done = c.loop-place-test.false in
+    let all : length c.args.networks.now ≤ c.loop-place.place = omega (arith, done) in
+    joins_all c.args.sig.now c.args.pool.now.trees c.args.networks.now (map plain_linear c.args.parts.now.items) c.loop-place.place c.loop-place.sig c.loop-place.pool.trees (map plain_linear c.loop-place.parts.items) (plain_linear c.loop-place.joined) all c.loop-place.invariant.0

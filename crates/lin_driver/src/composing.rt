@@ -1,0 +1,114 @@
+//! The linear process of a network from those of its components.
+
+ghost use Rattle.std.specs.Prelude.{◌≡◌, ◌∷◌, ◌<◌, IfOk, length, map};
+ghost use Rattle.term_pool.specs.Pools.{Extends};
+ghost use Rattle.lps_core.specs.Fitting.{Fits};
+ghost use Rattle.lps_core.specs.Naming.{GrowsByNames};
+ghost use Rattle.lps_core.specs.PlainLinears.{plain_linear};
+ghost use Rattle.action_filters.specs.Filters.{IsGoodAround};
+ghost use Rattle.proc_unfold.specs.Networks.{networks_of, plain_network, plain_operator, side_by_side};
+ghost use Rattle.lin_driver.specs.FittingOperators.{OperatorFits};
+ghost use Rattle.lin_driver.specs.Parts.{Composes, HasItsParts};
+
+use action_filters::{allow, block, hide, rename};
+use communication::communicate;
+use data_theory::{NoMemory, Signature};
+use lps_core::{Linear, signature_stands};
+use proc_unfold::{NetOp, Network};
+use std::alloc::Global;
+use std::collections::VecDeque;
+use summand_expander::product;
+use term_pool::Pool;
+
+/// An operator around a linear process.
+fn around(
+    alloc: Global,
+    operator: &NetOp,
+    linear: &Linear,
+    sig: &Signature,
+    pool: &mut Pool,
+) -> Result<Linear, NoMemory>
+    requires fits { Fits sig.now pool.old.trees (plain_linear linear.now) }
+    requires operator { OperatorFits sig.now (plain_operator operator.now) }
+    ensures kept { Extends pool.old.trees pool.new.trees }
+    ensures constants { pool.new.constants ≡ pool.old.constants }
+    ensures params { IfOk result (λ made. (plain_linear made).params ≡ (plain_linear linear.now).params) }
+    ensures fits { IfOk result (λ made. Fits sig.now pool.new.trees (plain_linear made)) }
+    ensures bisimilar { IfOk result (λ made. IsGoodAround sig.now pool.new.trees (plain_operator operator.now) (plain_linear linear.now) (plain_linear made)) }
+{
+    match operator {
+        NetOp::Allow(sets) => allow(alloc, linear, sets.as_slice(), sig),
+        NetOp::Block(names) => block(alloc, linear, names.as_slice(), sig),
+        NetOp::Hide(names) => hide(alloc, linear, names.as_slice(), sig),
+        NetOp::Rename(pairs) => rename(alloc, linear, pairs.as_slice(), sig),
+        NetOp::Comm(rules) => communicate(alloc, linear, rules, sig, pool),
+    }
+}
+
+/// Takes the first of the linear processes.
+fn take_first(parts: &mut VecDeque<Linear>) -> Linear
+    requires { 0 < length parts.old.items }
+    ensures { map plain_linear parts.old.items ≡ plain_linear result ∷ map plain_linear parts.new.items }
+{
+    match parts.pop_front() {
+        Some(linear) => linear,
+        None => unreachable!(),
+    }
+}
+
+/// The linear process of a network, whose components have the first ones of these. They are taken from the front.
+///
+/// # Errors
+///
+/// `NoMemory` where there is none for it.
+#[cycle(compose)]
+pub(crate) fn compose(
+    alloc: Global,
+    network: &Network,
+    parts: &mut VecDeque<Linear>,
+    sig: &mut Signature,
+    pool: &mut Pool,
+) -> Result<Linear, NoMemory>
+    requires { HasItsParts sig.old pool.old.trees (plain_network network.now) (map plain_linear parts.old.items) }
+    ensures grown { GrowsByNames sig.old sig.new }
+    ensures kept { Extends pool.old.trees pool.new.trees }
+    ensures constants { pool.new.constants ≡ pool.old.constants }
+    ensures composed { IfOk result (λ made. Composes sig.old pool.old.trees (plain_network network.now) (map plain_linear parts.old.items) sig.new pool.new.trees (map plain_linear parts.new.items) (plain_linear made)) }
+{
+    signature_stands(sig);
+    match network {
+        Network::Leaf(_) => Ok(take_first(parts)),
+        Network::Merge(networks) => compose_beside(alloc, networks, parts, sig, pool),
+        Network::Op(operator, part) => {
+            let linear = compose(alloc, part, parts, sig, pool)?;
+            around(alloc, operator, &linear, sig, pool)
+        }
+    }
+}
+
+/// That of networks side by side: the product of theirs, from the left. Where there is none, the first linear process is that of `delta`.
+#[cycle(compose)]
+fn compose_beside(
+    alloc: Global,
+    networks: &[Network],
+    parts: &mut VecDeque<Linear>,
+    sig: &mut Signature,
+    pool: &mut Pool,
+) -> Result<Linear, NoMemory>
+    requires { HasItsParts sig.old pool.old.trees (side_by_side (networks_of (map plain_network networks.now))) (map plain_linear parts.old.items) }
+    ensures grown { GrowsByNames sig.old sig.new }
+    ensures kept { Extends pool.old.trees pool.new.trees }
+    ensures constants { pool.new.constants ≡ pool.old.constants }
+    ensures composed { IfOk result (λ made. Composes sig.old pool.old.trees (side_by_side (networks_of (map plain_network networks.now))) (map plain_linear parts.old.items) sig.new pool.new.trees (map plain_linear parts.new.items) (plain_linear made)) }
+{
+    signature_stands(sig);
+    if networks.is_empty() {
+        return Ok(take_first(parts));
+    }
+    let mut joined = compose(alloc, &networks[0], parts, sig, pool)?;
+    for place in 1..networks.len() {
+        let linear = compose(alloc, &networks[place], parts, sig, pool)?;
+        joined = product(alloc, &joined, &linear, sig, pool)?;
+    }
+    Ok(joined)
+}
