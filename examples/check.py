@@ -2,8 +2,9 @@
 """Runs the program on the examples, and compares what it writes, byte by byte, with what stands beside them.
 
 Run it anywhere: examples/check.py [PROGRAM WORD..]. The program is ./mcrl2lin if none is given.
-A specification NAME.mcrl2 has its linear process in NAME.lps, where there is one. One in refused/ has the line that refuses it
-in NAME.err. Each difference is a line, and the last line counts what was compared. The status is 1 where something differs.
+A specification NAME.mcrl2 has its linear process in NAME.lps, where there is one, and can be linearised, which the task `check` is to say.
+One in refused/ has the line that refuses it in NAME.err, whatever the task. Each difference is a line, and the last line counts what was
+compared. The status is 1 where something differs.
 """
 
 import pathlib
@@ -13,33 +14,40 @@ import sys
 HERE = pathlib.Path(__file__).resolve().parent
 
 
-def run(program, path):
-    """What the program answers for a specification: its status, its output and its error output."""
-    done = subprocess.run([*program, "linearise", str(path)], stdin=subprocess.DEVNULL, capture_output=True, check=False)
+def run(program, task, path):
+    """What the program answers to a task on a specification: its status, its output and its error output."""
+    done = subprocess.run([*program, task, str(path)], stdin=subprocess.DEVNULL, capture_output=True, check=False)
     return done.returncode, done.stdout, done.stderr
 
 
 def linear_processes():
-    """For each specification with a linear process beside it, its path and what it is to answer."""
+    """For each specification with a linear process beside it, the task, its path and what is to be answered."""
     for made in sorted(HERE.glob("*.lps")):
-        yield made.with_suffix(".mcrl2"), (0, made.read_bytes(), b"")
+        yield "linearise", made.with_suffix(".mcrl2"), (0, made.read_bytes(), b"")
+
+
+def accepted():
+    """For each specification that isn't refused, the task, its path and what is to be answered."""
+    for path in sorted(HERE.glob("*.mcrl2")):
+        yield "check", path, (0, b"ok\n", b"")
 
 
 def refusals():
-    """For each specification that is refused, its path and what it is to answer."""
+    """For each specification that is refused and each task, its path and what is to be answered."""
     for line in sorted(HERE.glob("refused/*.err")):
-        yield line.with_suffix(".mcrl2"), (1, b"", line.read_bytes())
+        for task in ("check", "linearise"):
+            yield task, line.with_suffix(".mcrl2"), (1, b"", line.read_bytes())
 
 
 def main():
     program = sys.argv[1:] or [str(HERE.parent / "mcrl2lin")]
     compared = differ = 0
-    for path, wanted in [*linear_processes(), *refusals()]:
-        found = run(program, path)
+    for task, path, wanted in [*linear_processes(), *accepted(), *refusals()]:
+        found = run(program, task, path)
         compared += 1
         if found != wanted:
             differ += 1
-            print(f"{path.relative_to(HERE)}: status {found[0]} in place of {wanted[0]}, or another text")
+            print(f"{task} {path.relative_to(HERE)}: status {found[0]} in place of {wanted[0]}, or another text")
     print(f"{compared} compared, {differ} differ")
     return 1 if differ else 0
 

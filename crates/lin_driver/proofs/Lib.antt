@@ -33,3 +33,12 @@ mod MadeLinears
 mod ReadingBack
 mod MadeNames
 pub mod MadeTexts
+mod AlikeTypings
+mod SameSorts
+mod AlikeParts
+mod AlikeFaults
+mod ApartNames
+mod SameShapes
+mod UpToRecursion
+pub mod AcceptedTexts
+mod ReadTexts

@@ -38,7 +38,7 @@ module _ (v : FullVocabulary) (g : Sig) (p : PoolContents) where
   definitions_are (w ∷ ws) [] all = absurd all
   definitions_are (w ∷ ws) (x ∷ xs) all = (definition_is w x all.0, definitions_are ws xs all.1)
 
-model_elaborates : (spec : PlainSpec) (g : Sig) (p : PoolContents) (m : PlainModel) → (is : IsModelOf spec g p m) → IsElaborated is.vocabulary g p spec m
+pub model_elaborates : (spec : PlainSpec) (g : Sig) (p : PoolContents) (m : PlainModel) → (is : IsModelOf spec g p m) → IsElaborated is.vocabulary g p spec m
 model_elaborates spec g p m is =
     let v : FullVocabulary = is.vocabulary in
     let ds = declarations_in (bare_sections spec) in

@@ -17,3 +17,5 @@ pub mod AddedParts
 pub mod AddedConstants
 pub mod ReadingBack
 pub mod MadeTexts
+pub mod Accepted
+pub mod Numberings

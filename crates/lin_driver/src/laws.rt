@@ -72,3 +72,19 @@ ghost use Rattle.lin_driver.specs.NamedSignatures.{TextsDeclareIdentifiers};
 pub fn texts_declare_identifiers()
     ensures { TextsDeclareIdentifiers }
 {}
+
+ghost use Rattle.lin_driver.specs.Numberings.{RecursionNeedsNoNumbering, TypingNeedsNoNumbering};
+
+/// Whether a text is well typed, and which fault it has if not, doesn't hang on the numbers of its sorts and functions; nor does whether its
+/// parallelism stands outside recursion and its recursion is guarded.
+pub fn texts_need_no_numbering()
+    ensures typing { TypingNeedsNoNumbering }
+    ensures recursion { RecursionNeedsNoNumbering }
+{}
+
+ghost use Rattle.lin_driver.specs.Accepted.{FaultyTextsCannotBeLinearised};
+
+/// A text with a fault of its tokens, its declarations, its typing, its parallelism or its recursion can't be linearised.
+pub fn faulty_texts_cannot_be_linearised()
+    ensures { FaultyTextsCannotBeLinearised }
+{}

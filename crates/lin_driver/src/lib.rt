@@ -5,6 +5,7 @@
 //! crates above can cite it.
 #![tactic(auto)]
 
+mod checking;
 mod components;
 mod composing;
 mod fault;
@@ -14,8 +15,10 @@ mod linear_texts;
 mod linearising;
 mod methods;
 mod model_linearising;
+mod reading;
 mod variable_names;
 
+pub use checking::check_text;
 pub use fault::{LinFault, ModelFault};
 pub use linear_texts::linear_text;
 pub use linearising::{Linearised, linearise};

@@ -1,12 +1,13 @@
 //! The text of the linear process of a text.
 
-ghost use Rattle.std.specs.Prelude.{◌≡◌, ◌≢◌, ◌<◌, IfErr, IfOk, length};
+ghost use Rattle.std.specs.Prelude.{◌≡◌, ◌≢◌, ◌<◌, IfErr, IfOk, OnOk, length};
 ghost use Rattle.data_theory.specs.Signature.{Sig};
 ghost use Rattle.data_theory.specs.WholeSignatures.{IsSignature};
 ghost use Rattle.mcrl2_syntax.specs.Declarations.{spec_of};
 ghost use Rattle.lps_core.specs.Fitting.{Fits};
 ghost use Rattle.lps_core.specs.PlainLinears.{plain_linear};
 ghost use Rattle.lps_printer.specs.PrintedLinears.{IsPrinted};
+ghost use Rattle.lin_driver.specs.Accepted.{CanBeLinearised};
 ghost use Rattle.lin_driver.specs.Headline.{StandsFor};
 ghost use Rattle.lin_driver.specs.Refusals.{IsRefusedWith};
 
@@ -48,6 +49,7 @@ fn print_out(alloc: Global, made: Linearised) -> Result<Vec<u8>, LinFault>
 ///
 /// Those of [`linearise`](crate::linearise) with the method `Auto`.
 pub fn linear_text(alloc: Global, text: &[u8], names: &mut Names) -> Result<Vec<u8>, LinFault>
+    ensures accepted { OnOk result (CanBeLinearised text.now) }
     ensures stands_for { IfOk result (λ printed. StandsFor text.now printed.items) }
     ensures refused { IfErr result (λ fault. fault ≢ LinFault.NoMemory → IsRefusedWith text.now names.new fault) }
 {

@@ -1,6 +1,6 @@
 //! The linear process of a text.
 
-ghost use Rattle.std.specs.Prelude.{◌≡◌, ◌≢◌, [], IfErr, IfOk, map};
+ghost use Rattle.std.specs.Prelude.{◌≡◌, ◌≢◌, [], IfErr, IfOk, OnOk, map};
 ghost use Rattle.data_theory.specs.WholeSignatures.{IsSignature};
 ghost use Rattle.mcrl2_syntax.specs.Declarations.{spec_of};
 ghost use Rattle.mcrl2_syntax.specs.TreeWords.{IsSpecOfWords};
@@ -8,21 +8,21 @@ ghost use Rattle.process_terms.specs.PlainProcesses.{plain_equation, plain_model
 ghost use Rattle.lps_core.specs.PlainLinears.{plain_linear};
 ghost use Rattle.sort_table.specs.BareDeclarations.{bare_sections};
 ghost use Rattle.sort_table.specs.Built.{IsBuilt};
+ghost use Rattle.sort_checker.specs.FullVocabularies.{FullVocabulary};
 ghost use Rattle.sort_checker.specs.TextModels.{HasOneStart};
+ghost use Rattle.lin_driver.specs.Accepted.{CanBeLinearised, IsGuardedSystem};
 ghost use Rattle.lin_driver.specs.Linearised.{HasComponents, IsLinearised, IsMadeFor, IsMadeOf};
 ghost use Rattle.lin_driver.specs.Refusals.{IsRefusedWith, IsSpecFault};
 
 use crate::fault::LinFault;
 use crate::methods::Method;
 use crate::model_linearising::linear_of;
+use crate::reading::read_text;
 use data_theory::{NameId, Names, Signature};
 use lps_core::Linear;
-use mcrl2_lexer::lex;
-use mcrl2_parser::parse;
 use mcrl2_syntax::Spec;
 use process_terms::Model;
 use sort_checker::elaborate;
-use sort_table::build;
 use std::alloc::Global;
 use term_pool::{Pool, Theory};
 
@@ -77,6 +77,7 @@ fn linear_of_spec(
     requires built { IsBuilt (spec_of spec.now) sig.old }
     requires no_terms { pool.old.trees ≡ [] }
     requires no_constants { pool.old.constants ≡ [] }
+    ensures accepted { OnOk result ((v : FullVocabulary) × IsGuardedSystem (bare_sections (spec_of spec.now)) v) }
     ensures made { IfOk result (λ made. IsMadeFor (spec_of spec.now) sig.new pool.new.trees (map plain_equation made.0.equations.items) made.1 (plain_linear made.2)) }
     ensures components { IfOk result (λ made. HasComponents (spec_of spec.now) made.3) }
     ensures refused { IfErr result (λ fault. fault ≢ LinFault.NoMemory → IsSpecFault (spec_of spec.now) sig.new.texts fault) }
@@ -103,6 +104,7 @@ fn linear_of_built(
     requires words { IsSpecOfWords (spec_of spec) }
     requires start { HasOneStart (bare_sections (spec_of spec)) }
     requires built { IsBuilt (spec_of spec) sig }
+    ensures accepted { OnOk result ((v : FullVocabulary) × IsGuardedSystem (bare_sections (spec_of spec)) v) }
     ensures spec { IfOk result (λ made. spec_of made.spec ≡ spec_of spec) }
     ensures made { IfOk result (λ made. IsMadeFor (spec_of made.spec) made.sig made.pool.trees (map plain_equation made.theory.equations.items) made.name (plain_linear made.lin)) }
     ensures components { IfOk result (λ made. HasComponents (spec_of made.spec) made.components) }
@@ -131,7 +133,8 @@ fn linear_of_built(
 /// The linear process of a text whose components have tail forms, with all that it was made of.
 ///
 /// The process that the text specifies is bisimilar to the linear one, over every theory whose data go on from the signature and are
-/// consistent. Constants for sorts without constructors may have been declared, and nothing else is new to the data.
+/// consistent. Constants for sorts without constructors may have been declared, and nothing else is new to the data. The text is one that
+/// [`check_text`](crate::check_text) accepts.
 ///
 /// # Errors
 ///
@@ -147,13 +150,12 @@ pub fn linearise(
     method: Method,
 ) -> Result<Linearised, LinFault>
     requires method { method ≢ Method.Stack }
+    ensures accepted { OnOk result (CanBeLinearised text.now) }
     ensures made { IfOk result (λ made. IsMadeOf text.now (spec_of made.spec) made.sig made.pool.trees (map plain_equation made.theory.equations.items) made.name (plain_linear made.lin)) }
     ensures linearised { IfOk result (λ made. IsLinearised text.now (spec_of made.spec) made.sig made.pool.trees (plain_linear made.lin)) }
     ensures components { IfOk result (λ made. HasComponents (spec_of made.spec) made.components) }
     ensures refused { IfErr result (λ fault. fault ≢ LinFault.NoMemory → IsRefusedWith text.now names.new fault) }
 {
-    let tokens = lex(alloc, text)?;
-    let spec = parse(alloc, &tokens)?;
-    let sig = build(alloc, &spec, names)?;
+    let (spec, sig) = read_text(alloc, text, names)?;
     linear_of_built(alloc, spec, sig, names, method)
 }

@@ -1,5 +1,5 @@
 -- The names of a fault have texts.
-use Rattle.std.proofs.Common.{◌≡◌, ◌≢◌, ◌<◌, ◌+◌, ℕ, zero, suc, List, [], ◌∷◌, ◌++◌, Some, map, length, slice_get, sym, ap, subst, ◌∙◌, arith, length-append}
+use Rattle.std.proofs.Common.{◌≡◌, ◌≢◌, ◌<◌, ℕ, zero, suc, List, [], ◌∷◌, Some, map, length, slice_get, sym, ap, subst, ◌∙◌, arith, length-append}
 use Rattle.std.specs.Prelude.{slice_index}
 use Rattle.std.proofs.lemmas.Option.{none-some}
 use Rattle.std.specs.List.{AllByRecursion}
@@ -9,8 +9,8 @@ use Rattle.data_theory.specs.Signature.{Sig}
 use Rattle.graphs.specs.Graphs.{IsPath}
 use Rattle.graphs.specs.Cycles.{IsFirstCycle}
 use Rattle.process_terms.specs.PlainProcesses.{PlainDefinition, PlainModel}
-use Rattle.process_terms.specs.Processes.{Definition, Table}
-use Rattle.process_terms.specs.Meanings.{Entries, definition_of, table_of, body_of}
+use Rattle.process_terms.specs.Processes.{Table}
+use Rattle.process_terms.specs.Meanings.{Entries, table_of, body_of}
 use Rattle.process_terms.specs.SignatureEntries.{entries_of}
 use Rattle.guard_check.specs.declared.calls.Extent.{Extent}
 use Rattle.guard_check.specs.declared.calls.Extent.TheVariants.{Everywhere, BeforeActions}
@@ -26,8 +26,7 @@ use Rattle.sort_checker.specs.TextModels.{IsNamedAs}
 use Rattle.sort_checker.specs.declared.elaborating.TypeFault.TheVariants as type
 use Rattle.lin_driver.specs.declared.fault.LinFault.{LinFault}
 use Rattle.lin_driver.specs.declared.fault.LinFault.TheVariants as lin
-use Rattle.lin_driver.specs.declared.fault.ModelFault.TheVariants as model
-use Rattle.lin_driver.specs.Refusals.{IsModelFaultOver, IsRefusedWith}
+use Rattle.lin_driver.specs.Refusals.{IsRefusedWith}
 use Rattle.mcrl2lin.specs.Lines.{AreNamed, names_of_fault}
 
 within : {A : Type 0} (xs : List A) (i : ℕ) (x : A) → slice_get xs i ≡ Some x → i < length xs

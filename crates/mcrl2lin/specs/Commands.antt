@@ -1,17 +1,32 @@
 -- What the words of the command line ask for.
-use Rattle.std.specs.Prelude.{ℕ, List, [], ◌∷◌, ◌==◌, Option, Some, None, cond, codes, Bool, false, option_and_then}
+use Rattle.std.specs.Prelude.{ℕ, List, [], ◌∷◌, ◌==◌, Option, Some, None, cond, codes, Bool, false, option_map, option_and_then}
 use Rattle.std.specs.Str.{bytes_eq}
+use Rattle.mcrl2lin.specs.declared.command.Task.{Task}
+use Rattle.mcrl2lin.specs.declared.command.Task.TheVariants.{Check, Linearise}
 
 -- a name that begins with a dash is an option
 abbrev pub is_option : List ℕ → Bool
 is_option [] = false
 is_option (first ∷ others) = first == 45
 
--- the file of `mcrl2lin linearise FILE`
-abbrev pub file_asked : List (List ℕ) → Option (List ℕ)
-file_asked (program ∷ task ∷ file ∷ []) = cond (bytes_eq task (codes "linearise")) (cond (is_option file) None (Some file)) None
-file_asked _ = None
+abbrev pub task_named : List ℕ → Option Task
+task_named word = cond (bytes_eq word (codes "check")) (Some Check) (cond (bytes_eq word (codes "linearise")) (Some Linearise) None)
 
--- the text that a shelf has under the file asked for, where it tells it
-abbrev pub text_asked : (List ℕ → Option (List ℕ)) → List (List ℕ) → Option (List ℕ)
-text_asked text_of words = option_and_then text_of (file_asked words)
+-- a task, and the file that it is to be done with
+pub record Asked : Type 0 where
+  pub task : Task
+  pub file : List ℕ
+
+-- what `mcrl2lin TASK FILE` asks for
+abbrev pub asked_by : List (List ℕ) → Option Asked
+asked_by (program ∷ task ∷ file ∷ []) = cond (is_option file) None (option_map (λ t. record { task = t; file = file }) (task_named task))
+asked_by _ = None
+
+-- what is asked of a text
+pub record Question : Type 0 where
+  pub task : Task
+  pub text : List ℕ
+
+-- the task asked for, with the text that a shelf has under the file asked for, where it tells it
+abbrev pub question : (List ℕ → Option (List ℕ)) → List (List ℕ) → Option Question
+question text_of words = option_and_then (λ (a : Asked). option_map (λ t. record { task = a.task; text = t }) (text_of a.file)) (asked_by words)

@@ -1,40 +1,57 @@
 -- How a run ends, and the line that says so.
-use Rattle.std.specs.Prelude.{⊤, ℕ, List, Option, Some, ◌++◌, [], ◌≡◌, ◌<◌, ◌⊎◌, length, IfSome}
+use Rattle.std.specs.Prelude.{⊤, ℕ, List, Option, Some, ◌++◌, [], ◌≡◌, ◌<◌, ◌⊎◌, codes, length, IfSome}
 use Rattle.mcrl2_text.specs.Bytes.{TakesPrefix}
 use Rattle.mcrl2_text.specs.declared.loading.TheConstants.{MAX_TEXT_LEN}
 use Rattle.mcrl2_text.specs.Faults.{Rose}
+use Rattle.lin_driver.specs.Accepted.{CanBeLinearised, IsOfTheText}
 use Rattle.lin_driver.specs.Headline.{StandsFor}
+use Rattle.lin_driver.specs.Refusals.{IsRefusedWith}
+use Rattle.lin_driver.specs.declared.fault.LinFault.{LinFault}
+use Rattle.mcrl2lin.specs.Commands.{Question}
 use Rattle.mcrl2lin.specs.Lines.{line_of, write_fault_line}
 use Rattle.mcrl2lin.specs.Stops.{IsRefusal}
+use Rattle.mcrl2lin.specs.declared.command.Task.{Task}
+use Rattle.mcrl2lin.specs.declared.command.Task.TheVariants.{Check, Linearise}
 use Rattle.mcrl2lin.specs.declared.stop.Stop.TheVariants as stop
 use Rattle.mcrl2lin.specs.declared.top.Status.{Status}
 use Rattle.mcrl2lin.specs.declared.top.Status.TheVariants.{Done, Refused, Words, ReadFault, WriteFault, NoMemory, Undecided, No}
 
+-- The answer of a task, where the text can be linearised: `ok`, or a text that stands for it.
+abbrev pub IsAnswer : Task → List ℕ → List ℕ → Type 0
+IsAnswer Check text answer = CanBeLinearised text × (answer ≡ codes "ok\n")
+IsAnswer Linearise text answer = CanBeLinearised text × StandsFor text answer
+
+-- The texts for which a task is done: those that can be linearised. To be linearised, such a text may have no fault of its form either, and
+-- nothing that isn't built.
+abbrev pub IsTaken : Task → List ℕ → Type 0
+IsTaken Check text = CanBeLinearised text
+IsTaken Linearise text = CanBeLinearised text × ((texts : List (List ℕ)) (fault : LinFault) → IsRefusedWith text texts fault → IsOfTheText fault)
+
 -- the line of a status, with its cause in the text where that is told
-abbrev pub IsLineOf : Status → Option (List ℕ) → List ℕ → Type 0
-IsLineOf Done text line = line ≡ []
-IsLineOf Refused text line = ((line ≡ line_of stop.TooLong) × IfSome text (λ bytes. MAX_TEXT_LEN < length bytes)) ⊎ IsRefusal text line
-IsLineOf Words text line = line ≡ line_of stop.Words
-IsLineOf ReadFault text line = line ≡ line_of stop.ReadFault
-IsLineOf WriteFault text line = line ≡ write_fault_line
-IsLineOf NoMemory text line = line ≡ line_of stop.NoMemory
-IsLineOf Undecided text line = line ≡ []
-IsLineOf No text line = line ≡ []
+abbrev pub IsLineOf : Status → Option Question → List ℕ → Type 0
+IsLineOf Done asked line = line ≡ []
+IsLineOf Refused asked line = ((line ≡ line_of stop.TooLong) × IfSome asked (λ q. MAX_TEXT_LEN < length q.text)) ⊎ IsRefusal asked line
+IsLineOf Words asked line = line ≡ line_of stop.Words
+IsLineOf ReadFault asked line = line ≡ line_of stop.ReadFault
+IsLineOf WriteFault asked line = line ≡ write_fault_line
+IsLineOf NoMemory asked line = line ≡ line_of stop.NoMemory
+IsLineOf Undecided asked line = line ≡ []
+IsLineOf No asked line = line ≡ []
 
 -- the error output took the line of the status, whole or, where its own count rose, a prefix of it
-pub record EndsWithLine (status : Status) (text : Option (List ℕ)) (before after : Option (List ℕ)) (faults_before faults_after : ℕ) : Type 0 where
+pub record EndsWithLine (status : Status) (asked : Option Question) (before after : Option (List ℕ)) (faults_before faults_after : ℕ) : Type 0 where
   pub line : List ℕ
-  pub says : IsLineOf status text line
+  pub says : IsLineOf status asked line
   pub prefix : IfSome before (λ bytes. TakesPrefix bytes after line)
   pub whole : Rose faults_before faults_after ⊎ IfSome before (λ bytes. after ≡ Some (bytes ++ line))
 
--- the run is done, and the bytes that the output took stand for the text; or memory ran out
-abbrev pub EndsWell : Status → List ℕ → Option (List ℕ) → Option (List ℕ) → Type 0
-EndsWell Done text before after = IfSome before (λ bytes. (printed : List ℕ) × (after ≡ Some (bytes ++ printed)) × StandsFor text printed)
-EndsWell NoMemory text before after = ⊤
-EndsWell Refused text before after = ⊥
-EndsWell Words text before after = ⊥
-EndsWell ReadFault text before after = ⊥
-EndsWell WriteFault text before after = ⊥
-EndsWell Undecided text before after = ⊥
-EndsWell No text before after = ⊥
+-- the run is done, and the bytes that the output took are the answer; or memory ran out
+abbrev pub EndsWell : Status → Question → Option (List ℕ) → Option (List ℕ) → Type 0
+EndsWell Done q before after = IfSome before (λ bytes. (answer : List ℕ) × (after ≡ Some (bytes ++ answer)) × IsAnswer q.task q.text answer)
+EndsWell NoMemory q before after = ⊤
+EndsWell Refused q before after = ⊥
+EndsWell Words q before after = ⊥
+EndsWell ReadFault q before after = ⊥
+EndsWell WriteFault q before after = ⊥
+EndsWell Undecided q before after = ⊥
+EndsWell No q before after = ⊥

@@ -2,17 +2,15 @@
 ghost use Rattle.std.specs.Prelude.{◌≡◌, ◌≢◌, ◌≤◌, ◌<◌, ◌⊎◌, ◌↔◌, ◌++◌, List, ℕ, Some, None, IfErr, IfOk, IfSome, IsErrOf, length, map, string_bytes};
 ghost use Rattle.mcrl2_text.specs.Bytes.{TakesPrefix};
 ghost use Rattle.mcrl2_text.specs.Faults.{Rose};
-ghost use Rattle.lin_driver.specs.Headline.{StandsFor};
 ghost use Rattle.lin_driver.specs.Refusals.{IsRefusedWith};
-ghost use Rattle.lin_driver.specs.declared.fault.LinFault.{LinFault};
-ghost use Rattle.mcrl2lin.specs.Commands.{file_asked, text_asked};
-ghost use Rattle.mcrl2lin.specs.Ends.{EndsWell, EndsWithLine};
-ghost use Rattle.mcrl2lin.specs.Stops.{HasCause, status_of_stop};
+ghost use Rattle.mcrl2lin.specs.Commands.{asked_by, question};
+ghost use Rattle.mcrl2lin.specs.Ends.{EndsWell, EndsWithLine, IsAnswer, IsTaken};
+ghost use Rattle.mcrl2lin.specs.Stops.{HasCause, IsFaultFor, status_of_stop};
 
-use crate::command::file_of;
+use crate::command::{Task, command_of};
 use crate::stop::Stop;
 use data_theory::Names;
-use lin_driver::linear_text;
+use lin_driver::{LinFault, check_text, linear_text};
 use mcrl2_text::{MAX_TEXT_LEN, Shelf, Sink, load, write_all};
 use std::alloc::Global;
 
@@ -38,7 +36,7 @@ pub enum Status {
 }
 
 /// Does what the words ask for: writes to `out` the linear process of the specification that the shelf has under the
-/// given name, or to `err` a line that says why there is none.
+/// given name, or `ok` where the task is to check it, or to `err` a line that says why not.
 pub fn run<H: Shelf, O: Sink, E: Sink>(
     alloc: Global,
     words: &Vec<String>,
@@ -47,35 +45,40 @@ pub fn run<H: Shelf, O: Sink, E: Sink>(
     err: &mut E,
 ) -> Status
     // When each status comes.
-    ensures words { (result ≡ Status.Words) ↔ (file_asked (map string_bytes words.now.items) ≡ None) }
+    ensures words { (result ≡ Status.Words) ↔ (asked_by (map string_bytes words.now.items) ≡ None) }
     ensures read_fault { result ≡ Status.ReadFault → Rose (H.faults shelf.old) (H.faults shelf.new) }
     ensures write_fault { result ≡ Status.WriteFault → Rose (O.faults out.old) (O.faults out.new) }
     ensures never { (result ≢ Status.Undecided) × (result ≢ Status.No) }
 
-    // What the output gets: the whole linear process, a prefix of it after a fault of its own, or nothing.
-    ensures done { result ≡ Status.Done → IfSome (text_asked (H.text_of shelf.old) (map string_bytes words.now.items))
-        (λ text. (length text ≤ MAX_TEXT_LEN) × (printed : List ℕ) × StandsFor text printed
-        × IfSome (O.taken out.old) (λ before. O.taken out.new ≡ Some (before ++ printed))) }
-    ensures cut_off { result ≡ Status.WriteFault → IfSome (text_asked (H.text_of shelf.old) (map string_bytes words.now.items))
-        (λ text. (length text ≤ MAX_TEXT_LEN) × (printed : List ℕ) × StandsFor text printed
-        × IfSome (O.taken out.old) (λ before. TakesPrefix before (O.taken out.new) printed)) }
+    // What the output gets: the whole answer, a prefix of it after a fault of its own, or nothing.
+    ensures done { result ≡ Status.Done → IfSome (question (H.text_of shelf.old) (map string_bytes words.now.items))
+        (λ q. (length q.text ≤ MAX_TEXT_LEN) × (answer : List ℕ) × IsAnswer q.task q.text answer
+        × IfSome (O.taken out.old) (λ before. O.taken out.new ≡ Some (before ++ answer))) }
+    ensures cut_off { result ≡ Status.WriteFault → IfSome (question (H.text_of shelf.old) (map string_bytes words.now.items))
+        (λ q. (length q.text ≤ MAX_TEXT_LEN) × (answer : List ℕ) × IsAnswer q.task q.text answer
+        × IfSome (O.taken out.old) (λ before. TakesPrefix before (O.taken out.new) answer)) }
     ensures out_kept { result ≢ Status.Done → result ≢ Status.WriteFault → out.new ≡ out.old }
 
     // What the error output gets: nothing, or the line of the status with its cause.
     ensures err_kept { result ≡ Status.Done → err.new ≡ err.old }
-    ensures err { EndsWithLine result (text_asked (H.text_of shelf.old) (map string_bytes words.now.items))
+    ensures err { EndsWithLine result (question (H.text_of shelf.old) (map string_bytes words.now.items))
         (E.taken err.old) (E.taken err.new) (E.faults err.old) (E.faults err.new) }
 
     ensures shelf_kept { result ≡ Status.Words → shelf.new ≡ shelf.old }
 
-    // A text without a fault is linearised, and what is written stands for it.
-    ensures headline { IfSome (text_asked (H.text_of shelf.old) (map string_bytes words.now.items)) (λ text. ((texts : List (List ℕ)) (fault : LinFault) → ¬ (IsRefusedWith text texts fault))
-        → length text ≤ MAX_TEXT_LEN → ¬ (Rose (H.faults shelf.old) (H.faults shelf.new)) → ¬ (Rose (O.faults out.old) (O.faults out.new))
-        → EndsWell result text (O.taken out.old) (O.taken out.new)) }
+    // For a text without a fault the task is done: a text that is linearised stands for it.
+    ensures headline { IfSome (question (H.text_of shelf.old) (map string_bytes words.now.items)) (λ q. ((texts : List (List ℕ)) (fault : LinFault) → ¬ (IsRefusedWith q.text texts fault))
+        → length q.text ≤ MAX_TEXT_LEN → ¬ (Rose (H.faults shelf.old) (H.faults shelf.new)) → ¬ (Rose (O.faults out.old) (O.faults out.new))
+        → EndsWell result q (O.taken out.old) (O.taken out.new)) }
+
+    // And so it is for each text that the task takes.
+    ensures complete { IfSome (question (H.text_of shelf.old) (map string_bytes words.now.items)) (λ q. IsTaken q.task q.text
+        → length q.text ≤ MAX_TEXT_LEN → ¬ (Rose (H.faults shelf.old) (H.faults shelf.new)) → ¬ (Rose (O.faults out.old) (O.faults out.new))
+        → EndsWell result q (O.taken out.old) (O.taken out.new)) }
 {
-    match linearised(alloc, words, shelf) {
-        Ok(printed) => {
-            if write_all(out, &printed).is_ok() {
+    match answer(alloc, words, shelf) {
+        Ok(bytes) => {
+            if write_all(out, &bytes).is_ok() {
                 return Status::Done;
             }
             let _ = write_all(err, b"write fault\n");
@@ -88,21 +91,39 @@ pub fn run<H: Shelf, O: Sink, E: Sink>(
     }
 }
 
-/// The linear process that the words ask for, printed whole.
-fn linearised<H: Shelf>(alloc: Global, words: &[String], shelf: &mut H) -> Result<Vec<u8>, Stop>
-    ensures words { IsErrOf result Stop.Words ↔ (file_asked (map string_bytes words.now) ≡ None) }
+/// The answer that the words ask for, whole.
+fn answer<H: Shelf>(alloc: Global, words: &[String], shelf: &mut H) -> Result<Vec<u8>, Stop>
+    ensures words { IsErrOf result Stop.Words ↔ (asked_by (map string_bytes words.now) ≡ None) }
     ensures read_fault { IsErrOf result Stop.ReadFault → Rose (H.faults shelf.old) (H.faults shelf.new) }
-    ensures refused { IfErr result (λ stop. HasCause stop (text_asked (H.text_of shelf.old) (map string_bytes words.now))) }
-    ensures linearised { IfOk result (λ printed. IfSome (text_asked (H.text_of shelf.old) (map string_bytes words.now))
-        (λ text. (length text ≤ MAX_TEXT_LEN) × StandsFor text printed.items)) }
+    ensures refused { IfErr result (λ stop. HasCause stop (question (H.text_of shelf.old) (map string_bytes words.now))) }
+    ensures answered { IfOk result (λ bytes. IfSome (question (H.text_of shelf.old) (map string_bytes words.now))
+        (λ q. (length q.text ≤ MAX_TEXT_LEN) × IsAnswer q.task q.text bytes.items)) }
     ensures shelf_kept { IsErrOf result Stop.Words → shelf.new ≡ shelf.old }
 {
-    let file = file_of(words).ok_or(Stop::Words)?;
-    let text = load(alloc, shelf, file)?;
+    let command = command_of(words).ok_or(Stop::Words)?;
+    let text = load(alloc, shelf, command.file)?;
     let mut names = Names::new(alloc);
-    match linear_text(alloc, &text, &mut names) {
-        Ok(printed) => Ok(printed),
+    match answer_to(alloc, command.task, &text, &mut names) {
+        Ok(bytes) => Ok(bytes),
         Err(fault) => Err(Stop::for_fault(alloc, &names, &fault)),
+    }
+}
+
+/// The answer of a task on a text.
+fn answer_to(alloc: Global, task: Task, text: &[u8], names: &mut Names) -> Result<Vec<u8>, LinFault>
+    ensures answered { IfOk result (λ bytes. IsAnswer task text.now bytes.items) }
+    ensures of_the_task { IfErr result (λ fault. fault ≢ LinFault.NoMemory → IsFaultFor task fault) }
+    ensures refused { IfErr result (λ fault. fault ≢ LinFault.NoMemory → IsRefusedWith text.now names.new fault) }
+{
+    match task {
+        Task::Check => {
+            check_text(alloc, text, names)?;
+            match Vec::from_slice(alloc, b"ok\n") {
+                Ok(line) => Ok(line),
+                Err(_) => Err(LinFault::NoMemory),
+            }
+        }
+        Task::Linearise => linear_text(alloc, text, names),
     }
 }
 

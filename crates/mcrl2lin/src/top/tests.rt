@@ -19,6 +19,8 @@ struct Row {
 
 const LINEARISE: &[&str] = &["mcrl2lin", "linearise", "f"];
 
+const CHECK: &[&str] = &["mcrl2lin", "check", "f"];
+
 const TWO_STEPS: &[u8] = b"act a, b; proc X = a . Y; Y = b . X; init X;";
 
 const PRINTED: &[u8] =
@@ -40,7 +42,7 @@ const TWO: Row = Row {
     err: b"",
 };
 
-const ROWS: [Row; 16] = [
+const ROWS: [Row; 22] = [
     TWO,
     Row {
         name: "the empty text",
@@ -108,10 +110,8 @@ const ROWS: [Row; 16] = [
     },
     Row {
         name: "a text with a parallel operator",
-        text: b"act a, b; init a || b;",
-        status: Status::Refused,
-        out: b"",
-        err: b"refused 90 NotBuilt\n",
+        text: b"act a, b; init rename({a -> b}, a);",
+        out: b"act a, b;\nproc P = b;\ninit P;\n",
         ..TWO
     },
     Row {
@@ -163,13 +163,58 @@ const ROWS: [Row; 16] = [
         err: USAGE,
         ..TWO
     },
+    Row {
+        name: "a text that can be linearised",
+        words: CHECK,
+        out: b"ok\n",
+        ..TWO
+    },
+    Row {
+        name: "a text whose parallel components communicate",
+        words: CHECK,
+        text: b"act a, b, c: Nat; init allow({c}, comm({a|b -> c}, a(1) || b(1)));",
+        out: b"ok\n",
+        ..TWO
+    },
+    Row {
+        name: "a text with a number below zero",
+        words: CHECK,
+        text: b"act a: Int; init a(-5);",
+        out: b"ok\n",
+        ..TWO
+    },
+    Row {
+        name: "a text with a call behind another",
+        words: CHECK,
+        text: b"act a, b, c; proc X = a . X . b + c; init X;",
+        out: b"ok\n",
+        ..TWO
+    },
+    Row {
+        name: "a text whose recursion isn't guarded can't be linearised",
+        words: CHECK,
+        text: b"act a; proc X = Y; Y = X + a; init X;",
+        status: Status::Refused,
+        out: b"",
+        err: b"refused 20 Unguarded X Y\n",
+        ..TWO
+    },
+    Row {
+        name: "the first write fails",
+        words: CHECK,
+        write_fails: &[1],
+        status: Status::WriteFault,
+        out: b"",
+        err: b"write fault\n",
+        ..TWO
+    },
 ];
 
 /// Words that give no command.
 const NO_COMMANDS: [&[&str]; 8] = [
     &[],
     &["mcrl2lin"],
-    &["mcrl2lin", "check", "f"],
+    &["mcrl2lin", "check", "-f"],
     &["mcrl2lin", "linearise", "-f"],
     &["mcrl2lin", "linearise", "--", "f"],
     &["mcrl2lin", "linearise", "f", "g"],

@@ -8,6 +8,7 @@ use Rattle.sort_checker.specs.Additions.{nothing}
 use Rattle.sort_checker.proofs.Adding.{it_is_grown}
 use Rattle.sort_checker.proofs.WholeModels.{built_signatures_are_of_their_texts}
 use Rattle.lps_printer.proofs.GrowingByConstants.{still_taken}
+use Rattle.lin_driver.proofs.AcceptedTexts.{accepted_model}
 use Rattle.lin_driver.proofs.MadeLinears.{model_can_be_linear}
 use Rattle.lin_driver.proofs.Refused.{type_refused, model_refused}
 use Rattle.lin_driver.proofs.linearising.linear_of_spec.Goals as goal
@@ -26,6 +27,9 @@ returns-in_err-model-clause-refused c = type_refused c.from_residual.result (spe
 pub linear_of-requires : goal.linear_of-requires
 linear_of-requires c =
     model_can_be_linear (spec_of c.args.spec.now) c.args.sig.now c.elaborate.new.sig c.args.pool.now c.elaborate.new.pool (plain_model c.in_ok-model.model) c.requires.words c.requires.stands c.requires.built c.requires.no_constants c.elaborate.ensures.kept c.in_ok-model.ensures.means
+
+pub returns-in-Ok-clause-accepted : goal.returns-in-Ok-clause-accepted
+returns-in-Ok-clause-accepted c = accepted_model (spec_of c.args.spec.now) c.elaborate.new.sig c.elaborate.new.pool (plain_model c.in_ok-model.model) c.in_ok-model.ensures.means c.in-Ok.ensures.outside c.in-Ok.ensures.guarded
 
 pub returns-in-Ok-clause-made : goal.returns-in-Ok-clause-made
 returns-in-Ok-clause-made c =
