@@ -10,7 +10,7 @@ mod NamedVariables
 mod ProcessNames
 mod ColumnNames
 mod AddedParts
-pub mod AddedConstants
+pub mod Additions
 mod ModelLinears
 mod LinearisedTexts
 mod SortedTerms

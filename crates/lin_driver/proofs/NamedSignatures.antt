@@ -29,7 +29,8 @@ use Rattle.sort_table.specs.SortMeanings.{kinds_by, kinds_in, actions_by, action
 use Rattle.sort_table.specs.TextFunctions.{TextFunction, TextRole, Named, declared, where_named, projections_from, projection, recogniser, struct_constructor, declared_constructor, mapping, fields_of, functions_by, functions_in}
 use Rattle.sort_table.specs.Vocabularies.{EachPair, IsFunction, AreSortsOf, IsVocabularyOf}
 use Rattle.lps_printer.specs.DataLayout.{IsIdentifier}
-use Rattle.lin_driver.specs.NamedSignatures.{DeclaresIdentifiers, TextsDeclareIdentifiers}
+use Rattle.lps_printer.specs.GrownIdentifiers.{DeclaresIdentifiers}
+use Rattle.lin_driver.specs.NamedSignatures.{TextsDeclareIdentifiers}
 use Rattle.lin_driver.proofs.Identifiers.{identifier_named}
 
 -- ---- rows under names

@@ -12,6 +12,6 @@ pub mod Linearised
 pub mod ElaboratedModels
 pub mod ModelsOfTexts
 pub mod AddedParts
-pub mod AddedConstants
+pub mod Additions
 pub mod ReadingBack
 pub mod MadeTexts
