@@ -4,6 +4,9 @@ mod OneComponents
 mod TakenNames
 mod GrownModels
 mod ConstantGrowth
+mod StackGrowth
+mod StackedForms
+mod MethodForms
 mod Identifiers
 mod NamedSignatures
 mod NamedVariables

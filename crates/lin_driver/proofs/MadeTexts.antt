@@ -13,6 +13,7 @@ use Rattle.sort_table.specs.SignatureVocabularies.{text_under}
 use Rattle.sort_table.proofs.SpelledPlaces.{spelled_specs_are_placed}
 use Rattle.lps_core.specs.PlainLinears.{PlainLinear}
 use Rattle.lps_printer.specs.DataLayout.{IsIdentifier}
+use Rattle.lps_printer.proofs.GrowingByAdditions.{constants_are_additions}
 use Rattle.lps_printer.proofs.FreshIdentifiers.{fresh_names_are_identifiers}
 use Rattle.lin_driver.specs.Linearised.{IsMadeOf}
 use Rattle.lin_driver.specs.MadeTexts.{WhatIsMadeCanBePrinted, WhatIsPrintedForATextStandsForIt}
@@ -43,7 +44,7 @@ made_can_be_printed text spec h us equations x l made =
         process = process_of e m.model;
         system = is.system;
       };
-      grown = leads.grows;
+      grown = constants_are_additions m.signature h leads.grows leads.stands;
       stands = leads.stands;
       inhabited = leads.inhabited;
       fits = leads.fits;

@@ -65,12 +65,13 @@ bases_named g kinds all =
 apart_by_text : (k : Sig) → IsSignature k → (ns : List NameId) → All (λ (n : NameId). n.0 < length k.texts) ns → AreDistinct (map (λ (n : NameId). n.0) ns) → EachTwo (λ (m n : NameId). text_under k m ≢ text_under k n) ns
 apart_by_text k s [] low d = tt
 apart_by_text k s (n ∷ ns) low d =
-    let Low = λ (m : NameId). m.0 < length k.texts in
-    (each_from (λ (m : NameId). text_under k n ≢ text_under k m) ns (λ m i e.
-        let here : slice_get k.texts n.0 ≡ Some (text_under k n) = slice_get-get_or k.texts n.0 [] (All-head Low n ns low) in
-        let there : slice_get k.texts m.0 ≡ Some (text_under k n) = slice_get-get_or k.texts m.0 [] (All-contains Low ns m (All-tail Low n ns low) i) ∙ ap Some (sym e) in
-        d.0 (subst (Contains (map (λ (x : NameId). x.0) ns)) (s.table.different m.0 n.0 (text_under k n) there here) (map_contains (λ (x : NameId). x.0) ns m i))),
-    apart_by_text k s ns (All-tail Low n ns low) d.1)
+    let Low = λ (m : NameId). m.0 < length k.texts in (
+      each_from (λ (m : NameId). text_under k n ≢ text_under k m) ns (λ m i e.
+          let here : slice_get k.texts n.0 ≡ Some (text_under k n) = slice_get-get_or k.texts n.0 [] (All-head Low n ns low) in
+          let there : slice_get k.texts m.0 ≡ Some (text_under k n) = slice_get-get_or k.texts m.0 [] (All-contains Low ns m (All-tail Low n ns low) i) ∙ ap Some (sym e) in
+          d.0 (subst (Contains (map (λ (x : NameId). x.0) ns)) (s.table.different m.0 n.0 (text_under k n) there here) (map_contains (λ (x : NameId). x.0) ns m i))),
+      apart_by_text k s ns (All-tail Low n ns low) d.1,
+    )
 
 module _ (g : Sig) (kinds : List (NameId × SortId)) (h : Sig) (sort : SortId) (s : IsSignature g) (x : AddsStackSort g kinds h sort) (there : All (IsKindIn g) kinds) (its_names : All (KindNamed g) kinds) where
   abbrev w : StackWords

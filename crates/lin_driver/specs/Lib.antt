@@ -15,3 +15,4 @@ pub mod AddedParts
 pub mod Additions
 pub mod ReadingBack
 pub mod MadeTexts
+pub mod MethodForms

@@ -6,6 +6,7 @@
 #![tactic(auto)]
 
 mod fault;
+mod form_encoding;
 pub mod laws;
 mod linear_texts;
 mod linearising;
@@ -15,6 +16,7 @@ mod one_component;
 mod variable_names;
 
 pub use fault::{LinFault, ModelFault};
+pub use form_encoding::encode_form;
 pub use linear_texts::linear_text;
 pub use linearising::{Linearised, linearise};
 pub use methods::Method;
