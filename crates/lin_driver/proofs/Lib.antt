@@ -7,6 +7,7 @@ mod ConstantGrowth
 mod StackGrowth
 mod StackedForms
 mod MethodForms
+mod FreshFunctions
 mod Identifiers
 mod NamedSignatures
 mod NamedVariables

@@ -30,6 +30,10 @@ UsesStack Auto f = ¬ (HasTails f)
 UsesStack Regular f = ⊥
 UsesStack Stack f = Unit {0}
 
+-- a method that has no stack asks for a tail form
+abbrev pub IsTailFor : Method → PlainForm → Type 0
+IsTailFor m f = m ≡ Regular → HasTails f
+
 -- the linear process is that of the regular encoder, or that of the stack encoder
 pub data IsEncodedBy (m : Method) (g : Sig) (p : PoolContents) (h : Sig) (q : PoolContents) (f : PlainForm) (l : PlainLinear) : Type 0 where
   by_columns : ¬ (UsesStack m f) → IsEncodedForm g p h q f l → IsEncodedBy m g p h q f l

@@ -10,10 +10,11 @@ ghost use Rattle.term_pool.specs.Pools.{Extends};
 ghost use Rattle.lps_core.specs.PlainLinears.{plain_linear};
 ghost use Rattle.greibach.specs.FittingForms.{FormFits};
 ghost use Rattle.greibach.specs.PlainForms.{plain_form};
+ghost use Rattle.greibach.specs.Tails.{HasTails};
 ghost use Rattle.regular_encoder.specs.EncodedForms.{IsEncodedForm};
 ghost use Rattle.regular_encoder.specs.Refusals.{IsEncodeFaultOf};
 ghost use Rattle.stack_encoder.specs.StackedForms.{IsStackedForm};
-ghost use Rattle.lin_driver.specs.MethodForms.{IsEncodedBy, IsMethodFaultOf, LeadsFromForm, UsesStack};
+ghost use Rattle.lin_driver.specs.MethodForms.{IsEncodedBy, IsMethodFaultOf, IsTailFor, LeadsFromForm, UsesStack};
 ghost use Rattle.lin_driver.specs.TakenNames.{HaveIdentifiers};
 
 use crate::methods::Method;
@@ -55,6 +56,7 @@ fn encode_with_columns(
     ensures constants { AreConstants sig.new pool.new.constants }
     ensures encoded { IfOk result (λ made. IsEncodedForm sig.old pool.old sig.new pool.new (plain_form form.now) (plain_linear made)) }
     ensures leads { IfOk result (λ made. LeadsFromForm sig.old sig.new pool.new.trees (plain_form form.now) (plain_linear made)) }
+    ensures tail { OnOk result (HasTails (plain_form form.now)) }
     ensures refused { IfErr result (IsEncodeFaultOf (plain_form form.now)) }
 {
     signature_stands(sig);
@@ -113,6 +115,7 @@ pub fn encode_form(
     ensures constants { AreConstants sig.new pool.new.constants }
     ensures encoded { IfOk result (λ made. IsEncodedBy method sig.old pool.old sig.new pool.new (plain_form form.now) (plain_linear made)) }
     ensures leads { IfOk result (λ made. LeadsFromForm sig.old sig.new pool.new.trees (plain_form form.now) (plain_linear made)) }
+    ensures tail { OnOk result (IsTailFor method (plain_form form.now)) }
     ensures refused { IfErr result (IsMethodFaultOf method (plain_form form.now)) }
 {
     if method.uses_stack(form) {

@@ -19,11 +19,10 @@ use Rattle.data_theory.proofs.PlaceLemmas.{contains_read, read_contained}
 use Rattle.sort_table.specs.Expressions.{Name}
 use Rattle.sort_table.specs.NamedLists.{all_named, first_named}
 use Rattle.sort_table.specs.BareSorts.{SortExpression, a_name}
-use Rattle.sort_table.specs.BareDeclarations.{Field, Constructor, Declaration, struct}
+use Rattle.sort_table.specs.BareDeclarations.{Constructor, Declaration, struct}
 use Rattle.sort_table.specs.Growth.{with_declared, AllStand}
 use Rattle.sort_table.specs.SortMeanings.{Kind, a_struct, kinds_by, kinds_in, actions_by, actions_in, UnderNames, under_names}
 use Rattle.sort_table.specs.SignatureVocabularies.{text_under, vocabulary_of}
-use Rattle.sort_table.specs.NamedSorts.{sort_names_of}
 use Rattle.sort_table.specs.TextFunctions.{TextFunction, Named, mapping, functions_by, functions_in}
 use Rattle.sort_table.specs.Vocabularies.{sort_in, EachPair, IsVocabularyOf}
 use Rattle.sort_table.specs.EnteredFunctions.{IsFieldOf, IsOptionalId, IsConOf}

@@ -1,7 +1,7 @@
 -- The names of what is added differ, and weren't taken. So structs may stand in front of constants, whatever came first.
-use Rattle.std.proofs.Common.{◌≡◌, ◌≢◌, ◌⊎◌, inl, inr, ⊎_elim, ℕ, zero, suc, ◌<◌, Bool, true, false, cond, List, [], ◌∷◌, ◌++◌, length, map, refl, sym, ap, ap₂, ◌∙◌, subst, arith, append-nil, append_assoc}
+use Rattle.std.proofs.Common.{◌≡◌, ◌≢◌, ◌⊎◌, inl, inr, ⊎_elim, zero, suc, ◌<◌, Bool, true, false, cond, List, [], ◌∷◌, ◌++◌, length, map, refl, sym, ap, ap₂, ◌∙◌, subst, arith, append-nil, append_assoc}
 use Rattle.std.specs.Prelude.{Some, bytes_eq}
-use Rattle.std.specs.List.{All, AllByRecursion, Contains, flat_map}
+use Rattle.std.specs.List.{AllByRecursion, Contains, flat_map}
 use Rattle.std.proofs.lemmas.List.{map-append}
 use Rattle.std.proofs.lemmas.List.Elements.{All-contains}
 use Rattle.std.proofs.lemmas.Option.{slice_get-get_or}
@@ -29,7 +29,6 @@ use Rattle.sort_table.proofs.Growing.{in_either, all_behind}
 use Rattle.sort_table.proofs.GrowingTexts.{flat_behind}
 use Rattle.sort_table.proofs.NamedSignatures.{text_of_id}
 use Rattle.lps_printer.specs.DeclaredAdditions.{constructor_declared, declaration_of}
-use Rattle.lps_printer.specs.GrowingByConstants.{GrowsByConstants}
 use Rattle.lps_printer.specs.GrowingByAdditions.{Struct, functions_of_struct, names_of_struct, GrowsByStruct, GrowsByAdditions, nothing_added, then_constants, then_struct, added_structs, added_constants}
 use Rattle.lps_printer.specs.GrownTexts.{mapping_declared}
 use Rattle.lps_printer.specs.LinearBack.{EachTwo}

@@ -1,12 +1,11 @@
 -- What is added where a signature grows by structs and by constants, one behind the other.
-use Rattle.std.proofs.Common.{◌≡◌, ◌+◌, ◌-◌, ◌<◌, ◌≤◌, ◌&&◌, ◌||◌, ⊎_elim, ℕ, zero, suc, Bool, true, false, cond, nat_eq, List, [], ◌∷◌, ◌++◌, length, map, get_or, drop, not, codes, refl, sym, ap, ap₂, ◌∙◌, subst, arith, append_assoc, append-nil, length-append}
+use Rattle.std.proofs.Common.{◌≡◌, ◌+◌, ◌-◌, ◌<◌, ◌≤◌, ◌&&◌, ◌||◌, ⊎_elim, ℕ, zero, suc, Bool, true, false, cond, nat_eq, List, [], ◌∷◌, ◌++◌, length, map, get_or, not, codes, refl, sym, ap, ap₂, ◌∙◌, subst, arith, append_assoc, append-nil, length-append}
 use Rattle.std.specs.Prelude.{Option, Some, None, option_map, slice_get}
 use Rattle.std.specs.List.{All, AllByRecursion, Contains, flat_map, list_any}
 use Rattle.std.proofs.lemmas.List.{get_or-append-add, length-map, map-append}
 use Rattle.std.proofs.lemmas.Grind.{flat_map-append}
 use Rattle.std.proofs.lemmas.List.Elements.{All-append, All-cons, All-contains_itself, All-head, All-nil, All-tail, All-weaker, Contains-append_right}
 use Rattle.std.proofs.lemmas.Bool.Decides.{nat_tests}
-use Rattle.mcrl2_syntax.specs.Declarations.{PlainSpec}
 use Rattle.mcrl2_syntax.specs.declared.declaration.SectionWord.TheVariants as sections
 use Rattle.mcrl2_syntax.proofs.Lists.{all_both}
 use Rattle.data_theory.specs.declared.ids.FunId.{FunId}
@@ -33,8 +32,8 @@ use Rattle.sort_table.specs.BareDeclarations.{Declaration, struct, Section, decl
 use Rattle.sort_table.specs.SignatureVocabularies.{text_under}
 use Rattle.sort_table.proofs.Growing.{front_entry, near_or_far}
 use Rattle.lps_printer.specs.declared.added_sections.Line.TheVariants as lines
-use Rattle.lps_printer.specs.AddedDeclarations.{no_function, function_at, name_at, kind_at, constructors_in, begun_by, struct_begun, is_constant, constants_among, some_name, fields_with, constructor_with, added_functions, struct_declared, structs_declared, empty_list_declared, line_declared, lines_declared, added_declared}
-use Rattle.lps_printer.specs.DeclaredAdditions.{field_declared, constructor_declared, declaration_of, section_of, AddsThem, WhatIsAddedIsPrinted, EmptyListsAreAdded}
+use Rattle.lps_printer.specs.AddedDeclarations.{no_function, function_at, name_at, kind_at, constructors_in, begun_by, struct_begun, is_constant, constants_among, some_name, fields_with, constructor_with, added_functions, struct_declared, structs_declared, line_declared, lines_declared, added_declared}
+use Rattle.lps_printer.specs.DeclaredAdditions.{field_declared, constructor_declared, declaration_of, section_of, WhatIsAddedIsPrinted, EmptyListsAreAdded}
 use Rattle.lps_printer.specs.GrowingByConstants.{GrowsByConstants}
 use Rattle.lps_printer.specs.GrowingByAdditions.{Struct, GrowsByStruct, GrowsByAdditions, nothing_added, then_constants, then_struct, added_structs, added_constants}
 use Rattle.lps_printer.specs.GrownTexts.{mapping_declared, mappings_declared}
@@ -44,7 +43,7 @@ use Rattle.lps_printer.specs.WrittenProcesses.{TextNames, sort_written}
 use Rattle.lps_printer.proofs.DeclaredCounts.{added_are}
 use Rattle.lps_printer.proofs.GrowingByAdditions.{still_stands, added_numbers, numbers_are}
 use Rattle.lps_printer.proofs.GrownStructs.{bare, first, fs, it_is_grown, sorts_are}
-use Rattle.lps_printer.proofs.GrownTexts.{kind_below, other_number, begins_none, IsConstantAt, AreConstantsAt, at_their_numbers, all_below, is_one, begin_none, as_many_constants, each_declared, no_structs_declared, mappings_are, equations_are}
+use Rattle.lps_printer.proofs.GrownTexts.{kind_below, other_number, begins_none, AreConstantsAt, at_their_numbers, all_below, is_one, begin_none, as_many_constants, each_declared, no_structs_declared, mappings_are, equations_are}
 use Rattle.lps_printer.proofs.SignatureNames.{sort_named_at}
 
 -- ---- lists

@@ -1,5 +1,5 @@
 -- The declared functions of any signature are entered under what is written for their sorts.
-use Rattle.std.proofs.Common.{◌≡◌, ◌<◌, ℕ, zero, suc, List, [], ◌∷◌, length, map, refl, sym, ap, ◌∙◌, subst, arith, Some, None}
+use Rattle.std.proofs.Common.{◌≡◌, ◌<◌, ℕ, suc, List, [], ◌∷◌, length, map, refl, sym, ◌∙◌, subst, arith, Some, None}
 use Rattle.std.specs.Prelude.{slice_get}
 use Rattle.std.specs.List.{All, Contains}
 use Rattle.std.proofs.lemmas.List.Elements.{All-head, All-tail}
@@ -11,13 +11,12 @@ use Rattle.data_theory.specs.Sorts.{SortInfo}
 use Rattle.data_theory.specs.Functions.{Function}
 use Rattle.data_theory.specs.Complete.{IsFunctionWithin}
 use Rattle.data_theory.specs.Signature.{Sig}
-use Rattle.data_theory.specs.IdData.{constructors_of, is_constructor, role_meant}
+use Rattle.data_theory.specs.IdData.{constructors_of, role_meant}
 use Rattle.data_theory.specs.IdRoles.{HasRole, constructs, projects, recognises, IsStructConstructor}
 use Rattle.data_theory.specs.IdTerms.{sort_under}
 use Rattle.data_theory.specs.WholeSignatures.{IsSignature}
 use Rattle.data_theory.proofs.IdDataLemmas.{holds_of_role, constructor_tells, roles_are_found}
 use Rattle.data_theory.proofs.IdSymbolLemmas.{holds_at, sort_is}
-use Rattle.sort_table.specs.Expressions.{Name}
 use Rattle.sort_table.specs.BareSorts.{SortExpression}
 use Rattle.sort_table.specs.SignatureVocabularies.{text_under}
 use Rattle.sort_table.specs.TextFunctions as text

@@ -1,5 +1,5 @@
 -- Growing by structs and by constants, step by step.
-use Rattle.std.proofs.Common.{◌≡◌, List, [], ◌∷◌, ◌++◌, length, refl, sym, ap, ◌∙◌, subst, append-nil, append_assoc}
+use Rattle.std.proofs.Common.{◌≡◌, List, [], ◌++◌, length, refl, sym, ap, ◌∙◌, append-nil, append_assoc}
 use Rattle.data_theory.specs.declared.ids.FunId.{FunId}
 use Rattle.data_theory.specs.Structs.{numbers_from}
 use Rattle.data_theory.specs.Signature.{Sig, with_sort}
@@ -7,7 +7,6 @@ use Rattle.data_theory.specs.IdTerms.{IsGrown}
 use Rattle.data_theory.specs.WholeSignatures.{IsSignature}
 use Rattle.data_theory.proofs.IdGrowthLemmas.{growth_after_growth_is_growth}
 use Rattle.term_pool.proofs.DeclaredConstants.{grown_itself}
-use Rattle.lps_printer.specs.GrowingByConstants.{GrowsByConstants}
 use Rattle.lps_printer.specs.GrowingByAdditions.{functions_of_struct, GrowsByAdditions, nothing_added, then_constants, then_struct, AdditionsFollowEachOther, ConstantsAreAdditions}
 use Rattle.lps_printer.proofs.GrownStructs.{it_is_grown, declared_are, actions_are}
 

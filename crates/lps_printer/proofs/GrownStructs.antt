@@ -1,14 +1,13 @@
 -- A struct whose names weren't taken comes into a signature.
-use Rattle.std.proofs.Common.{◌≡◌, ◌+◌, ◌<◌, ℕ, suc, List, [], ◌∷◌, ◌++◌, length, map, get_or, refl, sym, ap, ◌∙◌, subst, arith, length-append, Option, Some, None}
+use Rattle.std.proofs.Common.{◌≡◌, ◌<◌, ℕ, List, [], ◌∷◌, ◌++◌, length, map, get_or, refl, sym, ap, ◌∙◌, subst, arith, length-append, Option, Some, None}
 use Rattle.std.specs.Prelude.{slice_get}
 use Rattle.std.specs.List.{Contains}
 use Rattle.std.proofs.lemmas.List.Elements.{All-head, All-contains, Contains-append_left}
 use Rattle.std.proofs.lemmas.Option.{slice_get-get_or}
-use Rattle.data_theory.specs.declared.ids.FunId.{FunId}
 use Rattle.data_theory.specs.declared.ids.NameId.{NameId}
 use Rattle.data_theory.specs.declared.ids.SortId.{SortId}
 use Rattle.data_theory.specs.Functions.{Function}
-use Rattle.data_theory.specs.Sorts.{Kind, SortInfo, structured, with_kind, abstract_sort, IsBare}
+use Rattle.data_theory.specs.Sorts.{Kind, structured, abstract_sort, IsBare}
 use Rattle.data_theory.specs.SortNames.{IsName}
 use Rattle.data_theory.specs.Structs.{Con, numbers_from}
 use Rattle.data_theory.specs.Signature.{Sig, IsTaken, with_sort, with_struct}
@@ -26,7 +25,7 @@ use Rattle.data_theory.proofs.StructGrowthLemmas.{last_kind, with_a_struct_sort_
 use Rattle.data_theory.proofs.WholeSignatureLemmas.{sort_stands}
 use Rattle.sort_table.specs.Expressions.{Name}
 use Rattle.sort_table.specs.BareSorts.{SortExpression, a_name}
-use Rattle.sort_table.specs.BareDeclarations.{Field, Constructor, struct}
+use Rattle.sort_table.specs.BareDeclarations.{Constructor, struct}
 use Rattle.sort_table.specs.SignatureVocabularies.{text_under, sort_name_under}
 use Rattle.sort_table.specs.NamedLists.{first_named}
 use Rattle.sort_table.specs.NamedSorts.{sort_names_of, sort_count}
@@ -38,7 +37,7 @@ use Rattle.sort_table.proofs.GivenConstructors.{pair_along}
 use Rattle.sort_table.proofs.Growing.{contains_after, front_entry, pairs_with}
 use Rattle.sort_table.proofs.KeptFunctions.{entry_kept}
 use Rattle.sort_table.proofs.NamedSignatures.{names_kept, name_is_named, new_name, names_with_sort}
-use Rattle.lps_printer.specs.GrowingByAdditions.{Struct, functions_of_struct, GrowsByStruct}
+use Rattle.lps_printer.specs.GrowingByAdditions.{functions_of_struct, GrowsByStruct}
 use Rattle.lps_printer.proofs.EnteredSignatures.{signatures_are_entered}
 
 pairs_later : {A B : Type 0} (Q : A → B → Type 0) (xs us : List A) (ys vs : List B) → length xs ≡ length ys → EachPair Q (xs ++ us) (ys ++ vs) → EachPair Q us vs

@@ -1,12 +1,10 @@
 -- Constants by which a signature grows begin no struct, and mappings of them are declared.
-use Rattle.std.proofs.Common.{◌≡◌, ◌+◌, ◌<◌, ◌≤◌, ◌&&◌, ◌||◌, ℕ, zero, suc, Bool, true, false, cond, nat_eq, List, [], ◌∷◌, ◌++◌, length, map, get_or, codes, not, All, refl, sym, ap, ap₂, ◌∙◌, subst, arith, append_assoc, append-nil, length-append}
+use Rattle.std.proofs.Common.{◌≡◌, ◌+◌, ◌<◌, ◌≤◌, ◌&&◌, ◌||◌, ℕ, zero, suc, Bool, true, false, cond, nat_eq, List, [], ◌∷◌, ◌++◌, length, map, get_or, codes, not, All, refl, sym, ap, ap₂, ◌∙◌, subst, arith, append-nil, length-append}
 use Rattle.std.specs.Prelude.{None}
-use Rattle.std.specs.List.{AllByRecursion, Contains, flat_map, list_any}
+use Rattle.std.specs.List.{AllByRecursion, flat_map, list_any}
 use Rattle.std.proofs.lemmas.List.{get_or-append-add, length-map}
-use Rattle.std.proofs.lemmas.Grind.{flat_map-append}
-use Rattle.std.proofs.lemmas.List.Elements.{All-nil, All-head, All-tail, All-weaker, All-cons, All-contains, All-from_recursion, recursion_from_All, All-contains_itself, Contains-append_left, Contains-append_right, Contains-push}
+use Rattle.std.proofs.lemmas.List.Elements.{All-nil, All-head, All-tail}
 use Rattle.std.proofs.lemmas.Bool.Decides.{nat_tests}
-use Rattle.mcrl2_syntax.specs.declared.declaration.SectionWord.TheVariants as sections
 use Rattle.data_theory.specs.declared.ids.FunId.{FunId}
 use Rattle.data_theory.specs.declared.ids.NameId.{NameId}
 use Rattle.data_theory.specs.declared.ids.SortId.{SortId}
@@ -16,23 +14,16 @@ use Rattle.data_theory.specs.Signature.{Sig, with_taken}
 use Rattle.data_theory.specs.Sorts as kinds
 use Rattle.data_theory.specs.Sorts.{SortInfo}
 use Rattle.data_theory.specs.Structs.{numbers_from}
-use Rattle.data_theory.specs.Terms.{list}
 use Rattle.data_theory.specs.IdTerms.{sort_under}
 use Rattle.data_theory.specs.WholeSignatures.{IsSignature}
-use Rattle.sort_table.specs.Expressions.{Name}
 use Rattle.sort_table.specs.BareDeclarations.{Declaration, mappings, Section, declarations_in}
-use Rattle.sort_table.specs.SignatureVocabularies.{text_under}
 use Rattle.sort_table.specs.Vocabularies.{EachPair}
 use Rattle.lps_printer.specs.declared.added_sections.Line.TheVariants as lines
-use Rattle.lps_printer.specs.DataLayout.{IsIdentifier}
-use Rattle.lps_printer.specs.NamedSummands.{IsNamed, IsNamedVariable}
 use Rattle.lps_printer.specs.WrittenProcesses.{TextNames, sort_written}
 use Rattle.lps_printer.specs.AddedConstants.{AddsConstant, AddsEach, none_left, adds, AddsConstants}
-use Rattle.lps_printer.specs.AddedDeclarations.{no_function, function_at, name_at, kind_at, constructors_in, begun_by, struct_begun, is_constant, constants_among, constant_with, added_functions, struct_declared, structs_declared, empty_list_declared, line_declared, lines_declared, added_declared}
-use Rattle.lps_printer.specs.NamedStructs.{IsNamedStruct, BeginsNamedStruct}
+use Rattle.lps_printer.specs.AddedDeclarations.{no_function, function_at, name_at, kind_at, constructors_in, begun_by, struct_begun, is_constant, struct_declared, structs_declared, empty_list_declared, line_declared, lines_declared}
 use Rattle.lps_printer.specs.GrowingByConstants.{GrowsByConstants}
 use Rattle.lps_printer.specs.GrownTexts.{mapping_declared, mappings_declared}
-use Rattle.lps_printer.proofs.DeclaredCounts.{added_are}
 
 abbrev pub Constant : Type 0
 Constant = NameId × SortId

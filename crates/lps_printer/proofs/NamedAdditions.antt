@@ -1,10 +1,9 @@
 -- What is added to a text has names that are identifiers.
-use Rattle.std.proofs.Common.{◌≡◌, ◌<◌, ℕ, zero, suc, Bool, true, false, cond, nat_eq, List, [], ◌∷◌, length, map, get_or, drop, refl, sym, ap, ◌∙◌, subst, arith, Option, Some, None}
+use Rattle.std.proofs.Common.{◌≡◌, ◌<◌, ℕ, zero, suc, Bool, true, false, cond, nat_eq, List, [], ◌∷◌, length, refl, sym, ap, ◌∙◌, subst, arith, Option, Some, None}
 use Rattle.std.specs.Prelude.{slice_get}
 use Rattle.std.specs.List.{All, AllByRecursion, Contains}
-use Rattle.std.proofs.lemmas.List.Elements.{All-nil, All-contains, Contains-append_left, Contains-append_right, Contains-push}
-use Rattle.std.proofs.lemmas.Option.{get_or_from_slice_get, none-some, same_Some}
-use Rattle.mcrl2_syntax.specs.Declarations.{PlainSpec}
+use Rattle.std.proofs.lemmas.List.Elements.{All-nil, All-contains, Contains-append_right}
+use Rattle.std.proofs.lemmas.Option.{get_or_from_slice_get, none-some}
 use Rattle.data_theory.specs.declared.ids.FunId.{FunId}
 use Rattle.data_theory.specs.declared.ids.SortId.{SortId}
 use Rattle.data_theory.specs.Functions.{Function, arguments_of}
@@ -17,13 +16,13 @@ use Rattle.data_theory.specs.IdTerms.{sort_under}
 use Rattle.data_theory.specs.WholeSignatures.{IsSignature, HasDeclaredConstructors}
 use Rattle.data_theory.proofs.IdSortLemmas.{read_within}
 use Rattle.data_theory.proofs.PlaceLemmas.{contains_read}
-use Rattle.sort_table.specs.SignatureVocabularies.{text_under, function_name_of}
+use Rattle.sort_table.specs.SignatureVocabularies.{function_name_of}
 use Rattle.lps_printer.specs.AddedDeclarations.{no_function, function_at, name_at, kind_at, constructors_in, begun_by, struct_begun, is_constant, constants_among, constant_with, some_name, fields_with, constructor_with, added_functions}
 use Rattle.lps_printer.specs.DataLayout.{IsIdentifier}
 use Rattle.lps_printer.specs.GrownIdentifiers.{FunctionNamed, WhatIsAddedIsNamed}
 use Rattle.lps_printer.specs.NamedStructs.{IsNamedOption, IsNamedField, IsNamedConstructor, IsNamedStruct, BeginsNamedStruct}
-use Rattle.lps_printer.specs.NamedSummands.{IsNamed, IsNamedVariable}
-use Rattle.lps_printer.specs.WrittenProcesses.{TextNames, sort_written}
+use Rattle.lps_printer.specs.NamedSummands.{IsNamedVariable}
+use Rattle.lps_printer.specs.WrittenProcesses.{TextNames}
 use Rattle.lps_printer.specs.TextWordings.{sort_place}
 use Rattle.data_theory.specs.Table.{bool_sort}
 use Rattle.lps_printer.proofs.DeclaredAdditions.{get_all}

@@ -5,7 +5,7 @@ use Rattle.std.specs.List.{AllByRecursion, Contains, flat_map}
 use Rattle.std.proofs.Math.Seq.{take-append_seam}
 use Rattle.std.proofs.lemmas.List.{length-map}
 use Rattle.std.proofs.lemmas.List.Elements.{All-contains}
-use Rattle.std.proofs.lemmas.Option.{none-some, same_Some, slice_get_within}
+use Rattle.std.proofs.lemmas.Option.{none-some, same_Some}
 use Rattle.std.proofs.lemmas.Slice.Eq.{bytes_eq-Decides}
 use Rattle.data_theory.specs.declared.ids.FunId.{FunId}
 use Rattle.data_theory.specs.declared.ids.NameId.{NameId}
@@ -33,7 +33,7 @@ use Rattle.sort_table.specs.NamedLists.{all_named, first_named}
 use Rattle.sort_table.specs.BareSorts.{SortExpression, truth_values, a_name}
 use Rattle.sort_table.specs.BareDeclarations.{Field, Constructor, struct}
 use Rattle.sort_table.specs.Growth.{More, with_more, with_declared, AllStand, IsMore}
-use Rattle.sort_table.specs.SortMeanings.{Kind, a_struct, UnderNames, StandsFor, for_struct}
+use Rattle.sort_table.specs.SortMeanings.{Kind, a_struct, UnderNames, for_struct}
 use Rattle.sort_table.specs.SignatureVocabularies.{text_under, sort_name_under, function_name_of, function_names_from, vocabulary_of}
 use Rattle.sort_table.specs.NamedSorts.{sort_names_of, sort_count}
 use Rattle.sort_table.specs.TextFunctions as text

@@ -114,7 +114,7 @@ named_alike texts s (suc (suc zero)) f h = (_, refl, same h)
 named_alike texts s (suc (suc (suc j))) f h = absurd cc
 
 -- their names are taken
-over_sort_taken : (g : Sig) → IsSignature g → (s : SortId) (j : ℕ) (f : Function) → slice_get (built_ins g.texts (sort_rows s)) j ≡ Some f → Contains (map (λ (e : Function). e.name) g.functions) f.name
+pub over_sort_taken : (g : Sig) → IsSignature g → (s : SortId) (j : ℕ) (f : Function) → slice_get (built_ins g.texts (sort_rows s)) j ≡ Some f → Contains (map (λ (e : Function). e.name) g.functions) f.name
 over_sort_taken g stands s j f at =
     let e = named_alike g.texts s j f at in
     let r = mapped_at (built_in g.texts) (sort_rows bool_sort) j e.0 e.1 in
