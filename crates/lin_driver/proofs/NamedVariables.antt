@@ -38,7 +38,7 @@ use Rattle.sort_checker.specs.Additions.{AddsVariables, nothing, one_list, one_v
 use Rattle.lin_driver.proofs.Identifiers.{identifier_named}
 use Rattle.lin_driver.proofs.ConstantGrowth.{on_columns}
 
-below_or_last : (a b : ℕ) → a < b + 1 → (a < b) ⊎ (a ≡ b)
+pub below_or_last : (a b : ℕ) → a < b + 1 → (a < b) ⊎ (a ≡ b)
 below_or_last zero zero m = inr refl
 below_or_last zero (suc b) m = inl (omega arith)
 below_or_last (suc a) zero m = absurd (omega (arith, m))

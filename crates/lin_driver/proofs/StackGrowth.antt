@@ -153,6 +153,6 @@ parameter_grows g h sort v p =
     let one : Variable = record { name = p.name; sort = sort } in
     subst (GrowsOn g) (sym p.is) (on_then g p.named (with_variable p.named one) (on_fresh g p.named (codes "q") p.name p.fresh) (on_variable p.named one))
 
-pub closed_terms_grow : {g h : Sig} {p q : PoolContents} {ss : List SortId} {ts : List TermId} → AreClosedTerms g p ss h q ts → GrowsOn g h
+pub closed_terms_grow : {g : Sig} {p : PoolContents} {h : Sig} {q : PoolContents} {ss : List SortId} {ts : List TermId} → AreClosedTerms g p ss h q ts → GrowsOn g h
 closed_terms_grow {g = g} no_closed_term = on_itself g
-closed_terms_grow {g = g} (one_more_closed_term {h = h} {i = i} a k) = on_then g h i (closed_terms_grow a) (on_declared k.declared)
+closed_terms_grow {g = g} (one_more_closed_term {h = h} {i = i} a one) = on_then g h i (closed_terms_grow a) (on_declared one.declared)

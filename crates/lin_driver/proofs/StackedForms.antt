@@ -47,7 +47,7 @@ words_variables : (g : Sig) (bases : List (List ℕ)) (h : Sig) (names : List Na
 words_variables g _ _ _ no_name = refl
 words_variables g _ i _ (one_more_name {bases = bases} {names = names} {h = h} a f) = ap (λ (z : Sig). z.variables) f.taken ∙ words_variables g bases h names a
 
-closed_variables : {g h : Sig} {p q : PoolContents} {ss : List SortId} {ts : List TermId} → AreClosedTerms g p ss h q ts → h.variables ≡ g.variables
+closed_variables : {g : Sig} {p : PoolContents} {h : Sig} {q : PoolContents} {ss : List SortId} {ts : List TermId} → AreClosedTerms g p ss h q ts → h.variables ≡ g.variables
 closed_variables no_closed_term = refl
 closed_variables (one_more_closed_term a k) = constants_variables k.declared ∙ closed_variables a
 
