@@ -1,6 +1,6 @@
 -- What an encoder makes of a form leads from the form to its linear process.
 use Rattle.std.proofs.Common.{◌≡◌, ◌-◌, ◌<◌, ℕ, List, [], ◌∷◌, length, refl, arith}
-use Rattle.std.specs.Prelude.{IfErr, Result, Ok, Err}
+use Rattle.std.specs.Prelude.{◌↔◌, Bool, true, false, IsTrue, IfErr, Result, Ok, Err}
 use Rattle.std.specs.List.{All}
 use Rattle.std.proofs.lemmas.List.Elements.{All-append, All-contains, All-head, All-nil, All-tail}
 use Rattle.data_theory.proofs.PlaceLemmas.{contains_read}
@@ -69,6 +69,12 @@ is_regular : (m : Method) (f : PlainForm) (k : ℕ) → ¬ (UsesStack m f) → I
 is_regular method.Auto f k never first = absurd (never (two_calls_are_no_tail f k first))
 is_regular method.Regular f k never first = refl
 is_regular method.Stack f k never first = absurd (never tt)
+
+pub uses_none : {uses : Bool} (m : Method) (f : PlainForm) → IsTrue uses ↔ UsesStack m f → uses ≡ false → ¬ (UsesStack m f)
+uses_none {uses} m f tells no yes = clash (tells.1 yes) no
+  where
+    clash : uses ≡ true → uses ≡ false → ⊥
+    clash p q = cc
 
 pub columns_refused : {T : Type 0} (r : Result T EncodeFault) (m : Method) (f : PlainForm) → ¬ (UsesStack m f) → IfErr r (IsEncodeFaultOf f) → IfErr r (IsMethodFaultOf m f)
 columns_refused (Ok x) m f never has = tt
