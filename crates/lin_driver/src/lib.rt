@@ -8,6 +8,7 @@
 mod components;
 mod composing;
 mod fault;
+mod form_encoding;
 pub mod laws;
 mod leaves;
 mod linear_texts;
@@ -17,6 +18,7 @@ mod model_linearising;
 mod variable_names;
 
 pub use fault::{LinFault, ModelFault};
+pub use form_encoding::encode_form;
 pub use linear_texts::linear_text;
 pub use linearising::{Linearised, linearise};
 pub use methods::Method;
