@@ -12,7 +12,7 @@ ghost use Rattle.mcrl2lin.specs.Stops.{HasCause, status_of_stop};
 use crate::command::file_of;
 use crate::stop::Stop;
 use data_theory::Names;
-use lin_driver::linear_text;
+use lin_driver::{Method, linear_text};
 use mcrl2_text::{MAX_TEXT_LEN, Shelf, Sink, load, write_all};
 use std::alloc::Global;
 
@@ -100,7 +100,7 @@ fn linearised<H: Shelf>(alloc: Global, words: &[String], shelf: &mut H) -> Resul
     let file = file_of(words).ok_or(Stop::Words)?;
     let text = load(alloc, shelf, file)?;
     let mut names = Names::new(alloc);
-    match linear_text(alloc, &text, &mut names) {
+    match linear_text(alloc, &text, &mut names, Method::Auto) {
         Ok(printed) => Ok(printed),
         Err(fault) => Err(Stop::for_fault(alloc, &names, &fault)),
     }

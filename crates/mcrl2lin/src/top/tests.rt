@@ -107,14 +107,6 @@ const ROWS: [Row; 16] = [
         ..TWO
     },
     Row {
-        name: "a text with a parallel operator",
-        text: b"act a, b; init a || b;",
-        status: Status::Refused,
-        out: b"",
-        err: b"refused 90 NotBuilt\n",
-        ..TWO
-    },
-    Row {
         name: "the third read fails",
         read_fails: &[3],
         status: Status::ReadFault,
