@@ -1,3 +1,4 @@
 pub mod EndLines
 pub mod FaultNames
+pub mod FaultsByMethod
 pub mod Told

@@ -16,8 +16,8 @@ returns-in-Err-clause-err g c =
       whole = search (rules, failed_or_whole);
     }
 
-pub returns-in-Err-clause-headline : goal.returns-in-Err-clause-headline
-returns-in-Err-clause-headline g c =
+pub returns-in-Err-clause-complete : goal.returns-in-Err-clause-complete
+returns-in-Err-clause-complete g c =
     let asked = question (g.H.Shelf.text_of c.args.shelf.now) (map string_bytes c.args.words.now.items) in
     let none : c.in-Err.stop ≡ Words → asked_by (map string_bytes c.args.words.now.items) ≡ None = search rules in
     let rose : c.in-Err.stop ≡ ReadFault → Rose (g.H.Shelf.faults c.args.shelf.now) (g.H.Shelf.faults c.answer.new.shelf) = search rules in
@@ -25,8 +25,8 @@ returns-in-Err-clause-headline g c =
     (linearised_stops_well asked (g.H.Shelf.faults c.args.shelf.now) (g.H.Shelf.faults c.answer.new.shelf) (g.O.Sink.faults c.args.out.now) (g.O.Sink.faults c.args.out.now) (g.O.Sink.taken c.args.out.now) (g.O.Sink.taken c.args.out.now) c.in-Err.stop
     (λ is. nothing_asked (g.H.Shelf.text_of c.args.shelf.now) (map string_bytes c.args.words.now.items) (none is)) rose (search rules))
 
-pub returns-in-Err-clause-complete : goal.returns-in-Err-clause-complete
-returns-in-Err-clause-complete g c =
+pub returns-in-Err-clause-headline : goal.returns-in-Err-clause-headline
+returns-in-Err-clause-headline g c =
     let asked = question (g.H.Shelf.text_of c.args.shelf.now) (map string_bytes c.args.words.now.items) in
     let none : c.in-Err.stop ≡ Words → asked_by (map string_bytes c.args.words.now.items) ≡ None = search rules in
     let rose : c.in-Err.stop ≡ ReadFault → Rose (g.H.Shelf.faults c.args.shelf.now) (g.H.Shelf.faults c.answer.new.shelf) = search rules in
@@ -34,15 +34,15 @@ returns-in-Err-clause-complete g c =
     (taken_stops_well asked (g.H.Shelf.faults c.args.shelf.now) (g.H.Shelf.faults c.answer.new.shelf) (g.O.Sink.faults c.args.out.now) (g.O.Sink.faults c.args.out.now) (g.O.Sink.taken c.args.out.now) (g.O.Sink.taken c.args.out.now) c.in-Err.stop
     (λ is. nothing_asked (g.H.Shelf.text_of c.args.shelf.now) (map string_bytes c.args.words.now.items) (none is)) rose (search rules))
 
-pub returns-then-is_ok-clause-headline : goal.returns-then-is_ok-clause-headline
-returns-then-is_ok-clause-headline g c =
+pub returns-then-is_ok-clause-complete : goal.returns-then-is_ok-clause-complete
+returns-then-is_ok-clause-complete g c =
     let asked = question (g.H.Shelf.text_of c.args.shelf.now) (map string_bytes c.args.words.now.items) in
     let whole : IfSome (g.O.Sink.taken c.args.out.now) (λ before. g.O.Sink.taken c.write_all.new.sink ≡ Some (before ++ c.in-Ok.bytes.items)) = search rules in
     linearised_ends_well asked (g.H.Shelf.faults c.args.shelf.now) (g.H.Shelf.faults c.answer.new.shelf) (g.O.Sink.faults c.args.out.now) (g.O.Sink.faults c.write_all.new.sink) (g.O.Sink.taken c.args.out.now) (g.O.Sink.taken c.write_all.new.sink)
     c.in-Ok.bytes.items (rw c.deref.ensures.value at c.in-Ok.ensures.answered) whole
 
-pub returns-then-is_ok-clause-complete : goal.returns-then-is_ok-clause-complete
-returns-then-is_ok-clause-complete g c =
+pub returns-then-is_ok-clause-headline : goal.returns-then-is_ok-clause-headline
+returns-then-is_ok-clause-headline g c =
     let asked = question (g.H.Shelf.text_of c.args.shelf.now) (map string_bytes c.args.words.now.items) in
     let whole : IfSome (g.O.Sink.taken c.args.out.now) (λ before. g.O.Sink.taken c.write_all.new.sink ≡ Some (before ++ c.in-Ok.bytes.items)) = search rules in
     taken_ends_well asked (g.H.Shelf.faults c.args.shelf.now) (g.H.Shelf.faults c.answer.new.shelf) (g.O.Sink.faults c.args.out.now) (g.O.Sink.faults c.write_all.new.sink) (g.O.Sink.taken c.args.out.now) (g.O.Sink.taken c.write_all.new.sink)
