@@ -19,7 +19,6 @@ use Rattle.lin_driver.specs.declared.fault.LinFault.{LinFault}
 use Rattle.lin_driver.specs.declared.fault.LinFault.TheVariants.{NoMemory}
 use Rattle.lin_driver.specs.declared.fault.ModelFault.{ModelFault}
 use Rattle.lin_driver.specs.declared.fault.ModelFault.TheVariants as model
-use Rattle.lin_driver.specs.declared.methods.Method.{Method}
 
 -- ---- of a specification
 pub net_is_up_to : {T : Type 0} (r : Result T ModelFault) (fault : NetFault) → IsErrAnd r (λ given. given ≡ fault_of_net fault) → IfErr r IsUpToRecursion
@@ -70,8 +69,8 @@ type_of_the_text (Err given) (type.VariableLeft number) same = λ some. subst Is
 type_of_the_text (Err given) (type.CommShape number) same = λ some. subst IsOfTheText (sym same) tt
 type_of_the_text (Err given) (type.RenameTwice number name) same = λ some. subst IsOfTheText (sym same) tt
 
-pub model_of_the_text : (method : Method) (fault : ModelFault) (given : LinFault) → IsUpToRecursion fault → given ≡ fault_of_model method fault → given ≢ NoMemory → IsOfTheText given
-model_of_the_text method (model.Net fault) given up same some = subst IsOfTheText (sym same) tt
-model_of_the_text method (model.Guard fault) given up same some = subst IsOfTheText (sym same) tt
-model_of_the_text method model.NoMemory given up same some = absurd (some same)
-model_of_the_text method _ given up same some = absurd up
+pub model_of_the_text : (fault : ModelFault) (given : LinFault) → IsUpToRecursion fault → given ≡ fault_of_model fault → given ≢ NoMemory → IsOfTheText given
+model_of_the_text (model.Net fault) given up same some = subst IsOfTheText (sym same) tt
+model_of_the_text (model.Guard fault) given up same some = subst IsOfTheText (sym same) tt
+model_of_the_text model.NoMemory given up same some = absurd (some same)
+model_of_the_text _ given up same some = absurd up
