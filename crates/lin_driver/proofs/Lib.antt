@@ -7,13 +7,17 @@ mod NetworkLeaves
 mod TakenNames
 mod GrownModels
 mod ConstantGrowth
+mod StackGrowth
+mod StackedForms
+mod MethodForms
+mod FreshFunctions
 mod Identifiers
 mod NamedSignatures
 mod NamedVariables
 mod ProcessNames
 mod ColumnNames
 mod AddedParts
-pub mod AddedConstants
+pub mod Additions
 mod LinearisedTexts
 mod SortedTerms
 mod FittingOperators

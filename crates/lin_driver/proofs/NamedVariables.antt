@@ -71,7 +71,7 @@ pub fresh_named : (g h : Sig) (base : List ℕ) (n : NameId) → IsFreshIn g bas
 fresh_named g h base n f all = named_still g h (fresh_grows g base n h f) (ap (λ (z : Sig). z.variables) f.taken) all
 
 -- ---- columns
-abbrev KindNamed : Sig → NameId × SortId → Type 0
+abbrev pub KindNamed : Sig → NameId × SortId → Type 0
 KindNamed g k = HasIdentifierText g k.0
 
 with_kind_named : (g : Sig) (ks : List (NameId × SortId)) (k : NameId × SortId) → All (KindNamed g) ks → KindNamed g k → All (KindNamed g) (with_kind ks k)
@@ -94,7 +94,7 @@ params_there g [] h = All-nil (IsVariable g)
 params_there g (q ∷ qs) h =
     All-append (IsVariable g) q.params (all_params qs) (All-head (λ (q : PlainEquation). All (IsVariable g) q.params) q qs h) (params_there g qs (All-tail (λ (q : PlainEquation). All (IsVariable g) q.params) q qs h))
 
-kinds_named : (g : Sig) (f : PlainForm) → HaveIdentifiers g → All (λ (q : PlainEquation). All (IsVariable g) q.params) f.equations → All (KindNamed g) (column_kinds g f)
+pub kinds_named : (g : Sig) (f : PlainForm) → HaveIdentifiers g → All (λ (q : PlainEquation). All (IsVariable g) q.params) f.equations → All (KindNamed g) (column_kinds g f)
 kinds_named g f all h = with_kinds_named g [] (map (kind_of g) (all_params f.equations)) (All-nil (KindNamed g)) (kinds_of g all (all_params f.equations) (params_there g f.equations h))
 
 own_name : {IsOne : NameId → Type 0} {g h : Sig} {n m : NameId} → IsOwnName IsOne g n h m → HasIdentifierText g n → HasIdentifierText h m

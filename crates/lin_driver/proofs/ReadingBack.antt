@@ -31,14 +31,15 @@ use Rattle.sort_table.proofs.Growing.{front_entry}
 use Rattle.sort_checker.specs.FullVocabularies.{FullVocabulary, process_named}
 use Rattle.sort_checker.specs.Systems.{IsSystem}
 use Rattle.lps_printer.specs.AddedConstants.{AreConstants}
-use Rattle.lps_printer.specs.AddedDeclarations.{added_functions, added_sections, added_declared}
+use Rattle.lps_printer.specs.AddedDeclarations.{added_functions, constants_among, added_sections, added_declared}
 use Rattle.lps_printer.specs.CopiedSections.{copied_sections}
 use Rattle.lps_printer.specs.DataLayout.{IsIdentifier}
 use Rattle.lps_printer.specs.EmptyEquations.{empty_equations}
 use Rattle.lps_printer.specs.FilledLinears.{Constants, filled_linear, filled_terms}
-use Rattle.lps_printer.specs.FittingLinears.{CanBeRead}
+use Rattle.lps_printer.specs.FittingLinears.{NamesAreIdentifiers, CanBeRead}
 use Rattle.lps_printer.specs.FoundConstants.{constant_among}
 use Rattle.lps_printer.specs.GrowingByConstants.{GrowsByConstants}
+use Rattle.lps_printer.specs.GrowingByAdditions.{GrowsByAdditions, then_constants}
 use Rattle.lps_printer.specs.LinearBack.{parameters_of}
 use Rattle.lps_printer.specs.PrintedDeclarations.{AreSoundOver}
 use Rattle.lps_printer.specs.PrintedLinears.{IsPrinted}
@@ -51,11 +52,13 @@ use Rattle.lps_printer.specs.WrittenProcesses.{TextNames}
 use Rattle.lps_printer.proofs.ConstantWording.{found_differ}
 use Rattle.lps_printer.proofs.FittingLinears.{fitting_linears_read}
 use Rattle.lps_printer.proofs.FoundConstants.{there_are_constants, constants_have_equations}
-use Rattle.lps_printer.proofs.GrowingByConstants.{on_added, grows_then}
-use Rattle.lps_printer.proofs.GrownIdentifiers.{names_still, constants_named, constant_sorts_read}
-use Rattle.lps_printer.proofs.GrownTexts.{what_grows_by_constants_adds_them, added_constants_are_named, empty_lists_are_added}
+use Rattle.lps_printer.proofs.DeclaredAdditions.{what_is_added_is_printed, empty_lists_are_added}
+use Rattle.lps_printer.proofs.GrowingByAdditions.{constants_are_additions}
+use Rattle.lps_printer.proofs.GrowingByConstants.{on_added}
+use Rattle.lps_printer.proofs.GrownIdentifiers.{names_still}
+use Rattle.lps_printer.proofs.NamedAdditions.{what_is_added_is_named}
 use Rattle.lps_printer.proofs.ListedVariables.{variables_that_read_can_be_listed}
-use Rattle.lps_printer.proofs.PrintedDeclarations.{printed_declarations_are_sound, added_constants_are_declared}
+use Rattle.lps_printer.proofs.PrintedDeclarations.{printed_declarations_are_sound, what_is_added_is_declared}
 use Rattle.lps_printer.proofs.PrintedSystems.{printed_systems_are_linear}
 use Rattle.lps_printer.proofs.PrintedTheories.{printed_texts_have_theories}
 use Rattle.lps_printer.proofs.SpelledAdditions.{printed_texts_spell_back}
@@ -63,7 +66,7 @@ use Rattle.lin_driver.specs.EqualLinears.{AreEqualLinears}
 use Rattle.lin_driver.specs.FilledLinears.{Serves}
 use Rattle.lin_driver.specs.Linearised.{ReadsBack}
 use Rattle.lin_driver.specs.ReadingBack.{CanBePrinted, PrintedTextsReadBack}
-use Rattle.lin_driver.proofs.AddedConstants.{constants_may_be_added}
+use Rattle.lin_driver.proofs.Additions.{additions_may_be_added}
 use Rattle.lin_driver.proofs.AddedParts.{what_may_be_added_adds_only}
 use Rattle.lin_driver.proofs.FilledLinears.{filled_linears_serve}
 
@@ -106,8 +109,8 @@ module _ (spec : PlainSpec) (g h : Sig) (ts : List Tree) (x : NameId) (l : Plain
   grows : GrowsByConstants g h
   grows = (on_added g h is.sorts is.added).grows
 
-  both : GrowsByConstants can.own_signature h
-  both = grows_then can.own_signature g h can.stands can.grown grows
+  both : GrowsByAdditions can.own_signature h
+  both = then_constants can.grown grows after
 
   its_vocabulary : IsVocabularyOf (under_names (declarations_in (bare_sections spec))) (vocabulary_of can.own_signature)
   its_vocabulary = subst (IsVocabularyOf (under_names (declarations_in (bare_sections spec)))) can.own.declared can.own.system.well_typed.vocabulary.declared
@@ -119,6 +122,9 @@ module _ (spec : PlainSpec) (g h : Sig) (ts : List Tree) (x : NameId) (l : Plain
   same_name = sym (ap (λ (us : List Name). get_or us x.0 []) grows.grown.texts ∙ front_entry g.texts grows.grown.new_texts x.0 [] can.process_there)
 
   -- ---- the linear process
+  identifiers_later : NamesAreIdentifiers h l
+  identifiers_later = names_still g h ts l can.stands can.fits (constants_are_additions g h grows after) can.identifiers
+
   constants_are : AreConstants (length g.declared) is.needed c
   constants_are = there_are_constants (length g.declared) is.needed (found_differ is.finds)
 
@@ -127,24 +133,24 @@ module _ (spec : PlainSpec) (g h : Sig) (ts : List Tree) (x : NameId) (l : Plain
 
   read : CanBeRead v h n M J
   read =
-      fitting_linears_read v g h ts l name is.needed is.sorts c can.stands after grows can.fits can.names (names_still g h ts l can.stands can.fits grows can.identifiers) (subst IsIdentifier same_name can.process_named)
+      fitting_linears_read v g h ts l name is.needed is.sorts c can.stands after grows can.fits can.names identifiers_later (subst IsIdentifier same_name can.process_named)
       is.finds is.over is.added constants_are refl process_is
 
   -- ---- the sections
-  lists_added : All (Contains (added_functions spec h)) fs
-  lists_added = empty_lists_are_added spec can.own_signature g h is.sorts is.needed its_vocabulary can.grown grows is.added is.over
+  lists_added : All (Contains (constants_among h (added_functions spec h))) fs
+  lists_added = empty_lists_are_added spec can.own_signature g h is.sorts is.needed can.own.stands can.stands after its_vocabulary can.grown grows is.added is.over
 
   whole : IsWholeText (copied_sections spec.sections ++ added_sections spec h n fs) (copied_declared spec ++ added) n M J
   whole =
       printed_texts_spell_back can.text spec can.tokens can.cut can.spelled v h n M J fs read.reads read.named
-      (added_constants_are_named spec can.own_signature h n fs can.own.stands its_vocabulary both (constants_named can.own_signature h both (names_still g h ts l can.stands can.fits grows can.identifiers).functions n read.named.sorts) lists_added)
+      (what_is_added_is_named spec h n fs after identifiers_later.functions read.named.sorts lists_added)
 
   spelled : SpellsSections printed ss
   spelled = subst (λ (t : List ℕ). SpellsSections t ss) (sym (is.written c constants_are)) whole.spelled
 
   sound : AreSoundOver ss h
   sound =
-      printed_declarations_are_sound spec can.own_signature h added n M J
+      printed_declarations_are_sound spec can.own_signature h added name M J
       (record {
         placed = can.own.placed;
         sound = can.own.system.well_typed.sound;
@@ -154,8 +160,7 @@ module _ (spec : PlainSpec) (g h : Sig) (ts : List Tree) (x : NameId) (l : Plain
         grows = both;
         stands_later = after;
         inhabited = inhabited_later;
-        constants = added_constants_are_declared spec can.own_signature h both.constants (what_grows_by_constants_adds_them spec can.own_signature h can.own.stands its_vocabulary both) n fs;
-        sorts = constant_sorts_read can.own_signature h after both name;
+        additions = what_is_added_is_declared spec can.own_signature h both (what_is_added_is_printed spec can.own_signature h can.own.stands its_vocabulary both) name fs;
         new_process = subst (λ (t : Name). ¬ (IsTaken can.own_signature t)) same_name can.process_new;
         listed = variables_that_read_can_be_listed v n M J read.reads;
       })
@@ -200,7 +205,7 @@ module _ (spec : PlainSpec) (g h : Sig) (ts : List Tree) (x : NameId) (l : Plain
     linear = M;
     initial = J;
     specifies = record { tokens = spelled.tokens; cut = spelled.cut; spec = spelled.spec; spelled = spelled.spells; system = subst (λ bs. IsSystem bs v th (state_of M J)) (sym spelled.is) system.0 };
-    adds_only = what_may_be_added_adds_only spec spelled.spec added n M J can.own.placed spelled.is (constants_may_be_added spec can.own_signature h n fs can.own.stands its_vocabulary can.own.taken both lists_added);
+    adds_only = what_may_be_added_adds_only spec spelled.spec added n M J can.own.placed spelled.is (additions_may_be_added spec can.own_signature h name fs can.own.stands its_vocabulary can.own.taken both lists_added);
     is_linear_text = system.1;
     is_linear = read.linear;
     variable_sorts = variable_sorts h;

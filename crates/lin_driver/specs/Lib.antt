@@ -14,8 +14,9 @@ pub mod Linearised
 pub mod ElaboratedModels
 pub mod ModelsOfTexts
 pub mod AddedParts
-pub mod AddedConstants
+pub mod Additions
 pub mod ReadingBack
 pub mod MadeTexts
 pub mod Accepted
 pub mod Numberings
+pub mod MethodForms

@@ -15,12 +15,12 @@ use Rattle.lps_core.specs.Fitting.{Fits}
 use Rattle.lps_core.specs.PlainLinears.{PlainLinear}
 use Rattle.lps_printer.specs.DataLayout.{IsIdentifier}
 use Rattle.lps_printer.specs.FittingLinears.{VariablesHaveOwnNames, NamesAreIdentifiers}
-use Rattle.lps_printer.specs.GrowingByConstants.{GrowsByConstants}
+use Rattle.lps_printer.specs.GrowingByAdditions.{GrowsByAdditions}
 use Rattle.lps_printer.specs.PrintedLinears.{IsPrinted}
 use Rattle.lps_printer.specs.PrintedTheories.{ElaboratesOver}
 use Rattle.lin_driver.specs.Linearised.{ReadsBack}
 
--- The text elaborates over a signature, which has grown by constants. The linear process fits this one, its names are identifiers and tell
+-- The text elaborates over a signature, which has grown by structs and constants. The linear process fits this one, its names are identifiers and tell
 -- its variables apart, and the name of the process is an identifier that wasn't taken.
 pub record CanBePrinted (spec : PlainSpec) (g : Sig) (ts : List Tree) (x : NameId) (l : PlainLinear) : Type 0 where
   pub text : List ℕ
@@ -29,7 +29,7 @@ pub record CanBePrinted (spec : PlainSpec) (g : Sig) (ts : List Tree) (x : NameI
   pub spelled : SpellsSpec text spec tokens
   pub own_signature : Sig
   pub own : ElaboratesOver spec own_signature
-  pub grown : GrowsByConstants own_signature g
+  pub grown : GrowsByAdditions own_signature g
   pub stands : IsSignature g
   pub inhabited : NoSortIsEmpty (data_meant g)
   pub fits : Fits g ts l

@@ -44,11 +44,11 @@ pub fn what_may_be_added_adds_only()
     ensures { WhatMayBeAddedAddsOnly }
 {}
 
-ghost use Rattle.lin_driver.specs.AddedConstants.{ConstantsMayBeAdded};
+ghost use Rattle.lin_driver.specs.Additions.{AdditionsMayBeAdded};
 
-/// The constants by which the signature of a text grows may be added to it, with the equations of empty lists.
-pub fn constants_may_be_added()
-    ensures { ConstantsMayBeAdded }
+/// The structs and constants by which the signature of a text grows may be added to it, with the equations of empty lists.
+pub fn additions_may_be_added()
+    ensures { AdditionsMayBeAdded }
 {}
 
 ghost use Rattle.lin_driver.specs.ReadingBack.{PrintedTextsReadBack};

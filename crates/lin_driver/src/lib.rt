@@ -9,6 +9,7 @@ mod checking;
 mod components;
 mod composing;
 mod fault;
+mod form_encoding;
 pub mod laws;
 mod leaves;
 mod linear_texts;
@@ -20,6 +21,7 @@ mod variable_names;
 
 pub use checking::check_text;
 pub use fault::{LinFault, ModelFault};
+pub use form_encoding::encode_form;
 pub use linear_texts::linear_text;
 pub use linearising::{Linearised, linearise};
 pub use methods::Method;

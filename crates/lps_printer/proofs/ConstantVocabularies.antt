@@ -44,18 +44,18 @@ use Rattle.lps_printer.specs.PrintedDeclarations.{numbered_constants, HasConstan
 use Rattle.lps_printer.proofs.TwoOfLists.{behind_one, all_mapped, all_from}
 
 -- ---- lists
-same_rest : {A : Type 0} (xs us ys vs : List A) → xs ++ ys ≡ us ++ vs → length xs ≡ length us → ys ≡ vs
+pub same_rest : {A : Type 0} (xs us ys vs : List A) → xs ++ ys ≡ us ++ vs → length xs ≡ length us → ys ≡ vs
 same_rest [] [] ys vs e l = e
 same_rest [] (u ∷ us) ys vs e l = absurd (omega (arith, l))
 same_rest (x ∷ xs) [] ys vs e l = absurd (omega (arith, l))
 same_rest (x ∷ xs) (u ∷ us) ys vs e l = same_rest xs us ys vs (let t : xs ++ ys ≡ us ++ vs = cc in t) (omega (arith, l))
 
-numbers_at : (n m i : ℕ) → i < m → slice_get (numbers_from n m) i ≡ Some (record { 0 = n + i })
+pub numbers_at : (n m i : ℕ) → i < m → slice_get (numbers_from n m) i ≡ Some (record { 0 = n + i })
 numbers_at n zero i l = absurd (omega (arith, l))
 numbers_at n (suc m) zero l = let z : n ≡ n + 0 = omega arith in ap (λ k. Some (record { 0 = k })) z
 numbers_at n (suc m) (suc i) l = let z : n + 1 + i ≡ n + suc i = omega arith in numbers_at (n + 1) m i (omega (arith, l)) ∙ ap (λ k. Some (record { 0 = k })) z
 
-all_of_name : {A : Type 0} (P : A → Type 0) (f : Name) (rs : List (Name × A)) → AllByRecursion (λ (r : Name × A). P r.1) rs → AllByRecursion P (all_named f rs)
+pub all_of_name : {A : Type 0} (P : A → Type 0) (f : Name) (rs : List (Name × A)) → AllByRecursion (λ (r : Name × A). P r.1) rs → AllByRecursion P (all_named f rs)
 all_of_name P f [] h = tt
 all_of_name P f (r ∷ rs) h = by_test (bytes_eq r.0 f) (all_of_name P f rs h.1)
   where
@@ -63,17 +63,17 @@ all_of_name P f (r ∷ rs) h = by_test (bytes_eq r.0 f) (all_of_name P f rs h.1)
     by_test true k = (h.0, k)
     by_test false k = k
 
-numbers_long : (n k : ℕ) → length (numbers_from n k) ≡ k
+pub numbers_long : (n k : ℕ) → length (numbers_from n k) ≡ k
 numbers_long n zero = refl
 numbers_long n (suc k) = ap suc (numbers_long (n + 1) k)
 
 -- ---- names with numbers
 module _ (h : Sig) where
-  names_long : (k : ℕ) (is : List FunId) → length (function_names_from h k is) ≡ length is
+  pub names_long : (k : ℕ) (is : List FunId) → length (function_names_from h k is) ≡ length is
   names_long k [] = refl
   names_long k (i ∷ is) = ap suc (names_long (suc k) is)
 
-  names_after : (k : ℕ) (is js : List FunId) → function_names_from h k (is ++ js) ≡ function_names_from h k is ++ function_names_from h (k + length is) js
+  pub names_after : (k : ℕ) (is js : List FunId) → function_names_from h k (is ++ js) ≡ function_names_from h k is ++ function_names_from h (k + length is) js
   names_after k [] js = let z : k ≡ k + 0 = omega arith in ap (λ n. function_names_from h n js) z
   names_after k (i ∷ is) js =
       let z : suc k + length is ≡ k + suc (length is) = omega arith in
@@ -94,7 +94,7 @@ module _ (h : Sig) where
   number_at k (f ∷ is) zero a e = let same : k ≡ a = cc in omega (arith, same)
   number_at k (f ∷ is) (suc i) a e = let r = number_at (suc k) is i a e in omega (arith, r)
 
-  numbers_once : (is : List FunId) → HaveOnePlace (map (λ (r : Name × ℕ). r.1) (function_names_from h 0 is))
+  pub numbers_once : (is : List FunId) → HaveOnePlace (map (λ (r : Name × ℕ). r.1) (function_names_from h 0 is))
   numbers_once is i j a p q = let r = number_at 0 is i a p in let s = number_at 0 is j a q in omega (arith, r, s)
 
   constant_numbered : (k : ℕ) (cs : List (NameId × SortId)) (i : ℕ) (c : NameId × SortId) → slice_get cs i ≡ Some c → Contains (numbered_constants h k cs) (text_under h c.0, k + i)

@@ -1,7 +1,8 @@
 -- As many functions are in a vocabulary as its text declares.
-use Rattle.std.proofs.Common.{◌≡◌, ◌+◌, ◌<◌, ℕ, suc, Bool, true, false, cond, List, [], ◌∷◌, ◌++◌, length, map, drop, Option, Some, None, refl, sym, ap, ap₂, ◌∙◌, arith, length-append}
+use Rattle.std.proofs.Common.{◌≡◌, ◌+◌, ◌<◌, ℕ, zero, suc, Bool, true, false, cond, List, [], ◌∷◌, ◌++◌, length, map, drop, Option, Some, None, refl, sym, ap, ap₂, ◌∙◌, subst, arith, length-append}
 use Rattle.std.specs.Prelude.{bytes_eq}
-use Rattle.std.specs.List.{flat_map}
+use Rattle.std.specs.List.{Contains, flat_map}
+use Rattle.std.proofs.lemmas.List.Elements.{Contains-append_right}
 use Rattle.std.proofs.Math.Seq.{drop-append_seam}
 use Rattle.std.proofs.lemmas.List.{drop-drop, length-map}
 use Rattle.std.proofs.lemmas.Grind.{flat_map-append}
@@ -210,3 +211,12 @@ pub added_are : (spec : PlainSpec) (g h : Sig) (new : List FunId) → IsVocabula
 added_are spec g h new is e =
     let d = sections_drop spec.sections in
     d.is h.declared ∙ ap₂ (λ (n : ℕ) (fs : List FunId). drop n fs) (declared_long spec g is) e ∙ drop-append_seam g.declared new
+
+in_dropped : {A : Type 0} (k : ℕ) (xs : List A) (x : A) → Contains (drop k xs) x → Contains xs x
+in_dropped zero xs x c = c
+in_dropped (suc k) [] x c = c
+in_dropped (suc k) (y ∷ xs) x c = Contains-append_right (y ∷ []) xs x (in_dropped k xs x c)
+
+-- they are declared
+pub added_are_declared : (spec : PlainSpec) (h : Sig) (f : FunId) → Contains (added_functions spec h) f → Contains h.declared f
+added_are_declared spec h f c = let d = sections_drop spec.sections in in_dropped _ h.declared f (subst (λ fs. Contains fs f) (d.is h.declared) c)

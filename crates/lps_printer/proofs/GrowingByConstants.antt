@@ -35,7 +35,7 @@ use Rattle.lps_printer.proofs.FreshIdentifiers.{fresh_names_are_identifiers, pre
 
 -- ---- lists
 -- where R of two elements gives S of them
-abbrev BothIn : {A : Type 0} → (A → A → Type 0) → (A → A → Type 0) → List A → Type 0
+abbrev pub BothIn : {A : Type 0} → (A → A → Type 0) → (A → A → Type 0) → List A → Type 0
 BothIn {A} R S xs = (x y : A) → Contains xs x → Contains xs y → R x y → S x y
 
 all_by : {A : Type 0} (P Q : A → Type 0) (xs : List A) → ((x : A) → Contains xs x → P x → Q x) → AllByRecursion P xs → AllByRecursion Q xs
@@ -50,7 +50,7 @@ each_of : {A : Type 0} (P : A → Type 0) (xs : List A) → ((x : A) → Contain
 each_of P [] w = tt
 each_of P (x ∷ xs) w = (w x (contains_first x xs), each_of P xs (λ y i. w y (contains_later x y xs i)))
 
-two_by : {A : Type 0} (R S : A → A → Type 0) (xs : List A) → BothIn R S xs → EachTwo R xs → EachTwo S xs
+pub two_by : {A : Type 0} (R S : A → A → Type 0) (xs : List A) → BothIn R S xs → EachTwo R xs → EachTwo S xs
 two_by R S [] w h = tt
 two_by R S (x ∷ xs) w h = (
   all_by (R x) (S x) xs (λ y i. w x y (contains_first x xs) (contains_later x y xs i)) h.0,
@@ -64,7 +64,7 @@ two_both R (x ∷ xs) ys h k w = (
   two_both R xs ys h.1 k (λ z y i j. w z y (contains_later x z xs i) j),
 )
 
-numbers_both : (n k m : ℕ) → numbers_from n (k + m) ≡ numbers_from n k ++ numbers_from (n + k) m
+pub numbers_both : (n k m : ℕ) → numbers_from n (k + m) ≡ numbers_from n k ++ numbers_from (n + k) m
 numbers_both n zero m =
     let y : 0 + m ≡ m = omega arith in
     let z : n ≡ n + 0 = omega arith in
@@ -253,3 +253,8 @@ grows_on g h s w = record {
 
 pub grows_then : (g h k : Sig) → IsSignature h → GrowsByConstants g h → GrowsByConstants h k → GrowsByConstants g k
 grows_then g h k s a b = grows_behind g h k (grows_on g h s a) b
+
+-- the names of constants are taken
+pub constants_are_taken : (g h : Sig) → IsSignature h → (w : GrowsByConstants g h) (c : NameId × SortId) → Contains w.constants c → IsTaken h (text_under h c.0)
+unfolding grows_on
+constants_are_taken g h s w c i = there_taken h c ((grows_on g h s w).there c i)

@@ -1,9 +1,9 @@
--- Names stay identifiers as constants are added, and the sorts of constants read back.
-use Rattle.std.proofs.Common.{◌≡◌, ◌<◌, ◌+◌, ℕ, zero, suc, List, [], length, map, get_or, refl, sym, ap, ◌∙◌, subst, arith, Option, Some}
+-- Names stay identifiers as structs and constants are added.
+use Rattle.std.proofs.Common.{◌≡◌, ◌<◌, ◌+◌, ℕ, zero, suc, List, [], ◌∷◌, ◌++◌, length, map, get_or, sym, ap, ◌∙◌, subst, arith, Option, Some}
 use Rattle.std.specs.Prelude.{slice_get, option_map}
-use Rattle.std.specs.List.{All, Contains}
-use Rattle.std.proofs.lemmas.List.Elements.{All-nil, All-cons, All-append, All-contains, Contains-append_right}
-use Rattle.std.proofs.lemmas.Option.{slice_get-map, slice_get-get_or}
+use Rattle.std.specs.List.{All}
+use Rattle.std.proofs.lemmas.List.Elements.{All-nil, All-cons, All-append, All-contains, All-head, All-tail}
+use Rattle.std.proofs.lemmas.Option.{slice_get-map}
 use Rattle.data_theory.specs.declared.ids.FunId.{FunId}
 use Rattle.data_theory.specs.declared.ids.NameId.{NameId}
 use Rattle.data_theory.specs.declared.ids.SortId.{SortId}
@@ -11,15 +11,13 @@ use Rattle.data_theory.specs.declared.ids.VarId.{VarId}
 use Rattle.data_theory.specs.declared.signature.Variable.{Variable}
 use Rattle.data_theory.specs.Complete.{IsFunctionWithin}
 use Rattle.data_theory.specs.Functions.{Function, declared_function}
-use Rattle.data_theory.specs.IdData.{data_meant}
-use Rattle.data_theory.specs.IdTerms.{sort_under, IsGrown}
+use Rattle.data_theory.specs.IdTerms.{IsGrown}
 use Rattle.data_theory.specs.Keys.{Key}
 use Rattle.data_theory.specs.Signature.{Sig}
 use Rattle.data_theory.specs.Structs.{numbers_from}
 use Rattle.data_theory.specs.Terms.{Sort, boolean, positive, natural, integer, list, named as declared_sort}
 use Rattle.data_theory.specs.WholeSignatures.{IsSignature}
-use Rattle.data_theory.proofs.IdSortLemmas.{meant_is_sort, read_within}
-use Rattle.data_theory.proofs.IdStructRoleLemmas.{among_numbers}
+use Rattle.data_theory.proofs.IdSortLemmas.{read_within}
 use Rattle.data_theory.proofs.IdSymbolLemmas.{holds_at}
 use Rattle.data_theory.proofs.PlaceLemmas.{read_behind}
 use Rattle.term_pool.proofs.DeclaredConstants.{still_read}
@@ -29,7 +27,10 @@ use Rattle.lps_core.specs.Fitting.{IsVariable}
 use Rattle.lps_core.specs.Naming.{name_of}
 use Rattle.lps_printer.specs.DataLayout.{IsIdentifier}
 use Rattle.lps_printer.specs.FittingLinears.{HasIdentifier}
-use Rattle.lps_printer.specs.GrownIdentifiers.{FunctionNamed, NamesStayIdentifiers, ConstantsAreNamed, ConstantSortsRead}
+use Rattle.lps_printer.specs.GrownIdentifiers.{FunctionNamed, DeclaresIdentifiers, DeclaredStayIdentifiers, NamesStayIdentifiers, WrittenSortsRead}
+use Rattle.lps_printer.specs.GrowingByAdditions.{GrowsByStruct, nothing_added, then_constants, then_struct}
+use Rattle.lps_printer.proofs.GrowingByAdditions.{still_stands, additions_grow}
+use Rattle.lps_printer.proofs.GrownStructs.{bare, first, fs, it_is_grown, declared_are, actions_are}
 use Rattle.lps_printer.specs.GrowingByConstants.{SortsAreNamed, GrowsByConstants}
 use Rattle.lps_printer.specs.NamedSummands.{IsNamed}
 use Rattle.lps_printer.specs.WrittenProcesses.{TextNames, sort_written}
@@ -39,7 +40,7 @@ use Rattle.lps_printer.proofs.SortsBack.{sort_back}
 abbrev constant_of : NameId × SortId → Function
 constant_of c = declared_function c.0 [] c.1
 
-constant_there : (g h : Sig) (w : GrowsByConstants g h) (i : ℕ) (c : NameId × SortId) → slice_get w.constants i ≡ Some c → slice_get h.functions (length g.functions + i) ≡ Some (constant_of c)
+pub constant_there : (g h : Sig) (w : GrowsByConstants g h) (i : ℕ) (c : NameId × SortId) → slice_get w.constants i ≡ Some c → slice_get h.functions (length g.functions + i) ≡ Some (constant_of c)
 constant_there g h w i c at =
     ap (λ (fs : List Function). slice_get fs (length g.functions + i)) w.functions
     ∙ read_behind g.functions (map constant_of w.constants) i (constant_of c) (slice_get-map constant_of w.constants i ∙ ap (option_map constant_of) at)
@@ -88,12 +89,11 @@ sorts_are_named g sg named = λ d s n at first.
       All-contains (λ (e : NameId × SortId). IsIdentifier (text_under g e.0)) g.sort_names (n, d) named among,
     )
 
-pub names_still : NamesStayIdentifiers
-names_still g h ts l before fits b named =
+-- where constants are added
+with_constants : (g h : Sig) → IsSignature g → GrowsByConstants g h → DeclaresIdentifiers g → DeclaresIdentifiers h
+with_constants g h before b named =
     let w = b.grown in
     record {
-      params = variables_still g h before w l.params fits.params named.params;
-      sums = λ i d k. variables_still g h before w (get_or l.summands i d).sums (fits.summands i d k).sums (named.sums i d k);
       functions = subst (All (FunctionNamed h)) (sym b.declared)
           (All-append (FunctionNamed h) g.declared (numbers_from (length g.functions) (length b.constants))
           (λ i d k. function_still g h before w (get_or g.declared i d) (before.complete.within.declared i d k) (named.functions i d k))
@@ -104,8 +104,49 @@ names_still g h ts l before fits b named =
           (λ i d k. identifier_still g h before w (get_or g.actions i d).name (before.complete.within.actions i d k).named (named.actions i d k));
     }
 
--- ---- what is printed for them
-sort_named : (n : TextNames) → ((d : ℕ) → IsIdentifier (n.sort d)) → (s : Sort) → IsNamed (sort_written n s)
+-- where a struct is added
+with_struct : (g h : Sig) → IsSignature g → GrowsByStruct g h → DeclaresIdentifiers g → DeclaresIdentifiers h
+with_struct g h before b named =
+    let w = it_is_grown g h before b in
+    let start = first g h before b in
+    let new = fs g h before b in
+    let IsNamedId = λ (n : NameId). IsIdentifier (text_under h n) in
+    let stand : (i : ℕ) (f : Function) → slice_get new i ≡ Some f → slice_get h.functions (start + i) ≡ Some f = λ i f at. ap (λ (x : Sig). slice_get x.functions (start + i)) b.is ∙ read_behind (bare g h before b).functions new i f at in
+    let its : (i : ℕ) → i < length new → FunctionNamed h (record { 0 = start + i }) = λ i l. (
+    let f = read_within new i l in
+    let name = holds_at IsNamedId (map (λ (e : Function). e.name) new) i f.0.name (All-tail IsNamedId b.declared.0 (map (λ (e : Function). e.name) new) b.identifiers) (slice_get-map (λ (e : Function). e.name) new i ∙ ap (option_map (λ (e : Function). e.name)) f.1) in
+    subst (λ (o : Option Function). IsIdentifier (function_name_of h o)) (sym (stand i f.0 f.1)) name) in
+    record {
+      functions = subst (All (FunctionNamed h)) (sym (declared_are g h before b))
+          (All-append (FunctionNamed h) g.declared (numbers_from start (length new))
+          (λ i d k. function_still g h before w (get_or g.declared i d) (before.complete.within.declared i d k) (named.functions i d k)) (numbers_named h start (length new) its));
+      sorts = subst (All (λ (e : NameId × SortId). IsIdentifier (text_under h e.0))) (sym (ap (λ (x : Sig). x.sort_names) b.is ∙ ap (λ ns. ns ++ (b.declared.0, record { 0 = length b.named.sorts }) ∷ []) b.by_names.sort_names))
+          (All-append (λ (e : NameId × SortId). IsIdentifier (text_under h e.0)) g.sort_names ((b.declared.0, record { 0 = length b.named.sorts }) ∷ [])
+          (λ i d k. identifier_still g h before w (get_or g.sort_names i d).0 (before.complete.within.sort_names i d k).0 (named.sorts i d k))
+          (All-cons (λ (e : NameId × SortId). IsIdentifier (text_under h e.0)) (b.declared.0, record { 0 = length b.named.sorts }) [] (All-head IsNamedId b.declared.0 (map (λ (e : Function). e.name) new) b.identifiers) (All-nil (λ (e : NameId × SortId). IsIdentifier (text_under h e.0)))));
+      actions = subst (All (λ (a : Key). IsIdentifier (text_under h a.name))) (sym (actions_are g h before b))
+          (λ i d k. identifier_still g h before w (get_or g.actions i d).name (before.complete.within.actions i d k).named (named.actions i d k));
+    }
+
+pub declared_still : DeclaredStayIdentifiers
+declared_still g _ before nothing_added named = named
+declared_still g k before (then_constants {h = j} earlier by after) named = with_constants j k (still_stands g before earlier) by (declared_still g j before earlier named)
+declared_still g k before (then_struct {h = j} earlier by after) named = with_struct j k (still_stands g before earlier) by (declared_still g j before earlier named)
+
+pub names_still : NamesStayIdentifiers
+names_still g h ts l before fits b named =
+    let w = additions_grow g before b in
+    let declares = declared_still g h before b (record { functions = named.functions; sorts = named.sorts; actions = named.actions }) in
+    record {
+      params = variables_still g h before w l.params fits.params named.params;
+      sums = λ i d k. variables_still g h before w (get_or l.summands i d).sums (fits.summands i d k).sums (named.sums i d k);
+      functions = declares.functions;
+      sorts = declares.sorts;
+      actions = declares.actions;
+    }
+
+-- ---- what is printed for sorts
+pub sort_named : (n : TextNames) → ((d : ℕ) → IsIdentifier (n.sort d)) → (s : Sort) → IsNamed (sort_written n s)
 sort_named n all boolean = tt
 sort_named n all positive = tt
 sort_named n all natural = tt
@@ -113,18 +154,5 @@ sort_named n all integer = tt
 sort_named n all (list s) = sort_named n all s
 sort_named n all (declared_sort d) = all d
 
-pub constants_named : ConstantsAreNamed
-constants_named g h w functions n sorts = λ i d l.
-    let c = get_or w.constants i d in
-    let at = constant_there g h w i c (slice_get-get_or w.constants i d l) in
-    let f : FunId = record { 0 = length g.functions + i } in
-    let among : Contains h.declared f =
-    subst (λ ds. Contains ds f) (sym w.declared) (Contains-append_right g.declared (numbers_from (length g.functions) (length w.constants)) f (among_numbers (length g.functions) (length w.constants) i f l refl)) in
-    (subst (λ (o : Option Function). IsIdentifier (function_name_of h o)) at (All-contains (FunctionNamed h) h.declared f functions among), sort_named n sorts (sort_under h c.1))
-
-pub constant_sorts_read : ConstantSortsRead
-constant_sorts_read g h after w x = λ i d l.
-    let c = get_or w.constants i d in
-    let at = constant_there g h w i c (slice_get-get_or w.constants i d l) in
-    let within = (holds_at (IsFunctionWithin (length h.texts) (length h.sorts) (length h.functions)) h.functions (length g.functions + i) (constant_of c) after.complete.within.functions_within at).gives in
-    sort_back h after x (sort_under h c.1) (meant_is_sort (data_meant h) h.sorts after.table.sorts refl (sort_under h c.1) c.1 within refl)
+pub written_sorts_read : WrittenSortsRead
+written_sorts_read h x s stands is = sort_back h stands x s is

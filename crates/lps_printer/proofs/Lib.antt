@@ -99,3 +99,12 @@ pub mod SameNeeds
 pub mod DeclaredActions
 pub mod FittingLinears
 pub mod GrownIdentifiers
+pub mod EnteredSignatures
+pub mod GrownSorts
+pub mod GrownStructs
+pub mod GrowingByAdditions
+pub mod StructVocabularies
+pub mod AddedVocabularies
+pub mod ApartAdditions
+pub mod DeclaredAdditions
+pub mod NamedAdditions

@@ -1,5 +1,5 @@
 -- Constants for empty lists in a printed text.
-use Rattle.std.proofs.Common.{◌≡◌, ℕ, zero, suc, ◌+◌, ◌-◌, ◌<◌, ◌≤◌, ◌⊎◌, inl, inr, List, [], ◌∷◌, ◌++◌, length, map, replicate, Option, Some, None, refl, sym, ap, ◌∙◌, subst, arith, length-append, ⊎_elim}
+use Rattle.std.proofs.Common.{◌≡◌, ℕ, zero, suc, ◌+◌, ◌-◌, ◌<◌, ◌≤◌, ◌⊎◌, inl, inr, List, [], ◌∷◌, length, map, replicate, Option, Some, None, refl, sym, ap, ◌∙◌, subst, arith, length-append, ⊎_elim}
 use Rattle.std.specs.Prelude.{slice_get}
 use Rattle.std.specs.List.{All, range_with_len}
 use Rattle.std.proofs.Math.ListN.{set}
@@ -7,22 +7,19 @@ use Rattle.std.proofs.lemmas.List.{length-map}
 use Rattle.std.proofs.lemmas.List.Elements.{All-nil, All-cons, All-head, All-tail}
 use Rattle.std.proofs.lemmas.Option.{none-some, same_Some}
 use Rattle.data_theory.specs.declared.ids.FunId.{FunId}
-use Rattle.data_theory.specs.declared.ids.SortId.{SortId}
 use Rattle.data_theory.specs.declared.words.ListWord.TheVariants as lists
 use Rattle.data_theory.specs.declared.words.Word.TheVariants as words
-use Rattle.data_theory.specs.Terms.{Sort, list}
+use Rattle.data_theory.specs.Terms.{list}
 use Rattle.data_theory.specs.Declarations.{result_sort}
 use Rattle.data_theory.specs.IdData.{data_meant}
 use Rattle.data_theory.specs.IdSymbols.{declared_from}
 use Rattle.data_theory.specs.IdTables.{IsTable}
-use Rattle.data_theory.specs.IdTerms.{sort_under, symbol_under, IsGrown}
+use Rattle.data_theory.specs.IdTerms.{sort_under, symbol_under}
 use Rattle.data_theory.specs.Signature.{Sig}
 use Rattle.data_theory.specs.Structs.{numbers_from}
 use Rattle.data_theory.specs.WholeSignatures.{IsSignature}
 use Rattle.data_theory.proofs.IdSymbolLemmas.{built_in_tells}
 use Rattle.data_theory.specs.IdTrees.{Tree}
-use Rattle.term_pool.proofs.DeclaredConstants.{grown_itself}
-use Rattle.sort_table.specs.Expressions.{Name}
 use Rattle.mcrl2_syntax.specs.Declarations.{PlainSpec}
 use Rattle.data_theory.specs.declared.ids.NameId.{NameId}
 use Rattle.process_terms.specs.SignatureEntries.{entries_of}
@@ -34,7 +31,7 @@ use Rattle.lps_printer.specs.NeededConstants.{Finds, linear_nils, IsNil, nil_sor
 use Rattle.lps_printer.specs.PrintedLinears.{HasText, IsPrinted, linear_text}
 use Rattle.lps_printer.proofs.FilledLinears.{empty_manner}
 use Rattle.lps_printer.proofs.NeededConstants.{nil_symbol}
-use Rattle.lps_printer.proofs.ConstantWording.{HasNew, constants_new, mapped_once, found_differ, constants_are_worded}
+use Rattle.lps_printer.proofs.ConstantWording.{constants_new, mapped_once, found_differ, constants_are_worded}
 
 -- ---- entries of the table
 set_read : {A : Type 0} (xs : List A) (i : ℕ) (y : A) (k : ℕ) (z : A) → slice_get (set xs i y) k ≡ Some z → (y ≡ z) ⊎ (slice_get xs k ≡ Some z)

@@ -1,9 +1,11 @@
 -- The declarations of a printed text are sound, and the signature has their vocabulary.
-use Rattle.std.proofs.Common.{◌≡◌, ◌≢◌, ⊎_elim, zero, suc, Bool, true, false, cond, List, [], ◌∷◌, ◌++◌, map, refl, ap, ap₂, sym, ◌∙◌, subst, arith, append_assoc}
-use Rattle.std.specs.Prelude.{Some, None, not, is_some}
-use Rattle.std.specs.List.{AllByRecursion, Contains, find, flat_map}
-use Rattle.std.proofs.lemmas.List.{append-nil}
-use Rattle.std.proofs.lemmas.List.Elements.{All-contains}
+use Rattle.std.proofs.Common.{◌≡◌, ◌≢◌, ◌<◌, ◌⊎◌, inl, inr, ⊎_elim, zero, suc, Bool, true, false, cond, List, [], ◌∷◌, ◌++◌, length, map, refl, ap, ap₂, sym, ◌∙◌, subst, arith, append_assoc}
+use Rattle.std.specs.Prelude.{Option, Some, None, not, is_some, bytes_eq, option_map, option_and_then}
+use Rattle.std.specs.List.{All, AllByRecursion, Contains, find, flat_map}
+use Rattle.std.proofs.lemmas.List.{append-nil, map-append}
+use Rattle.std.proofs.lemmas.List.Elements.{All-contains, All-head, All-tail}
+use Rattle.std.proofs.lemmas.Option.{none-some}
+use Rattle.std.proofs.lemmas.Slice.Eq.{bytes_eq-Decides}
 use Rattle.mcrl2_syntax.specs.Declarations.{PlainSpec}
 use Rattle.mcrl2_syntax.proofs.Lists.{all_both}
 use Rattle.data_theory.specs.declared.ids.FunId.{FunId}
@@ -13,40 +15,51 @@ use Rattle.data_theory.specs.Terms.{Sort, Term}
 use Rattle.data_theory.specs.FirstNames.{first_names}
 use Rattle.data_theory.specs.Rows.{row_word}
 use Rattle.data_theory.specs.Signature.{Sig, IsTaken}
+use Rattle.data_theory.specs.Declarations.{function_at}
 use Rattle.data_theory.specs.IdTerms.{sort_under}
+use Rattle.data_theory.specs.Structs.{Con}
 use Rattle.data_theory.proofs.PlaceLemmas.{read_contained}
 use Rattle.data_theory.proofs.TableLemmas.{is_first_name}
 use Rattle.bisim_laws.specs.LinearProcesses.{Linear}
 use Rattle.sort_table.specs.Expressions.{Name}
 use Rattle.sort_table.specs.BareSorts.{SortExpression}
 use Rattle.sort_table.specs.BareProcesses.{Variables}
-use Rattle.sort_table.specs.BareDeclarations.{Declaration, sorts, alias, struct, constructors, mappings, variables, equation, actions, process, initial, Section, bare_section, bare_sections, declarations_in}
+use Rattle.sort_table.specs.BareDeclarations.{Field, Declaration, sorts, alias, struct, constructors, mappings, variables, equation, actions, process, initial, Section, bare_section, bare_sections, declarations_in}
 use Rattle.sort_table.specs.NamedLists.{all_named, first_named}
 use Rattle.sort_table.specs.SortMeanings.{Kind, kinds_by, kinds_in, actions_by, actions_in, UnderNames, under_names, StandsFor, for_truth_values, for_positives, for_naturals, for_integers, for_lists, for_plain, for_struct, for_alias, StandForEach, no_sorts, and_sort}
-use Rattle.sort_table.specs.TextFunctions.{Named, mapping, functions_by, functions_in}
-use Rattle.sort_table.specs.Duplicates.{Item, a_function, a_process, SameSorts, IsAgain, sort_again, function_again, action_again, process_again, process_as_action, action_as_process, variable_again, IsBuiltIn, StandsTwice, variable_lists, built_in, its_variables, NothingAgain}
-use Rattle.sort_table.specs.UnknownSorts.{name_in, names_of_variables, sorts_used, AllAreKnown}
+use Rattle.sort_table.specs.TextFunctions.{Named, functions_by, functions_in}
+use Rattle.sort_table.specs.Duplicates.{Item, a_sort, a_function, an_action, a_process, a_variable, function_item, SameSorts, IsAgain, sort_again, function_again, action_again, process_again, process_as_action, action_as_process, variable_again, IsBuiltIn, StandsTwice, variable_lists, built_in, its_variables, NothingAgain}
+use Rattle.sort_table.specs.UnknownSorts.{name_in, names_of_variables, names_of_fields, sorts_used, AllAreKnown}
 use Rattle.sort_table.specs.SortCycles.{Refers, ReferOn, NoCycle}
 use Rattle.sort_table.specs.EmptySorts.{NoEmptySort}
-use Rattle.sort_table.specs.Vocabularies.{sort_in, IsVocabularyOf}
+use Rattle.sort_table.specs.Vocabularies.{Vocabulary, sort_in, sorts_in, HasSorts, IsFunction, AreSortsOf, IsVocabularyOf}
 use Rattle.sort_table.specs.SignatureVocabularies.{text_under, vocabulary_of}
-use Rattle.sort_table.specs.Growth.{with_declared}
 use Rattle.sort_table.specs.Identifiers.{copied_identifiers}
 use Rattle.sort_table.proofs.AddedStructs.{all_contained}
-use Rattle.sort_table.proofs.Growing.{all_behind, in_either, stands_after, has_stood}
+use Rattle.sort_table.proofs.Growing.{first_behind, paired, contains_behind, contains_after, in_either, stands_after, has_stood}
 use Rattle.sort_table.proofs.GrowingTexts.{flat_behind}
+use Rattle.sort_table.proofs.ListForms.{entry_found}
+use Rattle.sort_table.proofs.OneSort.{one_sort}
 use Rattle.sort_table.proofs.SameEmptiness.{empty_sorts_are_empty_in_each_vocabulary}
 use Rattle.sort_table.proofs.StandingNames.{declared_names_stand}
 use Rattle.lps_printer.specs.WrittenProcesses.{TextNames, sort_written, start_written}
 use Rattle.lps_printer.specs.CopiedSections.{kept_sections}
 use Rattle.lps_printer.specs.LinearBack.{EachTwo}
 use Rattle.lps_printer.specs.AddedDeclarations.{name_at, empty_list_declared}
+use Rattle.lps_printer.specs.DeclaredAdditions.{field_declared, constructor_declared, declaration_of}
+use Rattle.lps_printer.specs.GrowingByAdditions.{Struct, added_structs, added_constants}
 use Rattle.lps_printer.specs.GrownTexts.{mapping_declared}
-use Rattle.lps_printer.specs.PrintedDeclarations.{IsEquation, AddedConstantsAreDeclared, IsReadSort, CanBeListed, process_declared, DeclaresMore, printed_declared, AreSoundOver, PrintedDeclarationsAreSound}
-use Rattle.lps_printer.proofs.TwoOfLists.{in_mapped, all_from, all_weaker, all_mapped, all_flat, two_both, two_at, two_weaker, two_mapped, Within, within_flat, within_all, within_contains, within_two}
-use Rattle.lps_printer.proofs.TextItems.{fixed_by, vars_by, is_function, name_of, again_function, again_name, NotAgain, HasOtherVariables, AreOthers, ItemsDiffer, items_differ, fixed_stands, nothing_again}
+use Rattle.lps_printer.specs.SignatureNames.{text_names_under}
+use Rattle.lps_printer.specs.PrintedDeclarations.{IsEquation, WhatIsAddedIsDeclared, CanBeListed, process_declared, DeclaresMore, printed_declared, AreSoundOver, PrintedDeclarationsAreSound}
+use Rattle.lps_printer.proofs.TwoOfLists.{in_front, behind_one, in_nothing, in_mapped, all_from, all_weaker, all_mapped, all_unmapped, all_flat, two_both, two_at, two_weaker, two_unmapped, Within, within_flat, within_all, within_contains, within_two}
+use Rattle.lps_printer.proofs.TextItems.{fixed_by, vars_by, name_of, again_name, NotAgain, HasOtherVariables, AreOthers, ItemsDiffer, items_differ, fixed_stands, nothing_again}
 use Rattle.lps_printer.proofs.KeptDeclarations.{kept_within, kept_names, kept_kinds, kept_functions, kept_actions}
-use Rattle.lps_printer.proofs.ConstantVocabularies.{constants_have_vocabulary}
+use Rattle.lps_printer.proofs.AddedVocabularies.{flat_ones, HasSortsBelow, structs_below, constants_below, additions_have_vocabulary}
+use Rattle.lps_printer.proofs.ApartAdditions.{Other, Apart, structs_in, mappings_in, struct_names, constant_names, names_apart, structs_in_front}
+use Rattle.lps_printer.proofs.GrowingByConstants.{two_by}
+use Rattle.lps_printer.proofs.GrownSorts.{read_still}
+use Rattle.term_pool.proofs.DeclaredConstants.{grown_itself}
+use Rattle.lps_core.proofs.Members.{map_contains}
 
 -- ---- declarations of equations
 of_equation : (Q : Declaration → Type 0) → ((c : _) (l r : _) → Q (equation c l r)) → (d : Declaration) → IsEquation d → Q d
@@ -87,23 +100,142 @@ standing_known ks u f _ _ (for_plain n h) = (ap is_some (f n _ h), tt)
 standing_known ks u f _ _ (for_struct n h) = (ap is_some (f n _ h), tt)
 standing_known ks u f _ _ (for_alias n e s h r) = (ap is_some (f n _ h), tt)
 
+-- what was known is known where more is declared
+still_known : (ks ls : List (Name × Kind)) → ((n : Name) → is_some (first_named n ks) ≡ true → is_some (first_named n ls) ≡ true) → (ns : List Name) → find (λ n. not (is_some (first_named n ks))) ns ≡ None → AllByRecursion (IsKnown ls) ns
+still_known ks ls w [] e = tt
+still_known ks ls w (n ∷ ns) e = by_test (is_some (first_named n ks)) refl (still_known ks ls w ns) e
+  where
+    by_test : (b : Bool) → is_some (first_named n ks) ≡ b → (find (λ m. not (is_some (first_named m ks))) ns ≡ None → AllByRecursion (IsKnown ls) ns) → cond (not b) (Some n) (find (λ m. not (is_some (first_named m ks))) ns) ≡ None
+        → AllByRecursion (IsKnown ls) (n ∷ ns)
+    by_test true known rest q = (w n known, rest q)
+    by_test false unknown rest q = absurd (none-some n (sym q))
+
 -- ---- the same sorts under other names
-module _ (w u : UnderNames) (kept : (n : Name) (k : Kind) → w.sort n ≡ Some k → u.sort n ≡ Some k) where
-  each_stands : (es ss : List SortExpression) → StandForEach w es ss → StandForEach u es ss
-  each_stands _ _ no_sorts = no_sorts
-  each_stands _ _ (and_sort e s es ss h r) = and_sort e s es ss (stands_after w u kept e s h) (each_stands es ss r)
+abbrev sorts_of_item : Item → List SortExpression
+sorts_of_item (a_function f es) = es
+sorts_of_item (an_action a es) = es
+sorts_of_item (a_sort n) = []
+sorts_of_item (a_process p) = []
+sorts_of_item (a_variable k x) = []
 
-  same_then : (es fs : List SortExpression) → SameSorts w es fs → SameSorts u es fs
-  same_then es fs (ss, a, b) = (ss, each_stands es ss a, each_stands fs ss b)
+module _ (u w : UnderNames) (kept : (n : Name) (k : Kind) → u.sort n ≡ Some k → w.sort n ≡ Some k) where
+  -- what stands for a sort in both stands for the same one
+  one_before : (e r s : SortExpression) → StandsFor u e r → StandsFor w e s → StandsFor u e s
+  one_before e r s h k = subst (StandsFor u e) (one_sort w e r s (stands_after u w kept e r h) k) h
 
-  again_then : (x y : Item) → IsAgain w x y → IsAgain u x y
-  again_then _ _ (sort_again n) = sort_again n
-  again_then _ _ (function_again f es fs s) = function_again f es fs (same_then es fs s)
-  again_then _ _ (action_again a es fs s) = action_again a es fs (same_then es fs s)
-  again_then _ _ (process_again p) = process_again p
-  again_then _ _ (process_as_action n es) = process_as_action n es
-  again_then _ _ (action_as_process n es) = action_as_process n es
-  again_then _ _ (variable_again k x) = variable_again k x
+  each_before : (es rs ss : List SortExpression) → StandForEach u es rs → StandForEach w es ss → StandForEach u es ss
+  each_before _ _ _ no_sorts no_sorts = no_sorts
+  each_before _ _ _ (and_sort e r es rs h hs) (and_sort _ s _ ss k ks) = and_sort e s es ss (one_before e r s h k) (each_before es rs ss hs ks)
+
+  abbrev Stand : List SortExpression → Type 0
+  Stand es = (rs : List SortExpression) × StandForEach u es rs
+
+  same_before : (es fs : List SortExpression) → Stand es → Stand fs → SameSorts w es fs → SameSorts u es fs
+  same_before es fs a b (ss, k, l) = (ss, each_before es a.0 ss a.1 k, each_before fs b.0 ss b.1 l)
+
+  again_before : (x y : Item) → Stand (sorts_of_item x) → Stand (sorts_of_item y) → IsAgain w x y → IsAgain u x y
+  again_before _ _ p q (sort_again n) = sort_again n
+  again_before _ _ p q (function_again f es fs s) = function_again f es fs (same_before es fs p q s)
+  again_before _ _ p q (action_again a es fs s) = action_again a es fs (same_before es fs p q s)
+  again_before _ _ p q (process_again p_) = process_again p_
+  again_before _ _ p q (process_as_action n es) = process_as_action n es
+  again_before _ _ p q (action_as_process n es) = action_as_process n es
+  again_before _ _ p q (variable_again k x) = variable_again k x
+
+-- ---- the items of a text have sorts in each of its vocabularies
+of_functions : (fs : List Named) (x : Item) → Contains (map function_item fs) x → (f : Named) × Contains fs f × (sorts_of_item x ≡ f.1.arguments)
+of_functions fs x c = let r = in_mapped function_item fs x c in (r.0, r.1, ap sorts_of_item (sym r.2))
+
+abbrev HasSortsBy : Declaration → Item → Type 0
+HasSortsBy d x = ((f : Named) × Contains (functions_by d) f × (sorts_of_item x ≡ f.1.arguments)) ⊎ (((a : Name × List SortExpression) × Contains (actions_by d) a × (sorts_of_item x ≡ a.1)) ⊎ (sorts_of_item x ≡ []))
+
+item_by : (d : Declaration) (x : Item) → Contains (fixed_by d) x → HasSortsBy d x
+item_by (sorts ns) x c = inr (inr (let r = in_mapped a_sort ns x c in ap sorts_of_item (sym r.2)))
+item_by (alias n e) x (zero, l, q) = inr (inr (ap sorts_of_item (sym q)))
+item_by (alias n e) x (suc i, l, q) = absurd (omega (arith, l))
+item_by (struct n cs) x (zero, l, q) = inr (inr (ap sorts_of_item (sym q)))
+item_by (struct n cs) x (suc i, l, q) = inl (of_functions (functions_by (struct n cs)) x (i, omega (arith, l), q))
+item_by (constructors fs es to) x c = inl (of_functions (functions_by (constructors fs es to)) x c)
+item_by (mappings fs es to) x c = inl (of_functions (functions_by (mappings fs es to)) x c)
+item_by (variables vs) x c = in_nothing x c
+item_by (equation c_ l r) x c = in_nothing x c
+item_by (actions as_ es) x c = inr (inl (let r = in_mapped (λ a. an_action a es) as_ x c in ((r.0, es), map_contains (λ a. (a, es)) as_ r.0 r.1, ap sorts_of_item (sym r.2))))
+item_by (process p vs body) x (zero, l, q) = inr (inr (ap sorts_of_item (sym q)))
+item_by (process p vs body) x (suc i, l, q) = absurd (omega (arith, l))
+item_by (initial body) x c = in_nothing x c
+
+has_sort : (by : Declaration → Item → Type 0) → ((d : Declaration) (x : Item) → Contains (fixed_by d) x → by d x) → (ds : List Declaration) (x : Item) → Contains (flat_map fixed_by ds) x → (d : Declaration) × Contains ds d × by d x
+has_sort by each [] x c = in_nothing x c
+has_sort by each (d ∷ ds) x c = ⊎_elim (λ here. (d, in_front d ds, each d x here)) (λ there. (let r = has_sort by each ds x there in (r.0, behind_one d ds r.0 r.1, r.2))) (in_either (fixed_by d) (flat_map fixed_by ds) x c)
+
+in_flat : {A B : Type 0} (f : A → List B) (xs : List A) (x : A) (y : B) → Contains xs x → Contains (f x) y → Contains (flat_map f xs) y
+in_flat f [] x y c k = in_nothing x c
+in_flat f (z ∷ xs) x y (zero, l, e) k = contains_behind (f z) (flat_map f xs) y (subst (λ w. Contains (f w) y) (sym e) k)
+in_flat f (z ∷ xs) x y (suc i, l, e) k = contains_after (f z) (flat_map f xs) y (in_flat f xs x y (i, omega (arith, l), e) k)
+
+named_among : {A : Type 0} (rs : List (Name × A)) (r : Name × A) → Contains rs r → Contains (all_named r.0 rs) r.1
+named_among [] r c = in_nothing r c
+named_among {A = A} (q ∷ rs) r (zero, l, e) =
+    let is : bytes_eq q.0 r.0 ≡ true = (bytes_eq-Decides q.0 r.0).1 (ap (λ (y : Name × A). y.0) e) in
+    subst (λ (b : Bool). Contains (cond b (q.1 ∷ all_named r.0 rs) (all_named r.0 rs)) r.1) (sym is) (zero, omega arith, ap (λ (y : Name × A). y.1) e)
+named_among (q ∷ rs) r (suc i, l, e) = by_test (bytes_eq q.0 r.0) (named_among rs r (i, omega (arith, l), e))
+  where
+    by_test : (b : Bool) → Contains (all_named r.0 rs) r.1 → Contains (cond b (q.1 ∷ all_named r.0 rs) (all_named r.0 rs)) r.1
+    by_test true c = behind_one q.1 (all_named r.0 rs) r.1 c
+    by_test false c = c
+
+-- what has sorts stands for some
+each_stands : (u : UnderNames) (v : Vocabulary) → HasSorts u v → (es : List SortExpression) (ss : List Sort) → sorts_in v.sort_names es ≡ Some ss → (rs : List SortExpression) × StandForEach u es rs
+each_stands u v is [] ss h = ([], no_sorts)
+each_stands u v is (e ∷ es) ss h = of_first (λ rs q. each_stands u v is es rs q) (sort_in v.sort_names e) refl h
+  where
+    of_rest : ((rs : List Sort) → sorts_in v.sort_names es ≡ Some rs → (ts : List SortExpression) × StandForEach u es ts) → (s : Sort) → sort_in v.sort_names e ≡ Some s → (o : Option (List Sort)) → sorts_in v.sort_names es ≡ o → option_map (λ rs. s ∷ rs) o ≡ Some ss
+        → (rs : List SortExpression) × StandForEach u (e ∷ es) rs
+    of_rest rest s p None q k = absurd (none-some ss k)
+    of_rest rest s p (Some rs) q k = (let a = has_stood u v is e s p in let b = rest rs q in (a.0 ∷ b.0, and_sort e a.0 es b.0 a.1 b.1))
+
+    of_first : ((rs : List Sort) → sorts_in v.sort_names es ≡ Some rs → (ts : List SortExpression) × StandForEach u es ts) → (o : Option Sort) → sort_in v.sort_names e ≡ o → option_and_then (λ s. option_map (λ rs. s ∷ rs) (sorts_in v.sort_names es)) o ≡ Some ss
+        → (rs : List SortExpression) × StandForEach u (e ∷ es) rs
+    of_first rest None q k = absurd (none-some ss k)
+    of_first rest (Some s) q k = of_rest rest s q (sorts_in v.sort_names es) refl k
+
+items_stand : (ds : List Declaration) (v : Vocabulary) → IsVocabularyOf (under_names ds) v → (x : Item) → Contains (flat_map fixed_by ds) x → (rs : List SortExpression) × StandForEach (under_names ds) (sorts_of_item x) rs
+items_stand ds v is x c =
+    let u = under_names ds in
+    let r = has_sort HasSortsBy item_by ds x c in
+    let Goal = λ (es : List SortExpression). (rs : List SortExpression) × StandForEach u es rs in
+    ⊎_elim
+    (λ f. (let k = paired (IsFunction u v) (all_named f.0.0 (functions_in ds)) (all_named f.0.0 v.function_names) f.0.1 (is.functions.each f.0.0) (named_among (functions_in ds) f.0 (in_flat functions_by ds r.0 f.0 r.1 f.1)) in
+    subst Goal (sym f.2) (each_stands u v is.sorts f.0.1.arguments (function_at v.tables k.0).arguments k.1.arguments)))
+    (λ rest. ⊎_elim
+    (λ a. (let k = paired (AreSortsOf v) (all_named a.0.0 (actions_in ds)) (all_named a.0.0 v.actions) a.0.1 (is.actions a.0.0) (named_among (actions_in ds) a.0 (in_flat actions_by ds r.0 a.0 r.1 a.1)) in
+    subst Goal (sym a.2) (each_stands u v is.sorts a.0.1 k.0 k.1)))
+    (λ e. subst Goal (sym e) ([], no_sorts)) rest) r.2
+
+map_flat : {A B C : Type 0} (f : B → C) (k : A → List B) (xs : List A) → map f (flat_map k xs) ≡ flat_map (λ x. map f (k x)) xs
+map_flat f k [] = refl
+map_flat f k (x ∷ xs) = map-append f (k x) (flat_map k xs) ∙ ap (λ ys. map f (k x) ++ ys) (map_flat f k xs)
+
+map_map : {A B C : Type 0} (f : A → B) (k : B → C) (xs : List A) → map (λ x. k (f x)) xs ≡ map k (map f xs)
+map_map f k [] = refl
+map_map f k (x ∷ xs) = ap (λ ys. k (f x) ∷ ys) (map_map f k xs)
+
+-- ---- sorts and functions are no processes
+abbrev is_datum : Item → Bool
+is_datum (a_function f es) = true
+is_datum (a_sort n) = true
+is_datum (a_variable k x) = false
+is_datum (an_action a es) = false
+is_datum (a_process p) = false
+
+again_datum : {u : UnderNames} (x y : Item) → IsAgain u x y → is_datum x ≡ is_datum y
+again_datum _ _ (sort_again n) = refl
+again_datum _ _ (function_again f es fs s) = refl
+again_datum _ _ (action_again a es fs s) = refl
+again_datum _ _ (process_again p) = refl
+again_datum _ _ (process_as_action n es) = refl
+again_datum _ _ (action_as_process n es) = refl
+again_datum _ _ (variable_again k x) = refl
 
 -- ---- lists of variables
 not_twice : (vs : Variables) → EachTwo (λ (x y : Name × SortExpression). x.0 ≢ y.0) vs → ¬ (StandsTwice vs)
@@ -138,7 +270,10 @@ is_alias (process p vs body) = false
 is_alias (initial body) = false
 
 -- ---- a printed text
-module _ (spec : PlainSpec) (g h : Sig) (added : List Section) (n : TextNames) (l : Linear) (ts : List Term) (m : DeclaresMore spec g h added n l) where
+module _ (spec : PlainSpec) (g h : Sig) (added : List Section) (x : Name) (l : Linear) (ts : List Term) (m : DeclaresMore spec g h added x l) where
+  abbrev n : TextNames
+  n = text_names_under h x
+
   abbrev own : List Section
   own = bare_sections spec
 
@@ -151,14 +286,14 @@ module _ (spec : PlainSpec) (g h : Sig) (added : List Section) (n : TextNames) (
   abbrev C : List Declaration
   C = declarations_in copied
 
-  abbrev cs : List (NameId × SortId)
-  cs = m.grows.constants
+  abbrev S : List Declaration
+  S = structs_in g m.stands h x m.grows
 
   abbrev M : List Declaration
-  M = map (mapping_declared h n) cs
+  M = mappings_in g m.stands h x m.grows
 
   abbrev E : List Declaration
-  E = m.constants.equations
+  E = m.additions.equations
 
   abbrev P : Declaration
   P = process_declared n l
@@ -179,100 +314,120 @@ module _ (spec : PlainSpec) (g h : Sig) (added : List Section) (n : TextNames) (
   w = under_names ds
 
   abbrev behind : List Declaration
-  behind = M ++ (E ++ (P ∷ I ∷ []))
+  behind = S ++ (M ++ (E ++ (P ∷ I ∷ [])))
 
   its_declarations : ds ≡ C ++ behind
   its_declarations =
       flat_behind (λ (s : Section). s.declarations) (copied ++ added) _
-      ∙ (ap (λ xs. xs ++ (P ∷ I ∷ [])) (flat_behind (λ (s : Section). s.declarations) copied added ∙ ap (λ xs. C ++ xs) m.constants.declared)
-      ∙ (append_assoc C (M ++ E) (P ∷ I ∷ []) ∙ ap (λ xs. C ++ xs) (append_assoc M E (P ∷ I ∷ []))))
+      ∙ (ap (λ xs. xs ++ (P ∷ I ∷ [])) (flat_behind (λ (s : Section). s.declarations) copied added ∙ ap (λ xs. C ++ xs) m.additions.declared)
+      ∙ (append_assoc C (S ++ (M ++ E)) (P ∷ I ∷ []) ∙ ap (λ xs. C ++ xs) (append_assoc S (M ++ E) (P ∷ I ∷ []) ∙ ap (λ xs. S ++ xs) (append_assoc M E (P ∷ I ∷ [])))))
 
   -- what declarations give, where equations give nothing
   module _ {B : Type 0} (by : Declaration → List B) (none : (c : _) (f r : _) → by (equation c f r) ≡ []) where
-    in_parts : flat_map by ds ≡ flat_map by C ++ (flat_map by M ++ (by P ++ (by I ++ [])))
+    in_parts : flat_map by ds ≡ flat_map by C ++ (flat_map by S ++ (flat_map by M ++ (by P ++ (by I ++ []))))
     in_parts =
         ap (flat_map by) its_declarations
-        ∙ (flat_behind by C behind ∙ ap (λ xs. flat_map by C ++ xs) (flat_behind by M (E ++ (P ∷ I ∷ [])) ∙ ap (λ xs. flat_map by M ++ xs) (flat_behind by E (P ∷ I ∷ []) ∙ ap (λ xs. xs ++ flat_map by (P ∷ I ∷ [])) (no_equations by none E m.constants.others))))
+        ∙ (flat_behind by C behind ∙ ap (λ xs. flat_map by C ++ xs) (flat_behind by S (M ++ (E ++ (P ∷ I ∷ []))) ∙ ap (λ xs. flat_map by S ++ xs) (flat_behind by M (E ++ (P ∷ I ∷ []))
+        ∙ ap (λ xs. flat_map by M ++ xs) (flat_behind by E (P ∷ I ∷ []) ∙ ap (λ xs. xs ++ flat_map by (P ∷ I ∷ [])) (no_equations by none E m.additions.others)))))
 
-  of_mappings : {B : Type 0} (by : Declaration → List B) (f : NameId × SortId → B) → ((c : NameId × SortId) → by (mapping_declared h n c) ≡ f c ∷ []) → (bs : List (NameId × SortId)) → flat_map by (map (mapping_declared h n) bs) ≡ map f bs
-  of_mappings by f one [] = refl
-  of_mappings by f one (b ∷ bs) = ap₂ (λ xs ys. xs ++ ys) (one b) (of_mappings by f one bs)
-
-  no_mappings : {B : Type 0} (by : Declaration → List B) → ((c : NameId × SortId) → by (mapping_declared h n c) ≡ []) → (bs : List (NameId × SortId)) → flat_map by (map (mapping_declared h n) bs) ≡ []
-  no_mappings by none [] = refl
-  no_mappings by none (b ∷ bs) = ap₂ (λ xs ys. xs ++ ys) (none b) (no_mappings by none bs)
+  in_both : {B : Type 0} (by : Declaration → List B) → flat_map by (O ++ (S ++ M)) ≡ flat_map by O ++ (flat_map by S ++ flat_map by M)
+  in_both by = flat_behind by O (S ++ M) ∙ ap (λ xs. flat_map by O ++ xs) (flat_behind by S M)
 
   -- ---- what stands under its names
-  abbrev to : NameId × SortId → SortExpression
-  to c = sort_written n (sort_under h c.1)
-
-  abbrev written : NameId × SortId → Named
-  written c = (text_under h c.0, record { arguments = []; result = to c; role = mapping })
-
-  same_kinds : kinds_in ds ≡ kinds_in O
+  same_kinds : kinds_in ds ≡ kinds_in (O ++ (S ++ M))
   same_kinds =
-      in_parts kinds_by (λ c f r. refl) ∙ (ap (λ xs. flat_map kinds_by C ++ (xs ++ [])) (no_mappings kinds_by (λ c. refl) cs) ∙ (append-nil (flat_map kinds_by C) ∙ kept_kinds spec.sections m.placed))
+      in_parts kinds_by (λ c f r. refl) ∙ ap₂ (λ xs ys. xs ++ ys) (kept_kinds spec.sections m.placed) (ap (λ xs. kinds_in S ++ xs) (append-nil (kinds_in M))) ∙ sym (in_both kinds_by)
 
-  same_actions : actions_in ds ≡ actions_in O
+  same_actions : actions_in ds ≡ actions_in (O ++ (S ++ M))
   same_actions =
-      in_parts actions_by (λ c f r. refl) ∙ (ap (λ xs. flat_map actions_by C ++ (xs ++ [])) (no_mappings actions_by (λ c. refl) cs) ∙ (append-nil (flat_map actions_by C) ∙ kept_actions spec.sections m.placed))
+      in_parts actions_by (λ c f r. refl) ∙ ap₂ (λ xs ys. xs ++ ys) (kept_actions spec.sections m.placed) (ap (λ xs. actions_in S ++ xs) (append-nil (actions_in M))) ∙ sym (in_both actions_by)
 
-  more_functions : functions_in ds ≡ functions_in O ++ map written cs
-  more_functions =
-      in_parts functions_by (λ c f r. refl) ∙ ap₂ (λ xs ys. xs ++ ys) (kept_functions spec.sections m.placed) (append-nil (flat_map functions_by M) ∙ of_mappings functions_by written (λ c. refl) cs)
+  same_functions : functions_in ds ≡ functions_in (O ++ (S ++ M))
+  same_functions =
+      in_parts functions_by (λ c f r. refl) ∙ ap₂ (λ xs ys. xs ++ ys) (kept_functions spec.sections m.placed) (ap (λ xs. functions_in S ++ xs) (append-nil (functions_in M))) ∙ sym (in_both functions_by)
 
-  under_printed : w ≡ with_declared u u.sort (λ f. all_named f (map written cs))
-  under_printed =
-      let functions : (f : Name) → all_named f (functions_in ds) ≡ all_named f (functions_in O) ++ all_named f (map written cs) = λ f. ap (all_named f) more_functions ∙ all_behind f (functions_in O) (map written cs) in
-      λ i. record { sort = λ x. first_named x (same_kinds i); functions = λ f. functions f i; actions = λ a. all_named a (same_actions i) }
+  under_printed : w ≡ under_names (O ++ (S ++ M))
+  under_printed = λ i. record { sort = λ y. first_named y (same_kinds i); functions = λ f. all_named f (same_functions i); actions = λ a. all_named a (same_actions i) }
 
   its_vocabulary : IsVocabularyOf w (vocabulary_of h)
   its_vocabulary =
-      subst (λ (x : UnderNames). IsVocabularyOf x (vocabulary_of h)) (sym under_printed)
-      (constants_have_vocabulary g h m.stands m.stands_later m.grows u to m.sorts m.vocabulary (declared_names_stand O m.sound.known m.sound.no_cycle))
+      subst (λ (y : UnderNames). IsVocabularyOf y (vocabulary_of h)) (structs_in_front g m.stands h x O m.grows (grown_itself h) ∙ sym under_printed)
+      (additions_have_vocabulary g m.stands h x O m.vocabulary (declared_names_stand O m.sound.known m.sound.no_cycle) m.grows (grown_itself h)).0
 
-  was_there : (x : Name) (k : Kind) → w.sort x ≡ Some k → u.sort x ≡ Some k
-  was_there x k q = sym (ap (first_named x) same_kinds) ∙ q
+  kept : (y : Name) (k : Kind) → u.sort y ≡ Some k → w.sort y ≡ Some k
+  kept y k q = ap (first_named y) (same_kinds ∙ flat_behind kinds_by O (S ++ M)) ∙ first_behind y (kinds_in O) (kinds_in (S ++ M)) k q
 
   -- ---- sort names
-  has_known : (e : SortExpression) (s : Sort) → sort_in (vocabulary_of h).sort_names e ≡ Some s → AllByRecursion (IsKnown (kinds_in O)) (name_in e)
-  has_known e s q = let r = has_stood w (vocabulary_of h) its_vocabulary.sorts e s q in standing_known (kinds_in O) w was_there e r.0 r.1
+  has_known : (e : SortExpression) (s : Sort) → sort_in (vocabulary_of h).sort_names e ≡ Some s → AllByRecursion (IsKnown (kinds_in ds)) (name_in e)
+  has_known e s q = let r = has_stood w (vocabulary_of h) its_vocabulary.sorts e s q in standing_known (kinds_in ds) w (λ y k k_. k_) e r.0 r.1
 
-  known_variables : (vs : Variables) → CanBeListed (vocabulary_of h).sort_names vs → AllByRecursion (IsKnown (kinds_in O)) (names_of_variables vs)
-  known_variables vs can = all_flat (IsKnown (kinds_in O)) (λ (v : Name × SortExpression). name_in v.1) vs
-      (all_weaker (λ (x : Name × SortExpression). (s : Sort) × (sort_in (vocabulary_of h).sort_names x.1 ≡ Some s)) (λ (x : Name × SortExpression). AllByRecursion (IsKnown (kinds_in O)) (name_in x.1)) (λ x s. has_known x.1 s.0 s.1) vs can.sorts)
+  sort_known : (s : SortId) → s.0 < length h.sorts → AllByRecursion (IsKnown (kinds_in ds)) (name_in (sort_written n (sort_under h s)))
+  sort_known s low = has_known (sort_written n (sort_under h s)) (sort_under h s) (read_still h h m.stands_later (grown_itself h) x s low)
 
-  known_mappings : (bs : List (NameId × SortId)) → ((c : NameId × SortId) → Contains bs c → Contains cs c) → AllByRecursion (UsesKnown (kinds_in O)) (map (mapping_declared h n) bs)
-  known_mappings bs among = all_mapped (UsesKnown (kinds_in O)) (mapping_declared h n) bs
-      (all_from (λ c. UsesKnown (kinds_in O) (mapping_declared h n c)) bs (λ c k. none_unknown (kinds_in O) (name_in (to c)) (has_known (to c) (sort_under h c.1) (All-contains (λ (d : NameId × SortId). IsReadSort h n (sort_under h d.1)) cs c m.sorts (among c k)))))
+  known_variables : (vs : Variables) → CanBeListed (vocabulary_of h).sort_names vs → AllByRecursion (IsKnown (kinds_in ds)) (names_of_variables vs)
+  known_variables vs can = all_flat (IsKnown (kinds_in ds)) (λ (v : Name × SortExpression). name_in v.1) vs
+      (all_weaker (λ (y : Name × SortExpression). (s : Sort) × (sort_in (vocabulary_of h).sort_names y.1 ≡ Some s)) (λ (y : Name × SortExpression). AllByRecursion (IsKnown (kinds_in ds)) (name_in y.1)) (λ y s. has_known y.1 s.0 s.1) vs can.sorts)
 
-  known_process : UsesKnown (kinds_in O) P
-  known_process = none_unknown (kinds_in O) (sorts_used P)
-      (all_flat (IsKnown (kinds_in O)) names_of_variables (variable_lists P)
-      (all_weaker (CanBeListed (vocabulary_of h).sort_names) (λ (vs : Variables). AllByRecursion (IsKnown (kinds_in O)) (names_of_variables vs)) known_variables (variable_lists P) m.listed))
+  known_fields : (fs : List (Option NameId × SortId)) → All (λ (f : Option NameId × SortId). f.1.0 < length h.sorts) fs → AllByRecursion (IsKnown (kinds_in ds)) (flat_map (λ (f : Field). name_in f.sort) (map (field_declared h n) fs))
+  known_fields [] all = tt
+  known_fields (f ∷ fs) all =
+      let Low = λ (y : Option NameId × SortId). y.1.0 < length h.sorts in
+      all_both (IsKnown (kinds_in ds)) (name_in (sort_written n (sort_under h f.1))) (flat_map (λ (y : Field). name_in y.sort) (map (field_declared h n) fs)) (sort_known f.1 (All-head Low f fs all)) (known_fields fs (All-tail Low f fs all))
+
+  known_constructors : (cs : List Con) → All (HasSortsBelow (length h.sorts)) cs → AllByRecursion (IsKnown (kinds_in ds)) (flat_map names_of_fields (map (constructor_declared h n) cs))
+  known_constructors [] all = tt
+  known_constructors (c ∷ cs) all =
+      all_both (IsKnown (kinds_in ds)) (flat_map (λ (y : Field). name_in y.sort) (map (field_declared h n) c.fields)) (flat_map names_of_fields (map (constructor_declared h n) cs))
+      (known_fields c.fields (All-head (HasSortsBelow (length h.sorts)) c cs all)) (known_constructors cs (All-tail (HasSortsBelow (length h.sorts)) c cs all))
+
+  known_structs : AllByRecursion (UsesKnown (kinds_in ds)) S
+  known_structs = all_mapped (UsesKnown (kinds_in ds)) (declaration_of h n) (added_structs m.grows)
+      (all_weaker (λ (s : Struct). All (HasSortsBelow (length h.sorts)) s.1) (λ (s : Struct). UsesKnown (kinds_in ds) (declaration_of h n s)) (λ s all. none_unknown (kinds_in ds) (sorts_used (declaration_of h n s)) (known_constructors s.1 all)) (added_structs m.grows)
+      (structs_below g m.stands h m.grows (grown_itself h)))
+
+  known_mappings : AllByRecursion (UsesKnown (kinds_in ds)) M
+  known_mappings = all_mapped (UsesKnown (kinds_in ds)) (mapping_declared h n) (added_constants m.grows)
+      (all_weaker (λ (c : NameId × SortId). c.1.0 < length h.sorts) (λ (c : NameId × SortId). UsesKnown (kinds_in ds) (mapping_declared h n c)) (λ c low. none_unknown (kinds_in ds) (name_in (sort_written n (sort_under h c.1))) (sort_known c.1 low)) (added_constants m.grows)
+      (constants_below g m.stands h m.grows (grown_itself h)))
+
+  known_process : UsesKnown (kinds_in ds) P
+  known_process = none_unknown (kinds_in ds) (sorts_used P)
+      (all_flat (IsKnown (kinds_in ds)) names_of_variables (variable_lists P)
+      (all_weaker (CanBeListed (vocabulary_of h).sort_names) (λ (vs : Variables). AllByRecursion (IsKnown (kinds_in ds)) (names_of_variables vs)) known_variables (variable_lists P) m.listed))
 
   declarations_within : Within C O
   declarations_within = within_flat (λ (s : Section). s.declarations) (kept_within spec.sections)
 
+  was_known : (y : Name) → is_some (first_named y (kinds_in O)) ≡ true → is_some (first_named y (kinds_in ds)) ≡ true
+  was_known y e = let k = entry_found (first_named y (kinds_in O)) e in ap is_some (kept y k.0 k.1)
+
   its_known : AllAreKnown ds
-  its_known = subst (λ ks. AllByRecursion (UsesKnown ks) ds) (sym same_kinds)
-      (subst (AllByRecursion (UsesKnown (kinds_in O))) (sym its_declarations)
-      (all_both (UsesKnown (kinds_in O)) C behind (within_all (UsesKnown (kinds_in O)) declarations_within m.sound.known)
-      (all_both (UsesKnown (kinds_in O)) M (E ++ (P ∷ I ∷ [])) (known_mappings cs (λ c k. k))
-      (all_both (UsesKnown (kinds_in O)) E (P ∷ I ∷ []) (all_weaker IsEquation (UsesKnown (kinds_in O)) (of_equation (UsesKnown (kinds_in O)) (λ c f r. refl)) E m.constants.others) (known_process, (refl, tt))))))
+  its_known =
+      let uses = UsesKnown (kinds_in ds) in
+      subst (AllByRecursion uses) (sym its_declarations)
+      (all_both uses C behind
+      (all_weaker (UsesKnown (kinds_in O)) uses (λ d k. none_unknown (kinds_in ds) (sorts_used d) (still_known (kinds_in O) (kinds_in ds) was_known (sorts_used d) k)) C (within_all (UsesKnown (kinds_in O)) declarations_within m.sound.known))
+      (all_both uses S (M ++ (E ++ (P ∷ I ∷ []))) known_structs
+      (all_both uses M (E ++ (P ∷ I ∷ [])) known_mappings
+      (all_both uses E (P ∷ I ∷ []) (all_weaker IsEquation uses (of_equation uses (λ c f r. refl)) E m.additions.others) (known_process, (refl, tt))))))
+
+  -- what holds of each declaration behind the copied ones
+  all_behind : (Q : Declaration → Type 0) → ((s : Struct) → Q (declaration_of h n s)) → ((c : NameId × SortId) → Q (mapping_declared h n c)) → ((c : _) (f r : _) → Q (equation c f r)) → Q P → Q I → AllByRecursion Q behind
+  all_behind Q a b c p i =
+      all_both Q S (M ++ (E ++ (P ∷ I ∷ []))) (all_mapped Q (declaration_of h n) (added_structs m.grows) (all_from (λ s. Q (declaration_of h n s)) (added_structs m.grows) (λ s k. a s)))
+      (all_both Q M (E ++ (P ∷ I ∷ [])) (all_mapped Q (mapping_declared h n) (added_constants m.grows) (all_from (λ y. Q (mapping_declared h n y)) (added_constants m.grows) (λ y k. b y)))
+      (all_both Q E (P ∷ I ∷ []) (all_weaker IsEquation Q (of_equation Q c) E m.additions.others) (p, (i, tt))))
 
   -- ---- cycles
   abbrev IsNoAlias : Declaration → Type 0
   IsNoAlias d = is_alias d ≡ false
 
   no_alias_behind : AllByRecursion IsNoAlias behind
-  no_alias_behind =
-      all_both IsNoAlias M (E ++ (P ∷ I ∷ [])) (all_mapped IsNoAlias (mapping_declared h n) cs (all_from (λ c. IsNoAlias (mapping_declared h n c)) cs (λ c k. refl)))
-      (all_both IsNoAlias E (P ∷ I ∷ []) (all_weaker IsEquation IsNoAlias (of_equation IsNoAlias (λ c f r. refl)) E m.constants.others) (refl, (refl, tt)))
+  no_alias_behind = all_behind IsNoAlias (λ s. refl) (λ c. refl) (λ c f r. refl) refl refl
 
-  its_alias : (x : Name) (e : SortExpression) → Contains ds (alias x e) → Contains O (alias x e)
-  its_alias x e c = ⊎_elim (λ here. within_contains (alias x e) declarations_within here) (λ there. (let never : true ≡ false = all_contained IsNoAlias behind (alias x e) no_alias_behind there in absurd cc))
-      (in_either C behind (alias x e) (subst (λ xs. Contains xs (alias x e)) its_declarations c))
+  its_alias : (y : Name) (e : SortExpression) → Contains ds (alias y e) → Contains O (alias y e)
+  its_alias y e c = ⊎_elim (λ here. within_contains (alias y e) declarations_within here) (λ there. (let never : true ≡ false = all_contained IsNoAlias behind (alias y e) no_alias_behind there in absurd cc))
+      (in_either C behind (alias y e) (subst (λ xs. Contains xs (alias y e)) its_declarations c))
 
   refers_then : (a b : Name) → Refers ds a b → Refers O a b
   refers_then a b (e, there, uses) = (e, its_alias a e there, uses)
@@ -286,62 +441,111 @@ module _ (spec : PlainSpec) (g h : Sig) (added : List Section) (n : TextNames) (
   its_no_cycle (a ∷ ns) is = m.sound.no_cycle (a ∷ ns) (refer_then a a ns is)
 
   -- ---- what is declared once
-  abbrev new : NameId × SortId → Item
-  new c = a_function (text_under h c.0) []
+  abbrev struct_items : List Item
+  struct_items = flat_map fixed_by S
+
+  abbrev mapping_items : List Item
+  mapping_items = flat_map fixed_by M
 
   abbrev more_items : List Item
-  more_items = map new cs ++ (a_process n.process ∷ [])
+  more_items = struct_items ++ (mapping_items ++ (a_process x ∷ []))
 
   its_items : flat_map fixed_by ds ≡ flat_map fixed_by C ++ more_items
-  its_items = in_parts fixed_by (λ c f r. refl) ∙ ap (λ xs. flat_map fixed_by C ++ (xs ++ (a_process n.process ∷ []))) (of_mappings fixed_by new (λ c. refl) cs)
+  its_items = in_parts fixed_by (λ c f r. refl)
 
-  new_names : AllByRecursion (λ (x : Item). ¬ (IsTaken g (name_of x))) more_items
-  new_names =
-      all_both (λ (x : Item). ¬ (IsTaken g (name_of x))) (map new cs) (a_process n.process ∷ [])
-      (all_mapped (λ (x : Item). ¬ (IsTaken g (name_of x))) new cs (all_from (λ c. ¬ (IsTaken g (text_under h c.0))) cs (λ c k. All-contains (λ (d : NameId × SortId). ¬ (IsTaken g (text_under h d.0))) cs c m.grows.taken k))) (m.new_process, tt)
+  apart : Apart g h (struct_names g m.stands h x m.grows) (constant_names g m.stands h x m.grows)
+  apart = names_apart g m.stands h x m.grows (grown_itself h)
 
-  old_names : AllByRecursion (λ (x : Item). IsTaken g (name_of x)) (flat_map fixed_by C)
+  struct_items_named : map name_of struct_items ≡ struct_names g m.stands h x m.grows
+  struct_items_named = map_flat name_of fixed_by S
+
+  mapping_items_named : map name_of mapping_items ≡ constant_names g m.stands h x m.grows
+  mapping_items_named =
+      ap (map name_of) (flat_ones fixed_by (mapping_declared h n) (λ (c : NameId × SortId). a_function (text_under h c.0) []) (λ c. refl) (added_constants m.grows))
+      ∙ sym (map_map (λ (c : NameId × SortId). a_function (text_under h c.0) []) name_of (added_constants m.grows))
+
+  new_structs : AllByRecursion (λ (y : Item). ¬ (IsTaken g (name_of y))) struct_items
+  new_structs = all_unmapped (λ (t : Name). ¬ (IsTaken g t)) name_of struct_items (subst (AllByRecursion (λ (t : Name). ¬ (IsTaken g t))) (sym struct_items_named) apart.structs_new)
+
+  new_mappings : AllByRecursion (λ (y : Item). ¬ (IsTaken g (name_of y))) mapping_items
+  new_mappings = all_unmapped (λ (t : Name). ¬ (IsTaken g t)) name_of mapping_items (subst (AllByRecursion (λ (t : Name). ¬ (IsTaken g t))) (sym mapping_items_named) apart.constants_new)
+
+  new_names : AllByRecursion (λ (y : Item). ¬ (IsTaken g (name_of y))) more_items
+  new_names = all_both (λ (y : Item). ¬ (IsTaken g (name_of y))) struct_items (mapping_items ++ (a_process x ∷ [])) new_structs (all_both (λ (y : Item). ¬ (IsTaken g (name_of y))) mapping_items (a_process x ∷ []) new_mappings (m.new_process, tt))
+
+  old_names : AllByRecursion (λ (y : Item). IsTaken g (name_of y)) (flat_map fixed_by C)
   old_names = kept_names (IsTaken g) spec.sections (all_from (IsTaken g) (copied_identifiers spec) m.taken)
+
+  -- an item that is copied has sorts under the names of the text
+  old_stand : (y : Item) → Contains (flat_map fixed_by C) y → (rs : List SortExpression) × StandForEach u (sorts_of_item y) rs
+  old_stand y c = items_stand O (vocabulary_of g) m.vocabulary y (within_contains y (within_flat fixed_by declarations_within) c)
 
   old_differ : EachTwo (NotAgain w) (flat_map fixed_by C)
   old_differ =
-      two_weaker (NotAgain u) (NotAgain w) (λ x y no again. no (again_then w u was_there x y again)) (flat_map fixed_by C)
+      two_by (NotAgain u) (NotAgain w) (flat_map fixed_by C) (λ y z c d no again. no (again_before u w kept y z (old_stand y c) (old_stand z d) again))
       (within_two (NotAgain u) (within_flat fixed_by declarations_within) (items_differ own m.sound.once).fixed)
+
+  -- two that have other names
+  by_names : (xs : List Item) (names : List Name) → map name_of xs ≡ names → EachTwo Other names → EachTwo (NotAgain w) xs
+  by_names xs names e two =
+      two_weaker (λ (y z : Item). Other (name_of y) (name_of z)) (NotAgain w) (λ y z no again. no (again_name y z again)) xs (two_unmapped Other name_of xs (subst (EachTwo Other) (sym e) two))
+
+  data_structs : AllByRecursion (λ (y : Item). is_datum y ≡ true) struct_items
+  data_structs = all_flat (λ (y : Item). is_datum y ≡ true) fixed_by S
+      (all_mapped (λ d. AllByRecursion (λ (y : Item). is_datum y ≡ true) (fixed_by d)) (declaration_of h n) (added_structs m.grows)
+      (all_from (λ s. AllByRecursion (λ (y : Item). is_datum y ≡ true) (fixed_by (declaration_of h n s))) (added_structs m.grows)
+      (λ s c. (refl, all_mapped (λ (y : Item). is_datum y ≡ true) function_item (functions_by (declaration_of h n s)) (all_from (λ f. is_datum (function_item f) ≡ true) (functions_by (declaration_of h n s)) (λ f k. refl))))))
+
+  data_mappings : AllByRecursion (λ (y : Item). is_datum y ≡ true) mapping_items
+  data_mappings = all_flat (λ (y : Item). is_datum y ≡ true) fixed_by M
+      (all_mapped (λ d. AllByRecursion (λ (y : Item). is_datum y ≡ true) (fixed_by d)) (mapping_declared h n) (added_constants m.grows)
+      (all_from (λ c. AllByRecursion (λ (y : Item). is_datum y ≡ true) (fixed_by (mapping_declared h n c))) (added_constants m.grows) (λ c k. (refl, tt))))
+
+  no_process : (xs : List Item) → AllByRecursion (λ (y : Item). is_datum y ≡ true) xs → (y z : Item) → Contains xs y → Contains (a_process x ∷ []) z → NotAgain w y z
+  no_process xs all y z c (zero, low, q) again = let never : true ≡ false = sym (all_contained (λ (k : Item). is_datum k ≡ true) xs y all c) ∙ (again_datum y z again ∙ ap is_datum (sym q)) in absurd cc
+  no_process xs all y z c (suc i, low, q) again = absurd (omega (arith, low))
+
+  named_there : (xs : List Item) (names : List Name) → map name_of xs ≡ names → (y : Item) → Contains xs y → Contains names (name_of y)
+  named_there xs names e y c = subst (λ ns. Contains ns (name_of y)) e (map_contains name_of xs y c)
 
   new_differ : EachTwo (NotAgain w) more_items
   new_differ =
-      two_both (NotAgain w) (map new cs) (a_process n.process ∷ [])
-      (two_mapped (NotAgain w) new cs
-      (two_weaker (λ (c d : NameId × SortId). text_under h c.0 ≢ text_under h d.0) (λ (c d : NameId × SortId). NotAgain w (new c) (new d)) (λ c d no again. no (again_name (new c) (new d) again)) cs m.grows.differ))
-      (tt, tt) (λ x y c d again. across x y (in_mapped new cs x c) d again)
-    where
-      across : (x y : Item) → (c : NameId × SortId) × Contains cs c × (new c ≡ x) → Contains (a_process n.process ∷ []) y → NotAgain w x y
-      across x y (c, k, e) (zero, low, q) again = let never : true ≡ false = ap is_function e ∙ (again_function x y again ∙ ap is_function (sym q)) in absurd cc
-      across x y (c, k, e) (suc i, low, q) again = absurd (omega (arith, low))
+      two_both (NotAgain w) struct_items (mapping_items ++ (a_process x ∷ [])) (by_names struct_items _ struct_items_named apart.structs_differ)
+      (two_both (NotAgain w) mapping_items (a_process x ∷ []) (by_names mapping_items _ mapping_items_named apart.constants_differ) (tt, tt) (no_process mapping_items data_mappings))
+      (λ y z c d. ⊎_elim
+      (λ mapping. (λ again. apart.across (name_of y) (name_of z) (named_there struct_items _ struct_items_named y c) (named_there mapping_items _ mapping_items_named z mapping) (again_name y z again)))
+      (λ process_. no_process struct_items data_structs y z c process_)
+      (in_either mapping_items (a_process x ∷ []) z d))
+
+  abbrev HasNone : Declaration → Type 0
+  HasNone d = vars_by d ≡ []
 
   its_differ : ItemsDiffer w ss
   its_differ = record {
     fixed = subst (EachTwo (NotAgain w)) (sym its_items)
         (two_both (NotAgain w) (flat_map fixed_by C) more_items old_differ new_differ
-        (λ x y c d again. all_contained (λ (z : Item). ¬ (IsTaken g (name_of z))) more_items y new_names d (subst (IsTaken g) (again_name x y again) (all_contained (λ (z : Item). IsTaken g (name_of z)) (flat_map fixed_by C) x old_names c))));
+        (λ y z c d again. all_contained (λ (k : Item). ¬ (IsTaken g (name_of k))) more_items z new_names d (subst (IsTaken g) (again_name y z again) (all_contained (λ (k : Item). IsTaken g (name_of k)) (flat_map fixed_by C) y old_names c))));
     variables = all_both HasOtherVariables (copied ++ added) _ (all_both HasOtherVariables copied added (within_all HasOtherVariables (kept_within spec.sections) (items_differ own m.sound.once).variables) added_variables) (tt, (tt, tt));
   }
     where
-      none_added : AllByRecursion (λ (d : Declaration). vars_by d ≡ []) (declarations_in added)
-      none_added = subst (AllByRecursion (λ (d : Declaration). vars_by d ≡ [])) (sym m.constants.declared)
-          (all_both (λ (d : Declaration). vars_by d ≡ []) M E (all_mapped (λ (d : Declaration). vars_by d ≡ []) (mapping_declared h n) cs (all_from (λ c. vars_by (mapping_declared h n c) ≡ []) cs (λ c k. refl)))
-          (all_weaker IsEquation (λ (d : Declaration). vars_by d ≡ []) (of_equation (λ (d : Declaration). vars_by d ≡ []) (λ c f r. refl)) E m.constants.others))
+      none_added : AllByRecursion HasNone (declarations_in added)
+      none_added = subst (AllByRecursion HasNone) (sym m.additions.declared)
+          (all_both HasNone S (M ++ E) (all_mapped HasNone (declaration_of h n) (added_structs m.grows) (all_from (λ s. HasNone (declaration_of h n s)) (added_structs m.grows) (λ s k. refl)))
+          (all_both HasNone M E (all_mapped HasNone (mapping_declared h n) (added_constants m.grows) (all_from (λ c. HasNone (mapping_declared h n c)) (added_constants m.grows) (λ c k. refl)))
+          (all_weaker IsEquation HasNone (of_equation HasNone (λ c f r. refl)) E m.additions.others)))
 
       added_variables : AllByRecursion HasOtherVariables added
-      added_variables = in_sections (λ (d : Declaration). vars_by d ≡ []) HasOtherVariables (λ s all. subst AreOthers (sym (no_variables s.declarations all)) tt) added none_added
+      added_variables = in_sections HasNone HasOtherVariables (λ s all. subst AreOthers (sym (no_variables s.declarations all)) tt) added none_added
 
   built_is_taken : (f : Name) (rs : List SortExpression) → IsBuiltIn f rs → IsTaken g f
   built_is_taken f rs (r, e, among, text, same) = All-contains (IsTaken g) first_names f m.stands.words_taken (subst (Contains first_names) text (is_first_name (row_word r)))
 
   not_built : (f : Name) (es rs : List SortExpression) → Contains (flat_map fixed_by ds) (a_function f es) → StandForEach w es rs → ¬ (IsBuiltIn f rs)
   not_built f es rs c stand is = ⊎_elim
-      (λ here. (let r = fixed_stands own (a_function f es) (within_contains (a_function f es) (within_flat fixed_by declarations_within) here) in m.sound.once (suc r.0) (suc r.0) (built_in r.0 r.1 f es rs r.2 r.3 (each_stands w u was_there es rs stand) is)))
-      (λ there. all_contained (λ (z : Item). ¬ (IsTaken g (name_of z))) more_items (a_function f es) new_names there (built_is_taken f rs is))
+      (λ here. (let r = fixed_stands own (a_function f es) (within_contains (a_function f es) (within_flat fixed_by declarations_within) here) in
+      let old = old_stand (a_function f es) here in
+      m.sound.once (suc r.0) (suc r.0) (built_in r.0 r.1 f es rs r.2 r.3 (each_before u w kept es old.0 rs old.1 stand) is)))
+      (λ there. all_contained (λ (k : Item). ¬ (IsTaken g (name_of k))) more_items (a_function f es) new_names there (built_is_taken f rs is))
       (in_either (flat_map fixed_by C) more_items (a_function f es) (subst (λ xs. Contains xs (a_function f es)) its_items c))
 
   abbrev HasNoneTwice : Declaration → Type 0
@@ -349,9 +553,7 @@ module _ (spec : PlainSpec) (g h : Sig) (added : List Section) (n : TextNames) (
 
   none_twice_behind : AllByRecursion HasNoneTwice behind
   none_twice_behind =
-      all_both HasNoneTwice M (E ++ (P ∷ I ∷ [])) (all_mapped HasNoneTwice (mapping_declared h n) cs (all_from (λ c. HasNoneTwice (mapping_declared h n c)) cs (λ c k. tt)))
-      (all_both HasNoneTwice E (P ∷ I ∷ []) (all_weaker IsEquation HasNoneTwice (of_equation HasNoneTwice (λ c f r. tt)) E m.constants.others)
-      (all_weaker (CanBeListed (vocabulary_of h).sort_names) (λ (vs : Variables). ¬ (StandsTwice vs)) (λ vs can. not_twice vs can.differ) (variable_lists P) m.listed, (tt, tt)))
+      all_behind HasNoneTwice (λ s. tt) (λ c. tt) (λ c f r. tt) (all_weaker (CanBeListed (vocabulary_of h).sort_names) (λ (vs : Variables). ¬ (StandsTwice vs)) (λ vs can. not_twice vs can.differ) (variable_lists P) m.listed) tt
 
   none_twice : (d : Declaration) (vs : Variables) → Contains ds d → Contains (variable_lists d) vs → ¬ (StandsTwice vs)
   none_twice d vs c k twice = ⊎_elim
@@ -364,9 +566,9 @@ module _ (spec : PlainSpec) (g h : Sig) (added : List Section) (n : TextNames) (
 
   -- ---- no sort is empty
   its_inhabited : NoEmptySort ds
-  its_inhabited x e =
-      let o = its_vocabulary.sorts.others x e.own in
-      let empty = empty_sorts_are_empty_in_each_vocabulary w e.vocabulary (vocabulary_of h) e.declared its_vocabulary x e.number o.0 e.named_so o.1.0 e.empty in
+  its_inhabited y e =
+      let o = its_vocabulary.sorts.others y e.own in
+      let empty = empty_sorts_are_empty_in_each_vocabulary w e.vocabulary (vocabulary_of h) e.declared its_vocabulary y e.number o.0 e.named_so o.1.0 e.empty in
       let value = m.inhabited o.0 o.1.1 in
       empty.1 value.0 value.1.0 value.1.1
 
@@ -374,9 +576,9 @@ module _ (spec : PlainSpec) (g h : Sig) (added : List Section) (n : TextNames) (
   sound_over = record { sound = record { known = its_known; no_cycle = its_no_cycle; once = its_once; inhabited = its_inhabited }; vocabulary = its_vocabulary }
 
 pub printed_declarations_are_sound : PrintedDeclarationsAreSound
-printed_declarations_are_sound spec g h added n l ts m = sound_over spec g h added n l ts m
+printed_declarations_are_sound spec g h added x l ts m = sound_over spec g h added x l ts m
 
-pub added_constants_are_declared : AddedConstantsAreDeclared
-added_constants_are_declared spec g h constants adds n empty_lists =
+pub what_is_added_is_declared : WhatIsAddedIsDeclared
+what_is_added_is_declared spec g h w adds x empty_lists =
     let of_list : FunId → Declaration = λ f. empty_list_declared (name_at h f) in
-    record { equations = map of_list empty_lists; declared = adds.declarations n empty_lists; others = all_mapped IsEquation of_list empty_lists (all_from (λ f. IsEquation (of_list f)) empty_lists (λ f c. tt)) }
+    record { equations = map of_list empty_lists; declared = adds.declarations x empty_lists; others = all_mapped IsEquation of_list empty_lists (all_from (λ f. IsEquation (of_list f)) empty_lists (λ f c. tt)) }

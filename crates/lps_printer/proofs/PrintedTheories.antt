@@ -32,8 +32,9 @@ use Rattle.lps_printer.specs.AddedConstants.{AddsConstants, AreConstants}
 use Rattle.lps_printer.specs.AddedDeclarations.{name_at, line_declared, lines_declared, added_declared}
 use Rattle.lps_printer.specs.EmptyEquations.{written_empty, empty_equations}
 use Rattle.lps_printer.specs.FilledLinears.{Constants}
-use Rattle.lps_printer.specs.GrowingByConstants.{GrowsByConstants}
-use Rattle.lps_printer.specs.GrownTexts.{mapping_declared, mappings_declared, AddsTheConstants}
+use Rattle.lps_printer.specs.DeclaredAdditions.{section_of, AddsThem}
+use Rattle.lps_printer.specs.GrowingByAdditions.{Struct, GrowsByAdditions, added_structs, added_constants}
+use Rattle.lps_printer.specs.GrownTexts.{mapping_declared, mappings_declared}
 use Rattle.lps_printer.specs.LinearBack.{CanBind, parameters_of, LinearReads}
 use Rattle.lps_printer.specs.PrintedDeclarations.{AreSoundOver}
 use Rattle.lps_printer.specs.PrintedSystems.{PrintsLinear}
@@ -43,7 +44,7 @@ use Rattle.lps_printer.specs.SpelledSections.{copied_declared}
 use Rattle.lps_printer.specs.WrittenProcesses.{TextNames, parameters_written, bound_named}
 use Rattle.lps_printer.proofs.CopiedParts.{flat_append, under}
 use Rattle.lps_printer.proofs.CopiedTheories.{pairs_both, pairs_hold, copied_equations, copied_plain}
-use Rattle.lps_printer.proofs.GrownTexts.{what_grows_by_constants_adds_them}
+use Rattle.lps_printer.proofs.DeclaredAdditions.{what_is_added_is_printed}
 use Rattle.lps_printer.proofs.LinearBack.{linear_processes_elaborate_back}
 use Rattle.lps_printer.proofs.NilEquations.{nils_elaborate, added_are_nils}
 use Rattle.lps_printer.proofs.SectionsBehind.{declarations_append, last_vars, eqs, eqs_append, behind_all, printed_equations}
@@ -70,14 +71,28 @@ lists_equate : (h : Sig) (n : TextNames) (fs : List FunId) → eqs [] (lines_dec
 lists_equate h n [] = refl
 lists_equate h n (f ∷ fs) = flat_append under (map (λ (d : Declaration). record { variables = []; declaration = d }) (map (line_declared h n lines.EmptyList) (f ∷ fs))) [] ∙ append-nil _ ∙ written_there h n (f ∷ fs)
 
+structs_have_none : (h : Sig) (n : TextNames) (ss : List Struct) → (eqs [] (map (section_of h n) ss) ≡ []) × (last_vars [] (map (section_of h n) ss) ≡ [])
+structs_have_none h n [] = (refl, refl)
+structs_have_none h n (s ∷ ss) = structs_have_none h n ss
+
 -- the equations of what is added are those of the empty lists
-pub added_equations : (spec : PlainSpec) (g h : Sig) (cs : List (NameId × SortId)) → AddsTheConstants spec g h cs → (n : TextNames) (fs : List FunId) → equations_in (added_declared spec h n fs) ≡ map (λ (f : FunId). written_empty (name_at h f)) fs
-added_equations spec g h cs adds n fs =
-    let none = mappings_have_none h n cs in
-    ap equations_in (adds.declared n fs) ∙ eqs_append [] (mappings_declared h n cs) (lines_declared h n lines.EmptyList fs)
-    ∙ ap₂ (λ (es : List WrittenEquation) (xs : Variables). es ++ eqs xs (lines_declared h n lines.EmptyList fs)) none.0 none.1 ∙ lists_equate h n fs
+pub added_equations : (spec : PlainSpec) {g h : Sig} (w : GrowsByAdditions g h) → AddsThem spec w → (x : Name) (fs : List FunId)
+    → equations_in (added_declared spec h (text_names_under h x) fs) ≡ map (λ (f : FunId). written_empty (name_at h f)) fs
+added_equations spec {h = h} w adds x fs =
+    let n = text_names_under h x in
+    let structs = map (section_of h n) (added_structs w) in
+    let mappings = mappings_declared h n (added_constants w) in
+    let lists = lines_declared h n lines.EmptyList fs in
+    let one = structs_have_none h n (added_structs w) in
+    let two = mappings_have_none h n (added_constants w) in
+    ap equations_in (adds.declared x fs) ∙ eqs_append [] structs (mappings ++ lists) ∙ ap₂ (λ (es : List WrittenEquation) (xs : Variables). es ++ eqs xs (mappings ++ lists)) one.0 one.1
+    ∙ eqs_append [] mappings lists ∙ ap₂ (λ (es : List WrittenEquation) (xs : Variables). es ++ eqs xs lists) two.0 two.1 ∙ lists_equate h n fs
 
 module _ (w : FullVocabulary) (h : Sig) (n : TextNames) where
+  structs_plain : (ss : List Struct) → AllByRecursion (GivesPlainSort w) (declarations_in (map (section_of h n) ss))
+  structs_plain [] = tt
+  structs_plain (s ∷ ss) = (tt, structs_plain ss)
+
   mappings_plain : (cs : List (NameId × SortId)) → AllByRecursion (GivesPlainSort w) (map (mapping_declared h n) cs)
   mappings_plain [] = tt
   mappings_plain (c ∷ cs) = (tt, mappings_plain cs)
@@ -118,7 +133,7 @@ module _ (h : Sig) (n : TextNames) (l : Linear) (initial : List Term) (reads : L
   its_start = subst (AllByRecursion (λ (p : Process). (b : Body) × Elaborates w [] p b)) (sym prints.start) ((_, (linear_processes_elaborate_back w n l initial reads).start), tt)
 
 -- ---- the whole text
-module _ (spec : PlainSpec) (g k h : Sig) (own : ElaboratesOver spec g) (before : IsSignature k) (after : IsSignature h) (grown : GrowsByConstants g h) (adds : AddsTheConstants spec g h grown.constants)
+module _ (spec : PlainSpec) (g k h : Sig) (own : ElaboratesOver spec g) (before : IsSignature k) (after : IsSignature h) (grown : GrowsByAdditions g h) (adds : AddsThem spec grown)
     (needed : List Sort) (sorts : List SortId) (c : Constants) (over : map (sort_under k) sorts ≡ map list needed) (added : AddsConstants k sorts h) (are : AreConstants (length k.declared) needed c)
     (x : Name) (l : Linear) (initial : List Term) (reads : LinearReads (printed_vocabulary h (text_names_under h x) l.params) (text_names_under h x) l initial) where
   abbrev n : TextNames
@@ -138,14 +153,19 @@ module _ (spec : PlainSpec) (g k h : Sig) (own : ElaboratesOver spec g) (before 
       let copied = copied_equations spec g h own.placed own.stands after grown own.taken own.vocabulary v own.declared refl own.theory own.process own.system in
       let lists = nils_elaborate h v refl reads.closed_names (length k.functions) (length k.declared) needed (added_are_nils k h before after needed sorts over added c are) in
       subst (λ (es : List WrittenEquation). EachPair (ElaboratesEquation v) es (own.theory.equations ++ empty_equations (length k.declared) needed))
-      (sym (printed_equations spec (added_declared spec h n fs) n l initial own.placed ∙ ap (λ es. equations_in (bare_sections spec) ++ es) (added_equations spec g h grown.constants adds n fs)))
+      (sym (printed_equations spec (added_declared spec h n fs) n l initial own.placed ∙ ap (λ es. equations_in (bare_sections spec) ++ es) (added_equations spec grown adds x fs)))
       (pairs_both (ElaboratesEquation v) (equations_in (bare_sections spec)) own.theory.equations (map (λ (f : FunId). written_empty (name_at h f)) fs) (empty_equations (length k.declared) needed) copied lists)
 
   added_plain : AllByRecursion (GivesPlainSort v) (declarations_in (added_declared spec h n fs))
   added_plain =
-      subst (λ bs. AllByRecursion (GivesPlainSort v) (declarations_in bs)) (sym (adds.declared n fs))
-      (subst (AllByRecursion (GivesPlainSort v)) (sym (declarations_append (mappings_declared h n grown.constants) (lines_declared h n lines.EmptyList fs)))
-      (all_both (GivesPlainSort v) (declarations_in (mappings_declared h n grown.constants)) (declarations_in (lines_declared h n lines.EmptyList fs)) (mapping_sections_plain v h n grown.constants) (list_sections_plain v h n fs)))
+      let structs = map (section_of h n) (added_structs grown) in
+      let mappings = mappings_declared h n (added_constants grown) in
+      let lists = lines_declared h n lines.EmptyList fs in
+      subst (λ bs. AllByRecursion (GivesPlainSort v) (declarations_in bs)) (sym (adds.declared x fs))
+      (subst (AllByRecursion (GivesPlainSort v)) (sym (declarations_append structs (mappings ++ lists)))
+      (all_both (GivesPlainSort v) (declarations_in structs) (declarations_in (mappings ++ lists)) (structs_plain v h n (added_structs grown))
+      (subst (AllByRecursion (GivesPlainSort v)) (sym (declarations_append mappings lists))
+      (all_both (GivesPlainSort v) (declarations_in mappings) (declarations_in lists) (mapping_sections_plain v h n (added_constants grown)) (list_sections_plain v h n fs)))))
 
   all_plain : AllByRecursion (GivesPlainSort v) (declarations_in ss)
   all_plain =
@@ -171,4 +191,4 @@ module _ (spec : PlainSpec) (g k h : Sig) (own : ElaboratesOver spec g) (before 
 pub printed_texts_have_theories : PrintedTextsHaveTheories
 printed_texts_have_theories spec g k h own before after grown needed sorts c over added are x l initial reads prints sound =
     let its_vocabulary = subst (λ d. IsVocabularyOf (under_names (declarations_in (bare_sections spec))) d) own.declared own.system.well_typed.vocabulary.declared in
-    has_theory spec g k h own before after grown (what_grows_by_constants_adds_them spec g h own.stands its_vocabulary grown) needed sorts c over added are x l initial reads prints sound
+    has_theory spec g k h own before after grown (what_is_added_is_printed spec g h own.stands its_vocabulary grown) needed sorts c over added are x l initial reads prints sound

@@ -88,20 +88,25 @@ pub record SortNamed (g : Sig) (x : Name) (k : ℕ) : Type 0 where
   pub text : (text_names_under g x).sort k ≡ text_under g name
   pub leads : first_named (text_under g name) (map (sort_name_under g) g.sort_names) ≡ Some (named k)
 
+-- the first name of a declared sort
+pub name_there : (g : Sig) → IsSignature g → {k : ℕ} (r : DeclaredSortAt g.sorts k) → (n : NameId) × (r.entry.name ≡ Some n) × (n.0 < length g.texts)
+name_there g sg r =
+    let n = some_there r.entry.name (holds_at HasItsName g.sorts r.place r.entry sg.sorts_named r.stands r.declared) in
+    (n.0, n.1, subst (λ (o : Option NameId). IfSome o (λ (m : NameId). m.0 < length g.texts)) n.1 (holds_at (IsSortWithin (length g.texts) (length g.sorts) (length g.functions)) g.sorts r.place r.entry sg.complete.within.sorts_within r.stands).named)
+
 module _ (g : Sig) (sg : IsSignature g) (x : Name) where
   pub sort_named : (k : ℕ) → k < length (constructions g.sorts) → SortNamed g x k
   sort_named k l =
       let r = declared_sort_at g.sorts k l in
-      let n = some_there r.entry.name (holds_at HasItsName g.sorts r.place r.entry sg.sorts_named r.stands r.declared) in
+      let n = name_there g sg r in
       let i : SortId = record { 0 = r.place } in
-      let within : n.0.0 < length g.texts = subst (λ (o : Option NameId). IfSome o (λ (m : NameId). m.0 < length g.texts)) n.1 (holds_at (IsSortWithin (length g.texts) (length g.sorts) (length g.functions)) g.sorts r.place r.entry sg.complete.within.sorts_within r.stands).named in
       let means : sort_under g i ≡ named k = sorts_mean_their_kinds g.sorts sg.table.sorts i r.entry r.stands ∙ declared_meaning (sort_under g) (length (constructions (take r.place g.sorts))) r.entry.kind r.declared ∙ ap named r.number in
       record {
         id = i;
         name = n.0;
         listed = sg.first_names_lead i r.entry n.0 r.stands n.1;
         text = ap (λ j. (text_names_under g x).sort j) (sym r.number) ∙ sort_named_at g g.sorts r.place r.entry n.0 (codes "S") r.stands r.declared n.1;
-        leads = name_found g sg n.0 within i (sg.first_names_lead i r.entry n.0 r.stands n.1) ∙ ap Some means;
+        leads = name_found g sg n.0 n.2 i (sg.first_names_lead i r.entry n.0 r.stands n.1) ∙ ap Some means;
       }
 
   pub sort_back : (s : Sort) → IsSort (data_meant g) s → sort_in (map (sort_name_under g) g.sort_names) (sort_written (text_names_under g x) s) ≡ Some s

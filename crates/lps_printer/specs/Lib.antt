@@ -44,6 +44,8 @@ pub mod GrowingByConstants
 pub mod NamedStructs
 pub mod SpelledSections
 pub mod GrownTexts
+pub mod GrowingByAdditions
+pub mod DeclaredAdditions
 pub mod FreshIdentifiers
 pub mod EmptyEquations
 pub mod FoundConstants

@@ -1,6 +1,6 @@
 -- The declarations of a printed text: that they are sound, and that a signature has their vocabulary.
 use Rattle.std.specs.Prelude.{◌≡◌, ◌≢◌, ℕ, suc, List, [], ◌∷◌, ◌++◌, map, length, Some}
-use Rattle.std.specs.List.{All, AllByRecursion, Contains}
+use Rattle.std.specs.List.{AllByRecursion, Contains}
 use Rattle.mcrl2_syntax.specs.Declarations.{PlainSpec}
 use Rattle.data_theory.specs.declared.ids.FunId.{FunId}
 use Rattle.data_theory.specs.declared.ids.NameId.{NameId}
@@ -10,7 +10,6 @@ use Rattle.data_theory.specs.Declarations.{NoSortIsEmpty}
 use Rattle.data_theory.specs.Signature.{Sig, IsTaken}
 use Rattle.data_theory.specs.WholeSignatures.{IsSignature}
 use Rattle.data_theory.specs.IdData.{data_meant}
-use Rattle.data_theory.specs.IdTerms.{sort_under}
 use Rattle.bisim_laws.specs.LinearProcesses.{Linear}
 use Rattle.sort_table.specs.Expressions.{Name}
 use Rattle.sort_table.specs.BareSorts.{SortExpression}
@@ -25,13 +24,16 @@ use Rattle.sort_table.specs.Refusals.{IsSoundlyDeclared}
 use Rattle.sort_table.specs.Identifiers.{copied_identifiers}
 use Rattle.sort_table.specs.PlacedSections.{IsPlaced}
 use Rattle.sort_checker.specs.FullVocabularies.{FullVocabulary}
-use Rattle.lps_printer.specs.WrittenProcesses.{TextNames, sort_written, parameters_written, body_written, plain_process}
+use Rattle.lps_printer.specs.WrittenProcesses.{TextNames, parameters_written, body_written, plain_process}
 use Rattle.lps_printer.specs.LinearBack.{EachTwo, LinearReads}
 use Rattle.lps_printer.specs.CopiedSections.{kept_sections}
 use Rattle.lps_printer.specs.WholeTexts.{linear_declared}
 use Rattle.lps_printer.specs.AddedDeclarations.{added_declared}
 use Rattle.lps_printer.specs.GrowingByConstants.{GrowsByConstants}
-use Rattle.lps_printer.specs.GrownTexts.{mapping_declared, AddsTheConstants}
+use Rattle.lps_printer.specs.GrowingByAdditions.{Struct, GrowsByAdditions, added_structs, added_constants}
+use Rattle.lps_printer.specs.GrownTexts.{mapping_declared}
+use Rattle.lps_printer.specs.DeclaredAdditions.{declaration_of, AddsThem}
+use Rattle.lps_printer.specs.SignatureNames.{text_names_under}
 
 -- ---- the vocabulary of a signature that has grown by constants
 -- the names of constants, whose numbers as functions count from k
@@ -55,20 +57,17 @@ abbrev pub IsEquation : Declaration → Type 0
 IsEquation (equation c l r) = Unit {0}
 IsEquation _ = ⊥
 
--- sections that declare these constants, and have equations and nothing else behind them
-pub record DeclareConstants (h : Sig) (n : TextNames) (constants : List (NameId × SortId)) (added : List Section) : Type 0 where
+-- sections that declare these structs and these constants, and have equations and nothing else behind them
+pub record DeclareAdditions (h : Sig) (n : TextNames) (structs : List Struct) (constants : List (NameId × SortId)) (added : List Section) : Type 0 where
   pub equations : List Declaration
-  pub declared : declarations_in added ≡ map (mapping_declared h n) constants ++ equations
+  pub declared : declarations_in added ≡ map (declaration_of h n) structs ++ (map (mapping_declared h n) constants ++ equations)
   pub others : AllByRecursion IsEquation equations
 
 -- the sections that are added to a text declare so
-abbrev pub AddedConstantsAreDeclared : Type 0
-AddedConstantsAreDeclared =
-    (spec : PlainSpec) (g h : Sig) (constants : List (NameId × SortId)) → AddsTheConstants spec g h constants → (n : TextNames) (empty_lists : List FunId) → DeclareConstants h n constants (added_declared spec h n empty_lists)
-
--- a sort is written as an expression that has it
-abbrev pub IsReadSort : Sig → TextNames → Sort → Type 0
-IsReadSort h n s = sort_in (vocabulary_of h).sort_names (sort_written n s) ≡ Some s
+abbrev pub WhatIsAddedIsDeclared : Type 0
+WhatIsAddedIsDeclared =
+    (spec : PlainSpec) (g h : Sig) (w : GrowsByAdditions g h) → AddsThem spec w → (x : Name) (empty_lists : List FunId)
+    → DeclareAdditions h (text_names_under h x) (added_structs w) (added_constants w) (added_declared spec h (text_names_under h x) empty_lists)
 
 -- variables that can stand in one list: their names differ, and each has a sort
 pub record CanBeListed (ns : List (Name × Sort)) (vs : Variables) : Type 0 where
@@ -79,21 +78,20 @@ pub record CanBeListed (ns : List (Name × Sort)) (vs : Variables) : Type 0 wher
 abbrev pub process_declared : TextNames → Linear → Declaration
 process_declared n l = process n.process (parameters_written n l.params) (plain_process (body_written n l))
 
--- A text's declarations are sound, and a signature has their vocabulary and its names as taken ones. It has grown by constants, which the
+-- A text's declarations are sound, and a signature has their vocabulary and its names as taken ones. It has grown by structs and constants, which the
 -- added sections declare; the process has a name that wasn't taken, and lists of variables that can be.
-pub record DeclaresMore (spec : PlainSpec) (g h : Sig) (added : List Section) (n : TextNames) (l : Linear) : Type 0 where
+pub record DeclaresMore (spec : PlainSpec) (g h : Sig) (added : List Section) (x : Name) (l : Linear) : Type 0 where
   pub placed : IsPlaced spec
   pub sound : IsSoundlyDeclared (bare_sections spec)
   pub vocabulary : IsVocabularyOf (under_names (declarations_in (bare_sections spec))) (vocabulary_of g)
   pub stands : IsSignature g
   pub taken : (t : Name) → Contains (copied_identifiers spec) t → IsTaken g t
-  pub grows : GrowsByConstants g h
+  pub grows : GrowsByAdditions g h
   pub stands_later : IsSignature h
   pub inhabited : NoSortIsEmpty (data_meant h)
-  pub constants : DeclareConstants h n grows.constants added
-  pub sorts : All (λ (c : NameId × SortId). IsReadSort h n (sort_under h c.1)) grows.constants
-  pub new_process : ¬ (IsTaken g n.process)
-  pub listed : AllByRecursion (CanBeListed (vocabulary_of h).sort_names) (variable_lists (process_declared n l))
+  pub additions : DeclareAdditions h (text_names_under h x) (added_structs grows) (added_constants grows) added
+  pub new_process : ¬ (IsTaken g x)
+  pub listed : AllByRecursion (CanBeListed (vocabulary_of h).sort_names) (variable_lists (process_declared (text_names_under h x) l))
 
 -- the copied sections, the added ones, and the process with its start
 abbrev pub printed_declared : PlainSpec → List Section → TextNames → Linear → List Term → List Section
@@ -105,7 +103,8 @@ pub record AreSoundOver (ss : List Section) (h : Sig) : Type 0 where
   pub vocabulary : IsVocabularyOf (under_names (declarations_in ss)) (vocabulary_of h)
 
 abbrev pub PrintedDeclarationsAreSound : Type 0
-PrintedDeclarationsAreSound = (spec : PlainSpec) (g h : Sig) (added : List Section) (n : TextNames) (l : Linear) (ts : List Term) → DeclaresMore spec g h added n l → AreSoundOver (printed_declared spec added n l ts) h
+PrintedDeclarationsAreSound =
+    (spec : PlainSpec) (g h : Sig) (added : List Section) (x : Name) (l : Linear) (ts : List Term) → DeclaresMore spec g h added x l → AreSoundOver (printed_declared spec added (text_names_under h x) l ts) h
 
 -- the variables of a linear process that reads back can be listed
 abbrev pub VariablesThatReadCanBeListed : Type 0

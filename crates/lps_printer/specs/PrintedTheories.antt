@@ -26,7 +26,7 @@ use Rattle.lps_printer.specs.AddedConstants.{AddsConstants, AreConstants}
 use Rattle.lps_printer.specs.AddedDeclarations.{added_declared}
 use Rattle.lps_printer.specs.EmptyEquations.{empty_equations}
 use Rattle.lps_printer.specs.FilledLinears.{Constants}
-use Rattle.lps_printer.specs.GrowingByConstants.{GrowsByConstants}
+use Rattle.lps_printer.specs.GrowingByAdditions.{GrowsByAdditions}
 use Rattle.lps_printer.specs.LinearBack.{parameters_of, LinearReads}
 use Rattle.lps_printer.specs.PrintedDeclarations.{printed_declared, AreSoundOver}
 use Rattle.lps_printer.specs.PrintedSystems.{PrintsLinear}
@@ -61,7 +61,7 @@ pub record HasTheory (w : FullVocabulary) (ss : List Section) (es : List Equatio
 -- Where the names of the linear process read back, and the printed declarations are sound and have the vocabulary of the signature.
 abbrev pub PrintedTextsHaveTheories : Type 0
 PrintedTextsHaveTheories =
-    (spec : PlainSpec) (g k h : Sig) (own : ElaboratesOver spec g) → IsSignature k → IsSignature h → GrowsByConstants g h
+    (spec : PlainSpec) (g k h : Sig) (own : ElaboratesOver spec g) → IsSignature k → IsSignature h → GrowsByAdditions g h
     → (needed : List Sort) (sorts : List SortId) (c : Constants) → map (sort_under k) sorts ≡ map list needed → AddsConstants k sorts h → AreConstants (length k.declared) needed c
     → (x : Name) (l : Linear) (initial : List Term) → LinearReads (printed_vocabulary h (text_names_under h x) l.params) (text_names_under h x) l initial
     → PrintsLinear (printed_sections spec k h x needed l initial) (text_names_under h x) l initial → AreSoundOver (printed_sections spec k h x needed l initial) h

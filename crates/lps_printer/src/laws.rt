@@ -4,6 +4,7 @@ ghost use Rattle.lps_printer.specs.CopiedParts.{WhatIsCopiedHasAllParts};
 ghost use Rattle.lps_printer.specs.CopiedTokens.{CopiesLex};
 ghost use Rattle.lps_printer.specs.CopyLaws.{CopiesSpellTheSame, DeclarationCopiesSpellTheSame};
 ghost use Rattle.lps_printer.specs.DataLaws.{ExpressionsSpellBack, TermsReadBack};
+ghost use Rattle.lps_printer.specs.DeclaredAdditions.{EmptyListsAreAdded, WhatIsAddedIsPrinted};
 ghost use Rattle.lps_printer.specs.DefinitionTexts.{DefinitionsSpellBack, LinearTextsSpellBack, StartsSpellBack};
 ghost use Rattle.lps_printer.specs.EmptyEquations.{EmptyEquationsElaborate};
 ghost use Rattle.lps_printer.specs.EmptyLists.{FilledTermsAreWritable};
@@ -12,13 +13,13 @@ ghost use Rattle.lps_printer.specs.FittingLinears.{FittingLinearsRead};
 ghost use Rattle.lps_printer.specs.FittingNames.{NamesThatFitRead};
 ghost use Rattle.lps_printer.specs.FoundConstants.{ThereAreConstants, ConstantsHaveEquations};
 ghost use Rattle.lps_printer.specs.FreshIdentifiers.{ConstantNamesAreIdentifiers, FreshNamesAreIdentifiers};
-ghost use Rattle.lps_printer.specs.GrownTexts.{AddedConstantsAreNamed, EmptyListsAreAdded, WhatGrowsByConstantsAddsThem};
-ghost use Rattle.lps_printer.specs.GrownIdentifiers.{ConstantSortsRead, ConstantsAreNamed, NamesStayIdentifiers};
+ghost use Rattle.lps_printer.specs.GrowingByAdditions.{AdditionsFollowEachOther, ConstantsAreAdditions};
+ghost use Rattle.lps_printer.specs.GrownIdentifiers.{DeclaredStayIdentifiers, NamesStayIdentifiers, WhatIsAddedIsNamed, WrittenSortsRead};
 ghost use Rattle.lps_printer.specs.LinearBack.{LinearProcessesElaborateBack};
 ghost use Rattle.lps_printer.specs.NamedSummands.{SummandsSpellBack};
 ghost use Rattle.lps_printer.specs.NeedLaws.{AddedConstantsAreNils, ListedNilsAreThose, WhatIsMetIsFound};
 ghost use Rattle.lps_printer.specs.Pieces.{PiecesLex};
-ghost use Rattle.lps_printer.specs.PrintedDeclarations.{AddedConstantsAreDeclared, GrowthByConstantsIsMore, PrintedDeclarationsAreSound, VariablesThatReadCanBeListed};
+ghost use Rattle.lps_printer.specs.PrintedDeclarations.{GrowthByConstantsIsMore, PrintedDeclarationsAreSound, VariablesThatReadCanBeListed, WhatIsAddedIsDeclared};
 ghost use Rattle.lps_printer.specs.PrintedSystems.{PrintedSystemsAreLinear};
 ghost use Rattle.lps_printer.specs.PrintedTheories.{PrintedTextsHaveTheories};
 ghost use Rattle.lps_printer.specs.SpelledSections.{AddedSectionsSpellBack, CopiedSectionsSpellBack, PrintedTextsSpellBack};
@@ -129,11 +130,18 @@ pub fn printed_texts_spell_back()
     ensures { PrintedTextsSpellBack }
 {}
 
-/// Where the signature of a text grows by constants, mappings of these are what is added, and their names are those of what is added.
-pub fn what_grows_by_constants_adds_them()
-    ensures added { WhatGrowsByConstantsAddsThem }
-    ensures named { AddedConstantsAreNamed }
+/// What is added one behind the other is added, and constants are.
+pub fn additions_follow_each_other()
+    ensures follow { AdditionsFollowEachOther }
+    ensures constants { ConstantsAreAdditions }
+{}
+
+/// Where the signature of a text grows by structs and constants, what is printed are these structs, mappings of the constants, and the
+/// equations of empty lists. Its names are identifiers where those of the signature are.
+pub fn what_is_added_is_printed()
+    ensures printed { WhatIsAddedIsPrinted }
     ensures empty_lists { EmptyListsAreAdded }
+    ensures named { WhatIsAddedIsNamed }
 {}
 
 /// Names that are fresh to an identifier are identifiers, and so are those of the constants of sorts.
@@ -180,11 +188,11 @@ pub fn growth_by_constants_is_more()
 {}
 
 /// Where the declarations of a text are sound and a signature has their vocabulary, those of a text that is printed for it are sound, too,
-/// and the signature that has grown by the added constants has their vocabulary. The added sections declare these constants, and the
+/// and the signature that has grown by the added structs and constants has their vocabulary. The added sections declare these, and the
 /// variables of a linear process that reads back can be listed.
 pub fn printed_declarations_are_sound()
     ensures sound { PrintedDeclarationsAreSound }
-    ensures constants { AddedConstantsAreDeclared }
+    ensures additions { WhatIsAddedIsDeclared }
     ensures variables { VariablesThatReadCanBeListed }
 {}
 
@@ -193,9 +201,9 @@ pub fn fitting_linears_read()
     ensures { FittingLinearsRead }
 {}
 
-/// Names stay identifiers as constants are added. The constants' names are identifiers, and what is written for their sorts has these sorts.
+/// Names stay identifiers as structs and constants are added, and what is written for a sort has that sort.
 pub fn names_stay_identifiers()
     ensures stay { NamesStayIdentifiers }
-    ensures constants { ConstantsAreNamed }
-    ensures sorts { ConstantSortsRead }
+    ensures declared { DeclaredStayIdentifiers }
+    ensures sorts { WrittenSortsRead }
 {}

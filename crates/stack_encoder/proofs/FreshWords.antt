@@ -114,7 +114,7 @@ named_alike texts s (suc (suc zero)) f h = (_, refl, same h)
 named_alike texts s (suc (suc (suc j))) f h = absurd cc
 
 -- their names are taken
-over_sort_taken : (g : Sig) → IsSignature g → (s : SortId) (j : ℕ) (f : Function) → slice_get (built_ins g.texts (sort_rows s)) j ≡ Some f → Contains (map (λ (e : Function). e.name) g.functions) f.name
+pub over_sort_taken : (g : Sig) → IsSignature g → (s : SortId) (j : ℕ) (f : Function) → slice_get (built_ins g.texts (sort_rows s)) j ≡ Some f → Contains (map (λ (e : Function). e.name) g.functions) f.name
 over_sort_taken g stands s j f at =
     let e = named_alike g.texts s j f at in
     let r = mapped_at (built_in g.texts) (sort_rows bool_sort) j e.0 e.1 in
@@ -135,7 +135,7 @@ function_taken g named s on n k e at = ⊎_elim
 
 -- ---- the functions of the sort
 -- their names, without the sort's and with the one of `empty` in another place
-function_names_are : (w : StackWords) (s : SortId) (n : ℕ) → map (λ (f : Function). f.name) (struct_functions s n (constructors_declared w s)) ≡ w.push ∷ w.empty ∷ w.pc ∷ (map (λ f. f.0) w.fields ++ w.rest ∷ w.is_push ∷ [])
+pub function_names_are : (w : StackWords) (s : SortId) (n : ℕ) → map (λ (f : Function). f.name) (struct_functions s n (constructors_declared w s)) ≡ w.push ∷ w.empty ∷ w.pc ∷ (map (λ f. f.0) w.fields ++ w.rest ∷ w.is_push ∷ [])
 function_names_are w s n = ap (λ l. w.push ∷ w.empty ∷ w.pc ∷ l) (front w.fields (declared_function w.is_push (s ∷ []) bool_sort ∷ []))
   where
     front : (fs : List (NameId × SortId)) (more : List Function) → map (λ (f : Function). f.name) ((projections_of s (map named_field fs ++ (Some w.rest, s) ∷ []) ++ []) ++ more) ≡ map (λ f. f.0) fs ++ w.rest ∷ map (λ (f : Function). f.name) more
@@ -157,8 +157,8 @@ moved_distinct p c e qs d = (
   ),
 )
 
-moved_among : (s p c e x : NameId) (qs : List NameId) → Contains (p ∷ e ∷ c ∷ qs) x → Contains (s ∷ p ∷ c ∷ (qs ++ e ∷ [])) x
-moved_among s p c e x qs i = contains_later s x (p ∷ c ∷ (qs ++ e ∷ [])) (⊎_elim
+pub moved_behind : (p c e x : NameId) (qs : List NameId) → Contains (p ∷ e ∷ c ∷ qs) x → Contains (p ∷ c ∷ (qs ++ e ∷ [])) x
+moved_behind p c e x qs i = ⊎_elim
     (λ q. subst (λ z. Contains (p ∷ c ∷ (qs ++ e ∷ [])) z) q (contains_first p (c ∷ (qs ++ e ∷ []))))
     (λ j. contains_later p x (c ∷ (qs ++ e ∷ [])) (⊎_elim
     (λ q. contains_later c x (qs ++ e ∷ []) (Contains-append_right qs (e ∷ []) x (subst (λ z. Contains (e ∷ []) z) q (contains_first e []))))
@@ -167,7 +167,10 @@ moved_among s p c e x qs i = contains_later s x (p ∷ c ∷ (qs ++ e ∷ [])) (
     (λ m. contains_later c x (qs ++ e ∷ []) (Contains-append_left qs (e ∷ []) x m))
     (contains_cases c x qs k))
     (contains_cases e x (c ∷ qs) j)))
-    (contains_cases p x (e ∷ c ∷ qs) i))
+    (contains_cases p x (e ∷ c ∷ qs) i)
+
+moved_among : (s p c e x : NameId) (qs : List NameId) → Contains (p ∷ e ∷ c ∷ qs) x → Contains (s ∷ p ∷ c ∷ (qs ++ e ∷ [])) x
+moved_among s p c e x qs i = contains_later s x (p ∷ c ∷ (qs ++ e ∷ [])) (moved_behind p c e x qs i)
 
 -- an entry stands at one place
 at_place : (ns : List ℕ) (i x : ℕ) → slice_get ns i ≡ Some x → Contains ns x
@@ -190,7 +193,7 @@ module _ (g named : Sig) (s : IsSignature g) (w : StackWords) (stand : WordsStan
   same_order : in_order w ≡ w.sort ∷ w.push ∷ w.pc ∷ (others ++ w.empty ∷ [])
   same_order = ap (λ l. w.sort ∷ w.push ∷ w.pc ∷ l) (sym (append_assoc (map (λ f. f.0) w.fields) (w.rest ∷ w.is_push ∷ []) (w.empty ∷ [])))
 
-  names_differ : AreDistinct (w.push.0 ∷ w.empty.0 ∷ w.pc.0 ∷ map (λ (n : NameId). n.0) others)
+  pub names_differ : AreDistinct (w.push.0 ∷ w.empty.0 ∷ w.pc.0 ∷ map (λ (n : NameId). n.0) others)
   names_differ =
       moved_distinct w.push.0 w.pc.0 w.empty.0 (map (λ (n : NameId). n.0) others)
       (subst (λ l. AreDistinct (w.push.0 ∷ w.pc.0 ∷ l)) (map-append (λ (n : NameId). n.0) others (w.empty ∷ []))
