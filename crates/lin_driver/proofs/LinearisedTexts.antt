@@ -23,6 +23,7 @@ use Rattle.lps_core.specs.Moving.{all_kept}
 use Rattle.lps_core.specs.PlainLinears.{linear_of, initial_of, linear_state}
 use Rattle.lps_core.proofs.GrowingData.{goes_back, linear_grown, terms_grown}
 use Rattle.lps_core.proofs.Staying.{what_fits_is_sorted}
+use Rattle.lps_printer.proofs.GrowingByAdditions.{additions_grow, same_actions}
 use Rattle.lin_driver.specs.Headline.{Specifies, AddsOnly}
 use Rattle.lin_driver.specs.Linearised.{WhatIsLedToStandsForTheText, WhatIsMadeStandsForTheText, WhatIsPrintedStandsForTheText}
 use Rattle.lin_driver.proofs.EqualLinears.{equal_linears_are_good}
@@ -49,7 +50,7 @@ text_has_data text w th p h s same = s.system.data_of ∙ ap (λ (v : Vocabulary
 -- ---- from a specification in code
 pub led_to_stands_for : WhatIsLedToStandsForTheText
 led_to_stands_for text v th g h ts us m l s same sg fits grow leads =
-    let grown = grown_signatures_have_more g h sg.complete sg.table sg.roles leads.stands.roles leads.grows.grown leads.grows.actions in
+    let grown = grown_signatures_have_more g h sg.complete sg.table sg.roles leads.stands.roles (additions_grow g sg leads.grows) (same_actions g sg leads.grows) in
     record {
       vocabulary = v;
       theory = th;

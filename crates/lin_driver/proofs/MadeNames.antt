@@ -20,7 +20,6 @@ use Rattle.lps_core.specs.Naming.{name_of}
 use Rattle.lps_core.specs.PlainLinears.{PlainSummand, PlainLinear}
 use Rattle.lps_printer.specs.DataLayout.{IsIdentifier}
 use Rattle.lps_printer.specs.FittingLinears.{HasIdentifier, NamesAreIdentifiers}
-use Rattle.lps_printer.proofs.GrowingByAdditions.{constants_are_additions}
 use Rattle.lps_printer.proofs.GrownIdentifiers.{declared_still}
 use Rattle.lin_driver.specs.Linearised.{IsMadeOf}
 use Rattle.lin_driver.specs.TakenNames.{HaveIdentifiers}
@@ -35,7 +34,7 @@ made_names text spec h us equations x l made =
     let m = made.made in
     let leads = m.leads in
     let words = specs_are_of_words text spec made.tokens made.cut made.spelled in
-    let declares = declared_still m.signature h m.stands (constants_are_additions m.signature h leads.grows leads.stands) (texts_declare_identifiers spec m.signature words m.declares.vocabulary) in
+    let declares = declared_still m.signature h m.stands leads.grows (texts_declare_identifiers spec m.signature words m.declares.vocabulary) in
     record {
       params = All-weaker (IsVariable h) (HasIdentifier h) (named_text h leads.identifiers) l.params leads.fits.params;
       sums = All-weaker (SummandFits h us l.params) (λ (s : PlainSummand). All (HasIdentifier h) s.sums) (λ s f. All-weaker (IsVariable h) (HasIdentifier h) (named_text h leads.identifiers) s.sums f.sums) l.summands leads.fits.summands;

@@ -8,7 +8,6 @@ use Rattle.process_terms.specs.SignatureEntries.{entries_of}
 use Rattle.sort_table.specs.SignatureVocabularies.{text_under}
 use Rattle.sort_table.proofs.SpelledPlaces.{spelled_specs_are_placed}
 use Rattle.lps_printer.specs.DataLayout.{IsIdentifier}
-use Rattle.lps_printer.proofs.GrowingByAdditions.{constants_are_additions}
 use Rattle.lps_printer.proofs.FreshIdentifiers.{fresh_names_are_identifiers}
 use Rattle.lin_driver.specs.MadeTexts.{WhatIsMadeCanBePrinted, WhatIsPrintedForATextStandsForIt}
 use Rattle.lin_driver.proofs.LinearisedTexts.{made_stands_for, printed_stands_for}
@@ -38,7 +37,7 @@ made_can_be_printed text spec h us equations x l made =
         process = process_of e m.model;
         system = is.system;
       };
-      grown = constants_are_additions m.signature h leads.grows leads.stands;
+      grown = leads.grows;
       stands = leads.stands;
       inhabited = leads.inhabited;
       fits = leads.fits;

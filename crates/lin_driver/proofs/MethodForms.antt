@@ -11,46 +11,49 @@ use Rattle.process_terms.specs.SignatureEntries.{entries_of}
 use Rattle.bisim_laws.specs.Links.{Regular, Stack}
 use Rattle.lps_core.specs.Fitting.{Fits}
 use Rattle.lps_core.specs.PlainLinears.{PlainLinear, linear_of}
-use Rattle.lps_core.proofs.NamedSums.{names_none}
 use Rattle.greibach.specs.FittingForms.{FormFits}
 use Rattle.greibach.specs.Forms.{form_table}
 use Rattle.greibach.specs.PlainForms.{PlainEquation, PlainForm, form_of}
+use Rattle.greibach.specs.Surroundings.{HasUsableNames}
 use Rattle.greibach.specs.Tails.{HasTail, HasTails}
 use Rattle.regular_encoder.specs.Refusals.{all_summands, IsFirstWithTwoCalls, IsEncodeFaultOf}
 use Rattle.regular_encoder.specs.declared.faults.EncodeFault.{EncodeFault}
 use Rattle.regular_encoder.specs.declared.faults.EncodeFault.TheVariants.{NotTail, NoMemory}
 use Rattle.regular_encoder.specs.EncodedForms.{IsEncodedForm, EncodingIsGood}
 use Rattle.stack_encoder.specs.StackedForms.{IsStackedForm, StackingIsGood}
-use Rattle.lps_printer.proofs.GrowingByAdditions.{constants_are_additions}
+use Rattle.lps_printer.proofs.GrowingByAdditions.{additions_grow, constants_are_additions}
 use Rattle.lin_driver.specs.MethodForms.{UsesStack, LeadsFromForm, IsMethodFaultOf}
 use Rattle.lin_driver.specs.declared.methods.Method.{Method}
 use Rattle.lin_driver.specs.declared.methods.Method.TheVariants as method
-use Rattle.lin_driver.specs.TakenNames.{HaveIdentifiers}
 use Rattle.lin_driver.proofs.ColumnNames.{encoding_has_own_names}
 use Rattle.lin_driver.proofs.ConstantGrowth.{encoding_grows}
-use Rattle.lin_driver.proofs.NamedVariables.{encoding_named}
-use Rattle.lin_driver.proofs.StackedForms.{stack_grows, stack_identifiers, stack_has_own_name}
+use Rattle.lin_driver.proofs.NamedVariables.{encoding_named, usable_named}
+use Rattle.lin_driver.proofs.StackedForms.{stack_grows, stack_or_old, stack_identifiers, stack_has_own_name}
+use Rattle.lin_driver.proofs.TakenColumns.{param_or_old, usable_still}
 
-module _ (g h : Sig) (p q : PoolContents) (f : PlainForm) (l : PlainLinear) (sg : IsSignature g) (sh : IsSignature h) (fits : FormFits g p.trees f) (names : HaveIdentifiers g) (made_fits : Fits h q.trees l) where
+module _ (g h : Sig) (p q : PoolContents) (f : PlainForm) (l : PlainLinear) (sg : IsSignature g) (sh : IsSignature h) (fits : FormFits g p.trees f) (names : HasUsableNames g) (made_fits : Fits h q.trees l) where
   pub columns_lead : length f.equations < 340282366920938463463374607431768211456 → IsEncodedForm g p h q f l → EncodingIsGood h q.trees f l → LeadsFromForm g h q.trees f l
   columns_lead few e good = record {
     grows = constants_are_additions g h (encoding_grows g h p q f l e).grows sh;
     fits = made_fits;
-    identifiers = encoding_named g h p q f l fits e names;
-    params = encoding_has_own_names g h h p q f l l sg sh fits few e made_fits (names_none h sh) refl;
+    names = usable_still g h l.params (encoding_grows g h p q f l e).grows.grown (param_or_old g h p q f l e) made_fits.taken (encoding_named g h p q f l fits e (usable_named g names)) names;
+    params = encoding_has_own_names g h p q f l sg sh fits few e;
     link = Regular (form_table (form_of (entries_of h q.trees) f)) good.0 (linear_of (entries_of h q.trees) l);
     bisimilar = good.1;
   }
 
   pub stack_leads : IsStackedForm g p h q f l → StackingIsGood h q.trees f l → LeadsFromForm g h q.trees f l
-  stack_leads e good = record {
-    grows = stack_grows g h p q f l sg sh fits names e;
-    fits = made_fits;
-    identifiers = stack_identifiers g h p q f l sg sh fits names e;
-    params = stack_has_own_name g h p q f l sg sh fits names e;
-    link = Stack (form_table (form_of (entries_of h q.trees) f)) good.0 good.1 (linear_of (entries_of h q.trees) l);
-    bisimilar = good.2;
-  }
+  stack_leads e good =
+      let named = usable_named g names in
+      let grows = stack_grows g h p q f l sg sh fits named e in
+      record {
+        grows = grows;
+        fits = made_fits;
+        names = usable_still g h l.params (additions_grow g sg grows) (stack_or_old g h p q f l sg sh fits named e) made_fits.taken (stack_identifiers g h p q f l sg sh fits named e) names;
+        params = stack_has_own_name g h p q f l sg sh fits named e;
+        link = Stack (form_table (form_of (entries_of h q.trees) f)) good.0 good.1 (linear_of (entries_of h q.trees) l);
+        bisimilar = good.2;
+      }
 
 -- ---- why there is none
 all_tail : (qs : List PlainEquation) → All (λ (q : PlainEquation). All HasTail q.summands) qs → All HasTail (all_summands qs)
@@ -71,7 +74,7 @@ is_regular method.Regular f k never first = refl
 is_regular method.Stack f k never first = absurd (never tt)
 
 pub uses_none : {uses : Bool} (m : Method) (f : PlainForm) → IsTrue uses ↔ UsesStack m f → uses ≡ false → ¬ (UsesStack m f)
-uses_none {uses} m f tells no yes = clash (tells.1 yes) no
+uses_none {uses} m f tells unused its = clash (tells.1 its) unused
   where
     clash : uses ≡ true → uses ≡ false → ⊥
     clash p q = cc

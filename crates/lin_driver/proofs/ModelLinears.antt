@@ -38,11 +38,12 @@ use Rattle.greibach.proofs.GrownFits.{both_by_names}
 use Rattle.greibach.proofs.WhateverStands.{sequential_bodies, bound_once}
 use Rattle.regular_encoder.specs.FormColumns.{ParamsHaveOwnNames}
 use Rattle.regular_encoder.proofs.InhabitedColumns.{still_inhabited}
-use Rattle.lps_printer.proofs.GrowingByConstants.{on_names, grows_then}
+use Rattle.lps_printer.proofs.GrowingByAdditions.{additions_follow, additions_grow, same_actions}
 use Rattle.lin_driver.specs.Faults.{fault_of_guard, fault_of_net}
 use Rattle.lin_driver.specs.Leaves.{leaves}
 use Rattle.lin_driver.specs.LinearLeaves.{IsLeafOf, AreLeavesMade, IsLeavesFaultOf}
 use Rattle.lin_driver.specs.ModelLinears.{CanBeLinear, CanBeLinearFrom, LeadsToLinear, IsModelFaultOf}
+use Rattle.lin_driver.specs.declared.methods.Method.{Method}
 use Rattle.lin_driver.specs.Parts.{network_in, CanBeComposed, IsComposed}
 use Rattle.lin_driver.specs.declared.fault.ModelFault.{ModelFault}
 use Rattle.lin_driver.specs.declared.fault.ModelFault.TheVariants.{Net, Guard, NotTail, NoMemory}
@@ -52,7 +53,7 @@ use Rattle.lin_driver.proofs.NamedVariables.{usable_named, summands_named, sums_
 use Rattle.lin_driver.proofs.NetworkLeaves.{all_leaves, both_hold}
 use Rattle.lin_driver.proofs.OpenedComponents.{opened_binds}
 use Rattle.lin_driver.proofs.OpenedOperators.{opened_operators_fit, network_fits_still}
-use Rattle.lin_driver.proofs.StayingLinears.{both_named, fresh_by_names, own_names_stay, state_stays}
+use Rattle.lin_driver.proofs.StayingLinears.{both_named, names_are_additions, fresh_by_names, own_names_stay, state_stays}
 
 -- ---- the leaves
 delta_is_leaf : (g : Sig) (ts : List Tree) (m : PlainModel) → ((e : Entries) → HaveOwnVariables (table_of e m.definitions) (body_of e m.init)) → IsLeafOf g ts m (term_of delta)
@@ -88,20 +89,20 @@ network_can_be_linear g b p q m n can w names kept same opened components = reco
 }
 
 -- ---- what is composed
-pub network_can_be_composed : (g d : Sig) (p q : PoolContents) (m : PlainModel) (n : PlainNetwork) (ls : List PlainLinear) → CanBeLinearFrom g p m n → AreLeavesMade g p d q m (leaves n) ls
+pub network_can_be_composed : (method : Method) (g d : Sig) (p q : PoolContents) (m : PlainModel) (n : PlainNetwork) (ls : List PlainLinear) → CanBeLinearFrom g p m n → AreLeavesMade method g p d q m (leaves n) ls
     → CanBeComposed (record { signature = g; trees = p.trees; model = m }) d q.trees n ls []
-network_can_be_composed g d p q m n ls can made = record {
-  since = record { stands = can.ready.stands; grown = made.grows.grown; actions = made.grows.actions };
+network_can_be_composed method g d p q m n ls can made = record {
+  since = record { stands = can.ready.stands; grown = additions_grow g can.ready.stands made.grows; actions = same_actions g can.ready.stands made.grows };
   identifiers = usable_named d made.ready.names;
   operators = can.operators;
   parts = record { parts = ls; are = made.linears; first = sym (append-nil ls) };
 }
 
 -- from the network to the linear process with named sums
-pub network_leads : (g d e h : Sig) (p q : PoolContents) (ws us : List Tree) (m : PlainModel) (n : PlainNetwork) (ls left : List PlainLinear) (l named : PlainLinear) → AreLeavesMade g p d q m (leaves n) ls → GrowsByNames d e → GrowsByNames e h
+pub network_leads : (method : Method) (g d e h : Sig) (p q : PoolContents) (ws us : List Tree) (m : PlainModel) (n : PlainNetwork) (ls left : List PlainLinear) (l named : PlainLinear) → AreLeavesMade method g p d q m (leaves n) ls → GrowsByNames d e → GrowsByNames e h
     → Extends ws us → IsComposed (network_in (record { signature = g; trees = p.trees; model = m }) n) e ws left [] l → SumsAreNamed e h ws us l named → Fits h us named → HaveOwnNames h named → NamingIsGood h us l named
     → LeadsToLinear g (network_process (entries_of g p.trees) m n) h us named
-network_leads g d e h p q ws us m n ls left l named made de eh kept composed sums fits names naming =
+network_leads method g d e h p q ws us m n ls left l named made de eh kept composed sums fits names naming =
     let dh = names_then d e h de eh in
     let own = composed.linear in
     let both = both_by_names e h ws us eh kept in
@@ -111,7 +112,7 @@ network_leads g d e h p q ws us m n ls left l named made de eh kept composed sum
     record {
       stands = eh.stands;
       inhabited = still_inhabited d h made.ready.stands eh.stands dh.grown dh.sorts made.ready.inhabited;
-      grows = grows_then g d h made.ready.stands made.grows (on_names d h made.ready.stands dh).grows;
+      grows = additions_follow g d h made.grows (names_are_additions d h made.ready.stands dh);
       fits = fits;
       identifiers = summands_named sums.names (sums_there e ws l own.fits) composed.identifiers;
       params = subst (ParamsHaveOwnNames h) (sym sums.params) (own_names_stay e h l.params eh.grown (fresh_by_names e h de.stands eh) own.fits.params own.fits.taken own.params);
@@ -131,7 +132,7 @@ from_the_network g b h ts us m n l sg w grow fits same leads =
     record {
       stands = leads.stands;
       inhabited = leads.inhabited;
-      grows = grows_then g b h w.stands (on_names g b sg w).grows leads.grows;
+      grows = additions_follow g b h (names_are_additions g b sg w) leads.grows;
       fits = leads.fits;
       identifiers = leads.identifiers;
       params = leads.params;

@@ -20,15 +20,14 @@ use Rattle.sort_table.specs.declared.building.SortFault.TheVariants as sort
 use Rattle.sort_checker.specs.TextModels.{IsModelOf, IsTypeFaultOf}
 use Rattle.sort_checker.specs.declared.elaborating.TypeFault.{TypeFault}
 use Rattle.sort_checker.specs.declared.elaborating.TypeFault.TheVariants as type
-use Rattle.lin_driver.specs.Faults.{fault_of_lex, fault_of_parse, fault_of_sort, fault_of_type, fault_of_model}
+use Rattle.lin_driver.specs.Faults.{fault_of_lex, fault_of_parse, fault_of_sort, fault_of_type, fault_of_model, IsModelFaultBy, IsFaultBy}
 use Rattle.lin_driver.specs.ModelLinears.{IsModelFaultOf}
 use Rattle.lin_driver.specs.Refusals.{IsParsedAs, IsModelFaultOver, IsSpecFault, IsRefusedWith}
 use Rattle.lin_driver.specs.declared.fault.LinFault.{LinFault}
-use Rattle.lin_driver.specs.declared.fault.LinFault.TheVariants.{Lex, Parse, Sort, «Type», Net, Guard, NotTail, NotBuilt, NoMemory}
+use Rattle.lin_driver.specs.declared.fault.LinFault.TheVariants.{Lex, Parse, Sort, «Type», Net, Guard, NotTail, NoMemory}
 use Rattle.lin_driver.specs.declared.fault.ModelFault.{ModelFault}
 use Rattle.lin_driver.specs.declared.fault.ModelFault.TheVariants as model
 use Rattle.lin_driver.specs.declared.methods.Method.{Method}
-use Rattle.lin_driver.specs.declared.methods.Method.TheVariants.{Auto, Regular, Stack}
 
 abbrev IsRefused : {T : Type 0} → Result T LinFault → List ℕ → List (List ℕ) → Type 0
 IsRefused r text texts = IfErr r (λ given. given ≢ NoMemory → IsRefusedWith text texts given)
@@ -63,7 +62,6 @@ of_spec text spec texts parsed («Type» fault) has = record { spec = spec; pars
 of_spec text spec texts parsed (Net fault) has = record { spec = spec; parsed = parsed; has_fault = has }
 of_spec text spec texts parsed (Guard fault) has = record { spec = spec; parsed = parsed; has_fault = has }
 of_spec text spec texts parsed (NotTail component summand) has = record { spec = spec; parsed = parsed; has_fault = has }
-of_spec text spec texts parsed NotBuilt has = record { spec = spec; parsed = parsed; has_fault = has }
 of_spec text spec texts parsed NoMemory has = absurd has
 
 pub spec_refused : {T : Type 0} (r : Result T LinFault) (text : List ℕ) (spec : PlainSpec) (texts : List (List ℕ)) → IsParsedAs text spec → IfErr r (λ given. given ≢ NoMemory → IsSpecFault spec texts given) → IsRefused r text texts
@@ -94,16 +92,24 @@ module _ (spec : PlainSpec) (g : Sig) (p : PoolContents) (m : PlainModel) (is : 
   over : (fault : ModelFault) → IsModelFaultOf m fault → IsModelFaultOver spec texts fault
   over fault has = record { signature = g; pool = p; model = m; is_model = is; names = names; has_fault = has }
 
-  by_method : (method : Method) (fault : ModelFault) → IsModelFaultOf m fault → fault_of_model method fault ≢ NoMemory → IsSpecFault spec texts (fault_of_model method fault)
-  by_method method (model.Net fault) has some = over (model.Net fault) has
-  by_method method (model.Guard fault) has some = over (model.Guard fault) has
-  by_method Auto (model.NotTail component summand) has some = (component, summand, over (model.NotTail component summand) has)
-  by_method Regular (model.NotTail component summand) has some = over (model.NotTail component summand) has
-  by_method Stack (model.NotTail component summand) has some = (component, summand, over (model.NotTail component summand) has)
-  by_method method model.NoMemory has some = absurd (some refl)
+  by_model : (fault : ModelFault) → IsModelFaultOf m fault → fault_of_model fault ≢ NoMemory → IsSpecFault spec texts (fault_of_model fault)
+  by_model (model.Net fault) has some = over (model.Net fault) has
+  by_model (model.Guard fault) has some = over (model.Guard fault) has
+  by_model (model.NotTail component summand) has some = over (model.NotTail component summand) has
+  by_model model.NoMemory has some = absurd (some refl)
 
-  pub model_refused : (method : Method) (fault : ModelFault) (given : LinFault) → IsModelFaultOf m fault → given ≡ fault_of_model method fault → given ≢ NoMemory → IsSpecFault spec texts given
-  model_refused method fault given has same some = subst (IsSpecFault spec texts) (sym same) (by_method method fault has (λ e. some (same ∙ e)))
+  pub model_refused : (fault : ModelFault) (given : LinFault) → IsModelFaultOf m fault → given ≡ fault_of_model fault → given ≢ NoMemory → IsSpecFault spec texts given
+  model_refused fault given has same some = subst (IsSpecFault spec texts) (sym same) (by_model fault has (λ e. some (same ∙ e)))
+
+-- ---- by which method
+model_by : (method : Method) (fault : ModelFault) → IsModelFaultBy method fault → IsFaultBy method (fault_of_model fault)
+model_by method (model.Net fault) by = tt
+model_by method (model.Guard fault) by = tt
+model_by method (model.NotTail component summand) by = by
+model_by method model.NoMemory by = tt
+
+pub model_fault_by : (method : Method) (fault : ModelFault) (given : LinFault) → IsModelFaultBy method fault → given ≡ fault_of_model fault → IsFaultBy method given
+model_fault_by method fault given by same = subst (IsFaultBy method) (sym same) (model_by method fault by)
 
 -- ---- want of memory alone
 pub if_ok : {T E : Type 0} (r : Result T E) (P Q : T → Type 0) → ((x : T) → P x → Q x) → IfOk r P → IfOk r Q

@@ -29,47 +29,14 @@ use Rattle.lps_core.proofs.Staying.{what_fits_stays}
 use Rattle.lps_core.proofs.StayingFits.{what_fits_fits_still}
 use Rattle.regular_encoder.specs.FormColumns.{ParamsHaveOwnNames}
 use Rattle.sort_table.specs.SignatureVocabularies.{text_under}
-use Rattle.lps_printer.specs.GrowingByConstants.{GrowsByConstants}
+use Rattle.lps_printer.specs.GrowingByAdditions.{GrowsByAdditions}
+use Rattle.lps_printer.proofs.GrowingByAdditions.{still_stands, constants_are_additions}
+use Rattle.lps_printer.proofs.GrowingByConstants.{on_names}
 use Rattle.lin_driver.specs.Parts.{IsLinearFor}
-
--- no name that was taken has become a function's
-abbrev pub NewNamesAreFresh : Sig → Sig → Type 0
-NewNamesAreFresh g h = (n : NameId) → Contains g.taken n → Contains (function_names h) n → Contains (function_names g) n
+use Rattle.lin_driver.proofs.FreshFunctions.{NewNamesAreFresh, fresh_by_additions}
 
 pub fresh_by_names : (g h : Sig) → IsSignature g → GrowsByNames g h → NewNamesAreFresh g h
 fresh_by_names g h s w n t i = subst (λ ns. Contains ns n) (function_names_stay g h s w.grown w.functions) i
-
-abbrev new_name : NameId × SortId → NameId
-new_name c = (declared_function c.0 [] c.1).name
-
-abbrev name_in : Function → NameId
-name_in f = f.name
-
-pub fresh_by_constants : (g h : Sig) → IsSignature g → GrowsByConstants g h → NewNamesAreFresh g h
-fresh_by_constants g h s w n t i = ⊎_elim
-    (λ j. Contains-append_left (list_names g.texts) (table_names g) n (subst (λ ns. Contains ns n) (list_names_stay g h s w.grown) j))
-    (λ j. ⊎_elim (λ k. Contains-append_right (list_names g.texts) (table_names g) n k) (λ k. absurd (never k)) (Contains-append_cases (table_names g) (map new_name w.constants) n (subst (λ ns. Contains ns n) tables j)))
-    (Contains-append_cases (list_names h.texts) (table_names h) n i)
-  where
-    each : (cs : List (NameId × SortId)) → map name_in (map (λ (c : NameId × SortId). declared_function c.0 [] c.1) cs) ≡ map new_name cs
-    each [] = refl
-    each (c ∷ cs) = ap (λ ns. new_name c ∷ ns) (each cs)
-
-    tables : table_names h ≡ table_names g ++ map new_name w.constants
-    tables = ap (map name_in) w.functions ∙ map-append name_in g.functions (map (λ (c : NameId × SortId). declared_function c.0 [] c.1) w.constants) ∙ ap (λ ns. table_names g ++ ns) (each w.constants)
-
-    there : n.0 < length g.texts
-    there = All-contains (λ (m : NameId). m.0 < length g.texts) g.taken n s.complete.within.taken t
-
-    is_taken : IsTaken g (text_under g n)
-    is_taken = (n, slice_get-get_or g.texts n.0 [] there, t)
-
-    never : Contains (map new_name w.constants) n → ⊥
-    never k =
-        let r = contains_map new_name w.constants n k in
-        let free = All-contains (λ (c : NameId × SortId). ¬ (IsTaken g (text_under h c.0))) w.constants r.0 w.taken r.1.0 in
-        let same : text_under h r.0.0 ≡ text_under g n = ap (text_under h) (sym r.1.1) ∙ (entry_stays g.texts h.texts [] n.0 (w.grown.new_texts, w.grown.texts) there).0 in
-        free (subst (IsTaken g) (sym same) is_taken)
 
 -- ---- growth of signature and pool, with nothing but fresh names for functions
 pub record GrowsOnBoth (g h : Sig) (ts us : List Tree) : Type 0 where
@@ -81,8 +48,12 @@ pub record GrowsOnBoth (g h : Sig) (ts us : List Tree) : Type 0 where
 pub both_named : (g h : Sig) (ts us : List Tree) → IsSignature g → GrowsByNames g h → BothGrow g h ts us → GrowsOnBoth g h ts us
 both_named g h ts us s w both = record { old = s; new = w.stands; both = both; fresh = fresh_by_names g h s w }
 
-pub both_constants : (g h : Sig) (ts us : List Tree) → IsSignature g → IsSignature h → GrowsByConstants g h → BothGrow g h ts us → GrowsOnBoth g h ts us
-both_constants g h ts us s r w both = record { old = s; new = r; both = both; fresh = fresh_by_constants g h s w }
+pub both_additions : (g h : Sig) (ts us : List Tree) → IsSignature g → GrowsByAdditions g h → BothGrow g h ts us → GrowsOnBoth g h ts us
+both_additions g h ts us s w both = record { old = s; new = still_stands g s w; both = both; fresh = fresh_by_additions g s w }
+
+-- names alone are no additions
+pub names_are_additions : (g h : Sig) → IsSignature g → GrowsByNames g h → GrowsByAdditions g h
+names_are_additions g h s w = constants_are_additions g h (on_names g h s w).grows w.stands
 
 -- ---- what stays
 pub own_names_stay : (g h : Sig) (xs : List VarId) → IsGrown g h → NewNamesAreFresh g h → All (IsVariable g) xs → All (HasTakenName g) xs → ParamsHaveOwnNames g xs → ParamsHaveOwnNames h xs

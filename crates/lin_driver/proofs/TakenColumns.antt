@@ -1,4 +1,4 @@
--- The names of all variables are taken behind an encoding, where they were before.
+-- The names of all variables are taken behind an encoding, where they were before. Each variable is then an old one, or a parameter.
 use Rattle.std.proofs.Common.{◌≡◌, ◌<◌, ◌⊎◌, inl, inr, ⊎_elim, ℕ, List, [], ◌∷◌, ◌++◌, length, refl, sym, ap, subst, ◌∙◌, arith, length-append, Option}
 use Rattle.std.specs.Prelude.{option_to_list}
 use Rattle.std.specs.List.{All, Contains}
@@ -21,7 +21,7 @@ use Rattle.greibach.specs.PlainForms.{PlainForm}
 use Rattle.greibach.specs.Surroundings.{HasUsableNames}
 use Rattle.regular_encoder.specs.EncodedForms.{IsEncodedForm}
 use Rattle.regular_encoder.specs.FormColumns.{IsOwnName, the_name, a_new_name, IsColumn, a_column, AreColumns, no_column, one_more_column, IsControl, no_control, a_control, IsFirstTerm, an_argument, a_closed_term, AreFirstTerms, no_first_term, one_more_first_term}
-use Rattle.lin_driver.specs.TakenNames.{HaveTakenNames}
+use Rattle.lin_driver.specs.TakenNames.{HaveIdentifiers, HaveTakenNames}
 use Rattle.lin_driver.proofs.NamedVariables.{below_or_last, constants_variables, encoding_named, usable_named, named_usable}
 
 -- ---- each variable is an old one, or a parameter
@@ -59,7 +59,7 @@ firsts_variables : {place : List VarId} {args : List TermId} {g : Sig} {p : Pool
 firsts_variables no_first_term = refl
 firsts_variables (one_more_first_term a k) = first_variables k ∙ firsts_variables a
 
-param_or_old : (g h : Sig) (p q : PoolContents) (f : PlainForm) (l : PlainLinear) → IsEncodedForm g p h q f l → (x : VarId) → IsVariable h x → IsVariable g x ⊎ Contains l.params x
+pub param_or_old : (g h : Sig) (p q : PoolContents) (f : PlainForm) (l : PlainLinear) → IsEncodedForm g p h q f l → (x : VarId) → IsVariable h x → IsVariable g x ⊎ Contains l.params x
 param_or_old g h p q f l e x k =
     let c = e.columns in
     let own : x.0 < length c.with_control.variables = subst (λ vs. x.0 < length vs) (firsts_variables c.values) k in
@@ -73,12 +73,12 @@ param_or_old g h p q f l e x k =
 taken_grown : (g h : Sig) (n : NameId) → IsGrown g h → Contains g.taken n → Contains h.taken n
 taken_grown g h n w i = subst (λ ns. Contains ns n) (sym w.taken) (Contains-append_left g.taken w.new_taken n i)
 
-encoding_taken : (g h : Sig) (p q : PoolContents) (f : PlainForm) (l : PlainLinear) → IsGrown g h → IsEncodedForm g p h q f l → All (HasTakenName h) l.params → HasUsableNames g → HaveTakenNames h (length h.variables)
-encoding_taken g h p q f l w e taken all x k = ⊎_elim
+still_taken : (g h : Sig) (ps : List VarId) → IsGrown g h → ((x : VarId) → IsVariable h x → IsVariable g x ⊎ Contains ps x) → All (HasTakenName h) ps → HasUsableNames g → HaveTakenNames h (length h.variables)
+still_taken g h ps w old taken all x k = ⊎_elim
     (λ o. name_taken h x k (subst (Contains h.taken) (sym (name_kept g h x w o)) (taken_grown g h (name_of g x) w (taken_name g x o (all x o).taken))))
-    (λ i. All-contains (HasTakenName h) l.params x taken i)
-    (param_or_old g h p q f l e x k)
+    (λ i. All-contains (HasTakenName h) ps x taken i)
+    (old x k)
 
--- names that are taken identifiers stay so
-pub encoding_usable : (g h : Sig) (p q : PoolContents) (f : PlainForm) (l : PlainLinear) → FormFits g p.trees f → IsGrown g h → IsEncodedForm g p h q f l → All (HasTakenName h) l.params → HasUsableNames g → HasUsableNames h
-encoding_usable g h p q f l fits w e taken all = named_usable h (encoding_taken g h p q f l w e taken all) (encoding_named g h p q f l fits e (usable_named g all))
+-- names that are taken identifiers stay so, where each new variable is one of these whose names are taken
+pub usable_still : (g h : Sig) (ps : List VarId) → IsGrown g h → ((x : VarId) → IsVariable h x → IsVariable g x ⊎ Contains ps x) → All (HasTakenName h) ps → HaveIdentifiers h → HasUsableNames g → HasUsableNames h
+usable_still g h ps w old taken named all = named_usable h (still_taken g h ps w old taken all) named

@@ -7,7 +7,7 @@ use Rattle.sort_table.specs.declared.building.SortFault.{SortFault}
 use Rattle.sort_table.specs.declared.building.SortFault.TheVariants as sort
 use Rattle.sort_checker.specs.declared.elaborating.TypeFault.{TypeFault}
 use Rattle.sort_checker.specs.declared.elaborating.TypeFault.TheVariants as type
-use Rattle.std.specs.Prelude.{ℕ}
+use Rattle.std.specs.Prelude.{◌≡◌, ℕ}
 use Rattle.proc_unfold.specs.declared.faults.NetFault.{NetFault}
 use Rattle.proc_unfold.specs.declared.faults.NetFault.TheVariants as net
 use Rattle.guard_check.specs.declared.checking.GuardFault.{GuardFault}
@@ -19,7 +19,7 @@ use Rattle.lin_driver.specs.declared.fault.ModelFault.TheVariants.{Net, Guard, N
 use Rattle.lin_driver.specs.declared.fault.LinFault.{LinFault}
 use Rattle.lin_driver.specs.declared.fault.LinFault.TheVariants as lin
 use Rattle.lin_driver.specs.declared.methods.Method.{Method}
-use Rattle.lin_driver.specs.declared.methods.Method.TheVariants.{Auto, Regular, Stack}
+use Rattle.lin_driver.specs.declared.methods.Method.TheVariants.{Regular}
 
 abbrev pub fault_of_net : NetFault → ModelFault
 fault_of_net net.NoMemory = NoMemory
@@ -65,14 +65,25 @@ fault_of_type (type.VariableLeft number) = lin.«Type» (type.VariableLeft numbe
 fault_of_type (type.CommShape number) = lin.«Type» (type.CommShape number)
 fault_of_type (type.RenameTwice number name) = lin.«Type» (type.RenameTwice number name)
 
--- the regular encoder refuses a summand of two calls where it alone was asked for; else it isn't built
-abbrev pub fault_of_tail : Method → ℕ → ℕ → LinFault
-fault_of_tail Auto component summand = lin.NotBuilt
-fault_of_tail Regular component summand = lin.NotTail component summand
-fault_of_tail Stack component summand = lin.NotBuilt
+abbrev pub fault_of_model : ModelFault → LinFault
+fault_of_model (Net fault) = lin.Net fault
+fault_of_model (Guard fault) = lin.Guard fault
+fault_of_model (NotTail component summand) = lin.NotTail component summand
+fault_of_model NoMemory = lin.NoMemory
 
-abbrev pub fault_of_model : Method → ModelFault → LinFault
-fault_of_model method (Net fault) = lin.Net fault
-fault_of_model method (Guard fault) = lin.Guard fault
-fault_of_model method (NotTail component summand) = fault_of_tail method component summand
-fault_of_model method NoMemory = lin.NoMemory
+-- a summand of two calls is a fault by the method `Regular` alone
+abbrev pub IsModelFaultBy : Method → ModelFault → Type 0
+IsModelFaultBy method (Net fault) = Unit {0}
+IsModelFaultBy method (Guard fault) = Unit {0}
+IsModelFaultBy method (NotTail component summand) = method ≡ Regular
+IsModelFaultBy method NoMemory = Unit {0}
+
+abbrev pub IsFaultBy : Method → LinFault → Type 0
+IsFaultBy method (lin.Lex fault) = Unit {0}
+IsFaultBy method (lin.Parse fault) = Unit {0}
+IsFaultBy method (lin.Sort fault) = Unit {0}
+IsFaultBy method (lin.«Type» fault) = Unit {0}
+IsFaultBy method (lin.Net fault) = Unit {0}
+IsFaultBy method (lin.Guard fault) = Unit {0}
+IsFaultBy method (lin.NotTail component summand) = method ≡ Regular
+IsFaultBy method lin.NoMemory = Unit {0}

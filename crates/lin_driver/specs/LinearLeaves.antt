@@ -17,8 +17,10 @@ use Rattle.greibach.specs.Scopes.{HasSequentialBodies, BindsItsVariablesOnce}
 use Rattle.greibach.specs.Surroundings.{HasUsableNames}
 use Rattle.greibach.specs.Tails.{HasTails}
 use Rattle.regular_encoder.specs.Refusals.{IsFirstWithTwoCalls}
-use Rattle.lps_printer.specs.GrowingByConstants.{GrowsByConstants}
+use Rattle.lps_printer.specs.GrowingByAdditions.{GrowsByAdditions}
 use Rattle.lin_driver.specs.Parts.{component_in, IsLinearFor}
+use Rattle.lin_driver.specs.declared.methods.Method.{Method}
+use Rattle.lin_driver.specs.declared.methods.Method.TheVariants.{Regular}
 use Rattle.lin_driver.specs.declared.fault.ModelFault.{ModelFault}
 use Rattle.lin_driver.specs.declared.fault.ModelFault.TheVariants.{Net, Guard, NotTail, NoMemory}
 
@@ -63,18 +65,19 @@ pub record HasLeafWithTwoCalls (m : PlainModel) (cs : List PlainComponent) (numb
   pub earlier : All (HasTailForm m) (take (number - 1) cs)
 
 -- ---- what is made
--- Constants alone were declared, what was asked is still so, and the linear process is that of the component.
-pub record IsLeafMade (g : Sig) (p : PoolContents) (h : Sig) (q : PoolContents) (m : PlainModel) (c : PlainComponent) (l : PlainLinear) : Type 0 where
-  pub grows : GrowsByConstants g h
+-- Structs and constants alone were declared, what was asked is still so, and the linear process is that of the component. By the method
+-- `Regular` it has a tail form.
+pub record IsLeafMade (method : Method) (g : Sig) (p : PoolContents) (h : Sig) (q : PoolContents) (m : PlainModel) (c : PlainComponent) (l : PlainLinear) : Type 0 where
+  pub grows : GrowsByAdditions g h
   pub ready : IsReady h q m
-  pub tail : HasTailForm m c
+  pub tail : method ≡ Regular → HasTailForm m c
   pub linear : IsLinearFor h q.trees (component_in (record { signature = g; trees = p.trees; model = m }) c) l
 
 -- the same for components one after another
-pub record AreLeavesMade (g : Sig) (p : PoolContents) (h : Sig) (q : PoolContents) (m : PlainModel) (cs : List PlainComponent) (ls : List PlainLinear) : Type 0 where
-  pub grows : GrowsByConstants g h
+pub record AreLeavesMade (method : Method) (g : Sig) (p : PoolContents) (h : Sig) (q : PoolContents) (m : PlainModel) (cs : List PlainComponent) (ls : List PlainLinear) : Type 0 where
+  pub grows : GrowsByAdditions g h
   pub ready : IsReady h q m
-  pub tails : All (HasTailForm m) cs
+  pub tails : method ≡ Regular → All (HasTailForm m) cs
   pub linears : AllZip (λ c l. IsLinearFor h q.trees (component_in (record { signature = g; trees = p.trees; model = m }) c) l) cs ls
 
 -- ---- why there is none

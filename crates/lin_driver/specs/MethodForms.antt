@@ -12,6 +12,7 @@ use Rattle.lps_core.specs.GoingOn.{IsGoodOver}
 use Rattle.lps_core.specs.PlainLinears.{PlainLinear, linear_state}
 use Rattle.greibach.specs.Forms.{form_table}
 use Rattle.greibach.specs.PlainForms.{PlainForm, form_of}
+use Rattle.greibach.specs.Surroundings.{HasUsableNames}
 use Rattle.greibach.specs.Tails.{HasTails}
 use Rattle.regular_encoder.specs.EncodedForms.{IsEncodedForm}
 use Rattle.regular_encoder.specs.FormColumns.{ParamsHaveOwnNames}
@@ -20,7 +21,6 @@ use Rattle.regular_encoder.specs.declared.faults.EncodeFault.{EncodeFault}
 use Rattle.regular_encoder.specs.declared.faults.EncodeFault.TheVariants.{NotTail, NoMemory}
 use Rattle.stack_encoder.specs.StackedForms.{IsStackedForm}
 use Rattle.lps_printer.specs.GrowingByAdditions.{GrowsByAdditions}
-use Rattle.lin_driver.specs.TakenNames.{HaveIdentifiers}
 use Rattle.lin_driver.specs.declared.methods.Method.{Method}
 use Rattle.lin_driver.specs.declared.methods.Method.TheVariants.{Auto, Regular, Stack}
 
@@ -40,11 +40,11 @@ pub data IsEncodedBy (m : Method) (g : Sig) (p : PoolContents) (h : Sig) (q : Po
   by_stack : UsesStack m f → IsStackedForm g p h q f l → IsEncodedBy m g p h q f l
 
 -- From the form's start a link leads to the linear process, over every theory that goes on from the signature at the end. Structs and
--- constants were declared meanwhile, and the parameters have names of their own.
+-- constants were declared meanwhile. The names of variables are taken and are identifiers, and the parameters have names of their own.
 pub record LeadsFromForm (g h : Sig) (us : List Tree) (f : PlainForm) (l : PlainLinear) : Type 0 where
   pub grows : GrowsByAdditions g h
   pub fits : Fits h us l
-  pub identifiers : HaveIdentifiers h
+  pub names : HasUsableNames h
   pub params : ParamsHaveOwnNames h l.params
   pub link : Link
   pub bisimilar : IsGoodOver h link (call (form_table (form_of (entries_of h us) f)) 0 (map (term_at (entries_of h us)) f.init)) (linear_state (entries_of h us) l)

@@ -26,7 +26,7 @@ use Rattle.proc_unfold.specs.Parallelism.{IsNetFaultOf}
 use Rattle.proc_unfold.specs.Unfolded.{IsOpened}
 use Rattle.greibach.specs.Scopes.{HaveOwnVariables}
 use Rattle.regular_encoder.specs.FormColumns.{ParamsHaveOwnNames}
-use Rattle.lps_printer.specs.GrowingByConstants.{GrowsByConstants}
+use Rattle.lps_printer.specs.GrowingByAdditions.{GrowsByAdditions}
 use Rattle.lin_driver.specs.FittingOperators.{OperatorsFit, NetworkFits}
 use Rattle.lin_driver.specs.Leaves.{leaves}
 use Rattle.lin_driver.specs.LinearLeaves.{IsReady, IsLeafOf, HasLeafWithTwoCalls}
@@ -53,12 +53,12 @@ pub record CanBeLinearFrom (g : Sig) (p : PoolContents) (m : PlainModel) (n : Pl
   pub leaves_fit : All (IsLeafOf g p.trees m) (leaves n)
   pub operators : NetworkFits g n
 
--- From this process a link leads to the linear process, over every theory that goes on from the signature at the end. Constants alone
--- were declared meanwhile. The parameters and the sums have names of their own.
+-- From this process a link leads to the linear process, over every theory that goes on from the signature at the end. Structs and constants
+-- alone were declared meanwhile. The parameters and the sums have names of their own.
 pub record LeadsToLinear (g : Sig) (p : Process) (h : Sig) (us : List Tree) (l : PlainLinear) : Type 0 where
   pub stands : IsSignature h
   pub inhabited : NoSortIsEmpty (data_meant h)
-  pub grows : GrowsByConstants g h
+  pub grows : GrowsByAdditions g h
   pub fits : Fits h us l
   pub identifiers : HaveIdentifiers h
   pub params : ParamsHaveOwnNames h l.params

@@ -22,7 +22,7 @@ use Rattle.lin_driver.specs.ModelLinears.{IsModelFaultOf}
 use Rattle.lin_driver.specs.declared.fault.ModelFault.{ModelFault}
 use Rattle.lin_driver.specs.declared.fault.ModelFault.TheVariants as model
 use Rattle.lin_driver.specs.declared.fault.LinFault.{LinFault}
-use Rattle.lin_driver.specs.declared.fault.LinFault.TheVariants.{Lex, Parse, Sort, «Type», Net, Guard, NotTail, NotBuilt, NoMemory}
+use Rattle.lin_driver.specs.declared.fault.LinFault.TheVariants.{Lex, Parse, Sort, «Type», Net, Guard, NotTail, NoMemory}
 
 -- the text has tokens, and their declarations have the fault
 pub record HasParseFault (text : List ℕ) (fault : ParseFault) : Type 0 where
@@ -54,7 +54,7 @@ pub record IsModelFaultOver (spec : PlainSpec) (texts : List (List ℕ)) (fault 
   pub names : BeginsWith signature.texts texts
   pub has_fault : IsModelFaultOf model fault
 
--- What isn't built are forms with a summand of two calls. Want of memory is no fault of a specification, nor are those of its tokens and its
+-- Want of memory is no fault of a specification, nor are those of its tokens and its
 -- declarations.
 abbrev pub IsSpecFault : PlainSpec → List (List ℕ) → LinFault → Type 0
 IsSpecFault spec texts (Lex fault) = ⊥
@@ -64,7 +64,6 @@ IsSpecFault spec texts («Type» fault) = IsTypeFaultOver spec texts fault × (f
 IsSpecFault spec texts (Net fault) = IsModelFaultOver spec texts (model.Net fault)
 IsSpecFault spec texts (Guard fault) = IsModelFaultOver spec texts (model.Guard fault)
 IsSpecFault spec texts (NotTail component summand) = IsModelFaultOver spec texts (model.NotTail component summand)
-IsSpecFault spec texts NotBuilt = (component : ℕ) × (summand : ℕ) × IsModelFaultOver spec texts (model.NotTail component summand)
 IsSpecFault spec texts NoMemory = ⊥
 
 -- ---- of a text
@@ -83,5 +82,4 @@ IsRefusedWith text texts («Type» fault) = HasSpecFault text texts («Type» fa
 IsRefusedWith text texts (Net fault) = HasSpecFault text texts (Net fault)
 IsRefusedWith text texts (Guard fault) = HasSpecFault text texts (Guard fault)
 IsRefusedWith text texts (NotTail component summand) = HasSpecFault text texts (NotTail component summand)
-IsRefusedWith text texts NotBuilt = HasSpecFault text texts NotBuilt
 IsRefusedWith text texts NoMemory = ⊥

@@ -16,7 +16,6 @@ ghost use Rattle.lin_driver.specs.ModelLinears.{IsModelFaultOf};
 ghost use Rattle.lin_driver.specs.Refusals.{IsRefusedWith, IsSpecFault};
 
 use crate::fault::{LinFault, ModelFault};
-use crate::methods::Method;
 use crate::reading::read_text;
 use data_theory::{Names, Signature};
 use guard_check::check;
@@ -68,7 +67,7 @@ fn check_spec(
     let model = elaborate(alloc, spec, sig, pool)?;
     match check_model(alloc, &model) {
         Ok(()) => Ok(()),
-        Err(fault) => Err(Method::Auto.fault(fault)),
+        Err(fault) => Err(LinFault::of_model(fault)),
     }
 }
 

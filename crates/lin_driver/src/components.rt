@@ -6,29 +6,32 @@ ghost use Rattle.data_theory.specs.IdTerms.{IsGrown};
 ghost use Rattle.term_pool.specs.Pools.{Extends};
 ghost use Rattle.process_terms.specs.PlainProcesses.{plain_component, plain_model};
 ghost use Rattle.lps_core.specs.PlainLinears.{plain_linear};
+ghost use Rattle.lin_driver.specs.Faults.{IsModelFaultBy};
 ghost use Rattle.lin_driver.specs.LinearLeaves.{AreLeavesMade, IsLeafFaultOf, IsLeafMade, IsLeafOf, IsLeavesFaultOf, IsReady};
 
 use crate::fault::ModelFault;
+use crate::form_encoding::encode_form;
+use crate::methods::Method;
 use data_theory::{NoMemory, Signature};
 use greibach::normal_form;
 use guard_check::Guarded;
 use lps_core::{Linear, signature_stands};
 use process_terms::Component;
-use regular_encoder::encode;
 use std::alloc::Global;
 use std::collections::VecDeque;
 use term_pool::Pool;
 
-/// The linear process of a component with this number.
+/// The linear process of a component with this number, by a method.
 ///
 /// # Errors
 ///
-/// `NotTail` only where the component's form has a summand with two calls, with the number of the first one.
+/// `NotTail` only by the method `Regular` where the component's form has a summand with two calls, with the number of the first one.
 fn linear_of_component(
     alloc: Global,
     guarded: &Guarded<'_>,
     component: &Component,
     number: usize,
+    method: Method,
     sig: &mut Signature,
     pool: &mut Pool,
 ) -> Result<Linear, ModelFault>
@@ -36,12 +39,13 @@ fn linear_of_component(
     requires leaf { IsLeafOf sig.old pool.old.trees (plain_model guarded.now.model.now) (plain_component component.now) }
     ensures grown { IsGrown sig.old sig.new }
     ensures kept { Extends pool.old.trees pool.new.trees }
-    ensures made { IfOk result (λ made. IsLeafMade sig.old pool.old sig.new pool.new (plain_model guarded.now.model.now) (plain_component component.now) (plain_linear made)) }
+    ensures made { IfOk result (λ made. IsLeafMade method sig.old pool.old sig.new pool.new (plain_model guarded.now.model.now) (plain_component component.now) (plain_linear made)) }
     ensures refused { IfErr result (IsLeafFaultOf (plain_model guarded.now.model.now) (plain_component component.now) number) }
+    ensures by { IfErr result (IsModelFaultBy method) }
 {
     signature_stands(sig);
     let form = normal_form(alloc, guarded, sig, pool, component)?;
-    match encode(alloc, &form, sig, pool) {
+    match encode_form(alloc, &form, method, sig, pool) {
         Ok(linear) => Ok(linear),
         Err(fault) => Err(ModelFault::of_component(number, fault)),
     }
@@ -54,16 +58,17 @@ fn put_last(made: &mut VecDeque<Linear>, linear: Linear) -> Result<(), NoMemory>
     Ok(made.push_back(linear)?)
 }
 
-/// The linear processes of components, in their order.
+/// The linear processes of components by a method, in their order.
 ///
 /// # Errors
 ///
-/// `NotTail` only where a component's form has a summand with two calls, with the number of the first such component and that of the
-/// first such summand of its form.
+/// `NotTail` only by the method `Regular` where a component's form has a summand with two calls, with the number of the first such
+/// component and that of the first such summand of its form.
 pub(crate) fn linear_components(
     alloc: Global,
     guarded: &Guarded<'_>,
     components: &[Component],
+    method: Method,
     sig: &mut Signature,
     pool: &mut Pool,
 ) -> Result<VecDeque<Linear>, ModelFault>
@@ -71,13 +76,14 @@ pub(crate) fn linear_components(
     requires leaves { All (IsLeafOf sig.old pool.old.trees (plain_model guarded.now.model.now)) (map plain_component components.now) }
     ensures grown { IsGrown sig.old sig.new }
     ensures kept { Extends pool.old.trees pool.new.trees }
-    ensures made { IfOk result (λ made. AreLeavesMade sig.old pool.old sig.new pool.new (plain_model guarded.now.model.now) (map plain_component components.now) (map plain_linear made.items)) }
+    ensures made { IfOk result (λ made. AreLeavesMade method sig.old pool.old sig.new pool.new (plain_model guarded.now.model.now) (map plain_component components.now) (map plain_linear made.items)) }
     ensures refused { IfErr result (IsLeavesFaultOf (plain_model guarded.now.model.now) (map plain_component components.now)) }
+    ensures by { IfErr result (IsModelFaultBy method) }
 {
     signature_stands(sig);
     let mut made = VecDeque::new(alloc);
     for (place, component) in components.iter().enumerate() {
-        let linear = linear_of_component(alloc, guarded, component, place + 1, sig, pool)?;
+        let linear = linear_of_component(alloc, guarded, component, place + 1, method, sig, pool)?;
         put_last(&mut made, linear)?;
     }
     Ok(made)

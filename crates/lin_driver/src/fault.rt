@@ -1,7 +1,7 @@
 //! Why a specification or a text has no linear process.
 
 ghost use Rattle.std.specs.Prelude.{◌≡◌};
-ghost use Rattle.lin_driver.specs.Faults.{fault_of_encode, fault_of_guard, fault_of_lex, fault_of_net, fault_of_parse, fault_of_sort, fault_of_type};
+ghost use Rattle.lin_driver.specs.Faults.{fault_of_encode, fault_of_guard, fault_of_lex, fault_of_model, fault_of_net, fault_of_parse, fault_of_sort, fault_of_type};
 ghost use Rattle.lin_driver.specs.declared.fault.LinFault.TheVariants as lin;
 ghost use Rattle.lin_driver.specs.declared.fault.ModelFault.TheVariants.{NoMemory};
 
@@ -89,8 +89,6 @@ pub enum LinFault {
     /// The component with the first number is the first one whose form isn't tail, the summand with the second number is the first of
     /// that form with two calls, and the regular encoder alone was asked for. Both count from 1.
     NotTail(usize, usize),
-    /// A component's form has a summand with two calls.
-    NotBuilt,
     /// No memory was left.
     NoMemory,
 }
@@ -100,6 +98,20 @@ impl From<data::NoMemory> for LinFault {
 
     fn from(_: data::NoMemory) -> Self {
         LinFault::NoMemory
+    }
+}
+
+impl LinFault {
+    /// The fault of a text whose specification has this fault.
+    pub(crate) fn of_model(fault: ModelFault) -> Self
+        ensures { result ≡ fault_of_model fault }
+    {
+        match fault {
+            ModelFault::Net(fault) => LinFault::Net(fault),
+            ModelFault::Guard(fault) => LinFault::Guard(fault),
+            ModelFault::NotTail(component, summand) => LinFault::NotTail(component, summand),
+            ModelFault::NoMemory => LinFault::NoMemory,
+        }
     }
 }
 

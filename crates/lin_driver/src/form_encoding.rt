@@ -10,12 +10,12 @@ ghost use Rattle.term_pool.specs.Pools.{Extends};
 ghost use Rattle.lps_core.specs.PlainLinears.{plain_linear};
 ghost use Rattle.greibach.specs.FittingForms.{FormFits};
 ghost use Rattle.greibach.specs.PlainForms.{plain_form};
+ghost use Rattle.greibach.specs.Surroundings.{HasUsableNames};
 ghost use Rattle.greibach.specs.Tails.{HasTails};
 ghost use Rattle.regular_encoder.specs.EncodedForms.{IsEncodedForm};
 ghost use Rattle.regular_encoder.specs.Refusals.{IsEncodeFaultOf};
 ghost use Rattle.stack_encoder.specs.StackedForms.{IsStackedForm};
 ghost use Rattle.lin_driver.specs.MethodForms.{IsEncodedBy, IsMethodFaultOf, IsTailFor, LeadsFromForm, UsesStack};
-ghost use Rattle.lin_driver.specs.TakenNames.{HaveIdentifiers};
 
 use crate::methods::Method;
 use data_theory::{NoMemory, Signature};
@@ -48,7 +48,7 @@ fn encode_with_columns(
     requires form { FormFits sig.old pool.old.trees (plain_form form.now) }
     requires inhabited { NoSortIsEmpty (data_meant sig.old) }
     requires constants { AreConstants sig.old pool.old.constants }
-    requires names { HaveIdentifiers sig.old }
+    requires names { HasUsableNames sig.old }
     ensures stands { OnOk result (IsSignature sig.new) }
     ensures inhabited { OnOk result (NoSortIsEmpty (data_meant sig.new)) }
     ensures grown { IsGrown sig.old sig.new }
@@ -74,7 +74,7 @@ fn encode_with_stack(
     requires form { FormFits sig.old pool.old.trees (plain_form form.now) }
     requires inhabited { NoSortIsEmpty (data_meant sig.old) }
     requires constants { AreConstants sig.old pool.old.constants }
-    requires names { HaveIdentifiers sig.old }
+    requires names { HasUsableNames sig.old }
     ensures stands { OnOk result (IsSignature sig.new) }
     ensures inhabited { OnOk result (NoSortIsEmpty (data_meant sig.new)) }
     ensures grown { IsGrown sig.old sig.new }
@@ -107,7 +107,7 @@ pub fn encode_form(
     requires form { FormFits sig.old pool.old.trees (plain_form form.now) }
     requires inhabited { NoSortIsEmpty (data_meant sig.old) }
     requires constants { AreConstants sig.old pool.old.constants }
-    requires names { HaveIdentifiers sig.old }
+    requires names { HasUsableNames sig.old }
     ensures stands { OnOk result (IsSignature sig.new) }
     ensures inhabited { OnOk result (NoSortIsEmpty (data_meant sig.new)) }
     ensures grown { IsGrown sig.old sig.new }

@@ -8,6 +8,7 @@ ghost use Rattle.lps_core.specs.Fitting.{Fits};
 ghost use Rattle.lps_core.specs.PlainLinears.{plain_linear};
 ghost use Rattle.lps_printer.specs.PrintedLinears.{IsPrinted};
 ghost use Rattle.lin_driver.specs.Accepted.{CanBeLinearised};
+ghost use Rattle.lin_driver.specs.Faults.{IsFaultBy};
 ghost use Rattle.lin_driver.specs.Headline.{StandsFor};
 ghost use Rattle.lin_driver.specs.Refusals.{IsRefusedWith};
 
@@ -40,19 +41,25 @@ fn print_out(alloc: Global, made: Linearised) -> Result<Vec<u8>, LinFault>
     Ok(text)
 }
 
-/// The text of the linear process of a text whose components have tail forms.
+/// The text of the linear process of a text by a method.
 ///
-/// It stands for the given text: it has the same data and at most constants behind them, and where these are consistent, both processes
+/// It stands for the given text: it has the same data and at most structs and constants behind them, and where these are consistent, both processes
 /// are bisimilar by a named link (Groote and Mousavi, strong bisimilarity).
 ///
 /// # Errors
 ///
-/// Those of [`linearise`](crate::linearise) with the method `Auto`.
-pub fn linear_text(alloc: Global, text: &[u8], names: &mut Names) -> Result<Vec<u8>, LinFault>
+/// Those of [`linearise`](crate::linearise) with that method.
+pub fn linear_text(
+    alloc: Global,
+    text: &[u8],
+    names: &mut Names,
+    method: Method,
+) -> Result<Vec<u8>, LinFault>
     ensures accepted { OnOk result (CanBeLinearised text.now) }
     ensures stands_for { IfOk result (λ printed. StandsFor text.now printed.items) }
     ensures refused { IfErr result (λ fault. fault ≢ LinFault.NoMemory → IsRefusedWith text.now names.new fault) }
+    ensures by { IfErr result (IsFaultBy method) }
 {
-    let made = linearise(alloc, text, names, Method::Auto)?;
+    let made = linearise(alloc, text, names, method)?;
     print_out(alloc, made)
 }

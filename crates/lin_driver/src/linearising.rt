@@ -11,6 +11,7 @@ ghost use Rattle.sort_table.specs.Built.{IsBuilt};
 ghost use Rattle.sort_checker.specs.FullVocabularies.{FullVocabulary};
 ghost use Rattle.sort_checker.specs.TextModels.{HasOneStart};
 ghost use Rattle.lin_driver.specs.Accepted.{CanBeLinearised, IsGuardedSystem};
+ghost use Rattle.lin_driver.specs.Faults.{IsFaultBy};
 ghost use Rattle.lin_driver.specs.Linearised.{HasComponents, IsLinearised, IsMadeFor, IsMadeOf};
 ghost use Rattle.lin_driver.specs.Refusals.{IsRefusedWith, IsSpecFault};
 
@@ -81,11 +82,12 @@ fn linear_of_spec(
     ensures made { IfOk result (λ made. IsMadeFor (spec_of spec.now) sig.new pool.new.trees (map plain_equation made.0.equations.items) made.1 (plain_linear made.2)) }
     ensures components { IfOk result (λ made. HasComponents (spec_of spec.now) made.3) }
     ensures refused { IfErr result (λ fault. fault ≢ LinFault.NoMemory → IsSpecFault (spec_of spec.now) sig.new.texts fault) }
+    ensures by { IfErr result (IsFaultBy method) }
 {
     let model = elaborate(alloc, spec, sig, pool)?;
-    match linear_of(alloc, &model, sig, pool) {
+    match linear_of(alloc, &model, method, sig, pool) {
         Ok((name, lin, components)) => Ok((equations_of(model), name, lin, components)),
-        Err(fault) => Err(method.fault(fault)),
+        Err(fault) => Err(LinFault::of_model(fault)),
     }
 }
 
@@ -109,6 +111,7 @@ fn linear_of_built(
     ensures made { IfOk result (λ made. IsMadeFor (spec_of made.spec) made.sig made.pool.trees (map plain_equation made.theory.equations.items) made.name (plain_linear made.lin)) }
     ensures components { IfOk result (λ made. HasComponents (spec_of made.spec) made.components) }
     ensures refused { IfErr result (λ fault. fault ≢ LinFault.NoMemory → IsSpecFault (spec_of spec) names.new fault) }
+    ensures by { IfErr result (IsFaultBy method) }
 {
     let mut sig = sig;
     let _ = sig.next_sort();
@@ -130,31 +133,31 @@ fn linear_of_built(
     }
 }
 
-/// The linear process of a text whose components have tail forms, with all that it was made of.
+/// The linear process of a text by a method, with all that it was made of.
 ///
 /// The process that the text specifies is bisimilar to the linear one, over every theory whose data go on from the signature and are
-/// consistent. Constants for sorts without constructors may have been declared, and nothing else is new to the data. The text is one that
-/// [`check_text`](crate::check_text) accepts.
+/// consistent. Constants for sorts without constructors and structs of stacks may have been declared, and nothing else is new to the data.
+/// The text is one that [`check_text`](crate::check_text) accepts.
 ///
 /// # Errors
 ///
 /// The first of these: `Lex` where the text has no tokens that are accepted; `Parse` where one of its declarations nests too deeply or
 /// spells none, or where not exactly one is in an `init` section; `Sort` where what they declare has a fault; `Type` where the text is ill
-/// typed; `Net` where parallelism doesn't stand outside recursion; `Guard` where recursion isn't guarded; and for a component whose form
-/// has a summand of two calls `NotTail` with the method `Regular`, else `NotBuilt`. `names`, which is to be empty, then has the text of
-/// each name that the fault lists. `NoMemory` comes only where memory runs out.
+/// typed; `Net` where parallelism doesn't stand outside recursion; `Guard` where recursion isn't guarded; and by the method `Regular`
+/// `NotTail` for a component whose form has a summand of two calls. `names`, which is to be empty, then has the text of each name that
+/// the fault lists. `NoMemory` comes only where memory runs out.
 pub fn linearise(
     alloc: Global,
     text: &[u8],
     names: &mut Names,
     method: Method,
 ) -> Result<Linearised, LinFault>
-    requires method { method ≢ Method.Stack }
     ensures accepted { OnOk result (CanBeLinearised text.now) }
     ensures made { IfOk result (λ made. IsMadeOf text.now (spec_of made.spec) made.sig made.pool.trees (map plain_equation made.theory.equations.items) made.name (plain_linear made.lin)) }
     ensures linearised { IfOk result (λ made. IsLinearised text.now (spec_of made.spec) made.sig made.pool.trees (plain_linear made.lin)) }
     ensures components { IfOk result (λ made. HasComponents (spec_of made.spec) made.components) }
     ensures refused { IfErr result (λ fault. fault ≢ LinFault.NoMemory → IsRefusedWith text.now names.new fault) }
+    ensures by { IfErr result (IsFaultBy method) }
 {
     let (spec, sig) = read_text(alloc, text, names)?;
     linear_of_built(alloc, spec, sig, names, method)

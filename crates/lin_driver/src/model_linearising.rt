@@ -12,6 +12,7 @@ ghost use Rattle.lps_core.specs.PlainLinears.{plain_linear};
 ghost use Rattle.proc_unfold.specs.Networks.{network_process, plain_network};
 ghost use Rattle.proc_unfold.specs.Parallelism.{StandsOutsideRecursion};
 ghost use Rattle.greibach.specs.Surroundings.{HasUsableNames};
+ghost use Rattle.lin_driver.specs.Faults.{IsModelFaultBy};
 ghost use Rattle.lin_driver.specs.Leaves.{leaves, HasLeaves};
 ghost use Rattle.lin_driver.specs.LinearLeaves.{IsLeavesFaultOf};
 ghost use Rattle.lin_driver.specs.ModelLinears.{CanBeLinear, CanBeLinearFrom, IsModelFaultOf, IsProcessName, LeadsToLinear};
@@ -21,6 +22,7 @@ use crate::components::linear_components;
 use crate::composing::compose;
 use crate::fault::ModelFault;
 use crate::leaves::leaves_of;
+use crate::methods::Method;
 use crate::variable_names::take_variable_names;
 use data_theory::{NameId, NoMemory, Signature};
 use guard_check::{Guarded, check};
@@ -43,16 +45,17 @@ fn name_process(alloc: Global, sig: &mut Signature) -> Result<NameId, NoMemory>
     Ok(name)
 }
 
-/// The linear process of the network of a specification whose recursion is guarded, with the number of its components.
+/// The linear process of the network of a specification whose recursion is guarded, by a method, with the number of its components.
 ///
 /// # Errors
 ///
-/// `NotTail` only where a component's form has a summand with two calls, with the number of the first such component and that of the
-/// first such summand of its form.
+/// `NotTail` only by the method `Regular` where a component's form has a summand with two calls, with the number of the first such
+/// component and that of the first such summand of its form.
 fn linear_of_network(
     alloc: Global,
     guarded: &Guarded<'_>,
     network: &Network,
+    method: Method,
     sig: &mut Signature,
     pool: &mut Pool,
 ) -> Result<(Linear, usize), ModelFault>
@@ -62,27 +65,30 @@ fn linear_of_network(
     ensures linear { IfOk result (λ made. LeadsToLinear sig.old (network_process (entries_of sig.old pool.old.trees) (plain_model guarded.now.model.now) (plain_network network.now)) sig.new pool.new.trees (plain_linear made.0)) }
     ensures components { IfOk result (λ made. made.1 ≡ length (leaves (plain_network network.now))) }
     ensures refused { IfErr result (IsLeavesFaultOf (plain_model guarded.now.model.now) (leaves (plain_network network.now))) }
+    ensures by { IfErr result (IsModelFaultBy method) }
 {
     signature_stands(sig);
     let components = leaves_of(alloc, network)?;
-    let mut parts = linear_components(alloc, guarded, components.as_slice(), sig, pool)?;
+    let mut parts = linear_components(alloc, guarded, components.as_slice(), method, sig, pool)?;
     let composed = compose(alloc, network, &mut parts, sig, pool)?;
     let named = name_sums(alloc, composed, sig, pool)?;
     Ok((named, components.len()))
 }
 
-/// The linear process of a specification, with the name of its process and the number of the components of its network.
+/// The linear process of a specification by a method, with the name of its process and the number of the components of its network.
 ///
 /// The process gets its name first. Then the components are made linear from the left, then come the products and the operators from the
 /// inside, and the sums get their names last.
 ///
 /// # Errors
 ///
-/// Those of `unfold`, exactly as there. Then those of `check`, exactly as there, and `NotTail` only where a component's form has a
-/// summand with two calls, with the number of the first such component and that of the first such summand of its form.
+/// Those of `unfold`, exactly as there. Then those of `check`, exactly as there, and `NotTail` only by the method `Regular` where a
+/// component's form has a summand with two calls, with the number of the first such component and that of the first such summand of its
+/// form.
 pub fn linear_of(
     alloc: Global,
     model: &Model,
+    method: Method,
     sig: &mut Signature,
     pool: &mut Pool,
 ) -> Result<(NameId, Linear, usize), ModelFault>
@@ -95,11 +101,12 @@ pub fn linear_of(
     ensures outside { IfOk result (λ _. StandsOutsideRecursion (plain_model model.now)) }
     ensures guarded { IfOk result (λ _. IsGuardedModel (plain_model model.now)) }
     ensures refused { IfErr result (IsModelFaultOf (plain_model model.now)) }
+    ensures by { IfErr result (IsModelFaultBy method) }
 {
     signature_stands(sig);
     let network = unfold(alloc, model, pool)?;
     let guarded = check(alloc, model)?;
     let name = name_process(alloc, sig)?;
-    let (linear, components) = linear_of_network(alloc, &guarded, &network, sig, pool)?;
+    let (linear, components) = linear_of_network(alloc, &guarded, &network, method, sig, pool)?;
     Ok((name, linear, components))
 }

@@ -92,7 +92,6 @@ refusal_line texts (lin.«Type» fault) = type_line texts fault
 refusal_line texts (lin.Net fault) = net_line texts fault
 refusal_line texts (lin.Guard fault) = guard_line texts fault
 refusal_line texts (lin.NotTail component summand) = codes "refused 21 NotTail" ++ spaced (decimal component) ++ spaced (decimal summand) ++ codes "\n"
-refusal_line texts lin.NotBuilt = codes "refused 90 NotBuilt\n"
 refusal_line texts lin.NoMemory = no_memory_line
 
 -- these names have a text

@@ -28,7 +28,6 @@ pub fn refusal(alloc: Global, names: &Names, fault: &LinFault) -> Result<Vec<u8>
         LinFault::Net(fault) => net_refusal(alloc, names, fault),
         LinFault::Guard(fault) => guard_refusal(alloc, names, fault),
         LinFault::NotTail(component, summand) => tail_refusal(alloc, *component, *summand),
-        LinFault::NotBuilt => Vec::from_slice(alloc, b"refused 90 NotBuilt\n"),
         LinFault::NoMemory => Vec::from_slice(alloc, b"no memory\n"),
     }
 }

@@ -3,14 +3,14 @@
 use crate::refusals::refusal;
 use crate::texts::{push_line, text_of};
 use data_theory::Names;
-use lin_driver::{check_text, linear_text};
+use lin_driver::{Method, check_text, linear_text};
 use std::alloc::{AllocError, Global};
 
 /// What is printed for a text, as a line, or the line that says why there is nothing.
 fn answer_to(alloc: Global, text: &[u8]) -> Result<Vec<u8>, AllocError> {
     let mut names = Names::new(alloc);
     let mut out = Vec::new(alloc);
-    match linear_text(alloc, text, &mut names) {
+    match linear_text(alloc, text, &mut names, Method::Auto) {
         Ok(printed) => push_line(&mut out, &printed)?,
         Err(fault) => out.extend_from_slice(refusal(alloc, &names, &fault)?.as_bytes())?,
     }

@@ -135,7 +135,6 @@ pub fn refusal(alloc: Global, names: &Names, fault: &LinFault) -> Result<String,
         LinFault::NotTail(component, summand) => {
             format!(in alloc; "refused 21 NotTail {component} {summand}")
         }
-        LinFault::NotBuilt => String::from_str(alloc, "refused 90 NotBuilt"),
         LinFault::NoMemory => String::from_str(alloc, "no memory"),
     }
 }

@@ -7,7 +7,6 @@ use Rattle.process_terms.specs.PlainProcesses.{plain_model}
 use Rattle.proc_unfold.proofs.WellFormed.{well_formed_calls}
 use Rattle.sort_checker.specs.Additions.{nothing}
 use Rattle.sort_checker.proofs.WholeModels.{built_signatures_are_of_their_texts}
-use Rattle.lin_driver.specs.declared.methods.Method.TheVariants.{Auto}
 use Rattle.lin_driver.proofs.AcceptedTexts.{accepted_model}
 use Rattle.lin_driver.proofs.MadeLinears.{model_can_be_linear}
 use Rattle.lin_driver.proofs.Refused.{type_refused, model_refused}
@@ -37,9 +36,9 @@ pub returns-in-Ok-clause-accepted : goal.returns-in-Ok-clause-accepted
 returns-in-Ok-clause-accepted c = accepted_model (spec_of c.args.spec.now) c.elaborate.new.sig c.elaborate.new.pool (plain_model c.in_ok-model.model) c.in_ok-model.ensures.means c.in-Ok.ensures.outside c.in-Ok.ensures.guarded
 
 pub returns-clause-of_the_text : goal.returns-clause-of_the_text
-returns-clause-of_the_text c = model_of_the_text Auto c.in-Err.fault c.fault.result c.in-Err.ensures.up_to_recursion c.fault.ensures
+returns-clause-of_the_text c = model_of_the_text c.in-Err.fault c.of_model.result c.in-Err.ensures.up_to_recursion c.of_model.ensures
 
 pub returns-clause-refused : goal.returns-clause-refused
 returns-clause-refused c =
     model_refused (spec_of c.args.spec.now) c.elaborate.new.sig c.elaborate.new.pool (plain_model c.in_ok-model.model) c.in_ok-model.ensures.means c.elaborate.new.sig.texts ([], sym (append-nil c.elaborate.new.sig.texts))
-    Auto c.in-Err.fault c.fault.result c.in-Err.ensures.refused c.fault.ensures
+    c.in-Err.fault c.of_model.result c.in-Err.ensures.refused c.of_model.ensures

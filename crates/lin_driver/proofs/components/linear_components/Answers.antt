@@ -1,9 +1,12 @@
 use Rattle.std.proofs.Common.{List, [], ◌∷◌, ◌++◌, map, take, sym, subst}
+use Rattle.data_theory.proofs.IdGrowthLemmas.{growth_after_growth_is_growth}
 use Rattle.lps_core.specs.declared.linears.Linear.{Linear}
 use Rattle.lps_core.specs.PlainLinears.{PlainLinear, plain_linear}
 use Rattle.lps_core.proofs.PoolTrees.{extends_itself, extends_on}
 use Rattle.process_terms.specs.PlainProcesses.{PlainComponent, plain_component, plain_model}
 use Rattle.process_terms.specs.SignatureEntries.{BothGrow}
+use Rattle.lps_printer.proofs.GrowingByAdditions.{additions_grow}
+use Rattle.lin_driver.specs.Faults.{IsModelFaultBy}
 use Rattle.lin_driver.specs.LinearLeaves.{AreLeavesMade, IsLeafOf, IsLeavesFaultOf}
 use Rattle.lin_driver.proofs.MadeLeaves.{leaf_grows, none_made, one_more_made, leaves_fault, passed_on, one_of_slice, slice_more}
 use Rattle.lin_driver.proofs.components.linear_components.Goals as goal
@@ -13,7 +16,7 @@ loop-place-init c =
     let g = c.args.sig.now in
     let p = c.args.pool.now in
     let m = plain_model c.args.guarded.now.model.now in (
-      subst (λ (ls : List Linear). AreLeavesMade g p g p m [] (map plain_linear ls)) (sym c.new-made.ensures.items) (none_made g p m c.requires.ready),
+      subst (λ (ls : List Linear). AreLeavesMade c.args.method g p g p m [] (map plain_linear ls)) (sym c.new-made.ensures.items) (none_made c.args.method g p m c.requires.ready),
       extends_itself p.trees,
     )
 
@@ -24,7 +27,7 @@ linear_of_component-requires-clause-leaf c =
     let ts = c.args.pool.now.trees in
     let us = c.loop-place.pool.trees in
     let m = plain_model c.args.guarded.now.model.now in
-    let both : BothGrow g h ts us = record { signature = c.loop-place.invariant.0.grows.grown; pool = c.loop-place.invariant.1 } in
+    let both : BothGrow g h ts us = record { signature = additions_grow g c.requires.ready.stands c.loop-place.invariant.0.grows; pool = c.loop-place.invariant.1 } in
     leaf_grows g h ts us m c.requires.ready.stands both c.requires.ready.fits (plain_component c.index-components-place.result)
     (one_of_slice (IsLeafOf g ts m) c.args.components.now c.loop-place.place c.index-components-place.result c.loop-place-test.true c.index-components-place.is c.requires.leaves)
 
@@ -32,7 +35,21 @@ pub returns-in_err-linear-clause-refused : goal.returns-in_err-linear-clause-ref
 returns-in_err-linear-clause-refused c =
     let m = plain_model c.args.guarded.now.model.now in
     passed_on (IsLeavesFaultOf m (map plain_component c.args.components.now)) c.from_residual.result c.in_err-linear.field-0.0
-    (leaves_fault m c.args.components.now c.loop-place.place c.index-components-place.result c.in_err-linear.field-0.0 c.loop-place-test.true c.index-components-place.is c.loop-place.invariant.0.tails c.in_err-linear.ensures.refused) c.from_residual.ensures.1
+    (leaves_fault c.args.method m c.args.components.now c.loop-place.place c.index-components-place.result c.in_err-linear.field-0.0 c.loop-place-test.true c.index-components-place.is c.loop-place.invariant.0.tails c.in_err-linear.ensures.by c.in_err-linear.ensures.refused) c.from_residual.ensures.1
+
+pub returns-in_err-linear-clause-grown : goal.returns-in_err-linear-clause-grown
+returns-in_err-linear-clause-grown c =
+    growth_after_growth_is_growth c.args.sig.now c.loop-place.sig c.linear_of_component.new.sig (additions_grow c.args.sig.now c.requires.ready.stands c.loop-place.invariant.0.grows) c.linear_of_component.ensures.grown
+
+pub returns-in_err-put_last-clause-grown : goal.returns-in_err-put_last-clause-grown
+returns-in_err-put_last-clause-grown c =
+    growth_after_growth_is_growth c.args.sig.now c.loop-place.sig c.linear_of_component.new.sig (additions_grow c.args.sig.now c.requires.ready.stands c.loop-place.invariant.0.grows) c.linear_of_component.ensures.grown
+
+pub returns-clause-grown : goal.returns-clause-grown
+returns-clause-grown c = additions_grow c.args.sig.now c.requires.ready.stands c.loop-place.invariant.0.grows
+
+pub returns-in_err-linear-clause-by : goal.returns-in_err-linear-clause-by
+returns-in_err-linear-clause-by c = passed_on (IsModelFaultBy c.args.method) c.from_residual.result c.in_err-linear.field-0.0 c.in_err-linear.ensures.by c.from_residual.ensures.1
 
 pub loop-place-preserved : goal.loop-place-preserved
 loop-place-preserved c =
@@ -50,8 +67,8 @@ loop-place-preserved c =
     let ls = map plain_linear c.loop-place.made.items in
     let l = plain_linear c.in_ok-linear.linear in
     let leaf = one_of_slice (IsLeafOf g p.trees m) xs k x c.loop-place-test.true c.index-components-place.is c.requires.leaves in
-    let made = one_more_made g h i p q r m cs ls (plain_component x) l c.requires.ready leaf c.loop-place.invariant.1 c.linear_of_component.ensures.kept c.loop-place.invariant.0 c.in_ok-linear.ensures.made in (
-      subst (λ (cs : List PlainComponent). AreLeavesMade g p i r m cs (map plain_linear c.put_last.new.made.items)) (sym (slice_more xs k x c.loop-place-test.true c.index-components-place.is))
-          (subst (λ (ls : List PlainLinear). AreLeavesMade g p i r m (cs ++ plain_component x ∷ []) ls) (sym c.in_ok-put_last.ensures) made),
+    let made = one_more_made c.args.method g h i p q r m cs ls (plain_component x) l c.requires.ready leaf c.loop-place.invariant.1 c.linear_of_component.ensures.kept c.loop-place.invariant.0 c.in_ok-linear.ensures.made in (
+      subst (λ (cs : List PlainComponent). AreLeavesMade c.args.method g p i r m cs (map plain_linear c.put_last.new.made.items)) (sym (slice_more xs k x c.loop-place-test.true c.index-components-place.is))
+          (subst (λ (ls : List PlainLinear). AreLeavesMade c.args.method g p i r m (cs ++ plain_component x ∷ []) ls) (sym c.in_ok-put_last.ensures) made),
       extends_on p.trees q.trees r.trees c.loop-place.invariant.1 c.linear_of_component.ensures.kept,
     )

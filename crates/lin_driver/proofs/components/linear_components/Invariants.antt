@@ -7,4 +7,4 @@ use Rattle.lin_driver.proofs.components.linear_components.Given as goal
 
 abbrev pub invariant-loop-place : goal.invariant-loop-place
 invariant-loop-place l =
-    AreLeavesMade l.fn.sig l.fn.pool l.sig l.pool (plain_model l.guarded.model.now) (map plain_component (take l.place l.components)) (map plain_linear l.made.items) × Extends l.fn.pool.trees l.pool.trees
+    AreLeavesMade l.method l.fn.sig l.fn.pool l.sig l.pool (plain_model l.guarded.model.now) (map plain_component (take l.place l.components)) (map plain_linear l.made.items) × Extends l.fn.pool.trees l.pool.trees

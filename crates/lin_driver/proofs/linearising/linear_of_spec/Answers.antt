@@ -10,7 +10,7 @@ use Rattle.sort_checker.proofs.WholeModels.{built_signatures_are_of_their_texts}
 use Rattle.lps_printer.proofs.GrowingByConstants.{still_taken}
 use Rattle.lin_driver.proofs.AcceptedTexts.{accepted_model}
 use Rattle.lin_driver.proofs.MadeLinears.{model_can_be_linear}
-use Rattle.lin_driver.proofs.Refused.{type_refused, model_refused}
+use Rattle.lin_driver.proofs.Refused.{type_refused, model_refused, model_fault_by}
 use Rattle.lin_driver.proofs.linearising.linear_of_spec.Goals as goal
 
 pub elaborate-requires : goal.elaborate-requires
@@ -55,7 +55,10 @@ returns-in-Ok-clause-made c =
 pub returns-in-Err-clause-refused : goal.returns-in-Err-clause-refused
 returns-in-Err-clause-refused c =
     model_refused (spec_of c.args.spec.now) c.elaborate.new.sig c.elaborate.new.pool (plain_model c.in_ok-model.model) c.in_ok-model.ensures.means c.linear_of.new.sig.texts (c.linear_of.ensures.grown.new_texts, c.linear_of.ensures.grown.texts)
-    c.args.method c.in-Err.fault c.fault.result c.in-Err.ensures.refused c.fault.ensures
+    c.in-Err.fault c.of_model.result c.in-Err.ensures.refused c.of_model.ensures
+
+pub returns-in-Err-clause-by : goal.returns-in-Err-clause-by
+returns-in-Err-clause-by c = model_fault_by c.args.method c.in-Err.fault c.of_model.result c.in-Err.ensures.by c.of_model.ensures
 
 pub returns-in-Ok-clause-components : goal.returns-in-Ok-clause-components
 returns-in-Ok-clause-components c = record { signature = c.elaborate.new.sig; pool = c.elaborate.new.pool; model = plain_model c.in_ok-model.model; is_model = c.in_ok-model.ensures.means; leaves = c.in-Ok.ensures.components }

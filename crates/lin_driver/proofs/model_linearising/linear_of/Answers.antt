@@ -7,10 +7,12 @@ use Rattle.lps_core.proofs.PoolTrees.{extends_itself}
 use Rattle.proc_unfold.specs.Networks.{network_process, plain_network}
 use Rattle.proc_unfold.proofs.WellFormed.{well_formed_calls}
 use Rattle.greibach.proofs.GrownFits.{both_by_names}
+use Rattle.lin_driver.specs.Faults.{IsModelFaultBy}
 use Rattle.lin_driver.specs.Leaves.{leaves}
 use Rattle.lin_driver.specs.LinearLeaves.{IsLeavesFaultOf}
 use Rattle.lin_driver.specs.ModelLinears.{CanBeLinearFrom, LeadsToLinear}
 use Rattle.lin_driver.proofs.GrownModels.{model_grows}
+use Rattle.lin_driver.proofs.MadeLeaves.{passed_on}
 use Rattle.lin_driver.proofs.ModelLinears.{network_can_be_linear, from_the_network, leaves_refused}
 use Rattle.lin_driver.proofs.ProcessNames.{name_stays}
 use Rattle.lin_driver.proofs.model_linearising.linear_of.Goals as goal
@@ -56,3 +58,6 @@ pub returns-in_err-linear-clause-refused : goal.returns-in_err-linear-clause-ref
 returns-in_err-linear-clause-refused c =
     leaves_refused c.from_residual-in_err-linear.result (plain_model c.args.model.now) c.unfold.new.pool.trees (plain_network c.in_ok-network.network) c.in_err-linear.field-0.0 c.in_ok-network.ensures.opened
     (subst (λ z. IsLeavesFaultOf (plain_model z) (leaves (plain_network c.in_ok-network.network)) c.in_err-linear.field-0.0) c.in_ok-guarded.ensures.model c.in_err-linear.ensures.refused) c.from_residual-in_err-linear.ensures.1
+
+pub returns-in_err-linear-clause-by : goal.returns-in_err-linear-clause-by
+returns-in_err-linear-clause-by c = passed_on (IsModelFaultBy c.args.method) c.from_residual-in_err-linear.result c.in_err-linear.field-0.0 c.in_err-linear.ensures.by c.from_residual-in_err-linear.ensures.1

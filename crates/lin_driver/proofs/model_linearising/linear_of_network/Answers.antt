@@ -5,6 +5,7 @@ use Rattle.term_pool.proofs.DeclaredConstants.{grown_itself}
 use Rattle.process_terms.specs.PlainProcesses.{plain_component, plain_model}
 use Rattle.lps_core.specs.PlainLinears.{plain_linear}
 use Rattle.proc_unfold.specs.Networks.{plain_network}
+use Rattle.lin_driver.specs.Faults.{IsModelFaultBy}
 use Rattle.lin_driver.specs.Leaves.{leaves}
 use Rattle.lin_driver.specs.LinearLeaves.{IsLeafOf, AreLeavesMade, IsLeavesFaultOf}
 use Rattle.lin_driver.proofs.MadeLeaves.{passed_on}
@@ -23,6 +24,9 @@ returns-in_err-parts-clause-refused c =
     passed_on (IsLeavesFaultOf (plain_model c.args.guarded.now.model.now) (leaves (plain_network c.args.network.now))) c.from_residual-in_err-parts.result c.in_err-parts.field-0.0
     (subst (λ cs. IsLeavesFaultOf (plain_model c.args.guarded.now.model.now) cs c.in_err-parts.field-0.0) (ap (map plain_component) c.as_slice.ensures.value ∙ c.in_ok-components.ensures) c.in_err-parts.ensures.refused) c.from_residual-in_err-parts.ensures.1
 
+pub returns-in_err-parts-clause-by : goal.returns-in_err-parts-clause-by
+returns-in_err-parts-clause-by c = passed_on (IsModelFaultBy c.args.method) c.from_residual-in_err-parts.result c.in_err-parts.field-0.0 c.in_err-parts.ensures.by c.from_residual-in_err-parts.ensures.1
+
 pub compose-requires : goal.compose-requires
 compose-requires c =
     let g = c.args.sig.now in
@@ -31,8 +35,8 @@ compose-requires c =
     let d = c.linear_components.new.sig in
     let q = c.linear_components.new.pool in
     let ls = map plain_linear c.in_ok-parts.parts.items in
-    let made = subst (λ cs. AreLeavesMade g c.args.pool.now d q m cs ls) (ap (map plain_component) c.as_slice.ensures.value ∙ c.in_ok-components.ensures) c.in_ok-parts.ensures.made in
-    (record { signature = g; trees = c.args.pool.now.trees; model = m }, [], network_can_be_composed g d c.args.pool.now q m n ls c.requires made)
+    let made = subst (λ cs. AreLeavesMade c.args.method g c.args.pool.now d q m cs ls) (ap (map plain_component) c.as_slice.ensures.value ∙ c.in_ok-components.ensures) c.in_ok-parts.ensures.made in
+    (record { signature = g; trees = c.args.pool.now.trees; model = m }, [], network_can_be_composed c.args.method g d c.args.pool.now q m n ls c.requires made)
 
 pub returns-in_err-composed-clause-grown : goal.returns-in_err-composed-clause-grown
 returns-in_err-composed-clause-grown c = growth_after_growth_is_growth c.args.sig.now c.linear_components.new.sig c.compose.new.sig c.linear_components.ensures.grown c.compose.ensures.grown.grown
@@ -55,8 +59,8 @@ name_sums-requires c =
     let d = c.linear_components.new.sig in
     let q = c.linear_components.new.pool in
     let ls = map plain_linear c.in_ok-parts.parts.items in
-    let made = subst (λ cs. AreLeavesMade g c.args.pool.now d q m cs ls) (ap (map plain_component) c.as_slice.ensures.value ∙ c.in_ok-components.ensures) c.in_ok-parts.ensures.made in
-    (c.in_ok-composed.ensures.composed (record { signature = g; trees = c.args.pool.now.trees; model = m }) [] (network_can_be_composed g d c.args.pool.now q m n ls c.requires made)).linear.fits
+    let made = subst (λ cs. AreLeavesMade c.args.method g c.args.pool.now d q m cs ls) (ap (map plain_component) c.as_slice.ensures.value ∙ c.in_ok-components.ensures) c.in_ok-parts.ensures.made in
+    (c.in_ok-composed.ensures.composed (record { signature = g; trees = c.args.pool.now.trees; model = m }) [] (network_can_be_composed c.args.method g d c.args.pool.now q m n ls c.requires made)).linear.fits
 
 pub returns-clause-linear : goal.returns-clause-linear
 returns-clause-linear c =
@@ -67,7 +71,7 @@ returns-clause-linear c =
     let d = c.linear_components.new.sig in
     let q = c.linear_components.new.pool in
     let ls = map plain_linear c.in_ok-parts.parts.items in
-    let made = subst (λ cs. AreLeavesMade g p d q m cs ls) (ap (map plain_component) c.as_slice.ensures.value ∙ c.in_ok-components.ensures) c.in_ok-parts.ensures.made in
-    let composed = c.in_ok-composed.ensures.composed (record { signature = g; trees = p.trees; model = m }) [] (network_can_be_composed g d p q m n ls c.requires made) in
-    network_leads g d c.compose.new.sig c.name_sums.new.sig p q c.compose.new.pool.trees c.name_sums.new.pool.trees m n ls (map plain_linear c.compose.new.parts.items) (plain_linear c.in_ok-composed.composed) (plain_linear c.in_ok-named.named)
+    let made = subst (λ cs. AreLeavesMade c.args.method g p d q m cs ls) (ap (map plain_component) c.as_slice.ensures.value ∙ c.in_ok-components.ensures) c.in_ok-parts.ensures.made in
+    let composed = c.in_ok-composed.ensures.composed (record { signature = g; trees = p.trees; model = m }) [] (network_can_be_composed c.args.method g d p q m n ls c.requires made) in
+    network_leads c.args.method g d c.compose.new.sig c.name_sums.new.sig p q c.compose.new.pool.trees c.name_sums.new.pool.trees m n ls (map plain_linear c.compose.new.parts.items) (plain_linear c.in_ok-composed.composed) (plain_linear c.in_ok-named.named)
     made c.compose.ensures.grown c.name_sums.ensures.grown c.name_sums.ensures.kept composed c.in_ok-named.ensures.named c.in_ok-named.ensures.fits c.in_ok-named.ensures.names c.in_ok-named.ensures.bisimilar
