@@ -20,9 +20,9 @@ PROGRAM = TOP / "crates" / "mcrl2lin" / "out" / "mcrl2lin"
 MIB = 1 << 20
 # What a doubling may cost, as what is far in memory takes longer.
 BOUND = 2.3
-# What stands at the end, and what is said of it: the last fault of typing, or none.
+# What stands at the end, and what is said of it: the last fault of typing, or the one behind it.
 REFUSED = (b" act z; init rename({z -> z, z -> z}, z);", b"refused 17 RenameTwice")
-SOUND = (b" act z; init z || z;", b"refused 90 NotBuilt")
+SOUND = (b" proc Z = Z; init Z;", b"refused 20 Unguarded Z")
 
 
 def nested(depth, front, inside, behind):

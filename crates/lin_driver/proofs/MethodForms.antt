@@ -11,7 +11,6 @@ use Rattle.process_terms.specs.SignatureEntries.{entries_of}
 use Rattle.bisim_laws.specs.Links.{Regular, Stack}
 use Rattle.lps_core.specs.Fitting.{Fits}
 use Rattle.lps_core.specs.PlainLinears.{PlainLinear, linear_of}
-use Rattle.lps_core.proofs.NamedSums.{names_none}
 use Rattle.greibach.specs.FittingForms.{FormFits}
 use Rattle.greibach.specs.Forms.{form_table}
 use Rattle.greibach.specs.PlainForms.{PlainEquation, PlainForm, form_of}
@@ -38,7 +37,7 @@ module _ (g h : Sig) (p q : PoolContents) (f : PlainForm) (l : PlainLinear) (sg 
     grows = constants_are_additions g h (encoding_grows g h p q f l e).grows sh;
     fits = made_fits;
     names = usable_still g h l.params (encoding_grows g h p q f l e).grows.grown (param_or_old g h p q f l e) made_fits.taken (encoding_named g h p q f l fits e (usable_named g names)) names;
-    params = encoding_has_own_names g h h p q f l l sg sh fits few e made_fits (names_none h sh) refl;
+    params = encoding_has_own_names g h p q f l sg sh fits few e;
     link = Regular (form_table (form_of (entries_of h q.trees) f)) good.0 (linear_of (entries_of h q.trees) l);
     bisimilar = good.1;
   }
@@ -75,7 +74,7 @@ is_regular method.Regular f k never first = refl
 is_regular method.Stack f k never first = absurd (never tt)
 
 pub uses_none : {uses : Bool} (m : Method) (f : PlainForm) → IsTrue uses ↔ UsesStack m f → uses ≡ false → ¬ (UsesStack m f)
-uses_none {uses} m f tells unused yes = clash (tells.1 yes) unused
+uses_none {uses} m f tells unused its = clash (tells.1 its) unused
   where
     clash : uses ≡ true → uses ≡ false → ⊥
     clash p q = cc

@@ -14,11 +14,12 @@ use Rattle.proc_unfold.specs.declared.faults.NetFault.TheVariants as net
 use Rattle.guard_check.specs.declared.checking.GuardFault.{GuardFault}
 use Rattle.guard_check.specs.declared.checking.GuardFault.TheVariants as guard
 use Rattle.lin_driver.specs.Accepted.{IsUpToRecursion, IsOfTheText}
-use Rattle.lin_driver.specs.Faults.{fault_of_net, fault_of_guard, fault_of_lex, fault_of_parse, fault_of_sort, fault_of_type, fault_of_model}
+use Rattle.lin_driver.specs.Faults.{fault_of_net, fault_of_guard, fault_of_lex, fault_of_parse, fault_of_sort, fault_of_type, fault_of_model, IsFaultBy}
 use Rattle.lin_driver.specs.declared.fault.LinFault.{LinFault}
-use Rattle.lin_driver.specs.declared.fault.LinFault.TheVariants.{NoMemory}
+use Rattle.lin_driver.specs.declared.fault.LinFault.TheVariants.{Lex, Parse, Sort, «Type», Net, Guard, NotTail, NoMemory}
 use Rattle.lin_driver.specs.declared.fault.ModelFault.{ModelFault}
 use Rattle.lin_driver.specs.declared.fault.ModelFault.TheVariants as model
+use Rattle.lin_driver.specs.declared.methods.Method.{Method}
 
 -- ---- of a specification
 pub net_is_up_to : {T : Type 0} (r : Result T ModelFault) (fault : NetFault) → IsErrAnd r (λ given. given ≡ fault_of_net fault) → IfErr r IsUpToRecursion
@@ -74,3 +75,18 @@ model_of_the_text (model.Net fault) given up same some = subst IsOfTheText (sym 
 model_of_the_text (model.Guard fault) given up same some = subst IsOfTheText (sym same) tt
 model_of_the_text model.NoMemory given up same some = absurd (some same)
 model_of_the_text _ given up same some = absurd up
+
+-- such a fault is one by each method
+one_by : (method : Method) (fault : LinFault) → (fault ≢ NoMemory → IsOfTheText fault) → IsFaultBy method fault
+one_by method (Lex fault) of = tt
+one_by method (Parse fault) of = tt
+one_by method (Sort fault) of = tt
+one_by method («Type» fault) of = tt
+one_by method (Net fault) of = tt
+one_by method (Guard fault) of = tt
+one_by method (NotTail component summand) of = absurd (of (λ e. cc))
+one_by method NoMemory of = tt
+
+pub by_each_method : {T : Type 0} (r : Result T LinFault) (method : Method) → IsTextFault r → IfErr r (IsFaultBy method)
+by_each_method (Ok x) method of = tt
+by_each_method (Err fault) method of = one_by method fault of

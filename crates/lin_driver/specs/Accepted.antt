@@ -31,7 +31,7 @@ pub record CanBeLinearised (text : List ℕ) : Type 0 where
   pub guarded : IsGuardedSystem (bare_sections spec) vocabulary
 
 -- ---- what says that it isn't so
--- the faults of a specification up to its recursion; the others are those of its form, or of what isn't built
+-- the faults of a specification up to its recursion; the other one is that of its form
 abbrev pub IsUpToRecursion : ModelFault → Type 0
 IsUpToRecursion (model.Net fault) = Unit {0}
 IsUpToRecursion (model.Guard fault) = Unit {0}
