@@ -5,6 +5,7 @@ use Rattle.mcrl2_text.specs.declared.loading.TheConstants.{MAX_TEXT_LEN}
 use Rattle.mcrl2_text.specs.Faults.{Rose}
 use Rattle.lin_driver.specs.Refusals.{IsRefusedWith}
 use Rattle.lin_driver.specs.declared.fault.LinFault.{LinFault}
+use Rattle.lin_driver.specs.declared.fault.LinFault.TheVariants as lin
 use Rattle.lin_driver.proofs.AcceptedTexts.{faulty_texts_cannot_be_linearised}
 use Rattle.mcrl2lin.specs.Commands.{Asked, asked_by, Question, question}
 use Rattle.mcrl2lin.specs.Ends.{IsAnswer, IsTaken, IsLineOf, EndsWell}
@@ -33,7 +34,14 @@ failed_or_whole (Err e) P Q whole failed = inl failed
 -- a text that a task takes has none of the faults for which it refuses one
 never_refused : (task : Task) (text : List ℕ) → IsTaken task text → (texts : List (List ℕ)) (fault : LinFault) → IsFaultFor task fault → IsRefusedWith text texts fault → ⊥
 never_refused Check text is texts fault of has = faulty_texts_cannot_be_linearised text texts fault of has is
-never_refused Linearise text is texts fault of has = faulty_texts_cannot_be_linearised text texts fault (is.1 texts fault has) has is.0
+never_refused (Linearise method) text is texts (lin.Lex fault) of has = faulty_texts_cannot_be_linearised text texts (lin.Lex fault) tt has is.0
+never_refused (Linearise method) text is texts (lin.Parse fault) of has = faulty_texts_cannot_be_linearised text texts (lin.Parse fault) tt has is.0
+never_refused (Linearise method) text is texts (lin.Sort fault) of has = faulty_texts_cannot_be_linearised text texts (lin.Sort fault) tt has is.0
+never_refused (Linearise method) text is texts (lin.«Type» fault) of has = faulty_texts_cannot_be_linearised text texts (lin.«Type» fault) tt has is.0
+never_refused (Linearise method) text is texts (lin.Net fault) of has = faulty_texts_cannot_be_linearised text texts (lin.Net fault) tt has is.0
+never_refused (Linearise method) text is texts (lin.Guard fault) of has = faulty_texts_cannot_be_linearised text texts (lin.Guard fault) tt has is.0
+never_refused (Linearise method) text is texts (lin.NotTail component summand) of has = is.1 of texts component summand has
+never_refused (Linearise method) text is texts lin.NoMemory of has = has
 
 module _ (asked : Option Question) (a b c d : ℕ) (before after : Option (List ℕ)) where
   -- a stop is for want of memory where the text asked for has none of the faults for which its task refuses one

@@ -4,6 +4,7 @@ use Rattle.mcrl2_text.specs.declared.loading.LoadFault.{LoadFault}
 use Rattle.mcrl2_text.specs.declared.loading.LoadFault.TheVariants as load
 use Rattle.mcrl2_text.specs.declared.loading.TheConstants.{MAX_TEXT_LEN}
 use Rattle.lin_driver.specs.Accepted.{IsOfTheText}
+use Rattle.lin_driver.specs.Faults.{IsFaultBy}
 use Rattle.lin_driver.specs.Refusals.{IsRefusedWith}
 use Rattle.lin_driver.specs.declared.fault.LinFault.{LinFault}
 use Rattle.lin_driver.specs.declared.fault.LinFault.TheVariants as lin
@@ -29,10 +30,10 @@ IsStopFor texts fault TooLong = ⊥
 IsStopFor texts fault (Refused line) = (fault ≢ lin.NoMemory) × (line.items ≡ refusal_line texts fault)
 IsStopFor texts fault NoMemory = ⊤
 
--- a task refuses a text for this fault; to check one never asks for its form, nor for what is built
+-- a task refuses a text for this fault; to check one never asks for its form, and to linearise one does so by the method `Regular` alone
 abbrev pub IsFaultFor : Task → LinFault → Type 0
 IsFaultFor Check fault = IsOfTheText fault
-IsFaultFor Linearise fault = Unit {0}
+IsFaultFor (Linearise method) fault = IsFaultBy method fault
 
 -- the line refuses the text, where that is told, for a fault that it has
 pub record IsRefusal (asked : Option Question) (line : List ℕ) : Type 0 where

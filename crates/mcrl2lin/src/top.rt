@@ -10,7 +10,7 @@ ghost use Rattle.mcrl2lin.specs.Stops.{HasCause, IsFaultFor, status_of_stop};
 use crate::command::{Task, command_of};
 use crate::stop::Stop;
 use data_theory::Names;
-use lin_driver::{LinFault, Method, check_text, linear_text};
+use lin_driver::{LinFault, check_text, linear_text};
 use mcrl2_text::{MAX_TEXT_LEN, Shelf, Sink, load, write_all};
 use std::alloc::Global;
 
@@ -123,7 +123,7 @@ fn answer_to(alloc: Global, task: Task, text: &[u8], names: &mut Names) -> Resul
                 Err(_) => Err(LinFault::NoMemory),
             }
         }
-        Task::Linearise => linear_text(alloc, text, names, Method::Auto),
+        Task::Linearise(method) => linear_text(alloc, text, names, method),
     }
 }
 
