@@ -7,7 +7,6 @@ use Rattle.data_theory.specs.declared.ids.FunId.{FunId}
 use Rattle.data_theory.specs.declared.ids.NameId.{NameId}
 use Rattle.data_theory.specs.declared.ids.SortId.{SortId}
 use Rattle.data_theory.specs.Signature.{Sig, IsTaken}
-use Rattle.mcrl2_syntax.specs.Declarations.{PlainSpec}
 use Rattle.sort_table.specs.BareProcesses.{Variables}
 use Rattle.sort_table.specs.BareDeclarations.{Field, Constructor, Declaration, struct, Section, declarations_in}
 use Rattle.sort_table.specs.BareSorts.{SortExpression, truth_values, a_name}

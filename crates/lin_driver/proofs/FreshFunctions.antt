@@ -1,7 +1,6 @@
 -- No name that was taken becomes a function's as structs and constants are added.
-use Rattle.std.proofs.Common.{◌≡◌, ◌<◌, ⊎_elim, List, [], ◌∷◌, ◌++◌, map, length, Some, refl, sym, ap, ◌∙◌, subst}
-use Rattle.std.specs.Prelude.{slice_get}
-use Rattle.std.specs.List.{All, Contains}
+use Rattle.std.proofs.Common.{◌<◌, ⊎_elim, [], ◌++◌, map, length, Some, sym, ap, ◌∙◌, subst}
+use Rattle.std.specs.List.{Contains}
 use Rattle.std.proofs.lemmas.Option.{slice_get-get_or}
 use Rattle.std.proofs.lemmas.List.Elements.{All-contains, All-tail, Contains-append_cases, Contains-append_left, Contains-append_right}
 use Rattle.data_theory.specs.declared.ids.NameId.{NameId}

@@ -1,20 +1,15 @@
 -- The names of what was made of a text are identifiers.
-use Rattle.std.proofs.Common.{ℕ, List, [], length, sym, subst}
+use Rattle.std.proofs.Common.{ℕ, List, [], sym, subst}
 use Rattle.std.specs.List.{All}
-use Rattle.std.proofs.lemmas.List.Elements.{All-append, All-weaker}
+use Rattle.std.proofs.lemmas.List.Elements.{All-weaker}
 use Rattle.std.proofs.lemmas.Option.{get_or_from_slice_get}
 use Rattle.data_theory.specs.declared.ids.NameId.{NameId}
-use Rattle.data_theory.specs.declared.ids.SortId.{SortId}
 use Rattle.data_theory.specs.declared.ids.VarId.{VarId}
 use Rattle.data_theory.specs.IdTrees.{Tree}
-use Rattle.data_theory.specs.Keys.{Key}
 use Rattle.data_theory.specs.Signature.{Sig}
-use Rattle.data_theory.specs.Structs.{numbers_from}
-use Rattle.data_theory.specs.WholeSignatures.{IsSignature}
 use Rattle.mcrl2_syntax.specs.Declarations.{PlainSpec}
 use Rattle.mcrl2_syntax.proofs.WordsOfTokens.{specs_are_of_words}
 use Rattle.process_terms.specs.PlainProcesses.{PlainEquation}
-use Rattle.sort_table.specs.SignatureVocabularies.{text_under}
 use Rattle.lps_core.specs.Fitting.{IsVariable, SummandFits}
 use Rattle.lps_core.specs.Naming.{name_of}
 use Rattle.lps_core.specs.PlainLinears.{PlainSummand, PlainLinear}

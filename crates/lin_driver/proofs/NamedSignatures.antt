@@ -25,7 +25,6 @@ use Rattle.sort_table.specs.SortMeanings.{kinds_by, kinds_in, actions_by, action
 use Rattle.sort_table.specs.TextFunctions.{TextRole, Named, declared, where_named, projections_from, projection, recogniser, struct_constructor, declared_constructor, mapping, fields_of, functions_by, functions_in}
 use Rattle.sort_table.specs.Vocabularies.{EachPair, IsFunction, AreSortsOf}
 use Rattle.lps_printer.specs.DataLayout.{IsIdentifier}
-use Rattle.lps_printer.specs.GrownIdentifiers.{DeclaresIdentifiers}
 use Rattle.lin_driver.specs.NamedSignatures.{TextsDeclareIdentifiers}
 use Rattle.lin_driver.proofs.Identifiers.{identifier_named}
 

@@ -1,7 +1,7 @@
 -- What the stack encoder adds to a signature are names, a struct, a variable and constants.
-use Rattle.std.proofs.Common.{◌≡◌, ◌≢◌, ◌+◌, ◌<◌, ⊎_elim, ℕ, zero, suc, List, [], ◌∷◌, ◌++◌, map, length, codes, get_or, Some, refl, sym, ap, ◌∙◌, subst, arith, length-append, append_assoc}
+use Rattle.std.proofs.Common.{◌≡◌, ◌≢◌, ◌+◌, ◌<◌, ℕ, zero, suc, List, [], ◌∷◌, ◌++◌, map, length, codes, Some, refl, sym, ap, ◌∙◌, subst, arith, length-append, append_assoc}
 use Rattle.std.specs.Prelude.{slice_get, Contains}
-use Rattle.std.specs.List.{All, AllByRecursion}
+use Rattle.std.specs.List.{All}
 use Rattle.std.proofs.lemmas.List.Elements.{All-nil, All-push, All-cons, All-head, All-tail, All-append, All-weaker, All-contains}
 use Rattle.std.proofs.lemmas.Option.{get_or_from_slice_get, slice_get-get_or, slice_get_within}
 use Rattle.data_theory.specs.declared.ids.NameId.{NameId}
@@ -12,9 +12,8 @@ use Rattle.data_theory.specs.declared.signature.Variable.{Variable}
 use Rattle.data_theory.specs.Environments.{AreDistinct}
 use Rattle.data_theory.specs.Functions.{Function}
 use Rattle.data_theory.specs.Sorts.{abstract_sort}
-use Rattle.data_theory.specs.Structs.{Con, IsConWithin, struct_functions}
+use Rattle.data_theory.specs.Structs.{IsConWithin}
 use Rattle.data_theory.specs.Signature.{Sig, IsTaken, with_sort, with_struct, with_variable}
-use Rattle.data_theory.specs.IdTerms.{IsGrown}
 use Rattle.data_theory.specs.WholeSignatures.{IsSignature}
 use Rattle.data_theory.proofs.ListSortLemmas.{abstract_is_bare}
 use Rattle.data_theory.proofs.WholeSignatureLemmas.{sort_stands, struct_stands, signature_as}
@@ -24,9 +23,8 @@ use Rattle.term_pool.proofs.DeclaredConstants.{fresh_grows}
 use Rattle.lps_core.proofs.Members.{all_from, contains_map, map_contains}
 use Rattle.lps_core.proofs.NamedSums.{all_front, all_last}
 use Rattle.sort_table.specs.SignatureVocabularies.{text_under}
-use Rattle.greibach.specs.PlainForms.{PlainForm}
 use Rattle.regular_encoder.specs.FormColumns.{IsKindIn}
-use Rattle.stack_encoder.specs.AddedSort.{AreFreshNames, no_name, one_more_name, text_of, column_bases, all_bases, StackWords, in_order, AreWords, constructors_declared, AddsStackSort, AddsParameter}
+use Rattle.stack_encoder.specs.AddedSort.{AreFreshNames, no_name, one_more_name, text_of, column_bases, all_bases, StackWords, in_order, constructors_declared, AddsStackSort, AddsParameter}
 use Rattle.stack_encoder.specs.StackColumns.{AreClosedTerms, no_closed_term, one_more_closed_term}
 use Rattle.stack_encoder.proofs.FreshWords.{IsNewName, WordsStand, words_stand, function_names_are, moved_behind, names_differ, stack_is_new, sort_absent, sort_word_within, constructors_within, fields_within}
 use Rattle.lps_printer.specs.DataLayout.{IsIdentifier}

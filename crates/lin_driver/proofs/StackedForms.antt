@@ -1,6 +1,6 @@
 -- What the stack encoder makes of a form: how the signature grows, and the names of variables.
-use Rattle.std.proofs.Common.{◌≡◌, ◌<◌, ◌⊎◌, inl, inr, ⊎_elim, ℕ, List, [], ◌∷◌, ◌++◌, map, length, get_or, codes, Some, refl, sym, ap, ◌∙◌, subst, arith, length-append}
-use Rattle.std.specs.Prelude.{slice_get, Contains}
+use Rattle.std.proofs.Common.{◌≡◌, ◌<◌, ◌⊎◌, inl, inr, ⊎_elim, ℕ, List, [], ◌∷◌, map, length, get_or, codes, refl, sym, ap, ◌∙◌, subst, arith, length-append}
+use Rattle.std.specs.Prelude.{Contains}
 use Rattle.std.specs.List.{All}
 use Rattle.std.proofs.lemmas.List.Elements.{All-nil, All-cons, All-weaker, All-contains, Contains-append_cases, Contains-append_left, Contains-append_right}
 use Rattle.std.proofs.lemmas.Option.{get_or_from_slice_get}
@@ -31,10 +31,9 @@ use Rattle.greibach.specs.FittingForms.{FormFits, EquationFits}
 use Rattle.greibach.specs.PlainForms.{PlainEquation, PlainForm}
 use Rattle.regular_encoder.specs.FormColumns.{IsKindIn, column_kinds, ParamsHaveOwnNames}
 use Rattle.regular_encoder.proofs.LayingOut.{kinds_in}
-use Rattle.stack_encoder.specs.AddedSort.{AreFreshNames, no_name, one_more_name, AddsParameter, DeclaresStack}
+use Rattle.stack_encoder.specs.AddedSort.{AreFreshNames, no_name, one_more_name, DeclaresStack}
 use Rattle.stack_encoder.specs.StackColumns.{AreClosedTerms, no_closed_term, one_more_closed_term}
-use Rattle.stack_encoder.specs.StackedForms.{HasItsStack, IsStackedForm}
-use Rattle.lps_printer.specs.GrowingByConstants.{GrowsByConstants}
+use Rattle.stack_encoder.specs.StackedForms.{IsStackedForm}
 use Rattle.lps_printer.specs.GrowingByAdditions.{GrowsByStruct, GrowsByAdditions, nothing_added, then_constants, then_struct}
 use Rattle.lps_printer.proofs.GrowingByConstants.{GrowsOn, on_then}
 use Rattle.lps_printer.proofs.GrownStructs.{it_is_grown}

@@ -1,34 +1,28 @@
 -- What is the linear process of a process stays it as signature and pool grow.
-use Rattle.std.proofs.Common.{◌≡◌, ◌<◌, ⊎_elim, List, [], ◌∷◌, ◌++◌, map, length, refl, sym, ap, ap₂, ◌∙◌, subst}
+use Rattle.std.proofs.Common.{◌≡◌, List, [], ◌∷◌, map, sym, ap₂, subst}
 use Rattle.std.specs.List.{All, AllZip, Contains}
-use Rattle.std.proofs.lemmas.Option.{slice_get-get_or}
-use Rattle.std.proofs.lemmas.List.{map-append}
-use Rattle.std.proofs.lemmas.List.Elements.{All-contains, Contains-append_cases, Contains-append_left, Contains-append_right}
+use Rattle.std.proofs.lemmas.List.Elements.{All-contains}
 use Rattle.data_theory.specs.declared.ids.NameId.{NameId}
-use Rattle.data_theory.specs.declared.ids.SortId.{SortId}
 use Rattle.data_theory.specs.declared.ids.VarId.{VarId}
 use Rattle.data_theory.specs.Environments.{AreDistinct}
-use Rattle.data_theory.specs.Functions.{Function, declared_function}
-use Rattle.data_theory.specs.Signature.{Sig, IsTaken}
+use Rattle.data_theory.specs.Signature.{Sig}
 use Rattle.data_theory.specs.WholeSignatures.{IsSignature}
 use Rattle.data_theory.specs.IdTrees.{Tree}
 use Rattle.data_theory.specs.IdTerms.{IsGrown}
 use Rattle.process_terms.specs.Processes.{Process}
 use Rattle.process_terms.specs.SignatureEntries.{entries_of, BothGrow}
-use Rattle.process_terms.proofs.MeaningLemmas.{entry_stays}
 use Rattle.bisim_laws.specs.LinearProcesses.{state_of}
 use Rattle.lps_core.specs.Fitting.{Fits, IsVariable, HasTakenName}
 use Rattle.lps_core.specs.GoingOn.{IsGoodOver}
-use Rattle.lps_core.specs.Naming.{name_of, list_names, table_names, function_names, GrowsByNames}
+use Rattle.lps_core.specs.Naming.{name_of, function_names, GrowsByNames}
 use Rattle.lps_core.specs.PlainLinears.{PlainLinear, linear_state}
-use Rattle.lps_core.proofs.FunctionNames.{list_names_stay, function_names_stay}
+use Rattle.lps_core.proofs.FunctionNames.{function_names_stay}
 use Rattle.lps_core.proofs.GrowingData.{good_stay_good}
-use Rattle.lps_core.proofs.Members.{all_from, contains_map}
+use Rattle.lps_core.proofs.Members.{all_from}
 use Rattle.lps_core.proofs.NamedSums.{name_kept, names_kept, taken_name}
 use Rattle.lps_core.proofs.Staying.{what_fits_stays}
 use Rattle.lps_core.proofs.StayingFits.{what_fits_fits_still}
 use Rattle.regular_encoder.specs.FormColumns.{ParamsHaveOwnNames}
-use Rattle.sort_table.specs.SignatureVocabularies.{text_under}
 use Rattle.lps_printer.specs.GrowingByAdditions.{GrowsByAdditions}
 use Rattle.lps_printer.proofs.GrowingByAdditions.{still_stands, constants_are_additions}
 use Rattle.lps_printer.proofs.GrowingByConstants.{on_names}

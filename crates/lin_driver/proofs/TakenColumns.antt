@@ -16,13 +16,12 @@ use Rattle.lps_core.specs.Fitting.{IsVariable, HasTakenName}
 use Rattle.lps_core.specs.Naming.{name_of}
 use Rattle.lps_core.specs.PlainLinears.{PlainLinear}
 use Rattle.lps_core.proofs.NamedSums.{name_kept, taken_name, name_taken}
-use Rattle.greibach.specs.FittingForms.{FormFits}
 use Rattle.greibach.specs.PlainForms.{PlainForm}
 use Rattle.greibach.specs.Surroundings.{HasUsableNames}
 use Rattle.regular_encoder.specs.EncodedForms.{IsEncodedForm}
 use Rattle.regular_encoder.specs.FormColumns.{IsOwnName, the_name, a_new_name, IsColumn, a_column, AreColumns, no_column, one_more_column, IsControl, no_control, a_control, IsFirstTerm, an_argument, a_closed_term, AreFirstTerms, no_first_term, one_more_first_term}
 use Rattle.lin_driver.specs.TakenNames.{HaveIdentifiers, HaveTakenNames}
-use Rattle.lin_driver.proofs.NamedVariables.{below_or_last, constants_variables, encoding_named, usable_named, named_usable}
+use Rattle.lin_driver.proofs.NamedVariables.{below_or_last, constants_variables, named_usable}
 
 -- ---- each variable is an old one, or a parameter
 own_variables : {IsOne : NameId → Type 0} {g h : Sig} {n m : NameId} → IsOwnName IsOne g n h m → h.variables ≡ g.variables

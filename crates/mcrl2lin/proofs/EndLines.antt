@@ -3,14 +3,16 @@ use Rattle.std.proofs.Common.{◌≡◌, ◌≤◌, ◌⊎◌, ℕ, List, Option
 use Rattle.std.specs.Prelude.{option_and_then, option_map}
 use Rattle.mcrl2_text.specs.declared.loading.TheConstants.{MAX_TEXT_LEN}
 use Rattle.mcrl2_text.specs.Faults.{Rose}
-use Rattle.lin_driver.specs.Accepted.{CanBeLinearised, IsOfTheText}
 use Rattle.lin_driver.specs.Refusals.{IsRefusedWith}
 use Rattle.lin_driver.specs.declared.fault.LinFault.{LinFault}
+use Rattle.lin_driver.specs.declared.fault.LinFault.TheVariants as lin
 use Rattle.lin_driver.proofs.AcceptedTexts.{faulty_texts_cannot_be_linearised}
 use Rattle.mcrl2lin.specs.Commands.{Asked, asked_by, Question, question}
-use Rattle.mcrl2lin.specs.Ends.{IsAnswer, IsLineOf, EndsWell}
+use Rattle.mcrl2lin.specs.Ends.{IsAnswer, IsTaken, IsLineOf, EndsWell}
 use Rattle.mcrl2lin.specs.Lines.{line_of}
-use Rattle.mcrl2lin.specs.Stops.{HasCause, status_of_stop}
+use Rattle.mcrl2lin.specs.Stops.{HasCause, IsFaultFor, status_of_stop}
+use Rattle.mcrl2lin.specs.declared.command.Task.{Task}
+use Rattle.mcrl2lin.specs.declared.command.Task.TheVariants.{Check, Linearise}
 use Rattle.mcrl2lin.specs.declared.stop.Stop.{Stop}
 use Rattle.mcrl2lin.specs.declared.stop.Stop.TheVariants.{Words, ReadFault, TooLong, Refused, NoMemory}
 use Rattle.mcrl2lin.specs.declared.top.Status.TheVariants.{Done}
@@ -29,9 +31,21 @@ failed_or_whole (Ok x) P Q whole failed = inr whole
 failed_or_whole (Err e) P Q whole failed = inl failed
 
 -- ---- where nothing counted a fault
+-- a text that a task takes has none of the faults for which it refuses one
+never_refused : (task : Task) (text : List ℕ) → IsTaken task text → (texts : List (List ℕ)) (fault : LinFault) → IsFaultFor task fault → IsRefusedWith text texts fault → ⊥
+never_refused Check text is texts fault of has = faulty_texts_cannot_be_linearised text texts fault of has is
+never_refused (Linearise method) text is texts (lin.Lex fault) of has = faulty_texts_cannot_be_linearised text texts (lin.Lex fault) tt has is.0
+never_refused (Linearise method) text is texts (lin.Parse fault) of has = faulty_texts_cannot_be_linearised text texts (lin.Parse fault) tt has is.0
+never_refused (Linearise method) text is texts (lin.Sort fault) of has = faulty_texts_cannot_be_linearised text texts (lin.Sort fault) tt has is.0
+never_refused (Linearise method) text is texts (lin.«Type» fault) of has = faulty_texts_cannot_be_linearised text texts (lin.«Type» fault) tt has is.0
+never_refused (Linearise method) text is texts (lin.Net fault) of has = faulty_texts_cannot_be_linearised text texts (lin.Net fault) tt has is.0
+never_refused (Linearise method) text is texts (lin.Guard fault) of has = faulty_texts_cannot_be_linearised text texts (lin.Guard fault) tt has is.0
+never_refused (Linearise method) text is texts (lin.NotTail component summand) of has = is.1 of texts component summand has
+never_refused (Linearise method) text is texts lin.NoMemory of has = has
+
 module _ (asked : Option Question) (a b c d : ℕ) (before after : Option (List ℕ)) where
   -- a stop is for want of memory where the text asked for has none of the faults for which its task refuses one
-  stopped_well : (P : Question → Type 0) → ((q : Question) → P q → (texts : List (List ℕ)) (fault : LinFault) → IsOfTheText fault → IsRefusedWith q.text texts fault → ⊥)
+  stopped_well : (P : Question → Type 0) → ((q : Question) → P q → (texts : List (List ℕ)) (fault : LinFault) → IsFaultFor q.task fault → IsRefusedWith q.text texts fault → ⊥)
       → (stop : Stop) → (stop ≡ Words → asked ≡ None) → (stop ≡ ReadFault → Rose a b) → HasCause stop asked → IfSome asked (λ q. P q → length q.text ≤ MAX_TEXT_LEN → ¬ (Rose a b) → EndsWell (status_of_stop stop) q before after)
   stopped_well P never stop none rose cause = by_question stop asked none rose cause
     where
@@ -44,13 +58,13 @@ module _ (asked : Option Question) (a b c d : ℕ) (before after : Option (List 
       by_question NoMemory (Some q) none r h = λ is short quiet. tt
 
   pub taken_stops_well : (stop : Stop) → (stop ≡ Words → asked ≡ None) → (stop ≡ ReadFault → Rose a b) → HasCause stop asked
-      → IfSome asked (λ q. CanBeLinearised q.text → length q.text ≤ MAX_TEXT_LEN → ¬ (Rose a b) → ¬ (Rose c d) → EndsWell (status_of_stop stop) q before after)
+      → IfSome asked (λ q. IsTaken q.task q.text → length q.text ≤ MAX_TEXT_LEN → ¬ (Rose a b) → ¬ (Rose c d) → EndsWell (status_of_stop stop) q before after)
   taken_stops_well stop none rose cause =
-      let P : Question → Type 0 = λ q. CanBeLinearised q.text in
+      let P : Question → Type 0 = λ q. IsTaken q.task q.text in
       on_told asked (λ q. P q → length q.text ≤ MAX_TEXT_LEN → ¬ (Rose a b) → EndsWell (status_of_stop stop) q before after)
-      (λ q. CanBeLinearised q.text → length q.text ≤ MAX_TEXT_LEN → ¬ (Rose a b) → ¬ (Rose c d) → EndsWell (status_of_stop stop) q before after)
+      (λ q. IsTaken q.task q.text → length q.text ≤ MAX_TEXT_LEN → ¬ (Rose a b) → ¬ (Rose c d) → EndsWell (status_of_stop stop) q before after)
       (λ q well is short quiet still. well is short quiet)
-      (stopped_well P (λ q is texts fault of has. faulty_texts_cannot_be_linearised q.text texts fault of has is) stop none rose cause)
+      (stopped_well P (λ q is texts fault of has. never_refused q.task q.text is texts fault of has) stop none rose cause)
 
   pub linearised_stops_well : (stop : Stop) → (stop ≡ Words → asked ≡ None) → (stop ≡ ReadFault → Rose a b) → HasCause stop asked
       → IfSome asked (λ q. ((texts : List (List ℕ)) (fault : LinFault) → ¬ (IsRefusedWith q.text texts fault)) → length q.text ≤ MAX_TEXT_LEN → ¬ (Rose a b) → ¬ (Rose c d) → EndsWell (status_of_stop stop) q before after)
@@ -66,9 +80,9 @@ module _ (asked : Option Question) (a b c d : ℕ) (before after : Option (List 
   ends_well answer whole q is = on_told before (λ bytes. after ≡ Some (bytes ++ answer)) (λ bytes. (printed : List ℕ) × (after ≡ Some (bytes ++ printed)) × IsAnswer q.task q.text printed) (λ bytes took. (answer, took, is)) whole
 
   pub taken_ends_well : (answer : List ℕ) → IfSome asked (λ q. (length q.text ≤ MAX_TEXT_LEN) × IsAnswer q.task q.text answer) → IfSome before (λ bytes. after ≡ Some (bytes ++ answer))
-      → IfSome asked (λ q. CanBeLinearised q.text → length q.text ≤ MAX_TEXT_LEN → ¬ (Rose a b) → ¬ (Rose c d) → EndsWell Done q before after)
+      → IfSome asked (λ q. IsTaken q.task q.text → length q.text ≤ MAX_TEXT_LEN → ¬ (Rose a b) → ¬ (Rose c d) → EndsWell Done q before after)
   taken_ends_well answer answered whole =
-      on_told asked (λ q. (length q.text ≤ MAX_TEXT_LEN) × IsAnswer q.task q.text answer) (λ q. CanBeLinearised q.text → length q.text ≤ MAX_TEXT_LEN → ¬ (Rose a b) → ¬ (Rose c d) → EndsWell Done q before after)
+      on_told asked (λ q. (length q.text ≤ MAX_TEXT_LEN) × IsAnswer q.task q.text answer) (λ q. IsTaken q.task q.text → length q.text ≤ MAX_TEXT_LEN → ¬ (Rose a b) → ¬ (Rose c d) → EndsWell Done q before after)
       (λ q is taken short quiet still. ends_well answer whole q is.1) answered
 
   pub linearised_ends_well : (answer : List ℕ) → IfSome asked (λ q. (length q.text ≤ MAX_TEXT_LEN) × IsAnswer q.task q.text answer) → IfSome before (λ bytes. after ≡ Some (bytes ++ answer))

@@ -1,4 +1,3 @@
 pub mod EndLines
 pub mod FaultNames
-pub mod FaultsByMethod
 pub mod Told

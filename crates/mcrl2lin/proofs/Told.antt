@@ -2,12 +2,11 @@
 use Rattle.std.proofs.Common.{◌≡◌, ◌≢◌, ◌≤◌, ℕ, List, Option, None, Some, IfSome, length, option_and_then, sym, subst}
 use Rattle.std.specs.Prelude.{option_map}
 use Rattle.mcrl2_text.specs.declared.loading.TheConstants.{MAX_TEXT_LEN}
-use Rattle.lin_driver.specs.Accepted.{IsOfTheText}
 use Rattle.lin_driver.specs.Refusals.{IsRefusedWith}
 use Rattle.lin_driver.specs.declared.fault.LinFault.{LinFault}
 use Rattle.lin_driver.specs.declared.fault.LinFault.TheVariants as lin
 use Rattle.mcrl2lin.specs.Commands.{Asked, asked_by, Question, question}
-use Rattle.mcrl2lin.specs.Stops.{HasCause, IsStopFor}
+use Rattle.mcrl2lin.specs.Stops.{HasCause, IsFaultFor, IsStopFor}
 use Rattle.mcrl2lin.specs.declared.stop.Stop.{Stop}
 use Rattle.mcrl2lin.specs.declared.stop.Stop.TheVariants.{Words, ReadFault, TooLong, Refused, NoMemory}
 
@@ -28,7 +27,7 @@ of_loaded text_of words a bytes P is told holds =
 
 -- a stop for a fault of the bytes that were loaded has its cause in the text asked for
 pub has_cause : (text_of : List ℕ → Option (List ℕ)) (words : List (List ℕ)) (a : Asked) (bytes : List ℕ) (texts : List (List ℕ)) (fault : LinFault) (stop : Stop) → asked_by words ≡ Some a
-    → IfSome (text_of a.file) (λ text. bytes ≡ text) → length bytes ≤ MAX_TEXT_LEN → (fault ≢ lin.NoMemory → IsOfTheText fault) → (fault ≢ lin.NoMemory → IsRefusedWith bytes texts fault)
+    → IfSome (text_of a.file) (λ text. bytes ≡ text) → length bytes ≤ MAX_TEXT_LEN → (fault ≢ lin.NoMemory → IsFaultFor a.task fault) → (fault ≢ lin.NoMemory → IsRefusedWith bytes texts fault)
     → IsStopFor texts fault stop → HasCause stop (question text_of words)
 has_cause text_of words a bytes texts fault Words asked told short of refused is = absurd is
 has_cause text_of words a bytes texts fault ReadFault asked told short of refused is = absurd is
@@ -37,6 +36,6 @@ has_cause text_of words a bytes texts fault (Refused line) asked told short of r
   texts = texts;
   fault = fault;
   says = is.1;
-  due = of_loaded text_of words a bytes (λ q. (length q.text ≤ MAX_TEXT_LEN) × IsOfTheText fault × IsRefusedWith q.text texts fault) asked told (short, of is.0, refused is.0);
+  due = of_loaded text_of words a bytes (λ q. (length q.text ≤ MAX_TEXT_LEN) × IsFaultFor q.task fault × IsRefusedWith q.text texts fault) asked told (short, of is.0, refused is.0);
 }
 has_cause text_of words a bytes texts fault NoMemory asked told short of refused is = tt

@@ -5,6 +5,9 @@ use Rattle.mcrl2_text.specs.declared.loading.TheConstants.{MAX_TEXT_LEN}
 use Rattle.mcrl2_text.specs.Faults.{Rose}
 use Rattle.lin_driver.specs.Accepted.{CanBeLinearised}
 use Rattle.lin_driver.specs.Headline.{StandsFor}
+use Rattle.lin_driver.specs.Refusals.{IsRefusedWith}
+use Rattle.lin_driver.specs.declared.fault.LinFault.TheVariants.{NotTail}
+use Rattle.lin_driver.specs.declared.methods.Method.TheVariants.{Regular}
 use Rattle.mcrl2lin.specs.Commands.{Question}
 use Rattle.mcrl2lin.specs.Lines.{line_of, write_fault_line}
 use Rattle.mcrl2lin.specs.Stops.{IsRefusal}
@@ -17,7 +20,13 @@ use Rattle.mcrl2lin.specs.declared.top.Status.TheVariants.{Done, Refused, Words,
 -- The answer of a task, where the text can be linearised: `ok`, or a text that stands for it.
 abbrev pub IsAnswer : Task → List ℕ → List ℕ → Type 0
 IsAnswer Check text answer = CanBeLinearised text × (answer ≡ codes "ok\n")
-IsAnswer Linearise text answer = CanBeLinearised text × StandsFor text answer
+IsAnswer (Linearise method) text answer = CanBeLinearised text × StandsFor text answer
+
+-- The texts for which a task is done: those that can be linearised. By the method `Regular` no form of such a text may have a summand of two
+-- calls, either.
+abbrev pub IsTaken : Task → List ℕ → Type 0
+IsTaken Check text = CanBeLinearised text
+IsTaken (Linearise method) text = CanBeLinearised text × (method ≡ Regular → (texts : List (List ℕ)) (component summand : ℕ) → ¬ (IsRefusedWith text texts (NotTail component summand)))
 
 -- the line of a status, with its cause in the text where that is told
 abbrev pub IsLineOf : Status → Option Question → List ℕ → Type 0

@@ -4,11 +4,14 @@ use Rattle.mcrl2_text.specs.declared.loading.LoadFault.{LoadFault}
 use Rattle.mcrl2_text.specs.declared.loading.LoadFault.TheVariants as load
 use Rattle.mcrl2_text.specs.declared.loading.TheConstants.{MAX_TEXT_LEN}
 use Rattle.lin_driver.specs.Accepted.{IsOfTheText}
+use Rattle.lin_driver.specs.Faults.{IsFaultBy}
 use Rattle.lin_driver.specs.Refusals.{IsRefusedWith}
 use Rattle.lin_driver.specs.declared.fault.LinFault.{LinFault}
 use Rattle.lin_driver.specs.declared.fault.LinFault.TheVariants as lin
 use Rattle.mcrl2lin.specs.Commands.{Question}
 use Rattle.mcrl2lin.specs.Lines.{refusal_line}
+use Rattle.mcrl2lin.specs.declared.command.Task.{Task}
+use Rattle.mcrl2lin.specs.declared.command.Task.TheVariants.{Check, Linearise}
 use Rattle.mcrl2lin.specs.declared.stop.Stop.{Stop}
 use Rattle.mcrl2lin.specs.declared.stop.Stop.TheVariants.{Words, ReadFault, TooLong, Refused, NoMemory}
 use Rattle.mcrl2lin.specs.declared.top.Status.{Status}
@@ -27,12 +30,17 @@ IsStopFor texts fault TooLong = ⊥
 IsStopFor texts fault (Refused line) = (fault ≢ lin.NoMemory) × (line.items ≡ refusal_line texts fault)
 IsStopFor texts fault NoMemory = ⊤
 
--- the line refuses the text, where that is told, for a fault up to its recursion that it has
+-- a task refuses a text for this fault; to check one never asks for its form, and to linearise one does so by the method `Regular` alone
+abbrev pub IsFaultFor : Task → LinFault → Type 0
+IsFaultFor Check fault = IsOfTheText fault
+IsFaultFor (Linearise method) fault = IsFaultBy method fault
+
+-- the line refuses the text, where that is told, for a fault that it has
 pub record IsRefusal (asked : Option Question) (line : List ℕ) : Type 0 where
   pub texts : List (List ℕ)
   pub fault : LinFault
   pub says : line ≡ refusal_line texts fault
-  pub due : IfSome asked (λ q. (length q.text ≤ MAX_TEXT_LEN) × IsOfTheText fault × IsRefusedWith q.text texts fault)
+  pub due : IfSome asked (λ q. (length q.text ≤ MAX_TEXT_LEN) × IsFaultFor q.task fault × IsRefusedWith q.text texts fault)
 
 -- a stop that refuses has its cause in the text, where that is told
 abbrev pub HasCause : Stop → Option Question → Type 0

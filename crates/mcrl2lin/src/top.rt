@@ -2,16 +2,15 @@
 ghost use Rattle.std.specs.Prelude.{◌≡◌, ◌≢◌, ◌≤◌, ◌<◌, ◌⊎◌, ◌↔◌, ◌++◌, List, ℕ, Some, None, IfErr, IfOk, IfSome, IsErrOf, length, map, string_bytes};
 ghost use Rattle.mcrl2_text.specs.Bytes.{TakesPrefix};
 ghost use Rattle.mcrl2_text.specs.Faults.{Rose};
-ghost use Rattle.lin_driver.specs.Accepted.{CanBeLinearised, IsOfTheText};
 ghost use Rattle.lin_driver.specs.Refusals.{IsRefusedWith};
 ghost use Rattle.mcrl2lin.specs.Commands.{asked_by, question};
-ghost use Rattle.mcrl2lin.specs.Ends.{EndsWell, EndsWithLine, IsAnswer};
-ghost use Rattle.mcrl2lin.specs.Stops.{HasCause, status_of_stop};
+ghost use Rattle.mcrl2lin.specs.Ends.{EndsWell, EndsWithLine, IsAnswer, IsTaken};
+ghost use Rattle.mcrl2lin.specs.Stops.{HasCause, IsFaultFor, status_of_stop};
 
 use crate::command::{Task, command_of};
 use crate::stop::Stop;
 use data_theory::Names;
-use lin_driver::{LinFault, Method, check_text, linear_text};
+use lin_driver::{LinFault, check_text, linear_text};
 use mcrl2_text::{MAX_TEXT_LEN, Shelf, Sink, load, write_all};
 use std::alloc::Global;
 
@@ -67,8 +66,8 @@ pub fn run<H: Shelf, O: Sink, E: Sink>(
 
     ensures shelf_kept { result ≡ Status.Words → shelf.new ≡ shelf.old }
 
-    // For each text that can be linearised the task is done: what is written stands for it.
-    ensures headline { IfSome (question (H.text_of shelf.old) (map string_bytes words.now.items)) (λ q. CanBeLinearised q.text
+    // For each text that the task takes it is done: what `linearise` writes stands for the text.
+    ensures headline { IfSome (question (H.text_of shelf.old) (map string_bytes words.now.items)) (λ q. IsTaken q.task q.text
         → length q.text ≤ MAX_TEXT_LEN → ¬ (Rose (H.faults shelf.old) (H.faults shelf.new)) → ¬ (Rose (O.faults out.old) (O.faults out.new))
         → EndsWell result q (O.taken out.old) (O.taken out.new)) }
 
@@ -113,7 +112,7 @@ fn answer<H: Shelf>(alloc: Global, words: &[String], shelf: &mut H) -> Result<Ve
 /// The answer of a task on a text.
 fn answer_to(alloc: Global, task: Task, text: &[u8], names: &mut Names) -> Result<Vec<u8>, LinFault>
     ensures answered { IfOk result (λ bytes. IsAnswer task text.now bytes.items) }
-    ensures of_the_text { IfErr result (λ fault. fault ≢ LinFault.NoMemory → IsOfTheText fault) }
+    ensures of_the_task { IfErr result (λ fault. fault ≢ LinFault.NoMemory → IsFaultFor task fault) }
     ensures refused { IfErr result (λ fault. fault ≢ LinFault.NoMemory → IsRefusedWith text.now names.new fault) }
 {
     match task {
@@ -124,7 +123,7 @@ fn answer_to(alloc: Global, task: Task, text: &[u8], names: &mut Names) -> Resul
                 Err(_) => Err(LinFault::NoMemory),
             }
         }
-        Task::Linearise => linear_text(alloc, text, names, Method::Auto),
+        Task::Linearise(method) => linear_text(alloc, text, names, method),
     }
 }
 

@@ -21,10 +21,21 @@ const LINEARISE: &[&str] = &["mcrl2lin", "linearise", "f"];
 
 const CHECK: &[&str] = &["mcrl2lin", "check", "f"];
 
+const REGULAR: &[&str] = &["mcrl2lin", "linearise", "f", "--method", "regular"];
+
+const STACK: &[&str] = &["mcrl2lin", "linearise", "f", "--method", "stack"];
+
 const TWO_STEPS: &[u8] = b"act a, b; proc X = a . Y; Y = b . X; init X;";
 
 const PRINTED: &[u8] =
     b"act a, b;\nproc P(s: Pos) = (s == 1) -> a . P(s = 2)\n  + (s == 2) -> b . P(s = 1);\ninit P(1);\n";
+
+const STACKED: &[u8] = b"act a;
+sort Stack = struct push(pc: Pos, rest: Stack)?is_push | empty;
+proc P(q: Stack) = (is_push(q) && (pc(q) == 1) && is_push(rest(q))) -> a . P(q = rest(q))
+  + (is_push(q) && (pc(q) == 1) && !is_push(rest(q))) -> a;
+init P(push(1, empty));
+";
 
 const USAGE: &[u8] =
     b"usage: mcrl2lin TASK FILE [--trace FILE] [--method M] [--fuel N] [--bound N] [--seed N] [--depth N]\n";
@@ -42,7 +53,7 @@ const TWO: Row = Row {
     err: b"",
 };
 
-const ROWS: [Row; 22] = [
+const ROWS: [Row; 25] = [
     TWO,
     Row {
         name: "the empty text",
@@ -112,6 +123,27 @@ const ROWS: [Row; 22] = [
         name: "a text with a parallel operator",
         text: b"act a, b; init rename({a -> b}, a);",
         out: b"act a, b;\nproc P = b;\ninit P;\n",
+        ..TWO
+    },
+    Row {
+        name: "a text whose form isn't tail, by the method that asks for one",
+        words: REGULAR,
+        text: b"act a, b, c; proc X = a . X . b + c; init X;",
+        status: Status::Refused,
+        out: b"",
+        err: b"refused 21 NotTail 1 1\n",
+        ..TWO
+    },
+    Row {
+        name: "two steps by the regular encoder",
+        words: REGULAR,
+        ..TWO
+    },
+    Row {
+        name: "a text with a tail form, with a stack",
+        words: STACK,
+        text: b"act a; init a;",
+        out: STACKED,
         ..TWO
     },
     Row {
@@ -211,7 +243,7 @@ const ROWS: [Row; 22] = [
 ];
 
 /// Words that give no command.
-const NO_COMMANDS: [&[&str]; 8] = [
+const NO_COMMANDS: [&[&str]; 11] = [
     &[],
     &["mcrl2lin"],
     &["mcrl2lin", "check", "-f"],
@@ -220,6 +252,9 @@ const NO_COMMANDS: [&[&str]; 8] = [
     &["mcrl2lin", "linearise", "f", "g"],
     &["mcrl2lin", "Linearise", "f"],
     &["mcrl2lin", "f", "linearise"],
+    &["mcrl2lin", "linearise", "f", "--method"],
+    &["mcrl2lin", "linearise", "f", "--method", "Stack"],
+    &["mcrl2lin", "linearise", "f", "--trace", "g"],
 ];
 
 fn strings(alloc: Global, words: &[&str]) -> Result<Vec<String>, Fail> {
@@ -244,7 +279,7 @@ fn ends_as_told(rt: &impl Abort, alloc: Global, row: &Row) -> Result<(), Fail> {
     let open_fails = row.open_fails.to_vec(alloc)?;
     let read_fails = row.read_fails.to_vec(alloc)?;
     let mut shelf = MemShelf::new(texts(alloc, row.text)?, open_fails, read_fails, 5);
-    let mut out = MemSink::new(alloc, 200, row.write_fails.to_vec(alloc)?, 5)?;
+    let mut out = MemSink::new(alloc, 400, row.write_fails.to_vec(alloc)?, 5)?;
     let mut err = MemSink::new(alloc, 200, row.err_fails.to_vec(alloc)?, 5)?;
     let status = run(alloc, &words, &mut shelf, &mut out, &mut err);
     assert_eq!(rt; status, row.status, "{}", row.name);

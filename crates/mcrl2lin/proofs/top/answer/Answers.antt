@@ -9,7 +9,7 @@ returns-clause-refused g c =
     let a : Asked = record { task = c.in_ok-command.command.task; file = c.in_ok-command.command.file.now } in
     let asked : asked_by (map string_bytes c.args.words.now) ≡ Some a = search rules in
     has_cause (g.H.Shelf.text_of c.args.shelf.now) (map string_bytes c.args.words.now) a c.in_ok-text.text.items c.answer_to.new.names c.in-Err.fault c.for_fault.result asked (search rules) (search rules)
-    c.in-Err.ensures.of_the_text (search (rules, c.in-Err.ensures.refused)) c.for_fault.ensures
+    c.in-Err.ensures.of_the_task (search (rules, c.in-Err.ensures.refused)) c.for_fault.ensures
 
 pub for_fault-requires : goal.for_fault-requires
 for_fault-requires g c = are_named c.deref.result.now c.answer_to.new.names c.in-Err.fault c.in-Err.ensures.refused
