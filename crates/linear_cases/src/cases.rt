@@ -254,6 +254,7 @@ fn operated(
         "comm" => joined(alloc, lin, text, sig, pool),
         "hide" => hide(alloc, &lin, names.as_slice(), sig),
         "name" => name_sums(alloc, lin, sig, pool),
+        "parelm" => lps_parelm::eliminate(alloc, lin, pool),
         "product" => product(alloc, &lin, right, sig, pool),
         "rename" => renamed(alloc, lin, text, sig),
         _ => Ok(lin),

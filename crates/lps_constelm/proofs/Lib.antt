@@ -1,0 +1,14 @@
+pub mod ComposedDrops
+pub mod ConstantParameters
+pub mod Values
+pub mod SimplifiedTerms
+pub mod Rounds
+pub mod WeakerRelations
+pub mod WholeRounds
+pub mod GreatestSets
+pub mod RunLoops
+pub mod SortedTrees
+pub mod MeantRounds
+pub mod MeantPutting
+pub mod Changing
+pub mod PuttingLoops
