@@ -79,6 +79,12 @@ module _ (asked : Option Question) (a b c d : ℕ) (before after : Option (List 
   ends_well : (answer : List ℕ) → IfSome before (λ bytes. after ≡ Some (bytes ++ answer)) → (q : Question) → IsAnswer q.task q.text answer → EndsWell Done q before after
   ends_well answer whole q is = on_told before (λ bytes. after ≡ Some (bytes ++ answer)) (λ bytes. (printed : List ℕ) × (after ≡ Some (bytes ++ printed)) × IsAnswer q.task q.text printed) (λ bytes took. (answer, took, is)) whole
 
+  pub whole_answer : (answer : List ℕ) → IfSome asked (λ q. (length q.text ≤ MAX_TEXT_LEN) × IsAnswer q.task q.text answer) → IfSome before (λ bytes. after ≡ Some (bytes ++ answer))
+      → IfSome asked (λ q. (length q.text ≤ MAX_TEXT_LEN) × (x : List ℕ) × IsAnswer q.task q.text x × IfSome before (λ bytes. after ≡ Some (bytes ++ x)))
+  whole_answer answer answered whole =
+      on_told asked (λ q. (length q.text ≤ MAX_TEXT_LEN) × IsAnswer q.task q.text answer) (λ q. (length q.text ≤ MAX_TEXT_LEN) × (x : List ℕ) × IsAnswer q.task q.text x × IfSome before (λ bytes. after ≡ Some (bytes ++ x)))
+      (λ q is. (is.0, answer, is.1, whole)) answered
+
   pub taken_ends_well : (answer : List ℕ) → IfSome asked (λ q. (length q.text ≤ MAX_TEXT_LEN) × IsAnswer q.task q.text answer) → IfSome before (λ bytes. after ≡ Some (bytes ++ answer))
       → IfSome asked (λ q. IsTaken q.task q.text → length q.text ≤ MAX_TEXT_LEN → ¬ (Rose a b) → ¬ (Rose c d) → EndsWell Done q before after)
   taken_ends_well answer answered whole =

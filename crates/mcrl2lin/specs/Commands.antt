@@ -26,10 +26,14 @@ pub record Asked : Type 0 where
 abbrev pub asked_with : List ℕ → List ℕ → Method → Option Asked
 asked_with task file method = cond (is_option file) None (option_map (λ t. record { task = t; file = file }) (task_named task method))
 
+-- and with an option and its value
+abbrev pub asked_by_method : List ℕ → List ℕ → List ℕ → List ℕ → Option Asked
+asked_by_method task file option method = cond (bytes_eq option (codes "--method")) (option_and_then (λ m. asked_with task file m) (method_named method)) None
+
 -- what `mcrl2lin TASK FILE` and `mcrl2lin TASK FILE --method M` ask for
 abbrev pub asked_by : List (List ℕ) → Option Asked
 asked_by (program ∷ task ∷ file ∷ []) = asked_with task file Auto
-asked_by (program ∷ task ∷ file ∷ option ∷ method ∷ []) = cond (bytes_eq option (codes "--method")) (option_and_then (λ m. asked_with task file m) (method_named method)) None
+asked_by (program ∷ task ∷ file ∷ option ∷ method ∷ []) = asked_by_method task file option method
 asked_by _ = None
 
 -- what is asked of a text

@@ -1,6 +1,6 @@
 //! What the words of the command line ask for.
 ghost use Rattle.std.specs.Prelude.{◌≡◌, map, option_map, string_bytes};
-ghost use Rattle.mcrl2lin.specs.Commands.{asked_by, asked_with, method_named, task_named};
+ghost use Rattle.mcrl2lin.specs.Commands.{asked_by, asked_by_method, asked_with, method_named, task_named};
 
 use lin_driver::Method;
 
@@ -29,11 +29,25 @@ pub fn command_of(words: &[String]) -> Option<Command<'_>>
 {
     match words {
         [_, word, file] => command_with(word.as_str(), file.as_str(), Method::Auto),
-        [_, word, file, option, name] if option.as_str() == "--method" => {
-            let method = method_of(name.as_str())?;
-            command_with(word.as_str(), file.as_str(), method)
-        }
+        [_, word, file, option, name] => command_by(
+            word.as_str(),
+            file.as_str(),
+            option.as_str(),
+            name.as_str(),
+        ),
         _ => None,
+    }
+}
+
+/// The command of a task's name, a file, and an option with its value.
+fn command_by<'a>(word: &str, file: &'a str, option: &str, name: &str) -> Option<Command<'a>>
+    ensures { option_map (λ command. record { task = command.task; file = command.file.now }) result ≡ asked_by_method word.now file.now option.now name.now }
+{
+    if option == "--method" {
+        let method = method_of(name)?;
+        command_with(word, file, method)
+    } else {
+        None
     }
 }
 
