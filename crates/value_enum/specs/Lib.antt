@@ -1,0 +1,5 @@
+pub mod Ascending
+pub mod Values
+pub mod Levels
+pub mod Shapes
+pub mod Laws
