@@ -1,6 +1,14 @@
 pub mod Orders
 pub mod ValueOrder
 pub mod NumberValues
+pub mod Capped
+pub mod TermLists
+pub mod DepthLemmas
+pub mod RowLemmas
+pub mod PlaceLemmas
+pub mod Exhaustion
+pub mod CappedLoops
 pub mod WeighingTuples
 pub mod WeighingValues
+pub mod OneList
 pub mod FirstOnes

@@ -1,5 +1,5 @@
 -- The constructor values of a sort by their weights.
-use Rattle.std.specs.Prelude.{◌≡◌, ◌==◌, ◌⊎◌, ◌<◌, ◌≤◌, ◌||◌, ◌+◌, ◌-◌, ◌/◌, ◌%◌, ◌^◌, ◌++◌, ℕ, zero, suc, Bool, false, cond, get_or, sum_by, List, [], ◌∷◌, map, take, length, Option, Some, None, slice_get, ℤ, pos}
+use Rattle.std.specs.Prelude.{◌≡◌, ◌==◌, ◌⊎◌, ◌<◌, ◌≤◌, ◌||◌, ◌+◌, ◌-◌, ◌/◌, ◌%◌, ◌^◌, ◌++◌, ℕ, zero, suc, Bool, false, cond, get_or, List, [], ◌∷◌, map, take, length, Option, Some, None, slice_get, ℤ, pos}
 use Rattle.std.specs.List.{Contains, flat_map}
 use Rattle.std.specs.Option.{option_map_or}
 use lib.IntN.{neg_ℤ}
@@ -136,9 +136,13 @@ StandUnmerged f us = (u : ConstructorValues) → Contains us u → apply_tree f 
 abbrev pub limit_of : List ℕ → List Bool → SortId → ℕ
 limit_of heaviest unbounded s = cond (get_or unbounded s.0 false) (2 ^ 64 - 1) (get_or heaviest s.0 0)
 
+abbrev pub total_of : (SortId → ℕ) → List SortId → ℕ
+total_of f [] = 0
+total_of f (s ∷ ss) = f s + total_of f ss
+
 -- values of these sorts make none that is heavier: a sort has no values, or all that they weigh together is no more
 abbrev pub MakeNoHeavier : List ℕ → List Bool → List SortId → ℕ → Type 0
-MakeNoHeavier heaviest unbounded ss w = ((s : SortId) × Contains ss s × (limit_of heaviest unbounded s ≡ 0)) ⊎ (1 + sum_by (limit_of heaviest unbounded) ss ≤ w)
+MakeNoHeavier heaviest unbounded ss w = ((s : SortId) × Contains ss s × (limit_of heaviest unbounded s ≡ 0)) ⊎ (1 + total_of (limit_of heaviest unbounded) ss ≤ w)
 
 -- no constructor makes a heavier value of the sort with this number
 abbrev pub HasNoHeavier : Shapes → List ℕ → List Bool → ℕ → ℕ → Type 0

@@ -1,5 +1,5 @@
 -- What the values of sorts are built of.
-use Rattle.std.specs.Prelude.{◌≡◌, ◌⊎◌, ◌<◌, ◌++◌, ℕ, zero, suc, List, [], ◌∷◌, map, drop, length, Option, Some, None, slice_get}
+use Rattle.std.specs.Prelude.{◌≡◌, ◌⊎◌, ◌<◌, ◌+◌, ◌++◌, ℕ, zero, suc, List, [], ◌∷◌, map, drop, length, Option, Some, None, slice_get}
 use Rattle.std.specs.List.{All, Contains}
 use Rattle.std.specs.Global.{Vec}
 use Rattle.data_theory.specs.declared.ids.SortId.{SortId}
@@ -74,12 +74,17 @@ pub record StandsAt (g : Sig) (os : List (Option SortId)) (c : Constructor) : Ty
   pub place : length before ≡ c.first
   pub split : os ≡ before ++ (map Some (function_arguments g.functions c.fun) ++ None ∷ behind)
 
+-- something stands behind each sort
+abbrev pub AreEnded : List (Option SortId) → Type 0
+AreEnded os = (p : ℕ) (a : SortId) → slice_get os p ≡ Some (Some a) → p + 1 < length os
+
 -- a sort gets its constructors, the sorts of whose arguments come behind those that are there
 pub record AddsShape (g : Sig) (s : SortId) (old new : List (Option SortId)) (cs : List Constructor) : Type 0 where
   pub kept : (more : List (Option SortId)) × (new ≡ old ++ more)
   pub constructors : AreConstructors g s (functions_of cs)
   pub places : (c : Constructor) → Contains cs c → StandsAt g new c
   pub arguments : (a : SortId) → Contains new (Some a) → Contains old (Some a) ⊎ IsArgumentOf g s a
+  pub ended : AreEnded old → AreEnded new
 
 -- each of the sorts has its constructors
 pub record AreShapes (g : Sig) (sh : Shapes) : Type 0 where
@@ -89,3 +94,4 @@ pub record AreShapes (g : Sig) (sh : Shapes) : Type 0 where
   pub constructors : (s : SortId) → Contains sh.sorts.keys s → AreConstructors g s (functions_of (list_at sh.constructors.items s.0))
   pub places : (k : ℕ) (c : Constructor) → Contains (list_at sh.constructors.items k) c → StandsAt g sh.arguments.items c
   pub arguments : (a : SortId) → Contains sh.arguments.items (Some a) → Contains sh.sorts.keys a
+  pub ended : AreEnded sh.arguments.items

@@ -1,13 +1,14 @@
 //! The first values of a sort.
 
-ghost use Rattle.std.specs.Prelude.{◌≡◌, ◌<◌, ◌≤◌, ◌+◌, ◌↔◌, length, IfOk, OnOk, IsTrue};
+ghost use Rattle.std.specs.Prelude.{◌≡◌, ◌<◌, ◌↔◌, length, IfOk, IsTrue};
 ghost use Rattle.std.specs.List.{Contains};
+ghost use Rattle.data_theory.specs.declared.ids.SortId.{SortId};
+ghost use Rattle.data_theory.specs.Sorts.{IsBare};
 ghost use Rattle.data_theory.specs.WholeSignatures.{IsSignature};
 ghost use Rattle.term_pool.specs.Pools.{Extends};
-ghost use Rattle.value_enum.specs.Values.{AreListed, LeadsToBare};
-ghost use Rattle.value_enum.specs.Shapes.{AreShapes, AreUnder};
-ghost use Rattle.value_enum.specs.Levels.{AreHeaviest, AreLevels};
-ghost use Rattle.value_enum.specs.Listing.{AreAllOrFirst};
+ghost use Rattle.value_enum.specs.Values.{AreListed};
+ghost use Rattle.value_enum.specs.Shapes.{AreShapes};
+ghost use Rattle.value_enum.specs.Listing.{AreAllOrFirst, AreNoted};
 
 use crate::exhausting::is_exhausted;
 use crate::levels::{Levels, add_level, first_levels, values_of_weight};
@@ -78,7 +79,8 @@ fn first_values(
     let mut list = Vec::new(alloc);
     let mut heaviest = no_weights(alloc, shapes.constructors.len())?;
     let mut levels = first_levels(alloc, shapes)?;
-    for weight in 1..usize::MAX {
+    for lighter in 0..usize::MAX - 1 {
+        let weight = lighter + 1;
         add_level(alloc, sig, pool, shapes, &mut levels, bound)?;
         list.extend_from_slice(values_of_weight(levels.values.as_slice(), weight, sort))?;
         if list.len() > bound {
@@ -106,6 +108,7 @@ fn no_weights(alloc: Global, count: usize) -> Result<Vec<usize>, NoMemory>
 
 /// Enters a weight for each sort that has a value of it.
 fn note_weights(levels: &Levels, heaviest: &mut Vec<usize>, weight: usize)
+    ensures { AreNoted levels.now.values.items weight heaviest.old.items heaviest.new.items }
 {
     for number in 0..heaviest.len() {
         if !values_of_weight(levels.values.as_slice(), weight, SortId(number)).is_empty() {

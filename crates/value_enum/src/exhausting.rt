@@ -1,11 +1,11 @@
 //! Whether a sort has heavier values than those that are known.
 
-ghost use Rattle.std.specs.Prelude.{◌≡◌, ◌<◌, ◌≤◌, ◌^◌, ◌-◌, ◌↔◌, ℕ, Some, length, false, true, get_or, IfOk, IsTrue, MatchOption};
+ghost use Rattle.std.specs.Prelude.{◌≡◌, ◌<◌, ◌^◌, ◌-◌, ℕ, Some, length, false, true, get_or, IfOk, MatchOption};
 ghost use Rattle.std.specs.List.{Contains};
 ghost use Rattle.data_theory.specs.declared.ids.SortId.{SortId};
 ghost use Rattle.data_theory.specs.WholeSignatures.{IsSignature};
 ghost use Rattle.value_enum.specs.Shapes.{AreShapes, arguments_at};
-ghost use Rattle.value_enum.specs.Levels.{limit_of, is_number_sort, MakeNoHeavier, HasNoHeavier, AreHeaviest, HasNoneAbove};
+ghost use Rattle.value_enum.specs.Levels.{MakeNoHeavier, HasNoHeavier, AreHeaviest, HasNoneAbove};
 
 use crate::levels::is_number;
 use crate::shapes::Shapes;

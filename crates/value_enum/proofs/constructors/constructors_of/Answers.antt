@@ -1,0 +1,4 @@
+use Rattle.value_enum.proofs.constructors.constructors_of.Goals as goal
+
+pub returns : goal.returns
+returns c = ?
