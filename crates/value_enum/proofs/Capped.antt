@@ -19,7 +19,7 @@ module _ {A : Type 0} where
   cut_left (suc m) [] ys = refl
   cut_left (suc m) (x ∷ xs) ys = ap (λ l. x ∷ l) (cut_left m xs ys)
 
-  cut_right : (m k : ℕ) (xs ys : List A) → m ≤ k → take m (xs ++ take k ys) ≡ take m (xs ++ ys)
+  pub cut_right : (m k : ℕ) (xs ys : List A) → m ≤ k → take m (xs ++ take k ys) ≡ take m (xs ++ ys)
   cut_right zero k xs ys l = refl
   cut_right (suc m) k [] ys l = take-take (suc m) k ys l
   cut_right (suc m) k (x ∷ xs) ys l = ap (λ l. x ∷ l) (cut_right m k xs ys (omega (arith, l)))

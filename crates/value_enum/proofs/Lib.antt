@@ -8,7 +8,13 @@ pub mod RowLemmas
 pub mod PlaceLemmas
 pub mod Exhaustion
 pub mod CappedLoops
+pub mod RowReads
+pub mod ConstructorLists
+pub mod SortsUnder
+pub mod ShapeLemmas
+pub mod BuiltLoops
 pub mod WeighingTuples
 pub mod WeighingValues
+pub mod ListingLoops
 pub mod OneList
 pub mod FirstOnes

@@ -45,7 +45,7 @@ rows_length (r ∷ rows) row = let e = rows_length rows row in omega (arith, e)
 before_or_last : (w n : ℕ) → w < n + 1 → (w < n) ⊎ (w ≡ n)
 before_or_last w n l = grind arith
 
-nothing_taken : {A : Type 0} (n : ℕ) → let none : List A = [] in take n none ≡ none
+pub nothing_taken : {A : Type 0} (n : ℕ) → let none : List A = [] in take n none ≡ none
 nothing_taken zero = refl
 nothing_taken (suc n) = refl
 
@@ -55,13 +55,13 @@ entry_at [] k l = absurd (omega (arith, l))
 entry_at (x ∷ xs) zero l = (x, refl)
 entry_at (x ∷ xs) (suc k) l = entry_at xs k (omega (arith, l))
 
-arguments_end : (os : List (Option SortId)) (p : ℕ) → slice_get os p ≡ Some None → arguments_at os p ≡ []
+pub arguments_end : (os : List (Option SortId)) (p : ℕ) → slice_get os p ≡ Some None → arguments_at os p ≡ []
 arguments_end [] p e = cc
 arguments_end (None ∷ os) zero e = refl
 arguments_end (Some a ∷ os) zero e = cc
 arguments_end (o ∷ os) (suc p) e = arguments_end os p e
 
-arguments_begin : (os : List (Option SortId)) (p : ℕ) (a : SortId) → slice_get os p ≡ Some (Some a) → arguments_at os p ≡ a ∷ arguments_at os (suc p)
+pub arguments_begin : (os : List (Option SortId)) (p : ℕ) (a : SortId) → slice_get os p ≡ Some (Some a) → arguments_at os p ≡ a ∷ arguments_at os (suc p)
 arguments_begin [] p a e = cc
 arguments_begin (None ∷ os) zero a e = cc
 arguments_begin (Some b ∷ os) zero a e = let same : b ≡ a = cc in ap (λ (x : SortId). x ∷ sorts_to_end os) same
@@ -131,8 +131,7 @@ module _ (g : Sig) (sh : Shapes) (stands : AreShapes g sh) (bound : ℕ) (ts : L
       V = values_weighing (shape_of g sh)
 
       one_taken : (n : ℕ) → take (n + 1) (no_value ∷ []) ≡ no_value ∷ []
-      one_taken zero = refl
-      one_taken (suc n) = ap (λ l. no_value ∷ l) (nothing_taken (n + 1))
+      one_taken n = ap (λ k. take k (no_value ∷ [])) (let e : n + 1 ≡ suc n = omega arith in e) ∙ ap (λ l. no_value ∷ l) (nothing_taken n)
 
       by_entry : (o : Option SortId) → slice_get os p ≡ Some o → AreTuplesOf ts (plain_tuples (list_at row.by_place.items p)) (take (bound + 1) (tuples_weighing V (arguments_at os p) 0))
       by_entry None e =

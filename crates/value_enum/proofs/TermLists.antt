@@ -22,17 +22,17 @@ terms_kept old new on [] (v ∷ vs) p = elim p [ ]
 terms_kept old new on (id ∷ ids) [] p = elim p [ ]
 terms_kept old new on (id ∷ ids) (v ∷ vs) (term_then is rest) = term_then (term_kept old new on id v is) (terms_kept old new on ids vs rest)
 
-tuple_kept : (old new : List Tree) → Extends old new → (ids : List TermId) (u : ConstructorValues) → IsTupleOf old ids u → IsTupleOf new ids u
-tuple_kept old new on [] no_value empty = empty
-tuple_kept old new on [] (value_then v vs) p = elim p [ ]
-tuple_kept old new on (id ∷ ids) no_value p = elim p [ ]
-tuple_kept old new on (id ∷ ids) (value_then v vs) (longer is rest) = longer (term_kept old new on id v is) (tuple_kept old new on ids vs rest)
+pub tuple_in_kept : (old new : List Tree) → Extends old new → (ids : List TermId) (u : ConstructorValues) → IsTupleOf old ids u → IsTupleOf new ids u
+tuple_in_kept old new on [] no_value empty = empty
+tuple_in_kept old new on [] (value_then v vs) p = elim p [ ]
+tuple_in_kept old new on (id ∷ ids) no_value p = elim p [ ]
+tuple_in_kept old new on (id ∷ ids) (value_then v vs) (longer is rest) = longer (term_kept old new on id v is) (tuple_in_kept old new on ids vs rest)
 
 pub tuples_kept : (old new : List Tree) → Extends old new → (idss : List (List TermId)) (us : List ConstructorValues) → AreTuplesOf old idss us → AreTuplesOf new idss us
 tuples_kept old new on [] [] no_tuples = no_tuples
 tuples_kept old new on [] (u ∷ us) p = elim p [ ]
 tuples_kept old new on (ids ∷ idss) [] p = elim p [ ]
-tuples_kept old new on (ids ∷ idss) (u ∷ us) (tuple_then is rest) = tuple_then (tuple_kept old new on ids u is) (tuples_kept old new on idss us rest)
+tuples_kept old new on (ids ∷ idss) (u ∷ us) (tuple_then is rest) = tuple_then (tuple_in_kept old new on ids u is) (tuples_kept old new on idss us rest)
 
 module _ (ts : List Tree) where
   pub terms_length : (ids : List TermId) (vs : List ConstructorValue) → AreTermsOf ts ids vs → length ids ≡ length vs

@@ -18,6 +18,7 @@ use Rattle.value_enum.specs.Ascending.{Ascending}
 use Rattle.value_enum.specs.Values.{IsPlainValueOf}
 use Rattle.value_enum.specs.Shapes.{AreConstructors, IsArgumentOf, AreClosed}
 use Rattle.value_enum.specs.Levels.{Shape, is_number_sort, number_weighing, numbers_weighing, tuples_weighing, built_over, values_within, values_weighing}
+use Rattle.value_enum.proofs.DepthLemmas.{level_of}
 use Rattle.value_enum.proofs.ValueOrder.{some_weight}
 use Rattle.value_enum.proofs.NumberValues.{IsNumberOf, is_its_number, has_its_number, number_has_sort, number_sorts_have_none}
 use Rattle.value_enum.proofs.WeighingTuples.{AreWeighing, AreTuplesWeighing, AreRight, tuples_right, contained_built, built_contains, built_ascending}
@@ -125,3 +126,21 @@ module _ (g : Sig) (stands : IsSignature g) (C : SortId → List FunId) (sorts :
   pub weighing_right : (w : ℕ) → w < 2 ^ 64 → (s : SortId) → Contains sorts s → AreWeighing g s w (values_weighing shape s w)
   unfolding values_weighing
   weighing_right w b s among = values_right w w b (omega arith) s among
+
+  -- a constructor over arguments of its sorts is a value of the sort
+  pub values_of_constructor : (t : ℕ) → t < 2 ^ 64 → (s : SortId) → Contains sorts s → (f : FunId) → Contains (C s) f → (u : ConstructorValues) → Contains (tuples_weighing (values_weighing shape) (function_arguments g.functions f) t) u → IsValueOf g (built f u) s
+  values_of_constructor t b s among f has u m =
+      let place = (right s among).each f has in
+      let entry = over (values_weighing shape) t (λ j r l k. weighing_right j (omega (arith, l, b)) r k) s among f has in
+      (place.0, place.1, (entry.0, entry.1, (entry.2.sound u m).0))
+
+  -- the one number of a weight
+  pub number_sorts_stand_alone : (s : SortId) → Contains sorts s → (t : ℕ) → is_number_sort s ≡ true → values_weighing shape s (t + 1) ≡ a_number s (number_weighing s (t + 1)) ∷ []
+  unfolding built_over
+  number_sorts_stand_alone s among t is =
+      let none : C s ≡ [] = no_members (C s) (λ f has. let place = (right s among).each f has in number_sorts_have_none g stands s place.0 f is place.1) in
+      let more : t + 1 ≡ suc t = omega arith in
+      ap (values_weighing shape s) more
+      ∙ (level_of shape s t
+      ∙ (ap (λ b. cond b (a_number s (number_weighing s (suc t)) ∷ []) [] ++ built_over (function_arguments g.functions) (values_weighing shape) (C s) t) is
+      ∙ (ap (λ fs. a_number s (number_weighing s (suc t)) ∷ built_over (function_arguments g.functions) (values_weighing shape) fs t) none ∙ ap (λ n. a_number s (number_weighing s n) ∷ []) (sym more))))

@@ -1,6 +1,6 @@
 -- What the values of sorts are built of.
 use Rattle.std.specs.Prelude.{◌≡◌, ◌⊎◌, ◌<◌, ◌+◌, ◌++◌, ℕ, zero, suc, List, [], ◌∷◌, map, drop, length, Option, Some, None, slice_get}
-use Rattle.std.specs.List.{All, Contains}
+use Rattle.std.specs.List.{Contains}
 use Rattle.std.specs.Global.{Vec}
 use Rattle.data_theory.specs.declared.ids.SortId.{SortId}
 use Rattle.data_theory.specs.declared.ids.FunId.{FunId}
@@ -47,6 +47,7 @@ AreClosed g sorts = (t a : SortId) → Contains sorts t → IsArgumentOf g t a �
 pub record AreUnder (g : Sig) (s : SortId) (sorts : List SortId) : Type 0 where
   pub has : Contains sorts s
   pub led : (t : SortId) → Contains sorts t → LeadsTo g s t
+  pub within : (t : SortId) → Contains sorts t → t.0 < length g.sorts
   pub closed : AreClosed g sorts
 
 -- the list at a place; none behind the last one
@@ -89,7 +90,7 @@ pub record AddsShape (g : Sig) (s : SortId) (old new : List (Option SortId)) (cs
 -- each of the sorts has its constructors
 pub record AreShapes (g : Sig) (sh : Shapes) : Type 0 where
   pub closed : AreClosed g sh.sorts.keys
-  pub within : All (λ (s : SortId). s.0 < length g.sorts) sh.sorts.keys
+  pub within : (s : SortId) → Contains sh.sorts.keys s → s.0 < length g.sorts
   pub count : length sh.constructors.items ≡ length g.sorts
   pub constructors : (s : SortId) → Contains sh.sorts.keys s → AreConstructors g s (functions_of (list_at sh.constructors.items s.0))
   pub places : (k : ℕ) (c : Constructor) → Contains (list_at sh.constructors.items k) c → StandsAt g sh.arguments.items c

@@ -22,9 +22,10 @@ pub fn constructors_of(
     let mut funs = Vec::new(alloc);
     for place in &places {
         let Some(fun) = *place else { continue };
-        if !funs.contains(&fun) {
-            funs.push(fun)?;
+        if funs.contains(&fun) {
+            continue;
         }
+        funs.push(fun)?;
     }
     Ok(funs)
 }

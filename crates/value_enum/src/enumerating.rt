@@ -52,12 +52,21 @@ fn has_bare(sig: &Signature, sorts: &IndexSet<SortId>) -> bool
     requires { (sort : SortId) → Contains sorts.now.keys sort → sort.0 < length sig.now.sorts }
     ensures { IsTrue result ↔ ((sort : SortId) × Contains sorts.now.keys sort × IsBare sig.now.sorts sort) }
 {
-    for sort in sorts {
-        if matches!(sig.kind(*sort), SortKind::Abstract) {
+    for number in 0..sorts.len() {
+        let sort = sorts[number];
+        if is_bare(sig, sort) {
             return true;
         }
     }
     false
+}
+
+/// Whether a sort has no constructors.
+fn is_bare(sig: &Signature, sort: SortId) -> bool
+    requires { sort.0 < length sig.now.sorts }
+    ensures { IsTrue result ↔ IsBare sig.now.sorts sort }
+{
+    matches!(sig.kind(sort), SortKind::Abstract)
 }
 
 /// The first values of a sort, and whether they are all.
@@ -82,7 +91,8 @@ fn first_values(
     for lighter in 0..usize::MAX - 1 {
         let weight = lighter + 1;
         add_level(alloc, sig, pool, shapes, &mut levels, bound)?;
-        list.extend_from_slice(values_of_weight(levels.values.as_slice(), weight, sort))?;
+        let values = values_of_weight(levels.values.as_slice(), weight, sort);
+        list.extend_from_slice(values)?;
         if list.len() > bound {
             list.truncate(bound);
             return Ok((list, false));
@@ -111,8 +121,10 @@ fn note_weights(levels: &Levels, heaviest: &mut Vec<usize>, weight: usize)
     ensures { AreNoted levels.now.values.items weight heaviest.old.items heaviest.new.items }
 {
     for number in 0..heaviest.len() {
-        if !values_of_weight(levels.values.as_slice(), weight, SortId(number)).is_empty() {
-            heaviest[number] = weight;
+        let values = values_of_weight(levels.values.as_slice(), weight, SortId(number));
+        if values.is_empty() {
+            continue;
         }
+        heaviest[number] = weight;
     }
 }

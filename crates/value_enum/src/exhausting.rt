@@ -5,10 +5,10 @@ ghost use Rattle.std.specs.List.{Contains};
 ghost use Rattle.data_theory.specs.declared.ids.SortId.{SortId};
 ghost use Rattle.data_theory.specs.WholeSignatures.{IsSignature};
 ghost use Rattle.value_enum.specs.Shapes.{AreShapes, arguments_at};
-ghost use Rattle.value_enum.specs.Levels.{MakeNoHeavier, HasNoHeavier, AreHeaviest, HasNoneAbove};
+ghost use Rattle.value_enum.specs.Levels.{limit_of, MakeNoHeavier, HasNoHeavier, AreHeaviest, HasNoneAbove};
 
 use crate::levels::is_number;
-use crate::shapes::Shapes;
+use crate::shapes::{Shapes, constructors_at};
 use data_theory::{NoMemory, Signature, SortId};
 use std::alloc::Global;
 
@@ -52,7 +52,10 @@ fn growing(shapes: &Shapes, heaviest: &[usize], unbounded: &[bool], weight: usiz
     }
 {
     for number in 0..unbounded.len() {
-        if !unbounded[number] && grows(shapes, number, heaviest, unbounded, weight) {
+        if unbounded[number] {
+            continue;
+        }
+        if grows(shapes, number, heaviest, unbounded, weight) {
             return Some(number);
         }
     }
@@ -67,13 +70,13 @@ fn grows(
     unbounded: &[bool],
     weight: usize,
 ) -> bool
-    requires sort { sort < length shapes.now.constructors.items }
     requires arguments { (a : SortId) → Contains shapes.now.arguments.items (Some a) → a.0 < length heaviest.now }
     requires same { length unbounded.now ≡ length heaviest.now }
     requires weight { weight < 2 ^ 64 - 1 }
     ensures { result ≡ false → HasNoHeavier shapes.now heaviest.now unbounded.now weight sort }
 {
-    for constructor in &shapes.constructors[sort] {
+    let constructors = constructors_at(shapes, sort);
+    for constructor in constructors {
         if makes_heavier(
             shapes.arguments.as_slice(),
             constructor.first,
@@ -102,16 +105,27 @@ fn makes_heavier(
 {
     let mut total: usize = 1;
     for place in first..arguments.len() {
-        let Some(sort) = arguments[place] else { break };
-        let limit = if unbounded[sort.0] {
-            usize::MAX
-        } else {
-            heaviest[sort.0]
+        let Some(sort) = arguments[place] else {
+            return total > weight;
         };
+        let limit = limit_for(heaviest, unbounded, sort);
         if limit == 0 {
             return false;
         }
         total = total.saturating_add(limit);
     }
     total > weight
+}
+
+/// How heavy the known values of a sort may be.
+fn limit_for(heaviest: &[usize], unbounded: &[bool], sort: SortId) -> usize
+    requires sort { sort.0 < length heaviest.now }
+    requires same { length unbounded.now ≡ length heaviest.now }
+    ensures { result ≡ limit_of heaviest.now unbounded.now sort }
+{
+    if unbounded[sort.0] {
+        usize::MAX
+    } else {
+        heaviest[sort.0]
+    }
 }

@@ -12,7 +12,7 @@ ghost use Rattle.value_enum.specs.Values.{AreTermsOf};
 ghost use Rattle.value_enum.specs.Shapes.{AreShapes};
 ghost use Rattle.value_enum.specs.Levels.{is_number_sort, number_weighing, in_front_of_all, weighing_up_to, values_weighing, shape_of, values_at, tuples_at, plain_tuples, AreTuplesOf, HaveTuples, AreLevels, IsValueRow, IsTupleRow, IsFirstTupleRow, StandUnmerged};
 
-use crate::shapes::Shapes;
+use crate::shapes::{Shapes, constructors_at};
 use data_theory::{FunId, NoMemory, Num, Signature, SortId, TermId};
 use std::alloc::Global;
 use term_pool::{Head, Pool};
@@ -93,7 +93,8 @@ fn add_in_front(
         if tuples.len() > bound {
             return Ok(());
         }
-        tuples.push(in_front(alloc, first, rest)?)?;
+        let tuple = in_front(alloc, first, rest)?;
+        tuples.push(tuple)?;
     }
     Ok(())
 }
@@ -210,12 +211,14 @@ fn values_weighing(
     let mut values = Vec::new(alloc);
     if is_number(sort) {
         let number = number_of_weight(sort, weight);
-        values.push(pool.intern(Head::Num(sort, number), &[])?)?;
+        let value = pool.intern(Head::Num(sort, number), &[])?;
+        values.push(value)?;
         return Ok(values);
     }
-    for constructor in &shapes.constructors[sort.0] {
-        let tuples = tuples_of_weight(tuples, weight - 1, constructor.first);
-        add_built(pool, constructor.fun, tuples, bound, &mut values)?;
+    let constructors = constructors_at(shapes, sort.0);
+    for constructor in constructors {
+        let arguments = tuples_of_weight(tuples, weight - 1, constructor.first);
+        add_built(pool, constructor.fun, arguments, bound, &mut values)?;
     }
     Ok(values)
 }
@@ -240,11 +243,11 @@ fn next_values(
     let mut by_sort = Vec::new(alloc);
     for number in 0..shapes.constructors.len() {
         let sort = SortId(number);
-        let values = if shapes.sorts.contains(&sort) {
-            values_weighing(alloc, sig, pool, shapes, tuples, sort, bound)?
-        } else {
-            Vec::new(alloc)
-        };
+        if !shapes.sorts.contains(&sort) {
+            by_sort.push(Vec::new(alloc))?;
+            continue;
+        }
+        let values = values_weighing(alloc, sig, pool, shapes, tuples, sort, bound)?;
         by_sort.push(values)?;
     }
     Ok(ValueRow { by_sort })
@@ -262,10 +265,11 @@ fn next_tuples(
 {
     let mut by_place = Vec::new(alloc);
     for place in 0..arguments.len() {
-        let found = match arguments[place] {
-            Some(sort) => tuples_weighing(alloc, values, tuples, sort, place + 1, bound)?,
-            None => Vec::new(alloc),
+        let Some(sort) = arguments[place] else {
+            by_place.push(Vec::new(alloc))?;
+            continue;
         };
+        let found = tuples_weighing(alloc, values, tuples, sort, place + 1, bound)?;
         by_place.push(found)?;
     }
     Ok(TupleRow { by_place })
@@ -277,12 +281,15 @@ fn first_tuples(alloc: Global, arguments: &[Option<SortId>]) -> Result<TupleRow,
 {
     let mut by_place = Vec::new(alloc);
     for argument in arguments {
-        let mut found = Vec::new(alloc);
-        if argument.is_none() {
-            found.push(Tuple {
-                terms: Vec::new(alloc),
-            })?;
+        if argument.is_some() {
+            by_place.push(Vec::new(alloc))?;
+            continue;
         }
+        let nothing = Tuple {
+            terms: Vec::new(alloc),
+        };
+        let mut found = Vec::new(alloc);
+        found.push(nothing)?;
         by_place.push(found)?;
     }
     Ok(TupleRow { by_place })
@@ -297,8 +304,9 @@ pub fn first_levels(alloc: Global, shapes: &Shapes) -> Result<Levels, NoMemory>
     values.push(ValueRow {
         by_sort: Vec::new(alloc),
     })?;
+    let first = first_tuples(alloc, shapes.arguments.as_slice())?;
     let mut tuples = Vec::new(alloc);
-    tuples.push(first_tuples(alloc, shapes.arguments.as_slice())?)?;
+    tuples.push(first)?;
     Ok(Levels { values, tuples })
 }
 

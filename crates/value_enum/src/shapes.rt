@@ -1,8 +1,9 @@
 //! What the values of sorts are built of.
 
 ghost use Rattle.std.specs.Prelude.{◌≡◌, ◌<◌, ◌++◌, ◌∷◌, [], length, map, IfOk, OnOk, Some, None};
-ghost use Rattle.std.specs.List.{All};
-ghost use Rattle.value_enum.specs.Shapes.{AddsArguments, AddsShape, AddsSorts, AreClosed, AreShapes, AreUnder};
+ghost use Rattle.std.specs.List.{All, Contains};
+ghost use Rattle.data_theory.specs.declared.ids.SortId.{SortId};
+ghost use Rattle.value_enum.specs.Shapes.{list_at, AddsArguments, AddsShape, AddsSorts, AreClosed, AreShapes, AreUnder};
 
 use crate::constructors::constructors_of;
 use data_theory::{FunId, NoMemory, Signature, SortId};
@@ -27,20 +28,31 @@ pub struct Shapes {
     pub arguments: Vec<Option<SortId>>,
 }
 
+/// The constructors of a sort.
+pub fn constructors_at(shapes: &Shapes, sort: usize) -> &[Constructor]
+    ensures { result.now ≡ list_at shapes.now.constructors.items sort }
+{
+    let Some(constructors) = shapes.constructors.get(sort) else {
+        return &[];
+    };
+    constructors.as_slice()
+}
+
 /// A sort, and the sorts to which constructors lead from it.
 pub fn sorts_under(
     alloc: Global,
     sig: &Signature,
-    sort: SortId,
+    top: SortId,
 ) -> Result<IndexSet<SortId>, NoMemory>
-    requires { sort.0 < length sig.now.sorts }
-    ensures { IfOk result (λ sorts. AreUnder sig.now sort sorts.keys) }
+    requires { top.0 < length sig.now.sorts }
+    ensures { IfOk result (λ sorts. AreUnder sig.now top sorts.keys) }
 {
     let mut sorts = IndexSet::new(alloc);
-    sorts.insert(sort)?;
+    sorts.insert(top)?;
     let mut next = 0;
     while next < sorts.len() {
-        let funs = constructors_of(alloc, sig, sorts[next])?;
+        let sort = sorts[next];
+        let funs = constructors_of(alloc, sig, sort)?;
         insert_arguments(sig, funs.as_slice(), &mut sorts)?;
         next += 1;
     }
@@ -57,7 +69,8 @@ fn insert_arguments(
     ensures { OnOk result (AddsArguments sig.now funs.now sorts.old.keys sorts.new.keys) }
 {
     for fun in funs {
-        insert_all(sorts, sig.args_of(*fun))?;
+        let arguments = sig.args_of(*fun);
+        insert_all(sorts, arguments)?;
     }
     Ok(())
 }
@@ -79,7 +92,7 @@ pub fn shapes_of(
     sorts: IndexSet<SortId>,
 ) -> Result<Shapes, NoMemory>
     requires closed { AreClosed sig.now sorts.keys }
-    requires within { All (λ sort. sort.0 < length sig.now.sorts) sorts.keys }
+    requires within { (sort : SortId) → Contains sorts.keys sort → sort.0 < length sig.now.sorts }
     ensures shapes { IfOk result (λ shapes. AreShapes sig.now shapes) }
     ensures sorts { IfOk result (λ shapes. shapes.sorts.keys ≡ sorts.keys) }
 {
@@ -87,11 +100,11 @@ pub fn shapes_of(
     let mut arguments = Vec::new(alloc);
     for number in 0..sig.next_sort().0 {
         let sort = SortId(number);
-        let shape = if sorts.contains(&sort) {
-            sort_shape(alloc, sig, sort, &mut arguments)?
-        } else {
-            Vec::new(alloc)
-        };
+        if !sorts.contains(&sort) {
+            constructors.push(Vec::new(alloc))?;
+            continue;
+        }
+        let shape = sort_shape(alloc, sig, sort, &mut arguments)?;
         constructors.push(shape)?;
     }
     Ok(Shapes {
@@ -115,7 +128,8 @@ fn sort_shape(
     let mut constructors = Vec::new(alloc);
     for fun in &funs {
         let first = arguments.len();
-        push_arguments(arguments, sig.args_of(*fun))?;
+        let sorts = sig.args_of(*fun);
+        push_arguments(arguments, sorts)?;
         constructors.push(Constructor { fun: *fun, first })?;
     }
     Ok(constructors)
