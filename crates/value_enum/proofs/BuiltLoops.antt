@@ -13,7 +13,7 @@ use Rattle.data_theory.specs.IdTrees.{Tree, numeral, function, trees_of, apply_t
 use Rattle.data_theory.specs.IdTreeSorts.{HasNumber}
 use Rattle.data_theory.specs.WholeSignatures.{IsSignature}
 use Rattle.data_theory.proofs.PlaceLemmas.{contains_read}
-use Rattle.term_pool.specs.HeadTrees.{tree_at, trees_at, IsIn}
+use Rattle.term_pool.specs.HeadTrees.{tree_at, trees_at, IsIn, AreIn}
 use Rattle.term_pool.specs.Pools.{Extends}
 use Rattle.term_pool.specs.FirstTerms.{function_arguments}
 use Rattle.term_pool.specs.ConstructorValues.{ConstructorValue, ConstructorValues, a_number, built, no_value, value_then, AreValuesOf}
@@ -33,7 +33,7 @@ use Rattle.value_enum.proofs.RowLemmas.{nothing_taken}
 use Rattle.value_enum.proofs.PlaceLemmas.{stands_at, within_at}
 use Rattle.value_enum.proofs.WeighingTuples.{AreWeighing, tuples_right}
 use Rattle.value_enum.proofs.WeighingValues.{weighing_right, values_of_constructor, number_sorts_stand_alone}
-use Rattle.value_enum.proofs.TermLists.{terms_kept, tuples_kept, terms_length, terms_append, terms_take, one_term, tuples_take, tuple_in_kept, built_tree}
+use Rattle.value_enum.proofs.TermLists.{terms_kept, tuples_kept, terms_length, terms_append, terms_take, one_term, tuples_take, tuple_in_kept, tuple_within, built_tree}
 
 -- a list of arguments at a place
 pub tuple_at : (ts : List Tree) (idss : List (List TermId)) (us : List ConstructorValues) (i : ℕ) (d : List TermId) → AreTuplesOf ts idss us → i < length idss → (u : ConstructorValues) × (slice_get us i ≡ Some u) × IsTupleOf ts (get_or idss i d) u
@@ -41,6 +41,10 @@ tuple_at ts [] us i d p l = absurd (omega (arith, l))
 tuple_at ts (ids ∷ idss) [] i d p l = elim p [ ]
 tuple_at ts (ids ∷ idss) (u ∷ us) zero d (tuple_then is rest) l = (u, refl, is)
 tuple_at ts (ids ∷ idss) (u ∷ us) (suc i) d (tuple_then is rest) l = tuple_at ts idss us i d rest (omega (arith, l))
+
+-- its terms are in the pool
+pub tuple_inside : (ts : List Tree) (idss : List (List TermId)) (us : List ConstructorValues) (i : ℕ) (d : List TermId) → AreTuplesOf ts idss us → i < length idss → AreIn ts (get_or idss i d)
+tuple_inside ts idss us i d p l = let at = tuple_at ts idss us i d p l in tuple_within ts (get_or idss i d) at.0 at.2
 
 read_or : {A : Type 0} (xs : List A) (i : ℕ) (x : A) → slice_get xs i ≡ Some x → (get_or xs i x ≡ x) × (i < length xs)
 read_or [] i x e = absurd cc

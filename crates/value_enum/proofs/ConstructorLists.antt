@@ -1,17 +1,38 @@
 -- The constructors of a sort, collected from their places.
-use Rattle.std.proofs.Common.{◌≡◌, ◌⊎◌, ⊎_elim, inl, inr, ◌<◌, ◌≤◌, ◌+◌, ◌++◌, ◌↔◌, ℕ, zero, suc, List, [], ◌∷◌, length, Some, refl, sym, ap, ◌∙◌, subst, arith}
+use Rattle.std.proofs.Common.{◌≡◌, ◌==◌, ◌||◌, Bool, true, false, ◌⊎◌, ⊎_elim, inl, inr, ◌<◌, ◌≤◌, ◌+◌, ◌++◌, ◌↔◌, ℕ, zero, suc, List, [], ◌∷◌, length, get_or, Some, None, refl, sym, ap, ◌∙◌, subst, arith}
 use Rattle.std.specs.Prelude.{slice_get, Option}
-use Rattle.std.specs.List.{Contains}
-use Rattle.std.proofs.lemmas.Option.{slice_get_within}
-use Rattle.std.proofs.lemmas.List.Elements.{Contains-append_left, Contains-push, Contains-push_cases}
+use Rattle.std.specs.List.{All, Contains, list_any}
+use Rattle.std.proofs.lemmas.Bool.Decides.{Decides-eqb}
+use Rattle.std.proofs.lemmas.Option.{slice_get_within, slice_get-get_or, get_or_from_slice_get}
+use Rattle.std.proofs.lemmas.List.Elements.{Contains-append_left, Contains-push, Contains-push_cases, Contains-get_or}
 use Rattle.data_theory.specs.declared.ids.SortId.{SortId}
 use Rattle.data_theory.specs.declared.ids.FunId.{FunId}
 use Rattle.data_theory.specs.Signature.{Sig}
+use Rattle.data_theory.specs.WholeSignatures.{IsSignature}
+use Rattle.term_pool.proofs.ConstructorPlaces.{within_functions}
 use Rattle.term_pool.specs.ConstructorValues.{IsConstructorAt, IsEarlier}
 use Rattle.value_enum.specs.Ascending.{Ascending}
 use Rattle.value_enum.specs.Shapes.{AreConstructors}
 use Rattle.value_enum.proofs.Orders.{ascending_append}
-use Rattle.term_pool.proofs.Lists.{contains_none, contains_cons}
+use Rattle.term_pool.proofs.Lists.{contains_none, contains_cons, contains_head, contains_tail}
+
+-- ---- whether a function is listed
+pub any_fun : (f : FunId) (fs : List FunId) → list_any (λ (y : FunId). y.0 == f.0) fs ≡ true → Contains fs f
+any_fun f [] e = cc
+any_fun f (h ∷ fs) e = by_test (h.0 == f.0) refl (any_fun f fs) e
+  where
+    by_test : (b : Bool) → (h.0 == f.0) ≡ b → (list_any (λ (y : FunId). y.0 == f.0) fs ≡ true → Contains fs f) → (b || list_any (λ (y : FunId). y.0 == f.0) fs) ≡ true → Contains (h ∷ fs) f
+    by_test true same rest d = subst (Contains (h ∷ fs)) (ap (λ (n : ℕ). record { 0 = n }) ((Decides-eqb h.0 f.0).0 same)) (contains_head h fs)
+    by_test false same rest d = contains_tail h f fs (rest d)
+
+pub no_fun : (f : FunId) (fs : List FunId) → list_any (λ (y : FunId). y.0 == f.0) fs ≡ false → Contains fs f → ⊥
+no_fun f [] e has = contains_none f has
+no_fun f (h ∷ fs) e has = by_test (h.0 == f.0) refl (no_fun f fs) e
+  where
+    by_test : (b : Bool) → (h.0 == f.0) ≡ b → (list_any (λ (y : FunId). y.0 == f.0) fs ≡ false → Contains fs f → ⊥) → (b || list_any (λ (y : FunId). y.0 == f.0) fs) ≡ false → ⊥
+    by_test true same rest d = cc
+    by_test false same rest d =
+        ⊎_elim (λ equal. (let told = (Decides-eqb h.0 f.0).1 (ap (λ (x : FunId). x.0) equal) in let both : true ≡ false = sym told ∙ same in cc)) (rest d) (contains_cons h f fs has)
 
 abbrev pub ArePlaces : Sig → SortId → List (Option FunId) → Type 0
 ArePlaces g s places = (k : ℕ) (f : FunId) → (slice_get places k ≡ Some (Some f)) ↔ IsConstructorAt g s k f
@@ -66,9 +87,25 @@ module _ (g : Sig) (s : SortId) (places : List (Option FunId)) (its : ArePlaces 
           (λ no. absurd (contains_none y no))
           (contains_cons f y [] there)
 
+  pub found_again : (i : ℕ) (fs : List FunId) (f : FunId) → get_or places i None ≡ Some f → Contains fs f → AreFound g s i fs → AreFound g s (i + 1) fs
+  found_again i fs f is has sofar =
+      found_on i fs (λ h at. (
+      let read : get_or places i None ≡ Some h = get_or_from_slice_get places i (Some h) None at in
+      let both : Some f ≡ Some h = sym is ∙ read in
+      let same : f ≡ h = cc in
+      subst (Contains fs) same has
+      )) sofar
+
+  pub found_nothing : (i : ℕ) (fs : List FunId) → ((f : FunId) → get_or places i None ≡ Some f → ⊥) → AreFound g s i fs → AreFound g s (i + 1) fs
+  found_nothing i fs none sofar = found_on i fs (λ h at. absurd (none h (get_or_from_slice_get places i (Some h) None at))) sofar
+
   pub all_found : (i : ℕ) (fs : List FunId) → length places ≤ i → AreFound g s i fs → AreConstructors g s fs
   all_found i fs l sofar = record {
     each = λ f has. (let e = sofar.each f has in (e.0, e.2));
     all = λ k f at. sofar.all k f (let m = slice_get_within places k (Some f) ((its k f).1 at) in omega (arith, m, l)) at;
     ordered = sofar.ordered;
   }
+
+-- they are functions of the signature
+pub constructors_inside : (g : Sig) → IsSignature g → (s : SortId) (fs : List FunId) → AreConstructors g s fs → All (λ (f : FunId). f.0 < length g.functions) fs
+constructors_inside g stands s fs cons = λ k d l. (let f = get_or fs k d in let place = cons.each f (Contains-get_or fs k d l) in within_functions g stands.complete s place.0 f place.1)

@@ -12,9 +12,15 @@ pub mod RowReads
 pub mod ConstructorLists
 pub mod SortsUnder
 pub mod ShapeLemmas
+pub mod TupleLists
+pub mod TupleSteps
+pub mod TupleRows
 pub mod BuiltLoops
 pub mod WeighingTuples
 pub mod WeighingValues
 pub mod ListingLoops
+pub mod LevelSteps
+pub mod GrowingSorts
+pub mod LeadingSorts
 pub mod OneList
 pub mod FirstOnes

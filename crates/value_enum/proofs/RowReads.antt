@@ -1,7 +1,8 @@
 -- Rows of lists, read and filled.
-use Rattle.std.proofs.Common.{◌≡◌, ◌⊎◌, ⊎_elim, inl, inr, ◌<◌, ◌≤◌, ◌+◌, ◌++◌, ℕ, zero, suc, List, [], ◌∷◌, length, Option, Some, None, refl, sym, ap, ◌∙◌, subst, arith}
+use Rattle.std.proofs.Common.{◌≡◌, ◌⊎◌, ⊎_elim, inl, inr, ◌<◌, ◌≤◌, ◌+◌, ◌++◌, ℕ, zero, suc, List, [], ◌∷◌, length, get_or, Option, Some, None, refl, sym, ap, ◌∙◌, subst, arith}
 use Rattle.std.specs.Prelude.{slice_get}
 use Rattle.std.specs.Global.{Vec}
+use Rattle.std.proofs.lemmas.Option.{slice_get-get_or}
 use Rattle.std.specs.Option.{option_map_or}
 use Rattle.data_theory.specs.declared.ids.SortId.{SortId}
 use Rattle.data_theory.specs.declared.ids.TermId.{TermId}
@@ -10,6 +11,15 @@ use Rattle.value_enum.specs.declared.levels.ValueRow.{ValueRow}
 use Rattle.value_enum.specs.declared.levels.TupleRow.{TupleRow}
 use Rattle.value_enum.specs.Shapes.{list_at}
 use Rattle.value_enum.specs.Levels.{values_at, tuples_at}
+
+-- what `get` tells of a place
+pub got : {A : Type 0} (xs : List A) (k : ℕ) (x : A) → k < length xs → ((d : A) → x ≡ get_or xs k d) → slice_get xs k ≡ Some x
+got xs k x l is = slice_get-get_or xs k x l ∙ ap Some (sym (is x))
+
+pub missed : {A : Type 0} (xs : List A) (k : ℕ) → length xs ≤ k → slice_get xs k ≡ None
+missed [] k l = refl
+missed (x ∷ xs) zero l = absurd (omega (arith, l))
+missed (x ∷ xs) (suc k) l = missed xs k (omega (arith, l))
 
 pub list_read : {A : Type 0} (vs : List (Vec A)) (k : ℕ) (v : Vec A) → slice_get vs k ≡ Some v → list_at vs k ≡ v.items
 list_read [] k v e = cc

@@ -1,21 +1,24 @@
 -- The sorts to which constructors lead, collected one after the other.
-use Rattle.std.proofs.Common.{◌≡◌, ◌==◌, ◌⊎◌, ⊎_elim, inl, inr, ◌<◌, ◌≤◌, ◌-◌, ◌+◌, ◌++◌, ◌||◌, ℕ, zero, suc, Bool, true, false, eqb, List, [], ◌∷◌, map, take, length, get_or, Option, Some, refl, sym, ap, ◌∙◌, subst, arith}
+use Rattle.std.proofs.Common.{◌≡◌, ◌==◌, ◌⊎◌, ⊎_elim, inl, inr, ◌<◌, ◌≤◌, ◌-◌, ◌+◌, ◌++◌, ◌||◌, ℕ, zero, suc, Bool, true, false, cond, eqb, List, [], ◌∷◌, map, take, length, get_or, Option, Some, refl, sym, ap, ◌∙◌, subst, arith}
 use Rattle.std.specs.Prelude.{slice_get, IfSome}
 use Rattle.std.specs.List.{All, Contains, AllByRecursion, IsDistinct, list_any}
 use Rattle.std.proofs.lemmas.List.{length-map, append_assoc, take_more}
 use Rattle.std.proofs.lemmas.Map.Steps.{length-le_from_distinct_below}
 use Rattle.std.proofs.lemmas.Bool.Decides.{Decides-eqb}
 use Rattle.std.proofs.lemmas.Option.{slice_get_within}
-use Rattle.std.proofs.lemmas.List.Elements.{Contains-append_left, Contains-append_right, Contains-append_cases, Contains-push, Contains-push_cases}
+use Rattle.std.proofs.lemmas.List.Elements.{All-contains, Contains-append_left, Contains-append_right, Contains-append_cases, Contains-push, Contains-push_cases}
 use Rattle.data_theory.specs.declared.ids.SortId.{SortId}
 use Rattle.data_theory.specs.declared.ids.FunId.{FunId}
 use Rattle.data_theory.specs.Functions.{Function, arguments_of}
 use Rattle.data_theory.specs.Signature.{Sig}
+use Rattle.data_theory.specs.Complete.{IsFunctionWithin}
+use Rattle.data_theory.specs.WholeSignatures.{IsSignature}
 use Rattle.data_theory.proofs.PlaceLemmas.{contains_read, read_contained}
 use Rattle.term_pool.proofs.Lists.{contains_none, contains_cons, contains_head, contains_tail}
 use Rattle.term_pool.proofs.FirstValueLemmas.{one_function}
+use Rattle.term_pool.proofs.SortSearch.{among_contains}
 use Rattle.term_pool.specs.ConstructorValues.{IsConstructorAt}
-use Rattle.value_enum.specs.Values.{LeadsTo, by_argument}
+use Rattle.value_enum.specs.Values.{LeadsTo, itself, by_argument}
 use Rattle.value_enum.specs.Shapes.{AreConstructors, IsArgumentIn, AddsArguments, AddsSorts, IsArgumentOf}
 use Rattle.value_enum.proofs.RowLemmas.{entry_at}
 
@@ -56,6 +59,25 @@ front_kept old mid new p q = (p.0 ++ q.0, q.1 ∙ (ap (λ l. l ++ q.0) p.1 ∙ a
 
 pub still_there : (old new : List SortId) → (more : List SortId) × (new ≡ old ++ more) → (a : SortId) → Contains old a → Contains new a
 still_there old new p a has = subst (λ l. Contains l a) (sym p.1) (Contains-append_left old p.0 a has)
+
+-- one sort more, where it isn't there
+pub adds_one_sort : (added : List SortId) (i : ℕ) (d : SortId) (old mid new : List SortId) → i < length added → new ≡ cond (list_any (λ (x : SortId). (get_or added i d).0 == x.0) mid) mid (mid ++ get_or added i d ∷ []) → AddsSorts (take i added) old mid → AddsSorts (take (i + 1) added) old new
+adds_one_sort added i d old mid new l e p = subst (λ as'. AddsSorts as' old new) (sym (take_more added i d l)) (by_test (list_any (λ (x : SortId). a.0 == x.0) mid) refl e)
+  where
+    a : SortId
+    a = get_or added i d
+
+    by_test : (b : Bool) → list_any (λ (x : SortId). a.0 == x.0) mid ≡ b → new ≡ cond b mid (mid ++ a ∷ []) → AddsSorts (take i added ++ a ∷ []) old new
+    by_test true there is = subst (AddsSorts (take i added ++ a ∷ []) old) (sym is) record {
+      kept = p.kept;
+      only = λ x has. ⊎_elim inl (λ m. inr (Contains-append_left (take i added) (a ∷ []) x m)) (p.only x has);
+      all = λ x has. ⊎_elim (p.all x) (λ same. subst (Contains mid) same (among_contains a mid there)) (Contains-push_cases (take i added) a x has);
+    }
+    by_test false absent is = subst (AddsSorts (take i added ++ a ∷ []) old) (sym is) record {
+      kept = front_kept old mid (mid ++ a ∷ []) p.kept (a ∷ [], refl);
+      only = λ x has. ⊎_elim (λ m. ⊎_elim inl (λ k. inr (Contains-append_left (take i added) (a ∷ []) x k)) (p.only x m)) (λ same. inr (subst (Contains (take i added ++ a ∷ [])) same (Contains-push (take i added) a))) (Contains-push_cases mid a x has);
+      all = λ x has. ⊎_elim (λ m. Contains-append_left mid (a ∷ []) x (p.all x m)) (λ same. subst (Contains (mid ++ a ∷ [])) same (Contains-push mid a)) (Contains-push_cases (take i added) a x has);
+    }
 
 -- ---- adding the sorts of arguments
 pub adds_no_arguments : (g : Sig) (old : List SortId) → AddsArguments g [] old old
@@ -137,3 +159,26 @@ all_under g top next sorts l u t a has is =
     let at = read_contained sorts t has in
     let m = slice_get_within sorts at.0 t at.1 in
     u.done at.0 t a (omega (arith, l, m)) at.1 is
+
+pub under_first : (g : Sig) (top : SortId) (sorts : List SortId) → top.0 < length g.sorts → sorts ≡ top ∷ [] → IsUnder g top 0 sorts
+under_first g top sorts l e = subst (IsUnder g top 0) (sym e) record {
+  has = contains_head top [];
+  led = λ t has. subst (LeadsTo g top) (only t has) itself;
+  inside = λ t has. subst (λ (x : SortId). x.0 < length g.sorts) (only t has) l;
+  done = λ k t a m. absurd (omega (arith, m));
+  within = omega arith;
+}
+  where
+    only : (t : SortId) → Contains (top ∷ []) t → top ≡ t
+    only t has = ⊎_elim (λ e. e) (λ n. absurd (contains_none t n)) (contains_cons top t [] has)
+
+-- the sorts of arguments are sorts of the signature
+pub sorts_inside : (g : Sig) → IsSignature g → HasSortsInside g
+sorts_inside g stands f e a at has = All-contains (λ (s : SortId). s.0 < length g.sorts) e.sorts a found (in_sorts e.is_list_constant has)
+  where
+    found : All (λ (s : SortId). s.0 < length g.sorts) e.sorts
+    found = (All-contains (IsFunctionWithin (length g.texts) (length g.sorts) (length g.functions)) g.functions e stands.complete.within.functions_within (contains_read g.functions f.0 e at)).found
+
+    in_sorts : (b : Bool) → Contains (cond b [] e.sorts) a → Contains e.sorts a
+    in_sorts true h = absurd (contains_none a h)
+    in_sorts false h = h

@@ -16,7 +16,8 @@ pub fn constructors_of(
     sort: SortId,
 ) -> Result<Vec<FunId>, NoMemory>
     requires { sort.0 < length sig.now.sorts }
-    ensures { IfOk result (λ funs. AreConstructors sig.now sort funs.items) }
+    ensures stands { IsSignature sig.now }
+    ensures constructors { IfOk result (λ funs. AreConstructors sig.now sort funs.items) }
 {
     let places = constructor_places(alloc, sig, sort)?;
     let mut funs = Vec::new(alloc);
@@ -37,7 +38,8 @@ fn constructor_places(
     sort: SortId,
 ) -> Result<Vec<Option<FunId>>, NoMemory>
     requires { sort.0 < length sig.now.sorts }
-    ensures { IfOk result (λ places. (k : ℕ) (f : FunId) → (slice_get places.items k ≡ Some (Some f)) ↔ IsConstructorAt sig.now sort k f) }
+    ensures stands { IsSignature sig.now }
+    ensures places { IfOk result (λ places. (k : ℕ) (f : FunId) → (slice_get places.items k ≡ Some (Some f)) ↔ IsConstructorAt sig.now sort k f) }
 {
     match sig.kind(sort) {
         SortKind::Bool => {

@@ -1,6 +1,6 @@
 //! The first values of a sort.
 
-ghost use Rattle.std.specs.Prelude.{◌≡◌, ◌<◌, ◌↔◌, length, IfOk, IsTrue};
+ghost use Rattle.std.specs.Prelude.{◌≡◌, ◌<◌, ◌↔◌, ◌&&◌, not, length, IfOk, IsTrue};
 ghost use Rattle.std.specs.List.{Contains};
 ghost use Rattle.data_theory.specs.declared.ids.SortId.{SortId};
 ghost use Rattle.data_theory.specs.Sorts.{IsBare};
@@ -40,11 +40,18 @@ pub fn values(
     ensures constants { pool.new.constants ≡ pool.old.constants }
 {
     let sorts = sorts_under(alloc, sig, sort)?;
-    let known = !has_bare(sig, &sorts);
+    let bare = has_bare(sig, &sorts);
     let shapes = shapes_of(alloc, sig, sorts)?;
     let (list, all) = first_values(alloc, sig, pool, &shapes, sort, bound as usize)?;
-    let whole = all && known;
+    let whole = is_whole(all, bare);
     Ok(Values { list, whole })
+}
+
+/// Whether values are whole: they are all, and the sort leads to none without constructors.
+fn is_whole(all: bool, bare: bool) -> bool
+    ensures { result ≡ (all && not bare) }
+{
+    all && !bare
 }
 
 /// Whether one of these sorts has no constructors.

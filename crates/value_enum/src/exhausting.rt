@@ -37,7 +37,10 @@ pub fn is_exhausted(
     while let Some(grows) = growing(shapes, heaviest, unbounded.as_slice(), weight) {
         unbounded[grows] = true;
     }
-    Ok(!unbounded[sort.0])
+    if unbounded[sort.0] {
+        return Ok(false);
+    }
+    Ok(true)
 }
 
 /// The first sort that is taken to be bounded and of which a constructor may make a heavier value.

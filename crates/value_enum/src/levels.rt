@@ -300,10 +300,9 @@ pub fn first_levels(alloc: Global, shapes: &Shapes) -> Result<Levels, NoMemory>
     ensures levels { IfOk result (λ levels. (g : Sig) (bound : ℕ) (ts : List Tree) → AreShapes g shapes.now → AreLevels g shapes.now bound ts levels) }
     ensures one { IfOk result (λ levels. length levels.values.items ≡ 1) }
 {
+    let nothing = Vec::new(alloc);
     let mut values = Vec::new(alloc);
-    values.push(ValueRow {
-        by_sort: Vec::new(alloc),
-    })?;
+    values.push(ValueRow { by_sort: nothing })?;
     let first = first_tuples(alloc, shapes.arguments.as_slice())?;
     let mut tuples = Vec::new(alloc);
     tuples.push(first)?;

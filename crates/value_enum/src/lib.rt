@@ -2,7 +2,7 @@
 //!
 //! A constructor value is a closed term of constructors and numerals. [`values`] lists the first ones of a sort by their weights, and says
 //! whether the sort has others.
-#![tactic(none)]
+#![tactic(auto)]
 
 mod constructors;
 mod enumerating;

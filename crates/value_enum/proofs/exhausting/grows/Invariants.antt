@@ -7,4 +7,4 @@ use Rattle.value_enum.proofs.exhausting.grows.Given as goal
 
 abbrev pub invariant-loop-constructor : goal.invariant-loop-constructor
 invariant-loop-constructor l =
-    (c : Constructor) → Contains (take l.constructor-index (list_at l.shapes.constructors.items l.sort)) c → MakeNoHeavier l.heaviest l.unbounded (arguments_at l.shapes.arguments.items c.first) l.weight
+    (c : Constructor) → Contains (take l.constructor-index l.constructors) c → MakeNoHeavier l.heaviest l.unbounded (arguments_at l.shapes.arguments.items c.first) l.weight

@@ -1,6 +1,5 @@
-use Rattle.std.proofs.Common.{◌≡◌, ◌+◌, ◌<◌, take, length}
+use Rattle.std.proofs.Common.{◌≡◌, ◌+◌, ◌<◌, ℕ, take, length}
 use Rattle.std.specs.List.{Contains}
-use Rattle.data_theory.specs.declared.ids.SortId.{SortId}
 use Rattle.term_pool.specs.Pools.{Extends}
 use Rattle.value_enum.specs.Values.{AreTermsOf}
 use Rattle.value_enum.specs.Shapes.{list_at}
@@ -13,5 +12,5 @@ invariant-loop-number l =
       kept : Extends l.fn.pool.trees l.pool.trees;
       constants : l.pool.constants ≡ l.fn.pool.constants;
       size : length l.by_sort.items ≡ l.number;
-      there : (s : SortId) → s.0 < l.number → Contains l.shapes.sorts.keys s → AreTermsOf l.pool.trees (list_at l.by_sort.items s.0) (take (l.bound + 1) (values_weighing (shape_of l.sig l.shapes) s (length l.tuples)));
+      there : (k : ℕ) → k < l.number → Contains l.shapes.sorts.keys (record { 0 = k }) → AreTermsOf l.pool.trees (list_at l.by_sort.items k) (take (l.bound + 1) (values_weighing (shape_of l.sig l.shapes) (record { 0 = k }) (length l.tuples)));
     }
