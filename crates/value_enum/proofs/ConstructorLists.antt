@@ -63,14 +63,14 @@ module _ (g : Sig) (s : SortId) (places : List (Option FunId)) (its : ArePlaces 
     each =
         λ h has. ⊎_elim (λ old. (let e = sofar.each h old in let l = e.1 in (e.0, omega (arith, l), e.2))) (λ same. (i, omega arith, subst (IsConstructorAt g s i) same ((its i f).0 at))) (Contains-push_cases fs f h has);
     all = λ k h l there. ⊎_elim
-    (λ less. Contains-append_left fs (f ∷ []) h (sofar.all k h less there))
-    (λ same. (
-    let read = subst (λ n. slice_get places n ≡ Some (Some h)) same ((its k h).1 there) in
-    let both : Some (Some f) ≡ Some (Some h) = sym at ∙ read in
-    let equal : f ≡ h = cc in
-    subst (Contains (fs ++ f ∷ [])) equal (Contains-push fs f)
-    ))
-    (less_or_here k i l);
+        (λ less. Contains-append_left fs (f ∷ []) h (sofar.all k h less there))
+        (λ same. (
+        let read = subst (λ n. slice_get places n ≡ Some (Some h)) same ((its k h).1 there) in
+        let both : Some (Some f) ≡ Some (Some h) = sym at ∙ read in
+        let equal : f ≡ h = cc in
+        subst (Contains (fs ++ f ∷ [])) equal (Contains-push fs f)
+        ))
+        (less_or_here k i l);
     ordered = ascending_append (IsEarlier g s) fs (f ∷ []) sofar.ordered (λ y has. absurd (contains_none y has), tt) (λ x y has there. earlier x y has there);
   }
     where

@@ -68,9 +68,9 @@ cut_are_first g s w bound vs p more =
       ascending = ascending_take (ComesBefore g s) bound vs p.ascending;
       few = omega (arith, size);
       first = λ v is. ⊎_elim
-      (λ l. ⊎_elim inl (λ d. inr (size, λ x has. taken_before (ComesBefore g s) bound vs p.ascending x v has d)) (taken_or_dropped bound vs v (p.complete v is l)))
-      (λ h. inr (size, λ x has. (let l = (p.sound x (contains_taken bound vs x has)).1 in lighter (omega (arith, l, h)))))
-      (light_or_heavy (weight v));
+          (λ l. ⊎_elim inl (λ d. inr (size, λ x has. taken_before (ComesBefore g s) bound vs p.ascending x v has d)) (taken_or_dropped bound vs v (p.complete v is l)))
+          (λ h. inr (size, λ x has. (let l = (p.sound x (contains_taken bound vs x has)).1 in lighter (omega (arith, l, h)))))
+          (light_or_heavy (weight v));
     }
   where
     light_or_heavy : (n : ℕ) → (n ≤ w) ⊎ (w < n)

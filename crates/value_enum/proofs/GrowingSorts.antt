@@ -42,9 +42,9 @@ module _ (os : List (Option SortId)) (heaviest : List ℕ) (unbounded : List Boo
   summing_goes_on p total new l s within is e d sofar = subst (λ q. IsSumming q new) (let one : suc p ≡ p + 1 = omega arith in one) record {
     members = λ a has. sofar.members a (subst (λ ss. Contains ss a) (sym here) (contains_tail s a (arguments_at os (suc p)) has));
     sum = ⊎_elim
-    (λ m. (let tail = ap (total_of limit) here in by_room (total + l) (let small = min_or (total + l) (2 ^ 64 - 1) in small) m tail))
-    (λ m. inr (omega (arith, d, m)))
-    sofar.sum;
+        (λ m. (let tail = ap (total_of limit) here in by_room (total + l) (let small = min_or (total + l) (2 ^ 64 - 1) in small) m tail))
+        (λ m. inr (omega (arith, d, m)))
+        sofar.sum;
   }
     where
       here : arguments_at os p ≡ s ∷ arguments_at os (suc p)

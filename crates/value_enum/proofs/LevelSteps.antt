@@ -30,8 +30,8 @@ levels_go_on g sh shapes bound old new before after row trow on right next is pu
   same = let l = ap length is in let m = rows_length before.values.items row in let k = ap length pushed in let n = rows_length before.tuples.items trow in let same = right.same in omega (arith, l, m, k, n, same);
   values = subst (HaveValues (shape_of g sh) sh.sorts.keys (bound + 1) new) (sym is) more_values;
   tuples = subst (HaveTuples (shape_of g sh) sh.arguments.items (bound + 1) new) (sym pushed)
-  (tuples_more g sh shapes bound new (before.values.items ++ row ∷ []) before.tuples.items trow (let m = rows_length before.values.items row in let same = right.same in omega (arith, m, same)) (let some = right.some in let same = right.same in omega (arith, some, same)) more_values
-  (have_tuples_kept g sh bound old new before.tuples.items on right.tuples) made_row);
+      (tuples_more g sh shapes bound new (before.values.items ++ row ∷ []) before.tuples.items trow (let m = rows_length before.values.items row in let same = right.same in omega (arith, m, same)) (let some = right.some in let same = right.same in omega (arith, some, same)) more_values
+      (have_tuples_kept g sh bound old new before.tuples.items on right.tuples) made_row);
 }
   where
     more_values : HaveValues (shape_of g sh) sh.sorts.keys (bound + 1) new (before.values.items ++ row ∷ [])

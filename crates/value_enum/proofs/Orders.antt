@@ -45,11 +45,10 @@ module _ {A : Type 0} (B : A → A → Type 0) where
 
 pub ascending_map : {X Y : Type 0} (B : X → X → Type 0) (C : Y → Y → Type 0) (f : X → Y) (xs : List X) → ((x y : X) → Contains xs x → Contains xs y → B x y → C (f x) (f y)) → Ascending B xs → Ascending C (map f xs)
 ascending_map B C f [] go p = tt
-ascending_map B C f (x ∷ xs) go p =
-    (
-    λ y has. (let found = contained_from_map f xs y has in subst (λ z. C (f x) z) found.2 (go x found.0 (contains_head x xs) (contains_tail x found.0 xs found.1) (p.0 found.0 found.1))),
-    ascending_map B C f xs (λ a b h k. go a b (contains_tail x a xs h) (contains_tail x b xs k)) p.1,
-    )
+ascending_map B C f (x ∷ xs) go p = (
+  λ y has. (let found = contained_from_map f xs y has in subst (λ z. C (f x) z) found.2 (go x found.0 (contains_head x xs) (contains_tail x found.0 xs found.1) (p.0 found.0 found.1))),
+  ascending_map B C f xs (λ a b h k. go a b (contains_tail x a xs h) (contains_tail x b xs k)) p.1,
+)
 
 -- ---- pairs
 module _ {A B : Type 0} (put : A → B → B) where

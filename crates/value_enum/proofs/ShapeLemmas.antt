@@ -53,13 +53,13 @@ shaping_more g fs f args old mid new cs more c told l is fun first pushed p = re
   functions = ap functions_of pushed ∙ (map-append (λ (d : Constructor). d.fun) cs (c ∷ []) ∙ (ap (λ hs. hs ++ c.fun ∷ []) p.functions ∙ ap (λ h. fs ++ h ∷ []) fun));
   places = λ d has. ⊎_elim (λ o. subst (λ os. StandsAt g os d) (sym is) (stands_on g mid (map Some args ++ None ∷ []) d (p.places d o))) (λ e. subst (StandsAt g new) e mine) (Contains-push_cases cs c d (subst (λ ds. Contains ds d) pushed has));
   arguments = λ a has. ⊎_elim
-  (λ o. ⊎_elim inl (λ i. inr (i.0, i.1, Contains-append_left fs (f ∷ []) i.0 i.2, i.3, i.4)) (p.arguments a o))
-  (λ n. inr (f, entry.0, Contains-push fs f, entry.1, subst (λ ss. Contains ss a) (sym same) (among a n)))
-  (Contains-append_cases mid (map Some args ++ None ∷ []) (Some a) (subst (λ os. Contains os (Some a)) is has));
+      (λ o. ⊎_elim inl (λ i. inr (i.0, i.1, Contains-append_left fs (f ∷ []) i.0 i.2, i.3, i.4)) (p.arguments a o))
+      (λ n. inr (f, entry.0, Contains-push fs f, entry.1, subst (λ ss. Contains ss a) (sym same) (among a n)))
+      (Contains-append_cases mid (map Some args ++ None ∷ []) (Some a) (subst (λ os. Contains os (Some a)) is has));
   ended = λ h q a at. (
-  let all : new ≡ (mid ++ map Some args) ++ None ∷ [] = is ∙ sym (append_assoc mid (map Some args) (None ∷ [])) in
-  subst (λ os. q + 1 < length os) (sym all) (ended_by_end (mid ++ map Some args) q a (subst (λ os. slice_get os q ≡ Some (Some a)) all at))
-  );
+      let all : new ≡ (mid ++ map Some args) ++ None ∷ [] = is ∙ sym (append_assoc mid (map Some args) (None ∷ [])) in
+      subst (λ os. q + 1 < length os) (sym all) (ended_by_end (mid ++ map Some args) q a (subst (λ os. slice_get os q ≡ Some (Some a)) all at))
+      );
 }
   where
     entry : (e : Function) × (slice_get g.functions f.0 ≡ Some e)

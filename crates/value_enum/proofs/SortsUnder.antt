@@ -87,13 +87,13 @@ pub adds_arguments_of : (g : Sig) (fs : List FunId) (f : FunId) (args old mid ne
 adds_arguments_of g fs f args old mid new told l p q = record {
   kept = front_kept old mid new p.kept q.kept;
   only = λ a has. ⊎_elim
-  (λ m. ⊎_elim inl (λ is. inr (is.0, is.1, Contains-append_left fs (f ∷ []) is.0 is.2, is.3, is.4)) (p.only a m))
-  (λ arg. inr (f, entry.0, Contains-push fs f, entry.1, subst (λ ss. Contains ss a) (sym same) arg))
-  (q.only a has);
+      (λ m. ⊎_elim inl (λ is. inr (is.0, is.1, Contains-append_left fs (f ∷ []) is.0 is.2, is.3, is.4)) (p.only a m))
+      (λ arg. inr (f, entry.0, Contains-push fs f, entry.1, subst (λ ss. Contains ss a) (sym same) arg))
+      (q.only a has);
   all = λ a is. ⊎_elim
-  (λ old_one. still_there mid new q.kept a (p.all a (is.0, is.1, old_one, is.3, is.4)))
-  (λ equal. q.all a (subst (λ ss. Contains ss a) (ap arguments_of (one_function g f is.1 entry.0 (subst (λ (x : FunId). slice_get g.functions x.0 ≡ Some is.1) (sym equal) is.3) entry.1) ∙ same) is.4))
-  (Contains-push_cases fs f is.0 is.2);
+      (λ old_one. still_there mid new q.kept a (p.all a (is.0, is.1, old_one, is.3, is.4)))
+      (λ equal. q.all a (subst (λ ss. Contains ss a) (ap arguments_of (one_function g f is.1 entry.0 (subst (λ (x : FunId). slice_get g.functions x.0 ≡ Some is.1) (sym equal) is.3) entry.1) ∙ same) is.4))
+      (Contains-push_cases fs f is.0 is.2);
 }
   where
     entry : (e : Function) × (slice_get g.functions f.0 ≡ Some e)

@@ -23,12 +23,12 @@ pub sort_entry : (os : List (Option SortId)) (values : List ValueRow) (tuples : 
 sort_entry os values tuples w bound p ts s is e = record {
   ends = λ at. absurd (let read : get_or os p None ≡ None = get_or_from_slice_get os p None None at in let wrong : Some s ≡ None = sym is ∙ read in cc);
   others = λ a at. (
-  let read : get_or os p None ≡ Some a = get_or_from_slice_get os p (Some a) None at in
-  let both : Some s ≡ Some a = sym is ∙ read in
-  let same : s ≡ a = cc in
-  let one : p + 1 ≡ suc p = omega arith in
-  e ∙ (λ i. take (bound + 1) (weighing_up_to (λ id ids. id ∷ ids) (λ n. values_at values n (same i)) (λ n. plain_tuples (tuples_at tuples n (one i))) w w))
-  );
+      let read : get_or os p None ≡ Some a = get_or_from_slice_get os p (Some a) None at in
+      let both : Some s ≡ Some a = sym is ∙ read in
+      let same : s ≡ a = cc in
+      let one : p + 1 ≡ suc p = omega arith in
+      e ∙ (λ i. take (bound + 1) (weighing_up_to (λ id ids. id ∷ ids) (λ n. values_at values n (same i)) (λ n. plain_tuples (tuples_at tuples n (one i))) w w))
+      );
 }
 
 pub entries_are_row : (os : List (Option SortId)) (values : List ValueRow) (tuples : List TupleRow) (w bound n : ℕ) (row : TupleRow) → length os ≤ n → ((p : ℕ) → p < n → IsEntry os values tuples w bound p (list_at row.by_place.items p)) → IsTupleRow os values tuples w bound row

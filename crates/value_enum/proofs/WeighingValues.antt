@@ -76,12 +76,11 @@ module _ (g : Sig) (stands : IsSignature g) (C : SortId → List FunId) (sorts :
     over f has =
         let place = (right s among).each f has in
         let entry = entry_of g f (within_functions g stands.complete s place.0 f place.1) in
-        let told = arguments_told g f entry.0 entry.1 in
-        (
-        entry.0,
-        entry.1,
-        subst (λ (ss : List SortId). AreTuplesWeighing g (arguments_of entry.0) t (tuples_weighing V ss t)) (sym told)
-        (tuples_right g V (arguments_of entry.0) t (λ j r l m. known j r l (closed s r among (place.0, f, entry.0, place.1, entry.1, m)))),
+        let told = arguments_told g f entry.0 entry.1 in (
+          entry.0,
+          entry.1,
+          subst (λ (ss : List SortId). AreTuplesWeighing g (arguments_of entry.0) t (tuples_weighing V ss t)) (sym told)
+              (tuples_right g V (arguments_of entry.0) t (λ j r l m. known j r l (closed s r among (place.0, f, entry.0, place.1, entry.1, m)))),
         )
 
     built_sound : (v : ConstructorValue) → Contains (built_over (function_arguments g.functions) V (C s) t) v → IsPlainValueOf g s v × (weight v ≡ suc t)

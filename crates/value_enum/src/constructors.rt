@@ -10,11 +10,7 @@ use data_theory::{FunId, NoMemory, Signature, SortId, SortKind};
 use std::alloc::Global;
 
 /// The constructors of a sort, each once, in the order of their first places.
-pub fn constructors_of(
-    alloc: Global,
-    sig: &Signature,
-    sort: SortId,
-) -> Result<Vec<FunId>, NoMemory>
+pub fn constructors_of(alloc: Global, sig: &Signature, sort: SortId) -> Result<Vec<FunId>, NoMemory>
     requires { sort.0 < length sig.now.sorts }
     ensures stands { IsSignature sig.now }
     ensures constructors { IfOk result (λ funs. AreConstructors sig.now sort funs.items) }

@@ -49,10 +49,8 @@ fn growing(shapes: &Shapes, heaviest: &[usize], unbounded: &[bool], weight: usiz
     requires count { length heaviest.now ≡ length shapes.now.constructors.items }
     requires same { length unbounded.now ≡ length heaviest.now }
     requires weight { weight < 2 ^ 64 - 1 }
-    ensures {
-        MatchOption result ((k : ℕ) → k < length unbounded.now → get_or unbounded.now k false ≡ false → HasNoHeavier shapes.now heaviest.now unbounded.now weight k)
-        (λ k. (k < length unbounded.now) × (get_or unbounded.now k false ≡ false))
-    }
+    ensures { MatchOption result ((k : ℕ) → k < length unbounded.now → get_or unbounded.now k false ≡ false → HasNoHeavier shapes.now heaviest.now unbounded.now weight k)
+        (λ k. (k < length unbounded.now) × (get_or unbounded.now k false ≡ false)) }
 {
     for number in 0..unbounded.len() {
         if unbounded[number] {

@@ -3,6 +3,7 @@
 ghost use Rattle.std.specs.Prelude.{◌≡◌, ◌<◌, ◌++◌, ◌∷◌, [], length, map, IfOk, OnOk, Some, None};
 ghost use Rattle.std.specs.List.{All, Contains};
 ghost use Rattle.data_theory.specs.declared.ids.SortId.{SortId};
+ghost use Rattle.data_theory.specs.WholeSignatures.{IsSignature};
 ghost use Rattle.value_enum.specs.Shapes.{list_at, AddsArguments, AddsShape, AddsSorts, AreClosed, AreShapes, AreUnder};
 
 use crate::constructors::constructors_of;
@@ -93,6 +94,7 @@ pub fn shapes_of(
 ) -> Result<Shapes, NoMemory>
     requires closed { AreClosed sig.now sorts.keys }
     requires within { (sort : SortId) → Contains sorts.keys sort → sort.0 < length sig.now.sorts }
+    ensures stands { IsSignature sig.now }
     ensures shapes { IfOk result (λ shapes. AreShapes sig.now shapes) }
     ensures sorts { IfOk result (λ shapes. shapes.sorts.keys ≡ sorts.keys) }
 {

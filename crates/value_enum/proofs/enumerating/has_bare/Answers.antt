@@ -32,8 +32,7 @@ loop-number-preserved c =
     (before_or_last k c.loop-number.number l)
 
 pub returns : goal.returns
-returns c =
-    (
-    λ t. absurd (let wrong : false ≡ true = t in cc),
-    λ h. absurd (let at = read_contained c.args.sorts.now.keys h.0 h.1 in let m = slice_get_within c.args.sorts.now.keys at.0 h.0 at.1 in c.loop-number.invariant at.0 h.0 (omega (arith, m, c.len-number-end.ensures.len, c.loop-number-test.false)) at.1 h.2),
-    )
+returns c = (
+  λ t. absurd (let wrong : false ≡ true = t in cc),
+  λ h. absurd (let at = read_contained c.args.sorts.now.keys h.0 h.1 in let m = slice_get_within c.args.sorts.now.keys at.0 h.0 at.1 in c.loop-number.invariant at.0 h.0 (omega (arith, m, c.len-number-end.ensures.len, c.loop-number-test.false)) at.1 h.2),
+)

@@ -40,10 +40,10 @@ loop-number-preserved c =
       size = length-set c.loop-number.heaviest.items i c.args.weight ∙ size;
       there = λ k l some. ⊎_elim (λ less. other k (λ e. omega (arith, e, less)) ∙ c.loop-number.invariant.there k less some) (λ last. subst (λ n. get_or (set c.loop-number.heaviest.items i c.args.weight) n 0 ≡ c.args.weight) (sym last) (get_or-set_same c.loop-number.heaviest.items i c.args.weight 0 within)) (before_or_last k i l);
       others = λ k l e. ⊎_elim (λ less. other k (λ d. omega (arith, d, less)) ∙ c.loop-number.invariant.others k less e) (λ last. absurd (
-      let none : c.values_of_weight-values.result.now ≡ [] = c.values_of_weight-values.ensures ∙ (ap (λ rows. values_at rows c.args.weight (record { 0 = i })) c.as_slice.ensures.value ∙ (ap (λ n. values_at c.args.levels.now.values.items c.args.weight (record { 0 = n })) (sym last) ∙ e)) in
-      let size = ap length none in
-      grind (arith, common_steps)
-      )) (before_or_last k i l);
+          let none : c.values_of_weight-values.result.now ≡ [] = c.values_of_weight-values.ensures ∙ (ap (λ rows. values_at rows c.args.weight (record { 0 = i })) c.as_slice.ensures.value ∙ (ap (λ n. values_at c.args.levels.now.values.items c.args.weight (record { 0 = n })) (sym last) ∙ e)) in
+          let size = ap length none in
+          grind (arith, common_steps)
+          )) (before_or_last k i l);
       left = λ k l. other k (λ d. omega (arith, d, l)) ∙ c.loop-number.invariant.left k (omega (arith, l));
     }
 

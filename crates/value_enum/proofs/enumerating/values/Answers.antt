@@ -4,6 +4,9 @@ use Rattle.std.specs.List.{Contains}
 use Rattle.value_enum.proofs.LeadingSorts.{listed_values}
 use Rattle.value_enum.proofs.enumerating.values.Goals as goal
 
+pub first_values-requires-clause-stands : goal.first_values-requires-clause-stands
+first_values-requires-clause-stands c = c.in_ok-shapes.ensures.stands
+
 pub first_values-requires-clause-sort : goal.first_values-requires-clause-sort
 first_values-requires-clause-sort c = subst (λ l. Contains l c.args.sort) (sym c.in_ok-shapes.ensures.sorts) c.in_ok-sorts.ensures.has
 

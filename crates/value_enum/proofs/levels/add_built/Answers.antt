@@ -57,7 +57,7 @@ loop-tuple-preserved c =
       constants = c.intern.ensures.constants ∙ c.loop-tuple.invariant.constants;
       room = omega (arith, c.in_ok-push.ensures.len, c.len.ensures, c.if-len-bound.false);
       added = one_added c.args.fun c.args.bound c.args.pool.now.trees c.args.values.now.items (plain_tuples c.args.tuples.now) c.loop-tuple.pool.trees c.intern.new.self.trees c.loop-tuple.values.items c.push.new.self.items c.loop-tuple.tuple-index [] c.in_ok-value.value c.loop-tuple.invariant.kept c.intern.ensures.kept
-      (omega (arith, e)) (omega (arith, c.len.ensures, c.if-len-bound.false)) (c.in_ok-value.ensures.tree ∙ ap (λ ids. apply_tree c.args.fun (trees_of (trees_at c.loop-tuple.pool.trees ids))) (c.as_slice.ensures.value ∙ sym read)) c.in_ok-value.ensures.within c.in_ok-push.ensures.items c.loop-tuple.invariant.added;
+          (omega (arith, e)) (omega (arith, c.len.ensures, c.if-len-bound.false)) (c.in_ok-value.ensures.tree ∙ ap (λ ids. apply_tree c.args.fun (trees_of (trees_at c.loop-tuple.pool.trees ids))) (c.as_slice.ensures.value ∙ sym read)) c.in_ok-value.ensures.within c.in_ok-push.ensures.items c.loop-tuple.invariant.added;
     }
 
 pub returns-clause-kept : goal.returns-clause-kept

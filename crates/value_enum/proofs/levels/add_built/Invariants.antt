@@ -12,5 +12,5 @@ invariant-loop-tuple l =
       constants : l.pool.constants ≡ l.fn.pool.constants;
       room : length l.values.items ≤ l.bound + 1;
       added : (vs : List ConstructorValue) (us : List ConstructorValues) → StandUnmerged l.fun us → AreTermsOf l.fn.pool.trees l.fn.values.items vs → AreTuplesOf l.fn.pool.trees (plain_tuples l.tuples) us
-      → AreTermsOf l.pool.trees l.values.items (take (l.bound + 1) (vs ++ map (built l.fun) (take l.tuple-index us)));
+          → AreTermsOf l.pool.trees l.values.items (take (l.bound + 1) (vs ++ map (built l.fun) (take l.tuple-index us)));
     }

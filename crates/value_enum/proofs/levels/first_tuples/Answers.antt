@@ -15,7 +15,7 @@ loop-argument-preserved-then-is_some c =
     record {
       size = ap length c.in_ok-push.ensures.items ∙ (rows_length c.loop-argument.by_place.items _ ∙ ap (λ n. n + 1) c.loop-argument.invariant.size);
       each = each_list (IsFirstEntry c.args.arguments.now) c.loop-argument.by_place.items c.push.new.self.items _ c.loop-argument.argument-index c.loop-argument.invariant.size c.in_ok-push.ensures.items c.loop-argument.invariant.each
-      (first_sort_entry c.args.arguments.now c.loop-argument.argument-index _ some c.new.ensures.items);
+          (first_sort_entry c.args.arguments.now c.loop-argument.argument-index _ some c.new.ensures.items);
     }
 
 pub loop-argument-preserved : goal.loop-argument-preserved
@@ -25,7 +25,7 @@ loop-argument-preserved c =
     record {
       size = ap length c.in_ok-push-3.ensures.items ∙ (rows_length c.loop-argument.by_place.items _ ∙ ap (λ n. n + 1) c.loop-argument.invariant.size);
       each = each_list (IsFirstEntry c.args.arguments.now) c.loop-argument.by_place.items c.push-in-loop-argument-2.new.self.items c.push-in-loop-argument.new.self c.loop-argument.argument-index c.loop-argument.invariant.size c.in_ok-push-3.ensures.items c.loop-argument.invariant.each
-      (first_end_entry c.args.arguments.now c.loop-argument.argument-index c.push-in-loop-argument.new.self.items nothing none c.new-in-loop-argument.ensures.items (c.in_ok-push-2.ensures.items ∙ ap (λ l. l ++ nothing ∷ []) c.new-found.ensures.items));
+          (first_end_entry c.args.arguments.now c.loop-argument.argument-index c.push-in-loop-argument.new.self.items nothing none c.new-in-loop-argument.ensures.items (c.in_ok-push-2.ensures.items ∙ ap (λ l. l ++ nothing ∷ []) c.new-found.ensures.items));
     }
 
 pub returns : goal.returns

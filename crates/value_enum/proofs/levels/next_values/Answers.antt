@@ -24,7 +24,7 @@ loop-number-preserved-then-not-contains c =
       constants = c.loop-number.invariant.constants;
       size = ap length c.in_ok-push.ensures.items ∙ (rows_length c.loop-number.by_sort.items _ ∙ ap (λ n. n + 1) c.loop-number.invariant.size);
       there = each_list P c.loop-number.by_sort.items c.push.new.self.items _ c.loop-number.number c.loop-number.invariant.size c.in_ok-push.ensures.items c.loop-number.invariant.there
-      (λ has. absurd (let there = contains_among (record { 0 = c.loop-number.number }) c.args.shapes.now.sorts.keys has in let wrong : true ≡ false = sym there ∙ absent in cc));
+          (λ has. absurd (let there = contains_among (record { 0 = c.loop-number.number }) c.args.shapes.now.sorts.keys has in let wrong : true ≡ false = sym there ∙ absent in cc));
     }
 
 pub values_weighing-requires-clause-sort : goal.values_weighing-requires-clause-sort
@@ -53,7 +53,7 @@ loop-number-preserved c =
       constants = c.values_weighing.ensures.constants ∙ c.loop-number.invariant.constants;
       size = ap length c.in_ok-push-2.ensures.items ∙ (rows_length c.loop-number.by_sort.items _ ∙ ap (λ n. n + 1) c.loop-number.invariant.size);
       there = each_list P c.loop-number.by_sort.items c.push-in-loop-number.new.self.items c.in_ok-values.values c.loop-number.number c.loop-number.invariant.size c.in_ok-push-2.ensures.items
-      (λ k l has. terms_kept c.loop-number.pool.trees c.values_weighing.new.pool.trees c.values_weighing.ensures.kept _ _ (c.loop-number.invariant.there k l has)) (λ has. c.in_ok-values.ensures.values);
+          (λ k l has. terms_kept c.loop-number.pool.trees c.values_weighing.new.pool.trees c.values_weighing.ensures.kept _ _ (c.loop-number.invariant.there k l has)) (λ has. c.in_ok-values.ensures.values);
     }
 
 pub returns-clause-kept : goal.returns-clause-kept

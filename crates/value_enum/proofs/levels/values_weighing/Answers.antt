@@ -42,7 +42,7 @@ loop-constructor-init c =
       constants = refl;
       room = omega (arith, ap length c.new-values.ensures.items);
       added = none_built c.args.sig.now c.requires.stands c.args.shapes.now c.requires.shapes c.args.bound c.args.tuples.now c.args.pool.now.trees c.args.sort c.requires.sort (n - 1) (omega arith) (level n c.requires.some) c.requires.tuples
-      c.args.pool.now.trees c.new-values.result.items c.new-values.ensures.items;
+          c.args.pool.now.trees c.new-values.result.items c.new-values.ensures.items;
     }
 
 -- the lists of arguments of the constructor in hand
@@ -59,11 +59,10 @@ add_built-requires-clause-tuples c =
     let d : Constructor = record { fun = record { 0 = 0 }; first = 0 } in
     let it : Constructor = get_or c.constructors_at-constructors.result.now c.loop-constructor.constructor-index d in
     let there = arguments (goal.at.add_built-requires-clause-tuples c).After-tuples_of_weight-arguments in
-    let same = c.tuples_of_weight-arguments.ensures in
-    (
-    _,
-    subst (λ ts. AreTuplesOf c.loop-constructor.pool.trees (plain_tuples ts) (take (c.args.bound + 1) (tuples_weighing (values_weighing (shape_of c.args.sig.now c.args.shapes.now)) (function_arguments c.args.sig.now.functions it.fun) (n - 1)))) (sym same)
-    (have_arguments c.args.sig.now c.requires.stands c.args.shapes.now c.requires.shapes c.args.bound c.args.tuples.now c.args.pool.now.trees c.args.sort c.requires.sort (n - 1) (omega arith) (level n c.requires.some) c.requires.tuples c.loop-constructor.pool.trees c.loop-constructor.invariant.kept it there),
+    let same = c.tuples_of_weight-arguments.ensures in (
+      _,
+      subst (λ ts. AreTuplesOf c.loop-constructor.pool.trees (plain_tuples ts) (take (c.args.bound + 1) (tuples_weighing (values_weighing (shape_of c.args.sig.now c.args.shapes.now)) (function_arguments c.args.sig.now.functions it.fun) (n - 1)))) (sym same)
+          (have_arguments c.args.sig.now c.requires.stands c.args.shapes.now c.requires.shapes c.args.bound c.args.tuples.now c.args.pool.now.trees c.args.sort c.requires.sort (n - 1) (omega arith) (level n c.requires.some) c.requires.tuples c.loop-constructor.pool.trees c.loop-constructor.invariant.kept it there),
     )
 
 pub returns-in_err-add_built-clause-kept : goal.returns-in_err-add_built-clause-kept
@@ -86,9 +85,9 @@ loop-constructor-preserved c =
       constants = c.add_built.ensures.constants ∙ c.loop-constructor.invariant.constants;
       room = c.in_ok-add_built.ensures.room;
       added = more_built c.args.sig.now c.requires.stands c.args.shapes.now c.requires.shapes c.args.bound c.args.tuples.now c.args.pool.now.trees c.args.sort c.requires.sort (n - 1) (omega arith) (level n c.requires.some) c.requires.tuples
-      c.loop-constructor.pool.trees c.add_built.new.pool.trees c.loop-constructor.values.items c.add_built.new.values.items i d (omega (arith, c.loop-constructor-test.true, ap length c.constructors_at-constructors.ensures)) c.loop-constructor.invariant.kept c.loop-constructor.invariant.added
-      (subst (λ (x : Constructor). AreAllAdded x.fun c.args.bound c.loop-constructor.pool.trees c.loop-constructor.values.items (plain_tuples (tuples_at c.args.tuples.now (n - 1) its.first)) c.add_built.new.pool.trees c.add_built.new.values.items) equal
-      (subst (λ ts. AreAllAdded it.fun c.args.bound c.loop-constructor.pool.trees c.loop-constructor.values.items (plain_tuples ts) c.add_built.new.pool.trees c.add_built.new.values.items) same c.in_ok-add_built.ensures.added));
+          c.loop-constructor.pool.trees c.add_built.new.pool.trees c.loop-constructor.values.items c.add_built.new.values.items i d (omega (arith, c.loop-constructor-test.true, ap length c.constructors_at-constructors.ensures)) c.loop-constructor.invariant.kept c.loop-constructor.invariant.added
+          (subst (λ (x : Constructor). AreAllAdded x.fun c.args.bound c.loop-constructor.pool.trees c.loop-constructor.values.items (plain_tuples (tuples_at c.args.tuples.now (n - 1) its.first)) c.add_built.new.pool.trees c.add_built.new.values.items) equal
+          (subst (λ ts. AreAllAdded it.fun c.args.bound c.loop-constructor.pool.trees c.loop-constructor.values.items (plain_tuples ts) c.add_built.new.pool.trees c.add_built.new.values.items) same c.in_ok-add_built.ensures.added));
     }
 
 pub returns-clause-kept : goal.returns-clause-kept
