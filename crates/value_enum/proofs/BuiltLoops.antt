@@ -1,5 +1,5 @@
 -- Constructors over lists of arguments, made one after the other until the bound is passed.
-use Rattle.std.proofs.Common.{◌≡◌, ◌⊎◌, ⊎_elim, inl, inr, ◌<◌, ◌≤◌, ◌-◌, ◌+◌, ◌^◌, ◌++◌, ℕ, zero, suc, Bool, true, false, List, [], ◌∷◌, map, take, length, get_or, Some, refl, sym, ap, ◌∙◌, subst, arith}
+use Rattle.std.proofs.Common.{◌≡◌, ◌<◌, ◌≤◌, ◌+◌, ◌^◌, ◌++◌, ℕ, zero, suc, true, false, List, [], ◌∷◌, map, take, length, get_or, Some, refl, sym, ap, ◌∙◌, subst, arith}
 use Rattle.std.specs.Prelude.{slice_get, cond}
 use Rattle.std.specs.List.{Contains}
 use Rattle.std.proofs.lemmas.List.{take-take, take-map, take_more, take_all, map-append, append-nil}
@@ -7,33 +7,30 @@ use Rattle.std.proofs.lemmas.List.Elements.{Contains-get_or}
 use Rattle.data_theory.specs.declared.ids.SortId.{SortId}
 use Rattle.data_theory.specs.declared.ids.FunId.{FunId}
 use Rattle.data_theory.specs.declared.ids.TermId.{TermId}
-use Rattle.data_theory.specs.Functions.{Function, arguments_of}
 use Rattle.data_theory.specs.Signature.{Sig}
-use Rattle.data_theory.specs.IdTrees.{Tree, numeral, function, trees_of, apply_tree}
-use Rattle.data_theory.specs.IdTreeSorts.{HasNumber}
+use Rattle.data_theory.specs.IdTrees.{Tree, numeral, trees_of, apply_tree}
 use Rattle.data_theory.specs.WholeSignatures.{IsSignature}
 use Rattle.data_theory.proofs.PlaceLemmas.{contains_read}
 use Rattle.term_pool.specs.HeadTrees.{tree_at, trees_at, IsIn, AreIn}
 use Rattle.term_pool.specs.Pools.{Extends}
 use Rattle.term_pool.specs.FirstTerms.{function_arguments}
-use Rattle.term_pool.specs.ConstructorValues.{ConstructorValue, ConstructorValues, a_number, built, no_value, value_then, AreValuesOf}
+use Rattle.term_pool.specs.ConstructorValues.{ConstructorValue, ConstructorValues, a_number, built}
 use Rattle.term_pool.proofs.Lists.{contains_map}
 use Rattle.term_pool.proofs.ConstructorTrees.{constructor_unmerged}
 use Rattle.value_enum.specs.declared.shapes.Constructor.{Constructor}
 use Rattle.value_enum.specs.declared.shapes.Shapes.{Shapes}
 use Rattle.value_enum.specs.declared.levels.TupleRow.{TupleRow}
-use Rattle.value_enum.specs.Values.{value_tree, IsTermOf, AreTermsOf, no_terms}
-use Rattle.value_enum.specs.Shapes.{list_at, functions_of, arguments_at, AreShapes, StandsAt}
-use Rattle.value_enum.specs.Levels.{shape_of, is_number_sort, number_weighing, numbers_weighing, tuples_weighing, built_over, values_weighing, tuples_at, plain_tuples, IsTupleOf, AreTuplesOf, tuple_then, HaveTuples, StandUnmerged, argument_trees}
+use Rattle.value_enum.specs.Values.{IsTermOf, AreTermsOf, no_terms}
+use Rattle.value_enum.specs.Shapes.{list_at, functions_of, AreShapes}
+use Rattle.value_enum.specs.Levels.{shape_of, is_number_sort, number_weighing, tuples_weighing, built_over, values_weighing, tuples_at, plain_tuples, IsTupleOf, AreTuplesOf, tuple_then, HaveTuples, StandUnmerged}
 use Rattle.value_enum.proofs.Orders.{contains_taken}
 use Rattle.value_enum.proofs.Capped.{alike_append}
 use Rattle.value_enum.proofs.CappedLoops.{pushing_goes_on, pushing_stops, pushing_ends}
 use Rattle.value_enum.proofs.DepthLemmas.{level_of, built_more}
 use Rattle.value_enum.proofs.RowLemmas.{nothing_taken}
 use Rattle.value_enum.proofs.PlaceLemmas.{stands_at, within_at}
-use Rattle.value_enum.proofs.WeighingTuples.{AreWeighing, tuples_right}
-use Rattle.value_enum.proofs.WeighingValues.{weighing_right, values_of_constructor, number_sorts_stand_alone}
-use Rattle.value_enum.proofs.TermLists.{terms_kept, tuples_kept, terms_length, terms_append, terms_take, one_term, tuples_take, tuple_in_kept, tuple_within, built_tree}
+use Rattle.value_enum.proofs.WeighingValues.{values_of_constructor, number_sorts_stand_alone}
+use Rattle.value_enum.proofs.TermLists.{terms_kept, tuples_kept, terms_length, terms_append, one_term, tuple_in_kept, tuple_within, built_tree}
 
 -- a list of arguments at a place
 pub tuple_at : (ts : List Tree) (idss : List (List TermId)) (us : List ConstructorValues) (i : ℕ) (d : List TermId) → AreTuplesOf ts idss us → i < length idss → (u : ConstructorValues) × (slice_get us i ≡ Some u) × IsTupleOf ts (get_or idss i d) u

@@ -1,8 +1,8 @@
 -- The values of a weight are made of those of the weights below, whatever the depth.
-use Rattle.std.proofs.Common.{◌≡◌, ◌<◌, ◌≤◌, ◌-◌, ◌+◌, ◌++◌, ℕ, zero, suc, List, [], ◌∷◌, map, length, refl, sym, ap, ◌∙◌, arith}
+use Rattle.std.proofs.Common.{◌≡◌, ◌≤◌, ◌-◌, ◌++◌, ℕ, zero, suc, List, [], ◌∷◌, map, refl, ap, ◌∙◌, arith}
 use Rattle.data_theory.specs.declared.ids.SortId.{SortId}
 use Rattle.data_theory.specs.declared.ids.FunId.{FunId}
-use Rattle.term_pool.specs.ConstructorValues.{ConstructorValue, ConstructorValues, built, value_then}
+use Rattle.term_pool.specs.ConstructorValues.{ConstructorValue, built, value_then}
 use Rattle.value_enum.specs.Levels.{Shape, in_front_of_all, weighing_up_to, numbers_weighing, tuples_weighing, built_over, values_within, values_weighing}
 
 weighing_same : {A B : Type 0} (put : A → B → B) (firsts others : ℕ → List A) (rests behind : ℕ → List B) (total k : ℕ) → k ≤ total → ((j : ℕ) → j ≤ total → firsts j ≡ others j) → ((j : ℕ) → j ≤ total → rests j ≡ behind j)

@@ -1,11 +1,8 @@
 -- Sorts whose values are no heavier than those that are known.
-use Rattle.std.proofs.Common.{◌≡◌, ◌⊎◌, ⊎_elim, inl, inr, ◌<◌, ◌≤◌, ◌-◌, ◌+◌, ◌^◌, ℕ, zero, suc, Bool, true, false, cond, List, [], ◌∷◌, map, length, get_or, Some, refl, sym, ap, ◌∙◌, subst, arith}
-use Rattle.std.specs.Prelude.{slice_get}
-use Rattle.std.specs.List.{Contains, All}
-use Rattle.std.proofs.lemmas.List.Elements.{All-contains}
+use Rattle.std.proofs.Common.{◌≡◌, ◌⊎◌, ⊎_elim, inl, inr, ◌<◌, ◌≤◌, ◌-◌, ◌^◌, ℕ, Bool, true, false, cond, List, [], ◌∷◌, get_or, refl, sym, ap, ◌∙◌, subst, arith}
+use Rattle.std.specs.List.{Contains}
 use Rattle.data_theory.specs.declared.ids.SortId.{SortId}
-use Rattle.data_theory.specs.declared.ids.FunId.{FunId}
-use Rattle.data_theory.specs.Functions.{Function, arguments_of}
+use Rattle.data_theory.specs.Functions.{arguments_of}
 use Rattle.data_theory.specs.Signature.{Sig}
 use Rattle.data_theory.specs.IdTreeSorts.{HasNumber}
 use Rattle.data_theory.specs.WholeSignatures.{IsSignature}
@@ -15,7 +12,7 @@ use Rattle.term_pool.specs.ConstructorValues.{ConstructorValue, ConstructorValue
 use Rattle.value_enum.specs.declared.shapes.Constructor.{Constructor}
 use Rattle.value_enum.specs.declared.shapes.Shapes.{Shapes}
 use Rattle.value_enum.specs.Values.{IsPlainValueOf, ArePlain}
-use Rattle.value_enum.specs.Shapes.{list_at, functions_of, arguments_at, AreShapes, StandsAt}
+use Rattle.value_enum.specs.Shapes.{list_at, arguments_at, AreShapes}
 use Rattle.value_enum.specs.Levels.{is_number_sort, limit_of, total_of, MakeNoHeavier, HasNoHeavier, AreHeaviest, HasNoneAbove}
 use Rattle.value_enum.proofs.ValueOrder.{some_weight}
 use Rattle.value_enum.proofs.NumberValues.{number_has_sort}

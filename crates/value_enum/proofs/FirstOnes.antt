@@ -1,19 +1,19 @@
 -- The first values of a sort, by the values up to a weight.
-use Rattle.std.proofs.Common.{◌≡◌, ◌⊎◌, ⊎_elim, inl, inr, ◌<◌, ◌≤◌, ◌-◌, ◌+◌, ◌^◌, ◌++◌, ℕ, zero, suc, List, [], ◌∷◌, take, drop, length, refl, sym, ap, ◌∙◌, subst, arith}
+use Rattle.std.proofs.Common.{◌≡◌, ◌⊎◌, ⊎_elim, inl, inr, ◌<◌, ◌≤◌, ◌^◌, ◌++◌, ℕ, zero, suc, List, [], ◌∷◌, take, drop, length, refl, arith}
 use Rattle.std.specs.List.{Contains}
-use Rattle.std.proofs.lemmas.List.{length-take-le, take_all}
+use Rattle.std.proofs.lemmas.List.{length-take-le}
 use Rattle.std.proofs.lemmas.List.Elements.{Contains-append_left, Contains-append_right, Contains-append_cases}
 use Rattle.data_theory.specs.declared.ids.SortId.{SortId}
 use Rattle.data_theory.specs.declared.ids.FunId.{FunId}
 use Rattle.data_theory.specs.Signature.{Sig}
 use Rattle.data_theory.specs.WholeSignatures.{IsSignature}
-use Rattle.term_pool.proofs.Lists.{contains_none, contains_cons, contains_head, contains_tail}
+use Rattle.term_pool.proofs.Lists.{contains_none, contains_head}
 use Rattle.term_pool.specs.FirstTerms.{function_arguments}
 use Rattle.term_pool.specs.ConstructorValues.{ConstructorValue, weight, ComesBefore, lighter}
 use Rattle.value_enum.specs.Ascending.{Ascending}
 use Rattle.value_enum.specs.Values.{IsPlainValueOf, AreFirst}
 use Rattle.value_enum.specs.Shapes.{AreConstructors, AreClosed}
-use Rattle.value_enum.specs.Levels.{Shape, values_weighing, values_up_to}
+use Rattle.value_enum.specs.Levels.{values_up_to}
 use Rattle.value_enum.proofs.Orders.{ascending_append, ascending_take, taken_before, contains_taken, contains_dropped, taken_or_dropped}
 use Rattle.value_enum.proofs.ValueOrder.{some_weight, not_before}
 use Rattle.value_enum.proofs.WeighingTuples.{AreWeighing}

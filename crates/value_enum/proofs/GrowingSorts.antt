@@ -1,16 +1,15 @@
 -- Whether constructors make heavier values.
-use Rattle.std.proofs.Common.{◌≡◌, ◌⊎◌, ⊎_elim, inl, inr, ◌<◌, ◌≤◌, ◌-◌, ◌+◌, ◌^◌, ◌++◌, ◌∙◌, ℕ, zero, suc, Bool, true, false, List, [], ◌∷◌, set, take, drop, length, get_or, min, Option, Some, None, refl, sym, ap, subst, arith}
-use Rattle.std.specs.Prelude.{slice_get}
+use Rattle.std.proofs.Common.{◌≡◌, ◌⊎◌, ⊎_elim, inl, inr, ◌<◌, ◌≤◌, ◌-◌, ◌+◌, ◌^◌, ◌++◌, ◌∙◌, ℕ, zero, suc, Bool, true, false, List, [], ◌∷◌, set, take, length, get_or, min, Option, Some, None, refl, sym, ap, subst, arith}
 use Rattle.std.specs.List.{Contains}
-use Rattle.std.proofs.lemmas.List.{take_more, take_all, get_or-set_same, get_or-set_other}
+use Rattle.std.proofs.lemmas.List.{take_more, get_or-set_same, get_or-set_other}
 use Rattle.std.proofs.lemmas.Option.{slice_get-get_or}
 use Rattle.std.proofs.lemmas.List.Elements.{Contains-get_or, Contains-push_cases}
 use Rattle.data_theory.specs.declared.ids.SortId.{SortId}
-use Rattle.term_pool.proofs.Lists.{contains_none, contains_head, contains_tail}
+use Rattle.term_pool.proofs.Lists.{contains_head, contains_tail}
 use Rattle.value_enum.specs.declared.shapes.Constructor.{Constructor}
 use Rattle.value_enum.specs.declared.shapes.Shapes.{Shapes}
-use Rattle.value_enum.specs.Shapes.{list_at, arguments_at}
-use Rattle.value_enum.specs.Levels.{is_number_sort, limit_of, total_of, MakeNoHeavier, HasNoHeavier}
+use Rattle.value_enum.specs.Shapes.{arguments_at}
+use Rattle.value_enum.specs.Levels.{is_number_sort, limit_of, total_of, MakeNoHeavier}
 use Rattle.value_enum.proofs.RowLemmas.{arguments_begin, arguments_end}
 
 -- the sort at a place, in front of those behind it

@@ -1,7 +1,7 @@
 -- The first values of a sort, listed weight by weight.
-use Rattle.std.proofs.Common.{◌≡◌, ◌⊎◌, ⊎_elim, inl, inr, ◌<◌, ◌≤◌, ◌-◌, ◌+◌, ◌^◌, ◌++◌, ℕ, zero, suc, Bool, true, false, List, [], ◌∷◌, map, take, length, get_or, min, refl, sym, ap, ◌∙◌, subst, arith}
+use Rattle.std.proofs.Common.{◌≡◌, ◌⊎◌, ⊎_elim, inl, inr, ◌<◌, ◌≤◌, ◌+◌, ◌^◌, ◌++◌, ℕ, suc, Bool, true, false, List, [], ◌∷◌, take, length, refl, sym, ap, ◌∙◌, subst, arith}
 use Rattle.std.specs.List.{Contains}
-use Rattle.std.proofs.lemmas.List.{take-take, take_all, length-take, length-append}
+use Rattle.std.proofs.lemmas.List.{length-take, length-append}
 use Rattle.data_theory.specs.declared.ids.SortId.{SortId}
 use Rattle.data_theory.specs.declared.ids.FunId.{FunId}
 use Rattle.data_theory.specs.declared.ids.TermId.{TermId}
@@ -13,14 +13,13 @@ use Rattle.term_pool.specs.ConstructorValues.{ConstructorValue, weight}
 use Rattle.term_pool.proofs.Lists.{contains_none}
 use Rattle.value_enum.specs.declared.shapes.Shapes.{Shapes}
 use Rattle.value_enum.specs.declared.levels.Levels.{Levels}
-use Rattle.value_enum.specs.declared.levels.ValueRow.{ValueRow}
 use Rattle.value_enum.specs.declared.levels.TupleRow.{TupleRow}
-use Rattle.value_enum.specs.Values.{IsPlainValueOf, AreTermsOf, no_terms, AreFirst}
+use Rattle.value_enum.specs.Values.{IsPlainValueOf, AreTermsOf, no_terms}
 use Rattle.value_enum.specs.Shapes.{list_at, functions_of, AreShapes}
-use Rattle.value_enum.specs.Levels.{Shape, shape_of, values_weighing, values_up_to, values_at, tuples_at, HaveTuples, AreLevels, AreHeaviest, HasNoneAbove}
+use Rattle.value_enum.specs.Levels.{Shape, shape_of, values_weighing, values_up_to, values_at, HaveTuples, AreLevels, AreHeaviest, HasNoneAbove}
 use Rattle.value_enum.specs.Listing.{AreAllOrFirst, AreNoted}
 use Rattle.value_enum.proofs.Capped.{cut_right, not_cut}
-use Rattle.value_enum.proofs.TermLists.{terms_length, terms_append, terms_take, terms_kept, tuples_kept}
+use Rattle.value_enum.proofs.TermLists.{terms_length, terms_append, terms_take, tuples_kept}
 use Rattle.value_enum.proofs.WeighingValues.{weighing_right}
 use Rattle.value_enum.proofs.FirstOnes.{AreUpTo, up_to_right, all_are_first, cut_are_first, one_more}
 

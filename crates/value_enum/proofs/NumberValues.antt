@@ -1,11 +1,11 @@
 -- The numbers by their weights.
-use Rattle.std.proofs.Common.{◌≡◌, ◌==◌, ◌⊎◌, ⊎_elim, inl, inr, ◌<◌, ◌≤◌, ◌+◌, ◌-◌, ◌*◌, ◌/◌, ◌%◌, ◌^◌, ◌||◌, ℕ, zero, suc, Bool, true, false, cond, eqb, Some, ℤ, pos, negsuc, ◌≤ℤ◌, refl, sym, ap, ◌∙◌, subst, arith}
+use Rattle.std.proofs.Common.{◌≡◌, ◌==◌, inl, inr, ◌<◌, ◌+◌, ◌-◌, ◌*◌, ◌/◌, ◌%◌, ◌^◌, ◌||◌, ℕ, zero, suc, Bool, true, false, cond, Some, ℤ, pos, negsuc, ◌≤ℤ◌, refl, sym, ap, ◌∙◌, subst, arith}
 use Rattle.std.proofs.lemmas.Bool.Decides.{Decides-eqb}
 use lib.IntN.{neg_ℤ}
 use lib.Dec.{le→leb}
 use Rattle.data_theory.specs.declared.ids.SortId.{SortId}
 use Rattle.data_theory.specs.Table.{pos_sort, nat_sort, int_sort}
-use Rattle.data_theory.specs.IdTreeSorts.{IsNumberIn, HasNumber}
+use Rattle.data_theory.specs.IdTreeSorts.{HasNumber}
 use Rattle.data_theory.specs.declared.ids.FunId.{FunId}
 use Rattle.data_theory.specs.Sorts.{Kind, SortInfo, positives, naturals, integers}
 use Rattle.data_theory.specs.IdSorts.{HasKind}

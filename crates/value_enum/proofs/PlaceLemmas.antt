@@ -1,9 +1,6 @@
 -- The places of arguments.
-use Rattle.std.proofs.Common.{◌≡◌, ◌⊎◌, ⊎_elim, inl, inr, ◌<◌, ◌≤◌, ◌+◌, ◌++◌, ℕ, zero, suc, List, [], ◌∷◌, map, drop, length, Option, Some, None, refl, sym, ap, ◌∙◌, subst, arith}
-use Rattle.std.specs.Prelude.{slice_get}
-use Rattle.std.specs.List.{Contains}
+use Rattle.std.proofs.Common.{◌≡◌, ◌<◌, ◌++◌, List, [], ◌∷◌, map, drop, length, Option, Some, None, refl, sym, ap, ◌∙◌, subst, arith}
 use Rattle.data_theory.specs.declared.ids.SortId.{SortId}
-use Rattle.data_theory.specs.declared.ids.FunId.{FunId}
 use Rattle.data_theory.specs.Signature.{Sig}
 use Rattle.term_pool.specs.FirstTerms.{function_arguments}
 use Rattle.value_enum.specs.declared.shapes.Constructor.{Constructor}

@@ -1,32 +1,25 @@
 -- The rows of one more weight.
-use Rattle.std.proofs.Common.{◌≡◌, ◌⊎◌, ⊎_elim, inl, inr, ◌<◌, ◌≤◌, ◌-◌, ◌+◌, ◌^◌, ◌++◌, ℕ, zero, suc, Bool, true, false, List, [], ◌∷◌, map, take, drop, length, Option, Some, None, refl, sym, ap, ◌∙◌, subst, arith}
+use Rattle.std.proofs.Common.{◌≡◌, ◌⊎◌, ⊎_elim, ◌<◌, ◌+◌, ◌++◌, ℕ, zero, suc, List, [], ◌∷◌, take, length, Option, Some, None, refl, sym, ap, ◌∙◌, subst, arith}
 use Rattle.std.specs.Prelude.{slice_get}
 use Rattle.std.specs.Global.{Vec}
 use Rattle.std.specs.List.{Contains}
 use Rattle.std.specs.Option.{option_map_or}
-use Rattle.std.proofs.lemmas.List.{take-take, take-map}
-use Rattle.std.proofs.lemmas.Option.{slice_get_within}
 use Rattle.data_theory.specs.declared.ids.SortId.{SortId}
-use Rattle.data_theory.specs.declared.ids.FunId.{FunId}
 use Rattle.data_theory.specs.declared.ids.TermId.{TermId}
 use Rattle.data_theory.specs.Signature.{Sig}
 use Rattle.data_theory.specs.IdTrees.{Tree}
-use Rattle.data_theory.specs.WholeSignatures.{IsSignature}
 use Rattle.data_theory.proofs.PlaceLemmas.{contains_read}
 use Rattle.term_pool.specs.Pools.{Extends}
-use Rattle.term_pool.specs.FirstTerms.{function_arguments}
-use Rattle.term_pool.specs.ConstructorValues.{ConstructorValue, ConstructorValues, built, no_value, value_then}
-use Rattle.value_enum.specs.declared.shapes.Constructor.{Constructor}
+use Rattle.term_pool.specs.ConstructorValues.{ConstructorValue, no_value, value_then}
 use Rattle.value_enum.specs.declared.shapes.Shapes.{Shapes}
-use Rattle.value_enum.specs.declared.levels.Levels.{Levels}
 use Rattle.value_enum.specs.declared.levels.ValueRow.{ValueRow}
 use Rattle.value_enum.specs.declared.levels.TupleRow.{TupleRow}
 use Rattle.value_enum.specs.Values.{AreTermsOf, no_terms}
-use Rattle.value_enum.specs.Shapes.{list_at, arguments_at, sorts_to_end, AreShapes, StandsAt, functions_of}
-use Rattle.value_enum.specs.Levels.{Shape, shape_of, tuples_weighing, values_weighing, weighing_up_to, values_at, tuples_at, plain_tuples, AreTuplesOf, no_tuples, tuple_then, empty, HaveValues, HaveTuples, AreLevels, IsValueRow, IsTupleRow, IsFirstTupleRow}
+use Rattle.value_enum.specs.Shapes.{list_at, arguments_at, sorts_to_end, AreShapes}
+use Rattle.value_enum.specs.Levels.{Shape, shape_of, tuples_weighing, values_weighing, weighing_up_to, values_at, tuples_at, plain_tuples, AreTuplesOf, no_tuples, tuple_then, empty, HaveValues, HaveTuples, IsTupleRow, IsFirstTupleRow}
 use Rattle.value_enum.proofs.Capped.{alike_weighing}
 use Rattle.value_enum.proofs.DepthLemmas.{no_light_values}
-use Rattle.value_enum.proofs.TermLists.{terms_kept, tuples_kept, tuples_take, tuples_up_to}
+use Rattle.value_enum.proofs.TermLists.{terms_kept, tuples_take, tuples_up_to}
 
 -- ---- rows by their places
 pub row_before : {A : Type 0} (rows : List A) (row : A) (w : ℕ) → w < length rows → slice_get (rows ++ row ∷ []) w ≡ slice_get rows w

@@ -1,19 +1,18 @@
 -- The shapes of sorts, made one after the other.
-use Rattle.std.proofs.Common.{◌≡◌, ◌⊎◌, ⊎_elim, inl, inr, ◌<◌, ◌≤◌, ◌+◌, ◌++◌, ℕ, zero, suc, List, [], ◌∷◌, map, take, length, Option, Some, None, refl, sym, ap, ◌∙◌, subst, arith}
+use Rattle.std.proofs.Common.{◌≡◌, ◌⊎◌, ⊎_elim, inl, inr, ◌<◌, ◌+◌, ◌++◌, ℕ, zero, suc, List, [], ◌∷◌, map, length, Option, Some, None, refl, sym, ap, ◌∙◌, subst, arith}
 use Rattle.std.specs.Prelude.{slice_get, IfSome}
 use Rattle.std.specs.List.{Contains}
 use Rattle.std.specs.Global.{Vec}
 use Rattle.std.proofs.lemmas.List.{append_assoc, append-nil, map-append}
-use Rattle.std.proofs.lemmas.Option.{slice_get_within}
-use Rattle.std.proofs.lemmas.List.Elements.{Contains-append_left, Contains-append_right, Contains-append_cases, Contains-push, Contains-push_cases}
+use Rattle.std.proofs.lemmas.List.Elements.{Contains-append_left, Contains-append_cases, Contains-push, Contains-push_cases}
 use Rattle.data_theory.specs.declared.ids.SortId.{SortId}
 use Rattle.data_theory.specs.declared.ids.FunId.{FunId}
 use Rattle.data_theory.specs.Functions.{Function, arguments_of}
 use Rattle.data_theory.specs.Signature.{Sig}
-use Rattle.term_pool.proofs.Lists.{contains_none, contains_cons, contains_head, contains_tail, contained_from_map}
+use Rattle.term_pool.proofs.Lists.{contains_none, contains_cons, contained_from_map}
 use Rattle.term_pool.specs.FirstTerms.{function_arguments}
 use Rattle.value_enum.specs.declared.shapes.Constructor.{Constructor}
-use Rattle.value_enum.specs.Shapes.{list_at, functions_of, AreConstructors, IsArgumentIn, IsArgumentOf, AreClosed, StandsAt, AreEnded, AddsShape}
+use Rattle.value_enum.specs.Shapes.{list_at, functions_of, AreConstructors, IsArgumentIn, AreClosed, StandsAt, AreEnded, AddsShape}
 use Rattle.value_enum.proofs.RowLemmas.{entry_at}
 use Rattle.value_enum.proofs.RowReads.{list_before, list_last}
 use Rattle.value_enum.proofs.WeighingValues.{arguments_told}

@@ -1,11 +1,10 @@
 -- Terms of values in a pool.
-use Rattle.std.proofs.Common.{◌≡◌, ◌<◌, ◌≤◌, ◌-◌, ◌+◌, ◌++◌, ℕ, zero, suc, List, [], ◌∷◌, map, take, length, refl, sym, ap, ◌∙◌, subst, arith}
-use Rattle.std.specs.List.{All}
+use Rattle.std.proofs.Common.{◌≡◌, ◌<◌, ◌≤◌, ◌-◌, ◌++◌, ℕ, zero, suc, List, [], ◌∷◌, map, take, length, refl, ap, ◌∙◌, arith}
 use Rattle.std.proofs.lemmas.List.Elements.{All-nil, All-cons}
 use Rattle.data_theory.specs.declared.ids.FunId.{FunId}
 use Rattle.data_theory.specs.declared.ids.TermId.{TermId}
-use Rattle.data_theory.specs.IdTrees.{Tree, Trees, function, none, more, trees_of, apply_tree}
-use Rattle.term_pool.specs.HeadTrees.{tree_at, trees_at, IsIn, AreIn}
+use Rattle.data_theory.specs.IdTrees.{Tree, function, more, trees_of, apply_tree}
+use Rattle.term_pool.specs.HeadTrees.{trees_at, IsIn, AreIn}
 use Rattle.term_pool.specs.Pools.{Extends}
 use Rattle.term_pool.proofs.NodeTrees.{tree_kept, stays_in}
 use Rattle.term_pool.specs.ConstructorValues.{ConstructorValue, ConstructorValues, built, no_value, value_then}

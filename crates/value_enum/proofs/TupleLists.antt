@@ -1,5 +1,5 @@
 -- Lists of arguments as lists of terms.
-use Rattle.std.proofs.Common.{◌≡◌, ◌<◌, ◌≤◌, ◌+◌, ◌++◌, ◌∙◌, ℕ, zero, suc, List, [], ◌∷◌, map, length, get_or, refl, sym, ap, subst, arith}
+use Rattle.std.proofs.Common.{◌≡◌, ◌<◌, ◌++◌, ◌∙◌, ℕ, zero, suc, List, [], ◌∷◌, length, get_or, sym, ap, arith}
 use Rattle.std.proofs.lemmas.List.{length-map, map-append}
 use Rattle.data_theory.specs.declared.ids.TermId.{TermId}
 use Rattle.value_enum.specs.declared.levels.Tuple.{Tuple}

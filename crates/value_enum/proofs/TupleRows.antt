@@ -1,9 +1,8 @@
 -- Rows of lists of arguments, place by place.
-use Rattle.std.proofs.Common.{◌≡◌, ◌<◌, ◌≤◌, ◌+◌, ◌++◌, ◌∙◌, ℕ, zero, suc, Bool, true, false, List, [], ◌∷◌, take, length, get_or, Option, Some, None, refl, sym, ap, subst, arith}
+use Rattle.std.proofs.Common.{◌≡◌, ◌<◌, ◌≤◌, ◌+◌, ◌∙◌, ℕ, suc, true, false, List, [], ◌∷◌, take, length, get_or, Option, Some, None, sym, ap, arith}
 use Rattle.std.specs.Prelude.{slice_get, is_some}
 use Rattle.std.proofs.lemmas.Option.{slice_get_within, get_or_from_slice_get}
 use Rattle.data_theory.specs.declared.ids.SortId.{SortId}
-use Rattle.data_theory.specs.declared.ids.TermId.{TermId}
 use Rattle.value_enum.specs.declared.levels.Tuple.{Tuple}
 use Rattle.value_enum.specs.declared.levels.ValueRow.{ValueRow}
 use Rattle.value_enum.specs.declared.levels.TupleRow.{TupleRow}

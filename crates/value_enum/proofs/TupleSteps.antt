@@ -1,5 +1,5 @@
 -- Lists of arguments of one weight, by the weight of the first.
-use Rattle.std.proofs.Common.{◌≡◌, ◌<◌, ◌≤◌, ◌+◌, ◌-◌, ◌++◌, ◌∙◌, ℕ, zero, suc, List, [], ◌∷◌, take, length, refl, sym, ap, subst, arith}
+use Rattle.std.proofs.Common.{◌≡◌, ◌+◌, ◌-◌, ◌++◌, ◌∙◌, ℕ, suc, List, [], ◌∷◌, take, sym, ap, arith}
 use Rattle.data_theory.specs.declared.ids.TermId.{TermId}
 use Rattle.value_enum.specs.declared.levels.Tuple.{Tuple}
 use Rattle.value_enum.specs.Levels.{plain_tuples, weighing_up_to, in_front_of_all}

@@ -1,12 +1,12 @@
 -- The order of values, and their weights.
-use Rattle.std.proofs.Common.{◌≡◌, ◌==◌, ◌<◌, ◌≤◌, ◌+◌, ◌*◌, ℕ, zero, suc, Bool, true, false, cond, List, [], ◌∷◌, Some, ℤ, pos, negsuc, refl, sym, ap, subst, arith}
+use Rattle.std.proofs.Common.{◌≡◌, ◌==◌, ◌<◌, ◌+◌, ◌*◌, zero, suc, Bool, true, false, cond, List, [], ◌∷◌, Some, pos, negsuc, sym, ap, subst, arith}
 use Rattle.std.specs.Prelude.{slice_get}
 use Rattle.data_theory.specs.declared.ids.SortId.{SortId}
 use Rattle.data_theory.specs.declared.ids.FunId.{FunId}
 use Rattle.data_theory.specs.Functions.{Function, arguments_of}
 use Rattle.data_theory.specs.Signature.{Sig}
 use Rattle.term_pool.proofs.FirstValueLemmas.{one_function, not_heavier}
-use Rattle.term_pool.specs.ConstructorValues.{ConstructorValue, ConstructorValues, a_number, built, a_constant, no_value, value_then, weight, weights, number_weight, IsEarlier, IsConstructorAt, ComesBefore, ComeBefore, lighter, of_earlier_constructor, over_earlier_arguments, here, later}
+use Rattle.term_pool.specs.ConstructorValues.{ConstructorValue, ConstructorValues, a_number, built, a_constant, no_value, value_then, weight, weights, IsEarlier, IsConstructorAt, ComesBefore, ComeBefore, lighter, of_earlier_constructor, over_earlier_arguments, here, later}
 
 pub not_earlier : (g : Sig) (s : SortId) (f h : FunId) → IsEarlier g s f h → f ≡ h → ⊥
 not_earlier g s f h early same =

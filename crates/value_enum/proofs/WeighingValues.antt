@@ -1,5 +1,5 @@
 -- The values of a sort by their weights are exactly its constructor values, in order.
-use Rattle.std.proofs.Common.{◌≡◌, ◌⊎◌, ⊎_elim, inl, inr, ◌<◌, ◌≤◌, ◌-◌, ◌+◌, ◌^◌, ◌++◌, ℕ, zero, suc, Bool, true, false, cond, List, [], ◌∷◌, map, length, Option, Some, None, ℤ, refl, sym, ap, ◌∙◌, subst, arith}
+use Rattle.std.proofs.Common.{◌≡◌, ⊎_elim, ◌<◌, ◌≤◌, ◌+◌, ◌^◌, ◌++◌, ℕ, zero, suc, Bool, true, false, cond, List, [], ◌∷◌, length, Option, Some, ℤ, refl, sym, ap, ◌∙◌, subst, arith}
 use Rattle.std.specs.Prelude.{slice_get}
 use Rattle.std.specs.Option.{option_map_or}
 use Rattle.std.specs.List.{Contains}
@@ -9,19 +9,18 @@ use Rattle.data_theory.specs.Functions.{Function, arguments_of}
 use Rattle.data_theory.specs.Signature.{Sig}
 use Rattle.data_theory.specs.IdTreeSorts.{HasNumber}
 use Rattle.data_theory.specs.WholeSignatures.{IsSignature}
-use Rattle.term_pool.proofs.Lists.{contains_none, contains_cons, contains_head, contains_tail}
+use Rattle.term_pool.proofs.Lists.{contains_none, contains_cons, contains_head}
 use Rattle.term_pool.proofs.ConstructorPlaces.{within_functions}
 use Rattle.term_pool.proofs.FirstValueLemmas.{one_function}
 use Rattle.term_pool.specs.FirstTerms.{function_arguments}
-use Rattle.term_pool.specs.ConstructorValues.{ConstructorValue, ConstructorValues, a_number, built, a_constant, no_value, value_then, IsValueOf, AreValuesOf, IsConstructorAt, weight, weights, number_weight, ComesBefore}
-use Rattle.value_enum.specs.Ascending.{Ascending}
+use Rattle.term_pool.specs.ConstructorValues.{ConstructorValue, ConstructorValues, a_number, built, a_constant, IsValueOf, AreValuesOf, weight}
 use Rattle.value_enum.specs.Values.{IsPlainValueOf}
-use Rattle.value_enum.specs.Shapes.{AreConstructors, IsArgumentOf, AreClosed}
-use Rattle.value_enum.specs.Levels.{Shape, is_number_sort, number_weighing, numbers_weighing, tuples_weighing, built_over, values_within, values_weighing}
+use Rattle.value_enum.specs.Shapes.{AreConstructors, AreClosed}
+use Rattle.value_enum.specs.Levels.{Shape, is_number_sort, number_weighing, tuples_weighing, built_over, values_within, values_weighing}
 use Rattle.value_enum.proofs.DepthLemmas.{level_of}
 use Rattle.value_enum.proofs.ValueOrder.{some_weight}
 use Rattle.value_enum.proofs.NumberValues.{IsNumberOf, is_its_number, has_its_number, number_has_sort, number_sorts_have_none}
-use Rattle.value_enum.proofs.WeighingTuples.{AreWeighing, AreTuplesWeighing, AreRight, tuples_right, contained_built, built_contains, built_ascending}
+use Rattle.value_enum.proofs.WeighingTuples.{AreWeighing, AreTuplesWeighing, tuples_right, contained_built, built_contains, built_ascending}
 
 -- a function that is there, with the sorts of its arguments
 pub entry_of : (g : Sig) (f : FunId) → f.0 < length g.functions → (e : Function) × (slice_get g.functions f.0 ≡ Some e)

@@ -1,4 +1,4 @@
-use Rattle.std.proofs.Common.{◌≡◌, ◌<◌, ◌≤◌, ◌+◌, ◌-◌, ◌++◌, ◌∷◌, [], ◌∙◌, ◌⊎◌, ⊎_elim, inl, inr, ℕ, suc, Bool, true, false, List, length, take, set, get_or, Some, None, refl, sym, ap, subst, arith}
+use Rattle.std.proofs.Common.{◌≡◌, ◌<◌, ◌≤◌, ◌+◌, ◌++◌, ◌∙◌, true, false, length, take, refl, sym, ap, subst, arith}
 use Rattle.term_pool.proofs.NodeTrees.{extends_itself, extends_on}
 use Rattle.value_enum.specs.Values.{AreTermsOf}
 use Rattle.value_enum.specs.Levels.{shape_of, values_weighing, values_up_to, values_at}

@@ -1,7 +1,6 @@
-use Rattle.std.proofs.Common.{◌≡◌, ◌<◌, ◌≤◌, ◌+◌, ◌-◌, ◌++◌, ◌∷◌, [], ◌∙◌, ◌⊎◌, ⊎_elim, inl, inr, ℕ, suc, Bool, true, false, List, length, take, set, get_or, Some, None, refl, sym, ap, subst, arith}
+use Rattle.std.proofs.Common.{◌∙◌, get_or, Some, sym, subst}
 use Rattle.std.specs.List.{Contains}
 use Rattle.std.proofs.lemmas.List.{take_all}
-use Rattle.data_theory.specs.declared.ids.SortId.{SortId}
 use Rattle.term_pool.proofs.Lists.{contains_none}
 use Rattle.value_enum.specs.declared.shapes.Constructor.{Constructor}
 use Rattle.value_enum.specs.Shapes.{arguments_at}

@@ -1,7 +1,7 @@
 use Rattle.std.proofs.Common.{take}
 use Rattle.std.specs.List.{Contains}
 use Rattle.value_enum.specs.declared.shapes.Constructor.{Constructor}
-use Rattle.value_enum.specs.Shapes.{list_at, arguments_at}
+use Rattle.value_enum.specs.Shapes.{arguments_at}
 use Rattle.value_enum.specs.Levels.{MakeNoHeavier}
 use Rattle.value_enum.proofs.exhausting.grows.Given as goal
 

@@ -1,9 +1,8 @@
-use Rattle.std.proofs.Common.{◌≡◌, ◌<◌, ◌≤◌, ◌+◌, ◌-◌, ◌++◌, ◌∷◌, [], ◌∙◌, ◌⊎◌, ⊎_elim, inl, inr, ℕ, suc, Bool, true, false, List, length, take, set, get_or, Option, Some, None, refl, sym, ap, subst, arith}
+use Rattle.std.proofs.Common.{◌≡◌, ◌<◌, ◌+◌, ◌∙◌, ℕ, Bool, true, false, List, length, get_or, Option, Some, None, refl, sym, ap, subst, arith}
 use Rattle.std.specs.Prelude.{MatchOption}
 use Rattle.std.specs.List.{Contains}
 use Rattle.std.proofs.lemmas.List.{length-set}
 use Rattle.data_theory.specs.declared.ids.SortId.{SortId}
-use Rattle.term_pool.specs.Inhabited.{unmarked_count}
 use Rattle.term_pool.proofs.InhabitedSearch.{one_mark_more}
 use Rattle.value_enum.specs.Levels.{HasNoHeavier}
 use Rattle.value_enum.proofs.RowLemmas.{rows_length}

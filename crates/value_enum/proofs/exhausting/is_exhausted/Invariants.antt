@@ -1,4 +1,4 @@
-use Rattle.std.proofs.Common.{◌≡◌, ◌<◌, ℕ, true, false, length, get_or}
+use Rattle.std.proofs.Common.{◌≡◌, ◌<◌, true, false, length, get_or}
 use Rattle.data_theory.specs.declared.ids.SortId.{SortId}
 use Rattle.term_pool.specs.Inhabited.{unmarked_count}
 use Rattle.value_enum.specs.Levels.{is_number_sort}

@@ -1,8 +1,7 @@
-use Rattle.std.proofs.Common.{◌≡◌, ◌<◌, ◌≤◌, ◌+◌, ◌++◌, ◌∷◌, [], ◌∙◌, List, length, map, take, refl, sym, ap, subst, arith}
+use Rattle.std.proofs.Common.{◌∷◌, map, arith}
 use Rattle.data_theory.specs.declared.ids.TermId.{TermId}
 use Rattle.value_enum.specs.Levels.{plain_tuples}
 use Rattle.value_enum.proofs.CappedLoops.{joining_begins, joining_goes_on, joining_stops, joining_ends}
-use Rattle.value_enum.proofs.Capped.{cut_length}
 use Rattle.value_enum.proofs.TupleLists.{plain_length}
 use Rattle.value_enum.proofs.levels.add_all_in_front.Goals as goal
 

@@ -1,4 +1,4 @@
-use Rattle.std.proofs.Common.{◌≡◌, ◌+◌, ◌++◌, ◌∷◌, map, take}
+use Rattle.std.proofs.Common.{◌≡◌, ◌+◌, ◌++◌, ◌∷◌, take}
 use Rattle.value_enum.specs.Levels.{plain_tuples, in_front_of_all}
 use Rattle.value_enum.proofs.levels.add_all_in_front.Given as goal
 

@@ -1,6 +1,4 @@
-use Rattle.std.proofs.Common.{◌≡◌, ◌<◌, ◌≤◌, ◌+◌, ◌++◌, ◌∷◌, [], ◌∙◌, List, length, take, refl, sym, ap, subst, arith}
-use Rattle.std.specs.List.{All}
-use Rattle.data_theory.specs.declared.ids.TermId.{TermId}
+use Rattle.std.proofs.Common.{[], ◌∙◌, refl, sym, ap, subst, arith}
 use Rattle.data_theory.specs.IdTrees.{trees_of, apply_tree}
 use Rattle.term_pool.specs.HeadTrees.{trees_at, AreIn}
 use Rattle.term_pool.proofs.NodeTrees.{extends_itself, extends_on, stay_in}

@@ -1,6 +1,4 @@
-use Rattle.std.proofs.Common.{◌≡◌, ◌<◌, ◌≤◌, ◌+◌, ◌++◌, ◌∷◌, [], ◌∙◌, List, length, map, take, refl, sym, ap, subst, arith}
-use Rattle.std.specs.Prelude.{get_or}
-use Rattle.std.proofs.lemmas.List.{length-map, map-append}
+use Rattle.std.proofs.Common.{◌++◌, ◌∷◌, [], ◌∙◌, List, sym, ap, arith}
 use Rattle.data_theory.specs.declared.ids.TermId.{TermId}
 use Rattle.value_enum.specs.Levels.{plain_tuples}
 use Rattle.value_enum.proofs.CappedLoops.{pushing_begins, pushing_goes_on, pushing_stops, pushing_ends}

@@ -1,8 +1,6 @@
-use Rattle.std.proofs.Common.{◌≡◌, ◌<◌, ◌≤◌, ◌+◌, ◌-◌, ◌++◌, ◌∷◌, [], ◌∙◌, ◌⊎◌, ⊎_elim, inl, inr, ℕ, suc, Bool, true, false, List, length, take, set, get_or, Some, None, refl, sym, ap, subst, arith}
-use Rattle.data_theory.specs.IdTrees.{Tree}
+use Rattle.std.proofs.Common.{◌+◌, ◌∙◌, List, length, sym, ap, subst, arith}
 use Rattle.value_enum.specs.declared.levels.TupleRow.{TupleRow}
-use Rattle.value_enum.specs.declared.levels.ValueRow.{ValueRow}
-use Rattle.value_enum.specs.Levels.{shape_of, HaveTuples, IsValueRow, IsTupleRow}
+use Rattle.value_enum.specs.Levels.{shape_of, HaveTuples, IsValueRow}
 use Rattle.value_enum.proofs.RowLemmas.{rows_length}
 use Rattle.value_enum.proofs.LevelSteps.{levels_go_on}
 use Rattle.value_enum.proofs.levels.add_level.Goals as goal

@@ -1,6 +1,5 @@
-use Rattle.std.proofs.Common.{◌≡◌, ◌<◌, ◌≤◌, ◌+◌, ◌-◌, ◌++◌, ◌∷◌, [], ◌∙◌, ◌⊎◌, ⊎_elim, inl, inr, ℕ, suc, Bool, true, false, List, length, take, set, get_or, Some, None, refl, sym, ap, subst, arith}
+use Rattle.std.proofs.Common.{◌++◌, ◌∷◌, [], ◌∙◌, length, ap, subst}
 use Rattle.value_enum.specs.declared.levels.ValueRow.{ValueRow}
-use Rattle.value_enum.specs.declared.levels.TupleRow.{TupleRow}
 use Rattle.value_enum.specs.Levels.{IsFirstTupleRow}
 use Rattle.value_enum.proofs.LevelSteps.{levels_begin}
 use Rattle.value_enum.proofs.levels.first_levels.Goals as goal

@@ -1,4 +1,4 @@
-use Rattle.std.proofs.Common.{◌≡◌, ◌<◌, ◌≤◌, ◌+◌, ◌-◌, ◌++◌, ◌∷◌, [], ◌∙◌, ℕ, Bool, true, false, List, length, take, get_or, Some, None, refl, sym, ap, subst, arith}
+use Rattle.std.proofs.Common.{◌≡◌, ◌+◌, ◌++◌, ◌∷◌, [], ◌∙◌, true, false, length, get_or, None, ap, arith}
 use Rattle.std.specs.Prelude.{is_some}
 use Rattle.value_enum.specs.declared.levels.Tuple.{Tuple}
 use Rattle.value_enum.proofs.RowReads.{each_list}

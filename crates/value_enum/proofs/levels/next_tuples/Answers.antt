@@ -1,4 +1,4 @@
-use Rattle.std.proofs.Common.{◌≡◌, ◌<◌, ◌≤◌, ◌+◌, ◌-◌, ◌++◌, ◌∷◌, [], ◌∙◌, ℕ, Bool, true, false, List, length, take, get_or, Some, None, refl, sym, ap, subst, arith}
+use Rattle.std.proofs.Common.{◌+◌, ◌∙◌, length, ap, arith}
 use Rattle.value_enum.proofs.RowReads.{each_list}
 use Rattle.value_enum.proofs.RowLemmas.{rows_length}
 use Rattle.value_enum.proofs.TupleRows.{IsEntry, end_entry, sort_entry, entries_are_row}

@@ -1,7 +1,6 @@
-use Rattle.std.proofs.Common.{◌≡◌, ◌<◌, ◌≤◌, ◌+◌, ◌-◌, ◌++◌, ◌∷◌, [], ◌∙◌, ℕ, Bool, true, false, List, length, take, get_or, Some, None, refl, sym, ap, subst, arith}
+use Rattle.std.proofs.Common.{◌≡◌, ◌+◌, ◌∙◌, ℕ, true, false, List, length, take, refl, sym, ap, arith}
 use Rattle.std.specs.List.{Contains}
 use Rattle.data_theory.specs.declared.ids.TermId.{TermId}
-use Rattle.data_theory.specs.IdTrees.{Tree}
 use Rattle.term_pool.proofs.NodeTrees.{extends_itself, extends_on}
 use Rattle.term_pool.proofs.SortSearch.{is_among, among_contains, contains_among}
 use Rattle.value_enum.specs.Values.{AreTermsOf}

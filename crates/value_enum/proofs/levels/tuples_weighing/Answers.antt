@@ -1,7 +1,7 @@
-use Rattle.std.proofs.Common.{◌≡◌, ◌<◌, ◌≤◌, ◌+◌, ◌-◌, ◌++◌, ◌∷◌, [], ◌∙◌, ℕ, suc, List, length, take, refl, sym, ap, subst, arith}
+use Rattle.std.proofs.Common.{◌+◌, ◌∷◌, length, ap, arith}
 use Rattle.data_theory.specs.declared.ids.TermId.{TermId}
-use Rattle.value_enum.specs.Levels.{plain_tuples, weighing_up_to, values_at, tuples_at, in_front_of_all}
-use Rattle.value_enum.proofs.Capped.{cut_left, cut_length}
+use Rattle.value_enum.specs.Levels.{plain_tuples, weighing_up_to, values_at, tuples_at}
+use Rattle.value_enum.proofs.Capped.{cut_length}
 use Rattle.value_enum.proofs.TupleLists.{plain_length}
 use Rattle.value_enum.proofs.TupleSteps.{weighing_begins, weighing_goes_on, weighing_ends}
 use Rattle.value_enum.proofs.levels.tuples_weighing.Goals as goal

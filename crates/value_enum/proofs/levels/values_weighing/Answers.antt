@@ -1,7 +1,6 @@
-use Rattle.std.proofs.Common.{◌≡◌, ◌<◌, ◌≤◌, ◌+◌, ◌-◌, ◌++◌, ◌∷◌, [], ◌∙◌, ℕ, Bool, true, false, List, length, take, get_or, Some, None, refl, sym, ap, subst, arith}
+use Rattle.std.proofs.Common.{◌≡◌, ◌<◌, ◌+◌, ◌-◌, ◌++◌, ◌∷◌, [], ◌∙◌, ℕ, true, false, length, take, get_or, refl, sym, ap, subst, arith}
 use Rattle.std.specs.List.{Contains}
-use Rattle.data_theory.specs.declared.ids.TermId.{TermId}
-use Rattle.data_theory.specs.IdTrees.{Tree, numeral}
+use Rattle.data_theory.specs.IdTrees.{numeral}
 use Rattle.data_theory.specs.IdTreeSorts.{HasNumber}
 use Rattle.term_pool.proofs.NodeTrees.{extends_itself, extends_on}
 use Rattle.term_pool.specs.FirstTerms.{function_arguments}

@@ -1,4 +1,4 @@
-use Rattle.std.proofs.Common.{take, subst}
+use Rattle.std.proofs.Common.{subst}
 use Rattle.std.proofs.lemmas.List.{take_all}
 use Rattle.value_enum.specs.Shapes.{AddsSorts}
 use Rattle.value_enum.proofs.SortsUnder.{adds_no_sorts, adds_one_sort}

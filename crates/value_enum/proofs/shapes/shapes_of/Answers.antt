@@ -1,4 +1,4 @@
-use Rattle.std.proofs.Common.{◌≡◌, ◌==◌, ◌<◌, ◌∙◌, Bool, true, false, length, refl, sym, subst, arith}
+use Rattle.std.proofs.Common.{◌≡◌, ◌∙◌, true, false, length, refl, sym, arith}
 use Rattle.value_enum.proofs.ShapeLemmas.{no_shapes, shapes_with, shapes_without}
 use Rattle.term_pool.proofs.SortSearch.{is_among, among_contains, contains_among}
 use Rattle.value_enum.proofs.shapes.shapes_of.Goals as goal

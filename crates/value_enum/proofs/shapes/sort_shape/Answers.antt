@@ -3,7 +3,6 @@ use Rattle.std.specs.Prelude.{get_or}
 use Rattle.std.specs.List.{All}
 use Rattle.std.proofs.lemmas.List.{take_all, take_more}
 use Rattle.data_theory.specs.declared.ids.FunId.{FunId}
-use Rattle.value_enum.specs.Shapes.{AreConstructors}
 use Rattle.value_enum.proofs.ConstructorLists.{constructors_inside}
 use Rattle.value_enum.proofs.ShapeLemmas.{IsShaping, shaping_none, shaping_more, shaping_ends}
 use Rattle.value_enum.proofs.shapes.sort_shape.Goals as goal
