@@ -24,3 +24,4 @@ pub mod GrowingSorts
 pub mod LeadingSorts
 pub mod OneList
 pub mod FirstOnes
+pub mod ClosedValues
