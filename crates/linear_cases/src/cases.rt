@@ -18,6 +18,7 @@ use crate::fitting::may_be_encoded;
 use crate::form_shown::{Words, form_size, form_text};
 use crate::known::count_variables;
 use crate::shown::{Texts, shown, term_texts, variable_names};
+use crate::solving::solved;
 use crate::unfolding::unfolded;
 use action_filters::{allow, block, hide, rename};
 use communication::communicate;
@@ -256,6 +257,7 @@ fn operated(
         "name" => name_sums(alloc, lin, sig, pool),
         "product" => product(alloc, &lin, right, sig, pool),
         "rename" => renamed(alloc, lin, text, sig),
+        "sumelm" => solved(alloc, lin, text, sig, pool),
         _ => Ok(lin),
     }
 }

@@ -18,7 +18,8 @@
 //!   with sets of names, `block` and `hide` with names, `rename a -> b, c -> d` and `comm a b -> c, d d -> e` with pairs and rules (they
 //!   change nothing where a new name has no action with sorts that the old one has, or a result none with sorts that all names on its
 //!   left side have), `product`, which puts a second linear process beside it at the right, the form's own at first, `swap`, after which
-//!   each of the two stands for the other, and `name`, which names the sums. With `count` as the last word the answer says no more than
+//!   each of the two stands for the other, `sumelm`, which removes the sums that an equality solves, with `plain` behind it where no term is
+//!   to be rewritten, and `name`, which names the sums. With `count` as the last word the answer says no more than
 //!   how many parameters and summands there are.
 //!
 //! Steps make a process term, with semicolons between them: `do a t, b` is a label of actions, `call 2 t u` a call, and `delta` is itself;
@@ -40,6 +41,7 @@ mod form_shown;
 mod known;
 mod process_drafts;
 mod shown;
+mod solving;
 mod unfolding;
 
 use cases::answer;
