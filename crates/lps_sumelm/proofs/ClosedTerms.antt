@@ -1,15 +1,14 @@
 -- A closed term of each sort, and environments that have closed terms for all variables.
 use Rattle.std.proofs.Common.{◌≡◌, ◌<◌, ℕ, zero, suc, Bool, true, false, List, [], ◌∷◌, length, refl, sym, ap, subst, arith, cond, ◌⊎◌, inl, inr, ⊎_elim, pos, lit<}
-use Rattle.std.specs.Prelude.{Contains}
 use Rattle.std.proofs.lemmas.Int.{ints}
 use Rattle.data_theory.specs.Terms.{Sort, boolean, positive, natural, integer, list, named, Term, empty, numeral, application, none}
 use Rattle.data_theory.specs.Declarations.{Data, IsSort, Declares, HasSort, NoSortIsEmpty}
 use Rattle.data_theory.specs.Equations.{trueᵗ}
 use Rattle.data_theory.specs.Environments.{Agree}
 use Rattle.data_theory.specs.Rewriting.{AreSorts, Closes}
-use Rattle.lps_core.proofs.SortedTerms.{one_sort, HaveTerms}
+use Rattle.lps_core.proofs.SortedTerms.{HaveTerms}
 use Rattle.lps_sumelm.specs.Solutions.{is_among}
-use Rattle.lps_sumelm.proofs.SolvableParts.{among_is, is_there, not_there}
+use Rattle.lps_sumelm.proofs.SolvableParts.{among_is, is_there}
 
 pub below : (d n : ℕ) → (d < n) ⊎ (d < n → ⊥)
 below d zero = inr (λ h. omega (arith, h))

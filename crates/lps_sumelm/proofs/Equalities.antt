@@ -1,10 +1,8 @@
 -- Which functions are `==`, and which terms are an `==` of two others.
-use Rattle.std.proofs.Common.{◌≡◌, ◌<◌, ◌==◌, ℕ, zero, suc, Bool, true, false, cond, List, [], ◌∷◌, map, length, refl, sym, ap, ◌∙◌, subst, Option, Some, None, arith, ⊎_elim}
+use Rattle.std.proofs.Common.{◌≡◌, ◌<◌, ◌==◌, ℕ, zero, suc, true, false, List, [], ◌∷◌, map, length, refl, sym, ap, ◌∙◌, subst, Some, None, arith}
 use Rattle.std.specs.Prelude.{◌↔◌, IsTrue, IfSome, slice_get}
-use Rattle.std.specs.List.{All}
-use Rattle.std.proofs.lemmas.Bool.Decides.{eqb_tells, Decides-eqb}
+use Rattle.std.proofs.lemmas.Bool.Decides.{Decides-eqb}
 use Rattle.std.proofs.lemmas.List.{length-map}
-use Rattle.std.proofs.lemmas.List.Elements.{All-head, All-tail}
 use Rattle.std.proofs.lemmas.Option.{slice_get_within}
 use Rattle.bisim_laws.proofs.Firing.{contains_first}
 use Rattle.data_theory.specs.declared.ids.FunId.{FunId}
@@ -12,9 +10,8 @@ use Rattle.data_theory.specs.declared.ids.SortId.{SortId}
 use Rattle.data_theory.specs.declared.ids.TermId.{TermId}
 use Rattle.data_theory.specs.declared.words.Word.TheVariants as words
 use Rattle.data_theory.specs.declared.rows.Row.TheVariants as rows
-use Rattle.data_theory.specs.Complete.{IsFunctionWithin}
 use Rattle.data_theory.specs.Table.{bool_sort, sort_rows}
-use Rattle.data_theory.specs.Terms.{Sort, Symbol, equality, Term, Terms, application, none, more}
+use Rattle.data_theory.specs.Terms.{Sort, equality, Term, application}
 use Rattle.data_theory.specs.Functions.{Function, arguments_of}
 use Rattle.data_theory.specs.Rows.{row_text}
 use Rattle.data_theory.specs.Signature.{Sig, IsFun}
@@ -22,17 +19,16 @@ use Rattle.data_theory.specs.SignatureLaws.{RowStands}
 use Rattle.data_theory.specs.WholeSignatures.{IsSignature}
 use Rattle.data_theory.specs.Declarations.{argument_sorts}
 use Rattle.data_theory.specs.IdData.{data_meant}
-use Rattle.data_theory.specs.IdTerms.{sort_under, symbol_under, term_under}
+use Rattle.data_theory.specs.IdTerms.{sort_under, symbol_under}
 use Rattle.data_theory.specs.IdTrees.{Tree}
 use Rattle.data_theory.proofs.IdSymbolLemmas.{different_functions_mean_different_symbols, symbol_fits}
 use Rattle.data_theory.proofs.StandingLemmas.{functions_over_sorts_stand}
 use Rattle.term_pool.specs.declared.terms.Head.{Head}
-use Rattle.term_pool.specs.declared.terms.Head.TheVariants.{Var, Num, Fun}
+use Rattle.term_pool.specs.declared.terms.Head.TheVariants.{Fun}
 use Rattle.term_pool.specs.HeadTrees.{written_tree, tree_at, trees_at}
-use Rattle.data_rewriter.specs.Standing.{term_at, listed_at, terms_of, IsTerm}
-use Rattle.data_rewriter.proofs.Standings.{application_at, call_at}
+use Rattle.data_rewriter.specs.Standing.{term_at, listed_at, terms_of}
+use Rattle.data_rewriter.proofs.Standings.{application_at}
 use Rattle.lps_sumelm.specs.Solutions.{solution}
-use Rattle.lps_sumelm.specs.SummandsInCode.{HasSides}
 
 -- ---- functions
 module _ (g : Sig) (stands : IsSignature g) where

@@ -1,9 +1,8 @@
 -- Steps of the loops over conditions and sums.
-use Rattle.std.proofs.Common.{◌≡◌, ◌<◌, ◌≤◌, ◌+◌, ◌==◌, ℕ, zero, suc, Bool, true, false, not, List, [], ◌∷◌, ◌++◌, map, take, length, get_or, refl, sym, ap, ap₂, ◌∙◌, subst, arith, append-nil, append_assoc, if◌then◌else◌, cond, ⊎_elim}
+use Rattle.std.proofs.Common.{◌≡◌, ◌<◌, ◌≤◌, ◌+◌, ◌==◌, ℕ, zero, suc, Bool, true, false, not, List, [], ◌∷◌, ◌++◌, map, take, length, get_or, refl, sym, ap, ◌∙◌, subst, arith, append-nil, append_assoc, cond, ⊎_elim}
 use Rattle.std.specs.Prelude.{Contains}
-use Rattle.std.specs.List.{filter, list_any}
 use Rattle.std.proofs.lemmas.Bool.Decides.{eqb_tells}
-use Rattle.std.proofs.lemmas.List.{take_more, take_all, map-append}
+use Rattle.std.proofs.lemmas.List.{take_more, map-append}
 use Rattle.data_theory.specs.declared.ids.VarId.{VarId}
 use Rattle.data_theory.specs.declared.ids.TermId.{TermId}
 use Rattle.data_theory.specs.Signature.{Sig}
@@ -17,7 +16,7 @@ use Rattle.lps_core.specs.TreeSummands.{numbers_of}
 use Rattle.lps_sumelm.specs.Solutions.{is_among}
 use Rattle.lps_sumelm.specs.Solving.{used}
 use Rattle.lps_sumelm.specs.SummandsInCode.{parts_of_each, sums_but, sums_in}
-use Rattle.lps_sumelm.proofs.SolvableParts.{tests_differ, among_is, is_there, not_there}
+use Rattle.lps_sumelm.proofs.SolvableParts.{tests_differ, among_is, is_there}
 use Rattle.lps_sumelm.proofs.AddedVariables.{is_key, key_among, among_keys}
 
 -- ---- parts

@@ -1,6 +1,6 @@
 -- The trees of a summand that a step made, one call after another.
-use Rattle.std.proofs.Common.{◌≡◌, ◌∷◌, [], ◌==◌, List, map, refl, sym, ap, ap₂, ◌∙◌, subst, Option, Some, None}
-use Rattle.std.specs.Prelude.{option_map, IfSome}
+use Rattle.std.proofs.Common.{◌≡◌, ◌∷◌, [], List, map, refl, ap, ap₂, ◌∙◌, Option, Some, None}
+use Rattle.std.specs.Prelude.{option_map}
 use Rattle.std.specs.List.{All}
 use Rattle.std.proofs.lemmas.List.Elements.{All-cons, All-nil}
 use Rattle.data_theory.specs.declared.ids.VarId.{VarId}
@@ -9,7 +9,6 @@ use Rattle.data_theory.specs.IdTrees.{Tree, put_tree}
 use Rattle.term_pool.specs.HeadTrees.{tree_at, trees_at, IsIn, AreIn}
 use Rattle.term_pool.specs.Pools.{Extends}
 use Rattle.term_pool.specs.Bindings.{listed, listed_terms}
-use Rattle.process_terms.specs.PlainProcesses.{PlainAction}
 use Rattle.lps_core.specs.PlainLinears.{PlainSummand}
 use Rattle.lps_core.specs.TreeConditions.{conjunction_tree}
 use Rattle.lps_core.specs.TreeSummands.{trees_of_label, trees_of_summand, IsActionIn, IsSummandIn, put_actions}

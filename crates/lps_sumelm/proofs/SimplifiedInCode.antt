@@ -1,19 +1,19 @@
 -- What simplifiers answer for the terms of a summand, one after another, as the pool grows.
-use Rattle.std.proofs.Common.{◌≡◌, ◌<◌, ◌≤◌, ◌+◌, ℕ, zero, suc, List, [], ◌∷◌, ◌++◌, map, take, length, get_or, refl, sym, ap, ap₂, ◌∙◌, subst, arith, Option, Some, None}
+use Rattle.std.proofs.Common.{◌≡◌, ◌<◌, ◌+◌, ℕ, zero, suc, List, [], ◌∷◌, ◌++◌, map, take, length, get_or, sym, ap, ◌∙◌, subst, arith, Option, Some, None}
 use Rattle.std.specs.Global.{Global}
 use Rattle.std.specs.Prelude.{◌↔◌, Vec, option_map, slice_get, IfSome}
 use Rattle.std.specs.List.{All, AllZip}
-use Rattle.std.proofs.lemmas.List.{take_more, take_all, map-append}
+use Rattle.std.proofs.lemmas.List.{take_more, map-append}
 use Rattle.std.proofs.lemmas.List.Elements.{All-head, All-tail, All-nil, All-cons, All-get_or, All-weaker}
 use Rattle.std.proofs.lemmas.Slice.Zip.{all_zipped_more}
 use Rattle.data_theory.specs.declared.ids.ActId.{ActId}
 use Rattle.data_theory.specs.declared.ids.TermId.{TermId}
-use Rattle.data_theory.specs.Terms.{Sort, Term}
+use Rattle.data_theory.specs.Terms.{Term}
 use Rattle.data_theory.specs.Provable.{Equation}
 use Rattle.data_theory.specs.Signature.{Sig}
 use Rattle.data_theory.specs.IdTrees.{Tree}
 use Rattle.data_theory.specs.IdTerms.{term_under}
-use Rattle.term_pool.specs.HeadTrees.{tree_at, trees_at}
+use Rattle.term_pool.specs.HeadTrees.{trees_at}
 use Rattle.term_pool.specs.Pools.{Extends}
 use Rattle.process_terms.specs.PlainProcesses.{PlainAction, plain_action}
 use Rattle.process_terms.specs.declared.labels.Action.{Action}
@@ -22,13 +22,13 @@ use Rattle.process_terms.specs.Meanings.{bound_at}
 use Rattle.process_terms.specs.SignatureEntries.{entries_of}
 use Rattle.bisim_laws.specs.LinearProcesses.{Summand}
 use Rattle.data_rewriter.specs.Simplifying.{AreWellFormed, IsSimplified}
-use Rattle.data_rewriter.specs.Standing.{IsTerm, term_at, listed_at}
+use Rattle.data_rewriter.specs.Standing.{IsTerm, term_at}
 use Rattle.data_rewriter.proofs.Standings.{term_kept, term_stays}
 use Rattle.lps_core.specs.PlainLinears.{PlainSummand, plain_next}
-use Rattle.lps_core.specs.TreeSummands.{trees_of_action, trees_of_label, trees_of_summand, meant_action, meant_summand}
-use Rattle.lps_core.proofs.PoolTrees.{extends_itself, extends_on}
+use Rattle.lps_core.specs.TreeSummands.{trees_of_label, meant_action}
+use Rattle.lps_core.proofs.PoolTrees.{extends_on}
 use Rattle.lps_sumelm.specs.Simplified.{IsAnswer, ActionBecomes, NextBecomes, neither_goes_on, both_go_on, SummandBecomes}
-use Rattle.lps_sumelm.specs.SummandsInCode.{summand_at, IsActionOver, IsSummandOver, IsTermAnswer, IsActionAnswer, AreActionAnswers, IsNextAnswer, no_next, next_terms, IsSummandAnswer}
+use Rattle.lps_sumelm.specs.SummandsInCode.{IsActionOver, IsSummandOver, IsTermAnswer, IsActionAnswer, AreActionAnswers, IsNextAnswer, no_next, next_terms, IsSummandAnswer}
 
 -- ---- what is the same in two steps is the same
 pub same_on : {A B C : Type 0} → A ↔ B → B ↔ C → A ↔ C

@@ -1,19 +1,17 @@
 -- Summands whose terms were simplified do what they did.
-use Rattle.std.proofs.Common.{◌≡◌, ℕ, suc, List, [], ◌∷◌, ◌++◌, map, length, refl, sym, ap, ap₂, ◌∙◌, subst, Option, Some, None}
+use Rattle.std.proofs.Common.{◌≡◌, ℕ, suc, List, [], ◌∷◌, ◌++◌, map, length, refl, sym, ap, ap₂, ◌∙◌, subst, Option}
 use Rattle.std.specs.Prelude.{Contains}
-use Rattle.std.specs.List.{AllByRecursion, AllZip}
-use Rattle.std.proofs.lemmas.List.{length-map}
+use Rattle.std.specs.List.{AllZip}
 use Rattle.data_theory.specs.Terms.{Sort, boolean, Term, put}
-use Rattle.data_theory.specs.Declarations.{Data, IsData, HasSort, HaveSorts, NoSortIsEmpty}
+use Rattle.data_theory.specs.Declarations.{HasSort, HaveSorts, NoSortIsEmpty}
 use Rattle.data_theory.specs.Environments.{Environment, term_in, terms_of, IsOver, AreOver, AreDistinct}
-use Rattle.data_theory.specs.EqualityLaws.{Grows, AreAmong}
 use Rattle.data_theory.specs.Provable.{Equation, symmetric, transitive}
 use Rattle.data_theory.specs.Rewriting.{AreSorts}
 use Rattle.data_theory.specs.Signature.{Sig}
 use Rattle.data_theory.specs.IdData.{data_meant}
 use Rattle.data_theory.proofs.EnvironmentLemmas.{agreeing_give_the_same_term}
 use Rattle.data_rewriter.specs.Simplifying.{AreLater}
-use Rattle.process_terms.specs.Theories.{Theory, Equal, Equals, no_terms, more_terms, IsTrue, AreOfSorts}
+use Rattle.process_terms.specs.Theories.{Theory, Equal, Equals, no_terms, more_terms, AreOfSorts}
 use Rattle.process_terms.specs.Labels.{Action, Label, put_label, equal_args, AgreeInOrder, both_silent, next_agree}
 use Rattle.process_terms.specs.Processes.{Bound}
 use Rattle.process_terms.proofs.AgreeingLabels.{agree_sym, equals_sym}

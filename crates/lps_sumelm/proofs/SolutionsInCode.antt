@@ -1,6 +1,6 @@
 -- What the sides of a part give, in code.
-use Rattle.std.proofs.Common.{◌≡◌, ◌==◌, ℕ, Bool, true, false, List, [], cond, refl, sym, ap, ap₂, ◌∙◌, subst, Option, Some, None, ⊎_elim, ◌⊎◌, inl, inr}
-use Rattle.std.specs.Prelude.{◌↔◌, Contains, option_map}
+use Rattle.std.proofs.Common.{◌≡◌, ℕ, Bool, true, false, List, cond, refl, sym, ap, ap₂, ◌∙◌, Option, Some, None, ⊎_elim, ◌⊎◌, inl, inr}
+use Rattle.std.specs.Prelude.{◌↔◌}
 use Rattle.data_theory.specs.declared.ids.VarId.{VarId}
 use Rattle.data_theory.specs.declared.ids.TermId.{TermId}
 use Rattle.data_theory.specs.Terms.{Term, variable, variables_of}
@@ -12,7 +12,6 @@ use Rattle.term_pool.specs.declared.terms.Head.{Head}
 use Rattle.term_pool.specs.declared.terms.Head.TheVariants.{Var}
 use Rattle.term_pool.specs.HeadTrees.{written_tree, tree_at}
 use Rattle.data_rewriter.specs.Standing.{term_at}
-use Rattle.lps_sumelm.specs.declared.solutions.Solution.{Solution}
 use Rattle.lps_sumelm.specs.OccurringVariables.{Occurs}
 use Rattle.lps_sumelm.specs.Solutions.{is_among, side}
 use Rattle.lps_sumelm.specs.SummandsInCode.{meant_solution}

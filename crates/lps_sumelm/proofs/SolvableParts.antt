@@ -3,7 +3,7 @@ use Rattle.std.proofs.Common.{◌≡◌, ℕ, Bool, true, false, List, [], ◌�
 use Rattle.std.specs.Prelude.{Contains}
 use Rattle.std.specs.List.{AllByRecursion}
 use Rattle.std.proofs.lemmas.Bool.Decides.{eqb_tells}
-use Rattle.data_theory.specs.Terms.{Sort, equality, Term, variable, application, none, more, variables_of}
+use Rattle.data_theory.specs.Terms.{equality, Term, variable, application, none, more, variables_of}
 use Rattle.data_theory.specs.Environments.{Binding}
 use Rattle.data_theory.specs.Equations.{equals}
 use Rattle.bisim_laws.proofs.Firing.{contains_none, contains_first, contains_later, contains_cases}

@@ -1,10 +1,9 @@
 -- Solved summands do what the summands did, and nothing is left to solve.
-use Rattle.std.proofs.Common.{◌≡◌, ℕ, Bool, true, false, List, [], ◌∷◌, refl, sym, ap, ◌∙◌, subst, ◌⊎◌, inl, inr, ⊎_elim, if◌then◌else◌, Option}
+use Rattle.std.proofs.Common.{◌≡◌, ℕ, Bool, true, false, List, [], ◌∷◌, refl, sym, ap, ◌∙◌, subst, ⊎_elim, if◌then◌else◌, Option}
 use Rattle.std.specs.Prelude.{Contains}
 use Rattle.std.specs.List.{AllByRecursion, AllZip}
 use Rattle.data_theory.specs.Terms.{Sort, boolean, Term}
 use Rattle.data_theory.specs.Declarations.{Data, NoSortIsEmpty}
-use Rattle.data_theory.specs.Environments.{Binding}
 use Rattle.data_theory.specs.EqualityLaws.{Grows}
 use Rattle.data_theory.specs.Provable.{Equation}
 use Rattle.data_theory.specs.Rewriting.{AreSorts}
@@ -19,9 +18,9 @@ use Rattle.bisim_laws.specs.LinearProcesses.{Summand, variables, sorts, is_true,
 use Rattle.bisim_laws.proofs.Firing.{contains_none, contains_first, contains_later, contains_cases}
 use Rattle.lps_core.specs.Conditions.{parts, without_true}
 use Rattle.lps_core.proofs.GrowingData.{data_sorts_grown, label_grown, next_grown}
-use Rattle.lps_sumelm.specs.Solutions.{Gives, on_the_left, on_the_right, IsSolvable}
+use Rattle.lps_sumelm.specs.Solutions.{Gives, on_the_left, on_the_right}
 use Rattle.lps_sumelm.specs.Simplified.{IsAnswer, ActionBecomes, NextBecomes, neither_goes_on, both_go_on, SummandBecomes, NextHas, EachTermIs}
-use Rattle.lps_sumelm.specs.Solving.{solve, conditions_of, without_unused, IsSolvedFrom, nothing_to_solve, one_solved, IsSolvedSummand}
+use Rattle.lps_sumelm.specs.Solving.{solve, conditions_of, IsSolvedFrom, nothing_to_solve, one_solved, IsSolvedSummand}
 use Rattle.lps_sumelm.specs.SolvingLaws.{AnswerEachOther, HasNoSolution, HasNoUnused}
 use Rattle.lps_sumelm.proofs.SolvableParts.{tests_differ, first_is_found, none_is_solvable}
 use Rattle.lps_sumelm.proofs.AnsweringSummands.{each_other_then, AllAnswer}

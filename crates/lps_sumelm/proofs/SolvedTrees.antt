@@ -1,8 +1,7 @@
 -- What a step over the trees of a pool means.
-use Rattle.std.proofs.Common.{◌≡◌, ◌<◌, ◌==◌, ℕ, true, false, not, List, [], ◌∷◌, ◌++◌, map, length, refl, sym, ap, ap₂, ◌∙◌, subst, cond, if◌then◌else◌, Option, Some, None, arith}
+use Rattle.std.proofs.Common.{◌≡◌, ◌==◌, true, false, not, List, [], ◌∷◌, ◌++◌, map, refl, sym, ap, ap₂, ◌∙◌, subst, cond, if◌then◌else◌, Option, Some, None}
 use Rattle.std.specs.Prelude.{option_map, IfSome, slice_get}
 use Rattle.std.specs.List.{All, AllByRecursion}
-use Rattle.std.proofs.lemmas.Bool.Decides.{eqb_tells}
 use Rattle.std.proofs.lemmas.List.{map-append}
 use Rattle.std.proofs.lemmas.List.Elements.{All-head, All-tail, All-nil, All-cons}
 use Rattle.std.proofs.lemmas.Option.{slice_get_within}
@@ -10,32 +9,30 @@ use Rattle.data_theory.specs.declared.ids.ActId.{ActId}
 use Rattle.data_theory.specs.declared.ids.VarId.{VarId}
 use Rattle.data_theory.specs.declared.ids.TermId.{TermId}
 use Rattle.data_theory.specs.Terms.{Term, variable as var, put}
-use Rattle.data_theory.specs.Environments.{Environment, Binding, term_in}
+use Rattle.data_theory.specs.Environments.{Binding, term_in}
 use Rattle.data_theory.specs.Signature.{Sig}
 use Rattle.data_theory.specs.WholeSignatures.{IsSignature}
-use Rattle.data_theory.specs.IdTrees.{Tree, Trees, variable, numeral, function, none, more, trees_of, put_tree}
+use Rattle.data_theory.specs.IdTrees.{Tree, variable, numeral, function, none, more, trees_of, put_tree}
 use Rattle.data_theory.specs.IdTerms.{term_under, IsTreeWithin, AreTreesWithin}
 use Rattle.data_theory.proofs.StandingLemmas.{signatures_have_truth_functions}
 use Rattle.term_pool.specs.HeadTrees.{tree_at, trees_at, IsIn, AreIn}
-use Rattle.term_pool.specs.Bindings.{listed}
 use Rattle.process_terms.specs.PlainProcesses.{PlainAction}
-use Rattle.process_terms.specs.Processes.{Bound}
 use Rattle.process_terms.specs.Labels.{put_label}
 use Rattle.process_terms.specs.Communication.{conjunction_of}
 use Rattle.process_terms.specs.Meanings.{bound_at}
 use Rattle.process_terms.specs.SignatureEntries.{entries_of}
 use Rattle.bisim_laws.specs.LinearProcesses.{is_true, put_next}
 use Rattle.data_rewriter.specs.Standing.{IsTerm, term_at, listed_at}
-use Rattle.lps_core.specs.Conditions.{parts, all_parts, without_true, conjoined, joined}
+use Rattle.lps_core.specs.Conditions.{parts, all_parts, without_true, joined}
 use Rattle.lps_core.specs.PlainLinears.{PlainSummand}
-use Rattle.lps_core.specs.TreeConditions.{true_function, and_function, tree_parts, is_true_tree, trees_without_true, conjunction_tree}
+use Rattle.lps_core.specs.TreeConditions.{tree_parts, is_true_tree, trees_without_true, conjunction_tree}
 use Rattle.lps_core.specs.TreeSummands.{TreeAction, TreeSummand, trees_of_action, trees_of_label, trees_of_summand, IsActionIn, IsSummandIn, put_actions, meant_action, meant_summand}
 use Rattle.lps_core.proofs.MeantParts.{parts_mean_parts, chains_mean_chains}
-use Rattle.lps_core.proofs.MeantTrees.{Means, put_means, puts_mean}
+use Rattle.lps_core.proofs.MeantTrees.{Means, puts_mean}
 use Rattle.lps_core.proofs.PutWithin.{put_within}
 use Rattle.lps_sumelm.specs.declared.solutions.Solution.{Solution}
 use Rattle.lps_sumelm.specs.Solving.{without, solve}
-use Rattle.lps_sumelm.specs.SummandsInCode.{meant_solution, summand_at, sums_but, parts_of_each, given_tree, solved_trees, IsActionOver, IsSummandOver}
+use Rattle.lps_sumelm.specs.SummandsInCode.{meant_solution, sums_but, parts_of_each, given_tree, solved_trees, IsActionOver, IsSummandOver}
 
 -- ---- sums
 sums_mean : (g : Sig) (v : VarId) (xs : List VarId) → map (bound_at (entries_of g [])) (sums_but v xs) ≡ without v.0 (map (bound_at (entries_of g [])) xs)

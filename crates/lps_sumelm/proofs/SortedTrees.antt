@@ -1,7 +1,7 @@
 -- A tree whose term has a sort of the signature has that sort itself.
-use Rattle.std.proofs.Common.{◌≡◌, ◌<◌, ◌⊎◌, inl, inr, ℕ, zero, suc, Bool, true, false, cond, ◌&&◌, ◌||◌, List, [], ◌∷◌, map, length, refl, sym, ap, ◌∙◌, subst, arith}
+use Rattle.std.proofs.Common.{◌≡◌, ◌<◌, inl, inr, ℕ, zero, suc, Bool, true, false, cond, ◌&&◌, ◌||◌, List, [], ◌∷◌, map, length, refl, sym, ap, ◌∙◌, subst, arith}
 use Rattle.std.specs.Prelude.{Some, slice_get, ℤ, pos}
-use Rattle.std.specs.List.{All, AllByRecursion}
+use Rattle.std.specs.List.{All}
 use Rattle.std.proofs.lemmas.List.Elements.{All-head, All-tail}
 use Rattle.std.proofs.lemmas.Option.{same_Some}
 use lib.Signed.{lt_z}
@@ -12,7 +12,7 @@ use Rattle.data_theory.specs.declared.signature.Variable.{Variable}
 use Rattle.data_theory.specs.Terms as terms
 use Rattle.data_theory.specs.Terms.{Sort, boolean, positive, natural, integer, list, named, Symbol, Terms, apply}
 use Rattle.data_theory.specs.Complete.{IsFunctionWithin}
-use Rattle.data_theory.specs.Declarations.{Declares, IsNumberOf, HasNumeral, HasSort, HaveSorts}
+use Rattle.data_theory.specs.Declarations.{Declares, IsNumberOf, HasSort, HaveSorts}
 use Rattle.data_theory.specs.Functions.{Function, arguments_of}
 use Rattle.data_theory.specs.Table.{pos_sort, nat_sort, int_sort}
 use Rattle.data_theory.specs.Signature.{Sig}
@@ -20,7 +20,7 @@ use Rattle.data_theory.specs.WholeSignatures.{IsSignature}
 use Rattle.data_theory.specs.IdData.{data_meant}
 use Rattle.data_theory.specs.IdTerms.{sort_under, symbol_under, term_under, terms_under, variable_sorts, IsTreeWithin, AreTreesWithin}
 use Rattle.data_theory.specs.IdTrees.{Tree, Trees, variable, numeral, function, none, more, is_over, is_minus, apply_tree}
-use Rattle.data_theory.specs.IdTreeSorts.{IsNumberIn, IsVariableOf, HasTreeSort, HaveTreeSorts}
+use Rattle.data_theory.specs.IdTreeSorts.{IsNumberIn, HasTreeSort, HaveTreeSorts}
 use Rattle.data_theory.proofs.IdSortLemmas.{different_sorts_mean_different_sorts}
 use Rattle.data_theory.proofs.IdSymbolLemmas.{positive_is, natural_is, integer_is, positive_within, natural_within, integer_within, number_sort_alone, symbol_fits}
 use Rattle.data_theory.proofs.IdTermLemmas.{merging_trees_merges_terms}

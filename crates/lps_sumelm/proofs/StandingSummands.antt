@@ -1,7 +1,7 @@
 -- Summands that stand in a process: from what fits and back, and through each pass.
-use Rattle.std.proofs.Common.{◌≡◌, ◌<◌, ◌==◌, ℕ, Bool, true, false, not, List, [], ◌∷◌, ◌++◌, map, length, refl, sym, ap, ap₂, ◌∙◌, subst, cond, ⊎_elim, Option, Some, None}
+use Rattle.std.proofs.Common.{◌≡◌, ◌<◌, ℕ, not, List, [], ◌∷◌, map, length, refl, sym, ap, ap₂, ◌∙◌, subst, cond, ⊎_elim, Option, Some, None}
 use Rattle.std.specs.Prelude.{Contains, option_map, IfSome, slice_get}
-use Rattle.std.specs.List.{All, AllZip}
+use Rattle.std.specs.List.{All}
 use Rattle.std.proofs.lemmas.List.Elements.{All-head, All-tail, All-nil, All-cons, All-contains, All-weaker}
 use Rattle.std.proofs.lemmas.Bool.Decides.{eqb_tells}
 use Rattle.std.proofs.lemmas.Option.{slice_get_within, get_or_from_slice_get}
@@ -9,7 +9,7 @@ use Rattle.data_theory.specs.declared.ids.SortId.{SortId}
 use Rattle.data_theory.specs.declared.ids.VarId.{VarId}
 use Rattle.data_theory.specs.declared.ids.TermId.{TermId}
 use Rattle.data_theory.specs.Complete.{IsActionWithin}
-use Rattle.data_theory.specs.Terms.{Sort, boolean, Term}
+use Rattle.data_theory.specs.Terms.{Term}
 use Rattle.data_theory.specs.Declarations.{HasSort, HaveSorts}
 use Rattle.data_theory.specs.Environments.{terms_of}
 use Rattle.data_theory.specs.Keys.{Key}
@@ -20,8 +20,7 @@ use Rattle.data_theory.specs.WholeSignatures.{IsSignature}
 use Rattle.data_theory.specs.IdData.{data_meant}
 use Rattle.data_theory.specs.Terms.{more}
 use Rattle.data_theory.specs.IdTrees.{Tree, trees_of}
-use Rattle.data_theory.specs.IdTreeSorts.{HasTreeSort, HaveTreeSorts}
-use Rattle.data_theory.specs.IdTerms.{sort_under, term_under, terms_under, variable_sorts, IsTreeWithin, AreTreesWithin}
+use Rattle.data_theory.specs.IdTerms.{sort_under, term_under, terms_under, variable_sorts, AreTreesWithin}
 use Rattle.data_theory.proofs.IdTermLemmas.{sorted_trees_are_within}
 use Rattle.data_theory.proofs.StandingLemmas.{variables_have_sorts_of_the_data}
 use Rattle.term_pool.specs.HeadTrees.{tree_at, trees_at, IsIn, AreIn}
@@ -30,19 +29,17 @@ use Rattle.process_terms.specs.PlainProcesses.{PlainAction}
 use Rattle.process_terms.specs.Processes.{Bound}
 use Rattle.process_terms.specs.Meanings.{bound_at, action_at}
 use Rattle.process_terms.specs.SignatureEntries.{entries_of, action_entry}
-use Rattle.bisim_laws.specs.LinearProcesses.{Summand, sorts, variables, LabelIsSorted, no_action_to_sort, action_sorted, NextIsSorted, no_next_to_sort, next_sorted, IsSummand, SummandIsSorted}
+use Rattle.bisim_laws.specs.LinearProcesses.{sorts, variables, LabelIsSorted, action_sorted, NextIsSorted, next_sorted, IsSummand, SummandIsSorted}
 use Rattle.bisim_laws.proofs.Firing.{contains_none, contains_first, contains_later, contains_cases}
-use Rattle.data_rewriter.specs.Standing.{IsTerm, term_at, listed_at}
+use Rattle.data_rewriter.specs.Standing.{IsTerm, listed_at}
 use Rattle.data_rewriter.proofs.Standings.{term_kept}
 use Rattle.lps_core.specs.Fitting.{IsTermOf, AreTermsOf, IsActionOf, IsVariable, sort_of_variable, SummandFits, HasTakenName, Fits}
-use Rattle.lps_core.specs.PlainLinears.{PlainSummand, PlainLinear, summand_of, linear_of}
-use Rattle.lps_core.specs.TreeSummands.{TreeSummand, trees_of_action, trees_of_label, trees_of_summand, IsActionIn, IsSummandIn, meant_action, meant_summand}
+use Rattle.lps_core.specs.PlainLinears.{PlainSummand, PlainLinear, summand_of}
+use Rattle.lps_core.specs.TreeSummands.{TreeSummand, trees_of_label, trees_of_summand, IsActionIn, IsSummandIn, meant_action, meant_summand}
 use Rattle.lps_core.proofs.Members.{map_contains, all_from, all_at}
 use Rattle.lps_core.proofs.MeantTrees.{summand_read}
-use Rattle.lps_core.proofs.PoolTrees.{tree_kept}
 use Rattle.lps_core.proofs.Staying.{read_mapped, boolean_meant, sorts_of_variables, sort_is_within, what_fits_is_sorted}
 use Rattle.lps_sumelm.specs.declared.solutions.Solution.{Solution}
-use Rattle.lps_sumelm.specs.Simplified.{IsAnswer}
 use Rattle.lps_sumelm.specs.Solutions.{IsFirst}
 use Rattle.lps_sumelm.specs.Solving.{solve, conditions_of, without_unused}
 use Rattle.lps_sumelm.specs.SummandsInCode.{meant_solution, summand_at, sums_but, solved_trees, IsActionOver, IsSummandOver, SummandStands, IsSummandAnswer}

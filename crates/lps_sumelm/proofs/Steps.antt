@@ -10,12 +10,12 @@ use Rattle.data_theory.specs.Provable.{Equation}
 use Rattle.data_theory.specs.Signature.{Sig}
 use Rattle.data_theory.specs.WholeSignatures.{IsSignature}
 use Rattle.data_theory.specs.IdTrees.{Tree}
-use Rattle.term_pool.specs.HeadTrees.{tree_at, trees_at, AreIn}
+use Rattle.term_pool.specs.HeadTrees.{tree_at, trees_at}
 use Rattle.bisim_laws.specs.LinearProcesses.{variables}
 use Rattle.data_rewriter.specs.Standing.{IsTerm, listed_at}
 use Rattle.lps_core.specs.PlainLinears.{PlainSummand}
 use Rattle.lps_core.specs.TreeConditions.{tree_parts, trees_without_true}
-use Rattle.lps_core.specs.TreeSummands.{TreeSummand, trees_of_summand, IsSummandIn, numbers_of}
+use Rattle.lps_core.specs.TreeSummands.{trees_of_summand, IsSummandIn, numbers_of}
 use Rattle.lps_core.proofs.MeantTrees.{numbers_meant}
 use Rattle.lps_sumelm.specs.declared.solutions.Solution.{Solution}
 use Rattle.lps_sumelm.specs.Simplified.{IsAnswer, SummandBecomes}

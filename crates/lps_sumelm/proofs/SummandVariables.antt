@@ -1,14 +1,14 @@
 -- The variables of a summand's terms, in code and in what they mean.
-use Rattle.std.proofs.Common.{◌≡◌, ◌⊎◌, inl, inr, ⊎_elim, ◌≤◌, ◌+◌, ◌<◌, ℕ, List, [], ◌∷◌, ◌++◌, map, take, length, get_or, refl, sym, ap, ◌∙◌, subst, append-nil, append_assoc, Option, Some, None}
+use Rattle.std.proofs.Common.{◌≡◌, ◌⊎◌, inl, inr, ⊎_elim, ◌+◌, ◌<◌, ℕ, List, [], ◌∷◌, ◌++◌, map, take, length, get_or, refl, sym, ap, ◌∙◌, subst, append-nil, append_assoc, Option, Some, None}
 use Rattle.std.specs.Global.{Global}
 use Rattle.std.specs.Prelude.{◌↔◌, option_map, Vec, Result, Ok, Err, OnOk}
 use Rattle.data_theory.specs.declared.no_memory.NoMemory.{NoMemory}
 use Rattle.std.specs.List.{Contains}
-use Rattle.std.proofs.lemmas.List.{take_more, take_all, map-append}
+use Rattle.std.proofs.lemmas.List.{take_more, map-append}
 use Rattle.std.proofs.lemmas.List.Elements.{Contains-append_cases, Contains-append_left, Contains-append_right}
 use Rattle.data_theory.specs.declared.ids.VarId.{VarId}
 use Rattle.data_theory.specs.declared.ids.TermId.{TermId}
-use Rattle.data_theory.specs.Terms.{Term, variables_of, variables_of_all}
+use Rattle.data_theory.specs.Terms.{variables_of, variables_of_all}
 use Rattle.data_theory.specs.Environments.{terms_of}
 use Rattle.data_theory.specs.Signature.{Sig}
 use Rattle.data_theory.specs.IdTrees.{Tree, Trees, variable, numeral, function, none, more}
@@ -17,10 +17,10 @@ use Rattle.term_pool.specs.HeadTrees.{tree_at, trees_at}
 use Rattle.term_pool.proofs.Lists.{contains_none, contains_cons, contains_head, contains_tail}
 use Rattle.process_terms.specs.PlainProcesses.{PlainAction, plain_action}
 use Rattle.process_terms.specs.declared.labels.Action.{Action}
-use Rattle.lps_core.specs.TreeSummands.{meant_action, trees_of_action, trees_of_label, trees_of_summand, meant_summand}
+use Rattle.lps_core.specs.TreeSummands.{meant_action, trees_of_label}
 use Rattle.lps_core.specs.PlainLinears.{PlainSummand, plain_next}
 use Rattle.lps_sumelm.specs.OccurringVariables.{Occurs, OccursAmong, OccursIn, terms_of_label, terms_of_next, summand_terms}
-use Rattle.lps_sumelm.specs.Solving.{action_variables, next_variables, summand_variables}
+use Rattle.lps_sumelm.specs.Solving.{action_variables, next_variables}
 
 -- ---- what a term means has the variables that occur in its tree
 mutual

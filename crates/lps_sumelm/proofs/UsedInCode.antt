@@ -7,7 +7,6 @@ use Rattle.data_theory.specs.Signature.{Sig}
 use Rattle.data_theory.specs.IdTrees.{Tree}
 use Rattle.process_terms.specs.Meanings.{bound_at}
 use Rattle.process_terms.specs.SignatureEntries.{entries_of}
-use Rattle.bisim_laws.specs.LinearProcesses.{Summand}
 use Rattle.lps_core.specs.PlainLinears.{PlainSummand}
 use Rattle.lps_sumelm.specs.OccurringVariables.{OccursIn, summand_terms}
 use Rattle.lps_sumelm.specs.Solving.{summand_variables, without_unused}

@@ -1,14 +1,12 @@
 -- The process of the solved summands: it fits, nothing in it is left to solve, and its link is good in each later theory.
-use Rattle.std.proofs.Common.{◌≡◌, ◌<◌, ◌≤◌, ◌+◌, ℕ, List, [], ◌∷◌, ◌++◌, map, take, length, get_or, refl, sym, ap, ap₂, ◌∙◌, subst, Option, Some, None}
-use Rattle.std.specs.Prelude.{◌↔◌, Contains}
+use Rattle.std.proofs.Common.{◌≡◌, ◌<◌, ◌+◌, ℕ, List, [], ◌∷◌, ◌++◌, map, take, length, get_or, refl, sym, ap, ap₂, ◌∙◌, subst, Option, Some, None}
+use Rattle.std.specs.Prelude.{Contains}
 use Rattle.std.specs.List.{All, AllByRecursion, AllZip}
-use Rattle.std.proofs.lemmas.List.{take_more, take_all, map-append}
-use Rattle.std.proofs.lemmas.List.Elements.{All-head, All-tail, All-nil, All-cons, All-push, All-weaker, All-contains}
+use Rattle.std.proofs.lemmas.List.{take_more, map-append}
+use Rattle.std.proofs.lemmas.List.Elements.{All-head, All-tail, All-nil, All-cons, All-weaker, All-contains}
 use Rattle.std.proofs.lemmas.Slice.Zip.{all_zipped_more}
-use Rattle.data_theory.specs.Terms.{Sort, Term}
-use Rattle.data_theory.specs.Declarations.{HaveSorts}
+use Rattle.data_theory.specs.Terms.{Term}
 use Rattle.data_theory.specs.Environments.{terms_of}
-use Rattle.data_theory.specs.EqualityLaws.{AreAmong}
 use Rattle.data_theory.specs.Provable.{Equation}
 use Rattle.data_theory.specs.Signature.{Sig}
 use Rattle.data_theory.specs.WholeSignatures.{IsSignature}
@@ -20,7 +18,7 @@ use Rattle.data_theory.proofs.StandingLemmas.{variables_have_sorts_of_the_data}
 use Rattle.term_pool.specs.Pools.{Extends}
 use Rattle.term_pool.proofs.DeclaredConstants.{grown_itself}
 use Rattle.data_rewriter.specs.Simplifying.{AreLater}
-use Rattle.process_terms.specs.Theories.{Theory, IsConsistent, AreOfSorts}
+use Rattle.process_terms.specs.Theories.{AreOfSorts}
 use Rattle.process_terms.specs.Labels.{Action, Label}
 use Rattle.process_terms.specs.Processes.{Bound}
 use Rattle.process_terms.specs.Meanings.{bound_at}
@@ -29,7 +27,6 @@ use Rattle.bisim_laws.specs.LinearProcesses.{Summand, variables, state_of, sorts
 use Rattle.bisim_laws.specs.Links.{Solved, IsGood}
 use Rattle.lps_core.specs.declared.linears.Summand.{Summand as Summands}
 use Rattle.lps_core.specs.Fitting.{SummandFits, HasTakenName, Fits}
-use Rattle.lps_core.specs.GoingOn.{GoesOn}
 use Rattle.lps_core.specs.PlainLinears.{PlainSummand, PlainLinear, plain_summand, summand_of, linear_of, initial_of, linear_state}
 use Rattle.lps_core.proofs.GrowingData.{linear_grown, terms_grown}
 use Rattle.lps_core.proofs.Members.{contains_map, all_from}
@@ -40,9 +37,9 @@ use Rattle.lps_sumelm.specs.SolvedLinears.{SolvingIsGood}
 use Rattle.lps_sumelm.specs.Solutions.{NoneGives}
 use Rattle.lps_sumelm.specs.Solving.{solve, conditions_of, without_unused, IsSolvedFrom, nothing_to_solve, one_solved, IsSolvedSummand}
 use Rattle.lps_sumelm.specs.SolvingLaws.{HasNoSolution, HasNoUnused}
-use Rattle.lps_sumelm.specs.SummandsInCode.{summand_at, IsSummandOver, SummandStands, IsStep}
+use Rattle.lps_sumelm.specs.SummandsInCode.{summand_at, SummandStands, IsStep}
 use Rattle.lps_sumelm.proofs.AnsweringSummands.{answering_is_good}
-use Rattle.lps_sumelm.proofs.SolvedChains.{nothing_left, all_occur, solved_simple, Each, each_follows, all_answer}
+use Rattle.lps_sumelm.proofs.SolvedChains.{nothing_left, all_occur, solved_simple, Each, all_answer}
 use Rattle.lps_sumelm.proofs.SimplifiedInCode.{becomes_along}
 use Rattle.lps_sumelm.proofs.StandingSummands.{summand_is_at, fitting_stands, standing_fits, stands_still, summand_kept}
 

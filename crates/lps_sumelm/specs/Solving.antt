@@ -1,5 +1,5 @@
 -- Sums that parts of the condition give, and sums that don't occur.
-use Rattle.std.specs.Prelude.{◌≡◌, ◌==◌, ℕ, List, [], ◌∷◌, ◌++◌, map, cond, Option, Some, None}
+use Rattle.std.specs.Prelude.{◌==◌, ℕ, List, [], ◌∷◌, ◌++◌, map, cond, Option, Some, None}
 use Rattle.data_theory.specs.Terms.{Term, put, variables_of, variables_of_all}
 use Rattle.data_theory.specs.Environments.{Binding, term_in, terms_of}
 use Rattle.process_terms.specs.Labels.{Action, put_label}

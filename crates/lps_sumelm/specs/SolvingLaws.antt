@@ -1,5 +1,5 @@
 -- What the laws of solved sums say.
-use Rattle.std.specs.Prelude.{◌≡◌, ◌↔◌, ℕ, List, None, Some, Contains}
+use Rattle.std.specs.Prelude.{◌≡◌, ℕ, List, None, Some, Contains}
 use Rattle.data_theory.specs.Terms.{Sort, Term, variables_of}
 use Rattle.data_theory.specs.Declarations.{Data}
 use Rattle.data_theory.specs.Environments.{Environment, Binding, term_in}
@@ -9,7 +9,7 @@ use Rattle.process_terms.specs.Labels.{put_label, AgreeInOrder}
 use Rattle.process_terms.specs.Processes.{Bound}
 use Rattle.bisim_laws.specs.LinearProcesses.{Summand, variables, sorts, reading, put_next, NextEquals, AreBound, IsSummand, SummandIsSorted, AreDeclared}
 use Rattle.lps_core.specs.Conditions.{parts}
-use Rattle.lps_sumelm.specs.Solutions.{Gives, IsSolvable, solution, IsFirst, NoneGives}
+use Rattle.lps_sumelm.specs.Solutions.{IsSolvable, solution, IsFirst}
 use Rattle.lps_sumelm.specs.Solving.{solve, conditions_of, summand_variables}
 
 -- ---- summands that do alike at the same arguments

@@ -84,7 +84,8 @@ fn solved_summand<S: Simplifier>(
     while let Some(next) = step(alloc, sig, pool, simp, &solved)? {
         solved = next;
     }
-    without_unused(alloc, pool, solved)
+    let made = without_unused(alloc, pool, solved)?;
+    Ok(made)
 }
 
 /// The summands, each solved.

@@ -74,8 +74,8 @@ returns-clause-stands g c =
     let us = c.loop-solved.pool.trees in
     let vs = c.step.new.pool.trees in
     let now = plain_summand c.loop-solved.solved in
-    let made = plain_summand c.in_ok-without_unused.field-0 in
-    λ ps h. unused_stands sig vs ps now made (stands_still sig us vs c.step.ensures.kept ps now (c.loop-solved.invariant.stands ps h)) c.in_ok-without_unused.ensures.terms c.in_ok-without_unused.ensures.among (c.in_ok-without_unused.ensures.used sig)
+    let made = plain_summand c.in_ok-made.made in
+    λ ps h. unused_stands sig vs ps now made (stands_still sig us vs c.step.ensures.kept ps now (c.loop-solved.invariant.stands ps h)) c.in_ok-made.ensures.terms c.in_ok-made.ensures.among (c.in_ok-made.ensures.used sig)
 
 pub returns-clause-solved : goal.returns-clause-solved
 returns-clause-solved g c =
@@ -86,9 +86,9 @@ returns-clause-solved g c =
     let us = c.loop-solved.pool.trees in
     let vs = c.step.new.pool.trees in
     let now = plain_summand c.loop-solved.solved in
-    let made = plain_summand c.in_ok-without_unused.field-0 in
+    let made = plain_summand c.in_ok-made.made in
     let inv = c.loop-solved.invariant in
     let k = c.requires.stands in
     let none = subst (λ (o : Option Summand). MatchOption o (NoneGives (variables (summand_at sig us now).sums) (conditions_of (summand_at sig us now))) (λ next. (own : List Equation) → g.S.Simplifier.fits c.loop-solved.simp sig own us → AreWellFormed sig own → IsStep (IsAnswer sig own (g.S.Simplifier.simple c.loop-solved.simp sig own)) (summand_at sig us now) (summand_at sig vs (plain_summand next)))) c.in_default.is c.in_ok-next.ensures.steps in
     λ own f fine. way_ends (IsAnswer sig own (g.S.Simplifier.simple c.args.simp.now sig own)) (summand_at sig ts s) (summand_at sig us now) (summand_at sig vs made) (inv.way own f fine) none
-    (c.in_ok-without_unused.ensures.used sig ∙ ap without_unused (summand_kept sig us vs c.step.ensures.kept now (inv.stands k.0 k.1).over))
+    (c.in_ok-made.ensures.used sig ∙ ap without_unused (summand_kept sig us vs c.step.ensures.kept now (inv.stands k.0 k.1).over))

@@ -1,4 +1,4 @@
-use Rattle.std.proofs.Common.{◌+◌, ◌∷◌, [], take, get_or, sym, subst}
+use Rattle.std.proofs.Common.{◌+◌, take, get_or, sym, subst}
 use Rattle.std.specs.List.{AllZip}
 use Rattle.lps_core.proofs.PoolTrees.{extends_on}
 use Rattle.lps_sumelm.specs.SummandsInCode.{IsTermAnswer}

@@ -1,4 +1,4 @@
-use Rattle.std.proofs.Common.{◌≡◌, ◌∙◌, sym, ap, rules}
+use Rattle.std.proofs.Common.{◌≡◌, rules}
 use Rattle.process_terms.specs.PlainProcesses.{plain_label}
 use Rattle.lps_core.specs.PlainLinears.{plain_next, plain_summand}
 use Rattle.lps_core.proofs.PoolTrees.{extends_on}

@@ -1,4 +1,4 @@
-use Rattle.std.proofs.Common.{map, take, sym, ap, subst}
+use Rattle.std.proofs.Common.{map, take, sym, subst}
 use Rattle.std.specs.List.{All}
 use Rattle.std.proofs.lemmas.List.{take_all}
 use Rattle.term_pool.specs.HeadTrees.{AreIn}
