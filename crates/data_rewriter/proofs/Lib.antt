@@ -29,4 +29,5 @@ pub mod WordSigns
 pub mod ListFacts
 pub mod Markings
 pub mod HeadNumbers
+pub mod LaterData
 pub mod Simple

@@ -24,7 +24,7 @@ pub trait Simplifier {
     ghost simple: { Self → Sig → List Equation → Term → Type 0 };
 
     /// A simple term with the term's sort, without a variable that the term hasn't, and provably equal to it in every closed
-    /// instance. No call changes which terms are simple.
+    /// instance, over all data that go on from these and have their equations. No call changes which terms are simple.
     fn simplify(&mut self, pool: &mut Pool, term: TermId) -> Result<TermId, NoMemory>
         requires { (sig : Sig) × (own : List Equation) × fits self.old sig own pool.old.trees × IsTerm sig pool.old.trees term }
         ensures kept { Extends pool.old.trees pool.new.trees }

@@ -1,6 +1,4 @@
 use Rattle.std.proofs.Common.{sym, ◌∙◌}
-use Rattle.data_rewriter.specs.States.{Says}
-use Rattle.data_rewriter.specs.Rewriters.{IsStoredAnswer}
 use Rattle.data_rewriter.proofs.StateMoves.{tables_kept}
 use Rattle.data_rewriter.proofs.Keeping.{stored_says, said_is_stored}
 use Rattle.data_rewriter.proofs.rewriter.Rewriter.normalise.Goals as goal
