@@ -3,16 +3,18 @@ use Rattle.std.proofs.Common.{◌≡◌, ◌≤◌, ◌⊎◌, ℕ, List, Option
 use Rattle.std.specs.Prelude.{option_and_then, option_map}
 use Rattle.mcrl2_text.specs.declared.loading.TheConstants.{MAX_TEXT_LEN}
 use Rattle.mcrl2_text.specs.Faults.{Rose}
+use Rattle.lin_driver.specs.Faults.{IsFaultBy}
 use Rattle.lin_driver.specs.Refusals.{IsRefusedWith}
 use Rattle.lin_driver.specs.declared.fault.LinFault.{LinFault}
 use Rattle.lin_driver.specs.declared.fault.LinFault.TheVariants as lin
+use Rattle.lin_driver.specs.declared.methods.Method.{Method}
 use Rattle.lin_driver.proofs.AcceptedTexts.{faulty_texts_cannot_be_linearised}
 use Rattle.mcrl2lin.specs.Commands.{Asked, asked_by, Question, question}
-use Rattle.mcrl2lin.specs.Ends.{IsAnswer, IsTaken, IsLineOf, EndsWell}
+use Rattle.mcrl2lin.specs.Ends.{IsAnswer, IsTaken, IsTakenBy, IsLineOf, EndsWell}
 use Rattle.mcrl2lin.specs.Lines.{line_of}
 use Rattle.mcrl2lin.specs.Stops.{HasCause, IsFaultFor, status_of_stop}
 use Rattle.mcrl2lin.specs.declared.command.Task.{Task}
-use Rattle.mcrl2lin.specs.declared.command.Task.TheVariants.{Check, Linearise}
+use Rattle.mcrl2lin.specs.declared.command.Task.TheVariants.{Check, Linearise, Constelm, Parelm, Sumelm}
 use Rattle.mcrl2lin.specs.declared.stop.Stop.{Stop}
 use Rattle.mcrl2lin.specs.declared.stop.Stop.TheVariants.{Words, ReadFault, TooLong, Refused, NoMemory}
 use Rattle.mcrl2lin.specs.declared.top.Status.TheVariants.{Done}
@@ -31,17 +33,24 @@ failed_or_whole (Ok x) P Q whole failed = inr whole
 failed_or_whole (Err e) P Q whole failed = inl failed
 
 -- ---- where nothing counted a fault
+-- a text that is made linear by a method has none of the faults for which that refuses one
+never_refused_by : (method : Method) (text : List ℕ) → IsTakenBy method text → (texts : List (List ℕ)) (fault : LinFault) → IsFaultBy method fault → IsRefusedWith text texts fault → ⊥
+never_refused_by method text is texts (lin.Lex fault) of has = faulty_texts_cannot_be_linearised text texts (lin.Lex fault) tt has is.0
+never_refused_by method text is texts (lin.Parse fault) of has = faulty_texts_cannot_be_linearised text texts (lin.Parse fault) tt has is.0
+never_refused_by method text is texts (lin.Sort fault) of has = faulty_texts_cannot_be_linearised text texts (lin.Sort fault) tt has is.0
+never_refused_by method text is texts (lin.«Type» fault) of has = faulty_texts_cannot_be_linearised text texts (lin.«Type» fault) tt has is.0
+never_refused_by method text is texts (lin.Net fault) of has = faulty_texts_cannot_be_linearised text texts (lin.Net fault) tt has is.0
+never_refused_by method text is texts (lin.Guard fault) of has = faulty_texts_cannot_be_linearised text texts (lin.Guard fault) tt has is.0
+never_refused_by method text is texts (lin.NotTail component summand) of has = is.1 of texts component summand has
+never_refused_by method text is texts lin.NoMemory of has = has
+
 -- a text that a task takes has none of the faults for which it refuses one
 never_refused : (task : Task) (text : List ℕ) → IsTaken task text → (texts : List (List ℕ)) (fault : LinFault) → IsFaultFor task fault → IsRefusedWith text texts fault → ⊥
 never_refused Check text is texts fault of has = faulty_texts_cannot_be_linearised text texts fault of has is
-never_refused (Linearise method) text is texts (lin.Lex fault) of has = faulty_texts_cannot_be_linearised text texts (lin.Lex fault) tt has is.0
-never_refused (Linearise method) text is texts (lin.Parse fault) of has = faulty_texts_cannot_be_linearised text texts (lin.Parse fault) tt has is.0
-never_refused (Linearise method) text is texts (lin.Sort fault) of has = faulty_texts_cannot_be_linearised text texts (lin.Sort fault) tt has is.0
-never_refused (Linearise method) text is texts (lin.«Type» fault) of has = faulty_texts_cannot_be_linearised text texts (lin.«Type» fault) tt has is.0
-never_refused (Linearise method) text is texts (lin.Net fault) of has = faulty_texts_cannot_be_linearised text texts (lin.Net fault) tt has is.0
-never_refused (Linearise method) text is texts (lin.Guard fault) of has = faulty_texts_cannot_be_linearised text texts (lin.Guard fault) tt has is.0
-never_refused (Linearise method) text is texts (lin.NotTail component summand) of has = is.1 of texts component summand has
-never_refused (Linearise method) text is texts lin.NoMemory of has = has
+never_refused (Linearise method) text is texts fault of has = never_refused_by method text is texts fault of has
+never_refused (Constelm method fuel) text is texts fault of has = never_refused_by method text is texts fault of has
+never_refused (Parelm method) text is texts fault of has = never_refused_by method text is texts fault of has
+never_refused (Sumelm method fuel) text is texts fault of has = never_refused_by method text is texts fault of has
 
 module _ (asked : Option Question) (a b c d : ℕ) (before after : Option (List ℕ)) where
   -- a stop is for want of memory where the text asked for has none of the faults for which its task refuses one

@@ -1,3 +1,5 @@
 pub mod EndLines
 pub mod FaultNames
+pub mod Numbers
+pub mod TakenWords
 pub mod Told

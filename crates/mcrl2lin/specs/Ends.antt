@@ -7,12 +7,13 @@ use Rattle.lin_driver.specs.Accepted.{CanBeLinearised}
 use Rattle.lin_driver.specs.Headline.{StandsFor}
 use Rattle.lin_driver.specs.Refusals.{IsRefusedWith}
 use Rattle.lin_driver.specs.declared.fault.LinFault.TheVariants.{NotTail}
+use Rattle.lin_driver.specs.declared.methods.Method.{Method}
 use Rattle.lin_driver.specs.declared.methods.Method.TheVariants.{Regular}
 use Rattle.mcrl2lin.specs.Commands.{Question}
 use Rattle.mcrl2lin.specs.Lines.{line_of, write_fault_line}
 use Rattle.mcrl2lin.specs.Stops.{IsRefusal}
 use Rattle.mcrl2lin.specs.declared.command.Task.{Task}
-use Rattle.mcrl2lin.specs.declared.command.Task.TheVariants.{Check, Linearise}
+use Rattle.mcrl2lin.specs.declared.command.Task.TheVariants.{Check, Linearise, Constelm, Parelm, Sumelm}
 use Rattle.mcrl2lin.specs.declared.stop.Stop.TheVariants as stop
 use Rattle.mcrl2lin.specs.declared.top.Status.{Status}
 use Rattle.mcrl2lin.specs.declared.top.Status.TheVariants.{Done, Refused, Words, ReadFault, WriteFault, NoMemory, Undecided, No}
@@ -21,12 +22,22 @@ use Rattle.mcrl2lin.specs.declared.top.Status.TheVariants.{Done, Refused, Words,
 abbrev pub IsAnswer : Task → List ℕ → List ℕ → Type 0
 IsAnswer Check text answer = CanBeLinearised text × (answer ≡ codes "ok\n")
 IsAnswer (Linearise method) text answer = CanBeLinearised text × StandsFor text answer
+IsAnswer (Constelm method fuel) text answer = CanBeLinearised text × StandsFor text answer
+IsAnswer (Parelm method) text answer = CanBeLinearised text × StandsFor text answer
+IsAnswer (Sumelm method fuel) text answer = CanBeLinearised text × StandsFor text answer
 
--- The texts for which a task is done: those that can be linearised. By the method `Regular` no form of such a text may have a summand of two
+-- The texts that are made linear by a method: those that can be linearised. By `Regular` no form of such a text may have a summand of two
 -- calls, either.
+abbrev pub IsTakenBy : Method → List ℕ → Type 0
+IsTakenBy method text = CanBeLinearised text × (method ≡ Regular → (texts : List (List ℕ)) (component summand : ℕ) → ¬ (IsRefusedWith text texts (NotTail component summand)))
+
+-- the texts for which a task is done
 abbrev pub IsTaken : Task → List ℕ → Type 0
 IsTaken Check text = CanBeLinearised text
-IsTaken (Linearise method) text = CanBeLinearised text × (method ≡ Regular → (texts : List (List ℕ)) (component summand : ℕ) → ¬ (IsRefusedWith text texts (NotTail component summand)))
+IsTaken (Linearise method) text = IsTakenBy method text
+IsTaken (Constelm method fuel) text = IsTakenBy method text
+IsTaken (Parelm method) text = IsTakenBy method text
+IsTaken (Sumelm method fuel) text = IsTakenBy method text
 
 -- the line of a status, with its cause in the text where that is told
 abbrev pub IsLineOf : Status → Option Question → List ℕ → Type 0

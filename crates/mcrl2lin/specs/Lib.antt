@@ -1,3 +1,5 @@
+pub mod CommandLine
+pub mod Options
 pub mod Commands
 pub mod Lines
 pub mod Stops

@@ -11,7 +11,7 @@ use Rattle.lin_driver.specs.declared.fault.LinFault.TheVariants as lin
 use Rattle.mcrl2lin.specs.Commands.{Question}
 use Rattle.mcrl2lin.specs.Lines.{refusal_line}
 use Rattle.mcrl2lin.specs.declared.command.Task.{Task}
-use Rattle.mcrl2lin.specs.declared.command.Task.TheVariants.{Check, Linearise}
+use Rattle.mcrl2lin.specs.declared.command.Task.TheVariants.{Check, Linearise, Constelm, Parelm, Sumelm}
 use Rattle.mcrl2lin.specs.declared.stop.Stop.{Stop}
 use Rattle.mcrl2lin.specs.declared.stop.Stop.TheVariants.{Words, ReadFault, TooLong, Refused, NoMemory}
 use Rattle.mcrl2lin.specs.declared.top.Status.{Status}
@@ -34,6 +34,9 @@ IsStopFor texts fault NoMemory = ⊤
 abbrev pub IsFaultFor : Task → LinFault → Type 0
 IsFaultFor Check fault = IsOfTheText fault
 IsFaultFor (Linearise method) fault = IsFaultBy method fault
+IsFaultFor (Constelm method fuel) fault = IsFaultBy method fault
+IsFaultFor (Parelm method) fault = IsFaultBy method fault
+IsFaultFor (Sumelm method fuel) fault = IsFaultBy method fault
 
 -- the line refuses the text, where that is told, for a fault that it has
 pub record IsRefusal (asked : Option Question) (line : List ℕ) : Type 0 where

@@ -1,8 +1,15 @@
 //! What the words of the command line ask for.
-ghost use Rattle.std.specs.Prelude.{◌≡◌, map, option_map, string_bytes};
-ghost use Rattle.mcrl2lin.specs.Commands.{asked_by, asked_by_method, asked_with, method_named, task_named};
+ghost use Rattle.std.specs.Prelude.{◌≡◌, IfOk, map, option_map, string_bytes};
+ghost use Rattle.clap.specs.Words.{found_of, rows_of};
+ghost use Rattle.mcrl2lin.specs.Commands.{asked, asked_by, asked_in, asked_with, task_named};
 
+use crate::command_line::{program, value_of};
+use crate::options::{Options, options_of};
+use clap::ArgMatches;
+use clap::error::ErrorKind;
+use data_theory::NoMemory;
 use lin_driver::Method;
+use std::alloc::Global;
 
 /// What the program does with a text.
 #[derive(Clone, Copy, Debug, PartialEq, Eq)]
@@ -11,6 +18,22 @@ pub enum Task {
     Check,
     /// Write its linear process, with its components encoded by the method.
     Linearise(Method),
+    /// Write its linear process without the parameters that keep their first values, by rewriting with this much fuel.
+    Constelm {
+        /// How the components are encoded.
+        method: Method,
+        /// The uses of equations that a rewriting has.
+        fuel: u64,
+    },
+    /// Write its linear process without the parameters that nothing needs.
+    Parelm(Method),
+    /// Write its linear process without the sums that an equality solves, by rewriting with this much fuel.
+    Sumelm {
+        /// How the components are encoded.
+        method: Method,
+        /// The uses of equations that a rewriting has.
+        fuel: u64,
+    },
 }
 
 /// A task, and the file that it is to be done with.
@@ -22,65 +45,61 @@ pub struct Command<'a> {
     pub file: &'a str,
 }
 
-/// The command that the words give: they are the program's name, a task and the file, whose name doesn't begin with a dash, and behind
-/// these at most `--method` with a method. Without that the method is `Auto`.
-pub fn command_of(words: &[String]) -> Option<Command<'_>>
-    ensures { option_map (λ command. record { task = command.task; file = command.file.now }) result ≡ asked_by (map string_bytes words.now) }
+/// The command that the words give, where they give one: where `clap` takes them, and each of their values is one.
+///
+/// # Errors
+///
+/// No memory was left.
+pub fn command_of<'a>(alloc: Global, words: &'a [String]) -> Result<Option<Command<'a>>, NoMemory>
+    ensures { IfOk result (λ command. option_map asked command ≡ asked_by (map string_bytes words.entry.now)) }
 {
-    match words {
-        [_, word, file] => command_with(word.as_str(), file.as_str(), Method::Auto),
-        [_, word, file, option, name] => command_by(
-            word.as_str(),
-            file.as_str(),
-            option.as_str(),
-            name.as_str(),
-        ),
-        _ => None,
+    let Ok(program) = program(alloc) else {
+        return Err(NoMemory);
+    };
+    match program.try_get_matches_from(words) {
+        Ok(matches) => Ok(command_in(&matches)),
+        Err(error) if error.kind() == ErrorKind::OutOfMemory => Err(NoMemory),
+        Err(_) => Ok(None),
     }
 }
 
-/// The command of a task's name, a file, and an option with its value.
-fn command_by<'a>(word: &str, file: &'a str, option: &str, name: &str) -> Option<Command<'a>>
-    ensures { option_map (λ command. record { task = command.task; file = command.file.now }) result ≡ asked_by_method word.now file.now option.now name.now }
+/// The command in the matches.
+fn command_in<'a>(matches: &ArgMatches<'a>) -> Option<Command<'a>>
+    ensures { option_map asked result ≡ asked_in (rows_of (found_of matches.now)) }
 {
-    if option == "--method" {
-        let method = method_of(name)?;
-        command_with(word, file, method)
-    } else {
-        None
-    }
+    command_with(
+        value_of(matches, "task"),
+        value_of(matches, "file"),
+        options_of(matches),
+    )
 }
 
-/// The command of a task's name, a file and a method.
-fn command_with<'a>(word: &str, file: &'a str, method: Method) -> Option<Command<'a>>
-    ensures { option_map (λ command. record { task = command.task; file = command.file.now }) result ≡ asked_with word.now file.now method }
+/// The command of a task's name, a file and the options.
+fn command_with<'a>(
+    word: Option<&str>,
+    file: Option<&'a str>,
+    options: Option<Options>,
+) -> Option<Command<'a>>
+    ensures { option_map asked result ≡ asked_with (option_map (λ s. s.now) word.entry) (option_map (λ s. s.now) file.entry) options }
 {
-    if file.starts_with('-') {
+    let (Some(word), Some(file), Some(options)) = (word, file, options) else {
         return None;
-    }
-    let task = task_of(word, method)?;
+    };
+    let task = task_of(word, options)?;
     Some(Command { task, file })
 }
 
-/// The task of this name, with a method.
-fn task_of(word: &str, method: Method) -> Option<Task>
-    ensures { result ≡ task_named word.now method }
+/// The task of this name, with what it takes of the options.
+fn task_of(word: &str, options: Options) -> Option<Task>
+    ensures { result ≡ task_named word.now options }
 {
+    let Options { method, fuel, .. } = options;
     match word {
         "check" => Some(Task::Check),
         "linearise" => Some(Task::Linearise(method)),
-        _ => None,
-    }
-}
-
-/// The method of this name.
-fn method_of(word: &str) -> Option<Method>
-    ensures { result ≡ method_named word.now }
-{
-    match word {
-        "auto" => Some(Method::Auto),
-        "regular" => Some(Method::Regular),
-        "stack" => Some(Method::Stack),
+        "constelm" => Some(Task::Constelm { method, fuel }),
+        "parelm" => Some(Task::Parelm(method)),
+        "sumelm" => Some(Task::Sumelm { method, fuel }),
         _ => None,
     }
 }

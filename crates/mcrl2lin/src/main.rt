@@ -2,6 +2,8 @@
 #![tactic(auto)]
 
 mod command;
+mod command_line;
+mod options;
 mod real;
 mod refusal;
 mod stop;

@@ -2,9 +2,10 @@
 ghost use Rattle.std.specs.Prelude.{◌≡◌};
 ghost use Rattle.mcrl2lin.specs.Lines.{AreNamed, line_of, names_of_fault};
 ghost use Rattle.mcrl2lin.specs.Stops.{IsStopFor, stop_of_load};
+ghost use Rattle.mcrl2lin.specs.declared.stop.Stop.TheVariants as stop;
 
 use crate::refusal::refusal;
-use data_theory::Names;
+use data_theory::{Names, NoMemory};
 use lin_driver::LinFault;
 use mcrl2_text::LoadFault;
 use std::alloc::Global;
@@ -22,6 +23,14 @@ pub enum Stop {
     Refused(Vec<u8>),
     /// No memory was left.
     NoMemory,
+}
+
+impl From<NoMemory> for Stop {
+    ghost from_gives = { λ _ made. made ≡ stop.NoMemory };
+
+    fn from(_: NoMemory) -> Self {
+        Stop::NoMemory
+    }
 }
 
 impl From<LoadFault> for Stop {

@@ -1,5 +1,5 @@
 //! The program over any shelf and sinks.
-ghost use Rattle.std.specs.Prelude.{◌≡◌, ◌≢◌, ◌≤◌, ◌<◌, ◌⊎◌, ◌↔◌, ◌++◌, List, ℕ, Some, None, IfErr, IfOk, IfSome, IsErrOf, length, map, string_bytes};
+ghost use Rattle.std.specs.Prelude.{◌≡◌, ◌≢◌, ◌≤◌, ◌<◌, ◌⊎◌, ◌++◌, List, ℕ, Some, None, IfErr, IfOk, IfSome, IsErrOf, length, map, string_bytes};
 ghost use Rattle.mcrl2_text.specs.Bytes.{TakesPrefix};
 ghost use Rattle.mcrl2_text.specs.Faults.{Rose};
 ghost use Rattle.lin_driver.specs.Refusals.{IsRefusedWith};
@@ -45,7 +45,8 @@ pub fn run<H: Shelf, O: Sink, E: Sink>(
     err: &mut E,
 ) -> Status
     // When each status comes.
-    ensures words { (result ≡ Status.Words) ↔ (asked_by (map string_bytes words.now.items) ≡ None) }
+    ensures words { result ≡ Status.Words → asked_by (map string_bytes words.now.items) ≡ None }
+    ensures no_command { asked_by (map string_bytes words.now.items) ≡ None → (result ≡ Status.Words) ⊎ (result ≡ Status.NoMemory) }
     ensures read_fault { result ≡ Status.ReadFault → Rose (H.faults shelf.old) (H.faults shelf.new) }
     ensures write_fault { result ≡ Status.WriteFault → Rose (O.faults out.old) (O.faults out.new) }
     ensures never { (result ≢ Status.Undecided) × (result ≢ Status.No) }
@@ -64,7 +65,7 @@ pub fn run<H: Shelf, O: Sink, E: Sink>(
     ensures err { EndsWithLine result (question (H.text_of shelf.old) (map string_bytes words.now.items))
         (E.taken err.old) (E.taken err.new) (E.faults err.old) (E.faults err.new) }
 
-    ensures shelf_kept { result ≡ Status.Words → shelf.new ≡ shelf.old }
+    ensures shelf_kept { asked_by (map string_bytes words.now.items) ≡ None → shelf.new ≡ shelf.old }
 
     // For each text that the task takes it is done: what `linearise` writes stands for the text.
     ensures headline { IfSome (question (H.text_of shelf.old) (map string_bytes words.now.items)) (λ q. IsTaken q.task q.text
@@ -93,14 +94,15 @@ pub fn run<H: Shelf, O: Sink, E: Sink>(
 
 /// The answer that the words ask for, whole.
 fn answer<H: Shelf>(alloc: Global, words: &[String], shelf: &mut H) -> Result<Vec<u8>, Stop>
-    ensures words { IsErrOf result Stop.Words ↔ (asked_by (map string_bytes words.now) ≡ None) }
+    ensures words { IsErrOf result Stop.Words → asked_by (map string_bytes words.now) ≡ None }
+    ensures no_command { asked_by (map string_bytes words.now) ≡ None → IsErrOf result Stop.Words ⊎ IsErrOf result Stop.NoMemory }
     ensures read_fault { IsErrOf result Stop.ReadFault → Rose (H.faults shelf.old) (H.faults shelf.new) }
     ensures refused { IfErr result (λ stop. HasCause stop (question (H.text_of shelf.old) (map string_bytes words.now))) }
     ensures answered { IfOk result (λ bytes. IfSome (question (H.text_of shelf.old) (map string_bytes words.now))
         (λ q. (length q.text ≤ MAX_TEXT_LEN) × IsAnswer q.task q.text bytes.items)) }
-    ensures shelf_kept { IsErrOf result Stop.Words → shelf.new ≡ shelf.old }
+    ensures shelf_kept { asked_by (map string_bytes words.now) ≡ None → shelf.new ≡ shelf.old }
 {
-    let command = command_of(words).ok_or(Stop::Words)?;
+    let command = command_of(alloc, words)?.ok_or(Stop::Words)?;
     let text = load(alloc, shelf, command.file)?;
     let mut names = Names::new(alloc);
     match answer_to(alloc, command.task, &text, &mut names) {
@@ -124,6 +126,7 @@ fn answer_to(alloc: Global, task: Task, text: &[u8], names: &mut Names) -> Resul
             }
         }
         Task::Linearise(method) => linear_text(alloc, text, names, method),
+        Task::Constelm { .. } | Task::Parelm(_) | Task::Sumelm { .. } => Err(LinFault::NoMemory),
     }
 }
 

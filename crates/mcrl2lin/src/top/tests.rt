@@ -242,20 +242,78 @@ const ROWS: [Row; 25] = [
     },
 ];
 
-/// Words that give no command.
-const NO_COMMANDS: [&[&str]; 11] = [
-    &[],
-    &["mcrl2lin"],
-    &["mcrl2lin", "check", "-f"],
-    &["mcrl2lin", "linearise", "-f"],
-    &["mcrl2lin", "linearise", "--", "f"],
-    &["mcrl2lin", "linearise", "f", "g"],
-    &["mcrl2lin", "Linearise", "f"],
-    &["mcrl2lin", "f", "linearise"],
-    &["mcrl2lin", "linearise", "f", "--method"],
-    &["mcrl2lin", "linearise", "f", "--method", "Stack"],
-    &["mcrl2lin", "linearise", "f", "--trace", "g"],
-];
+/// Words that give no command, a line each.
+const NO_COMMANDS: &str = "\
+mcrl2lin
+mcrl2lin linearise
+mcrl2lin -h
+mcrl2lin --help
+mcrl2lin --version
+mcrl2lin help linearise
+mcrl2lin linearise f --help
+mcrl2lin linearise f -V
+mcrl2lin check -f
+mcrl2lin linearise -f
+mcrl2lin linearise f g
+mcrl2lin linearise -- f g
+mcrl2lin Linearise f
+mcrl2lin f linearise
+mcrl2lin generate 41
+mcrl2lin linearise f --method
+mcrl2lin linearise f --method Stack
+mcrl2lin linearise f --method=
+mcrl2lin linearise f --method auto --method auto
+mcrl2lin linearise f -m auto
+mcrl2lin linearise f --meth auto
+mcrl2lin linearise f --limit 1
+mcrl2lin linearise f --trace
+mcrl2lin linearise f --trace a --trace b
+mcrl2lin linearise f --fuel 01
+mcrl2lin linearise f --fuel 00
+mcrl2lin linearise f --fuel=
+mcrl2lin linearise f --fuel -1
+mcrl2lin linearise f --fuel=-1
+mcrl2lin linearise f --fuel +1
+mcrl2lin linearise f --fuel 1e3
+mcrl2lin linearise f --fuel 0x10
+mcrl2lin linearise f --fuel 18446744073709551616
+mcrl2lin linearise f --fuel 1 --fuel 1
+mcrl2lin linearise f --bound 65537
+mcrl2lin linearise f --bound 016
+mcrl2lin linearise f --bound 1 --bound=1
+mcrl2lin linearise f --seed 18446744073709551616
+mcrl2lin linearise f --seed one
+mcrl2lin linearise f --seed 1 --seed 1
+mcrl2lin linearise f --depth 1000001
+mcrl2lin linearise f --depth 1_000
+mcrl2lin linearise f --depth 1 --depth 1";
+
+/// Words behind the program's name that linearise the file `f`, a line each.
+const COMMANDS: &str = "\
+linearise f
+-- linearise f
+linearise -- f
+linearise f --method auto
+linearise f --method=auto
+linearise f --method=regular
+--method auto linearise f
+linearise --method auto f
+linearise f --trace t
+linearise f --trace=-t
+linearise f --trace=
+linearise f --fuel 0
+linearise f --fuel=0
+linearise f --fuel 18446744073709551615
+linearise f --bound 65536
+linearise f --seed 18446744073709551615
+linearise f --depth 1000000
+--depth=0 --seed=1 linearise --bound=2 --fuel=3 --method=auto f --trace=g";
+
+/// Such words that do it with a stack. The last ones name a file whose name begins with a dash.
+const STACK_COMMANDS: &str = "\
+linearise f --method stack
+linearise f --method=stack
+--method=stack -- linearise -f";
 
 fn strings(alloc: Global, words: &[&str]) -> Result<Vec<String>, Fail> {
     let mut strings = Vec::new(alloc);
@@ -265,12 +323,23 @@ fn strings(alloc: Global, words: &[&str]) -> Result<Vec<String>, Fail> {
     Ok(strings)
 }
 
+/// The words of a line behind some others.
+fn words_of(alloc: Global, first: &[&str], line: &str) -> Result<Vec<String>, Fail> {
+    let mut words = strings(alloc, first)?;
+    for word in line.split_whitespace() {
+        words.push(String::from_str(alloc, word)?)?;
+    }
+    Ok(words)
+}
+
 fn texts(alloc: Global, text: &[u8]) -> Result<Vec<MemText>, Fail> {
     let mut texts = Vec::new(alloc);
-    texts.push(MemText {
-        name: String::from_str(alloc, "f")?,
-        text: text.to_vec(alloc)?,
-    })?;
+    for name in ["f", "-f"] {
+        texts.push(MemText {
+            name: String::from_str(alloc, name)?,
+            text: text.to_vec(alloc)?,
+        })?;
+    }
     Ok(texts)
 }
 
@@ -296,16 +365,48 @@ fn runs_end_with_their_status_and_bytes(rt: HostRuntime) -> Result<(), Fail> {
     Ok(())
 }
 
+fn gets_the_usage_line(rt: &impl Abort, alloc: Global, words: &str) -> Result<(), Fail> {
+    let given = words_of(alloc, &[], words)?;
+    let mut shelf = SteadyShelf::new(texts(alloc, TWO_STEPS)?);
+    let mut err = MemSink::new(alloc, 200, Vec::new(alloc), 200)?;
+    let status = run(alloc, &given, &mut shelf, &mut SteadySink::new(), &mut err);
+    assert_eq!(rt; status, Status::Words, "{words}");
+    assert_eq!(rt; err.bytes(), USAGE, "{words}");
+    Ok(())
+}
+
 #[test]
 fn words_without_a_command_get_the_usage_line(rt: HostRuntime) -> Result<(), Fail> {
-    let alloc = rt.alloc();
-    for words in NO_COMMANDS {
-        let words = strings(alloc, words)?;
-        let mut shelf = SteadyShelf::new(texts(alloc, TWO_STEPS)?);
-        let mut err = MemSink::new(alloc, 200, Vec::new(alloc), 200)?;
-        let status = run(alloc, &words, &mut shelf, &mut SteadySink::new(), &mut err);
-        assert_eq!(rt; status, Status::Words);
-        assert_eq!(rt; err.bytes(), USAGE);
+    gets_the_usage_line(&rt, rt.alloc(), "")?;
+    for words in NO_COMMANDS.lines() {
+        gets_the_usage_line(&rt, rt.alloc(), words)?;
+    }
+    Ok(())
+}
+
+fn writes(
+    rt: &impl Abort,
+    alloc: Global,
+    words: &str,
+    text: &[u8],
+    want: &[u8],
+) -> Result<(), Fail> {
+    let given = words_of(alloc, &["mcrl2lin"], words)?;
+    let mut shelf = SteadyShelf::new(texts(alloc, text)?);
+    let mut out = MemSink::new(alloc, 400, Vec::new(alloc), 400)?;
+    let status = run(alloc, &given, &mut shelf, &mut out, &mut SteadySink::new());
+    assert_eq!(rt; status, Status::Done, "{words}");
+    assert_eq!(rt; out.bytes(), want, "{words}");
+    Ok(())
+}
+
+#[test]
+fn words_give_the_command_that_they_spell(rt: HostRuntime) -> Result<(), Fail> {
+    for words in COMMANDS.lines() {
+        writes(&rt, rt.alloc(), words, TWO_STEPS, PRINTED)?;
+    }
+    for words in STACK_COMMANDS.lines() {
+        writes(&rt, rt.alloc(), words, b"act a; init a;", STACKED)?;
     }
     Ok(())
 }
