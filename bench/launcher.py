@@ -33,6 +33,8 @@ case "$1 ${2-}" in
 'refuse '*) head -n 1 -- "$2" >&2; exit 1 ;;
 'ask '*) read -r line; echo "got $line"; echo heard >&2; exit "$2" ;;
 'wait '*) echo "$$"; exec sleep 60 ;;
+'--fuel 3') shift 2; exec "$0" "$@" ;;
+'--fuel=3 '* | '-- '*) shift; exec "$0" "$@" ;;
 *) printf '%s\\n' usage "$#" "$@" >&2; exit 2 ;;
 esac
 """
@@ -444,6 +446,11 @@ def unreadable(place):
         same((file, ran.stderr.count("\n")), (file, 2))
         assert str(file) in ran.stderr or file == odd, ran.stderr
     assert "\x1b" not in place.run("linearise", str(odd)).stderr
+    # FILE behind options, and with a dash in front.
+    for words in (["--fuel", "3"], ["--fuel=3"], ["--fuel", "3", "--fuel=3", "--"]):
+        for file in ("nothing", "-f") if words[-1] == "--" else ("nothing",):
+            ran = place.run(*words, "linearise", file)
+            same((words, ran.returncode, ran.stderr.splitlines()), (words, 3, ["read fault", f"mcrl2lin: can't read {file}"]))
     if not os.geteuid():
         shut = place.folder / "shut"
         shut.write_text("x")

@@ -309,10 +309,11 @@ linearise f --seed 18446744073709551615
 linearise f --depth 1000000
 --depth=0 --seed=1 linearise --bound=2 --fuel=3 --method=auto f --trace=g";
 
-/// Such words that do it with a stack. The last ones name a file whose name begins with a dash.
+/// Such words that do it with a stack, and the last ones to files whose names begin with a dash.
 const STACK_COMMANDS: &str = "\
 linearise f --method stack
 linearise f --method=stack
+linearise - --method=stack
 --method=stack -- linearise -f";
 
 fn strings(alloc: Global, words: &[&str]) -> Result<Vec<String>, Fail> {
@@ -334,7 +335,7 @@ fn words_of(alloc: Global, first: &[&str], line: &str) -> Result<Vec<String>, Fa
 
 fn texts(alloc: Global, text: &[u8]) -> Result<Vec<MemText>, Fail> {
     let mut texts = Vec::new(alloc);
-    for name in ["f", "-f"] {
+    for name in ["f", "-f", "-"] {
         texts.push(MemText {
             name: String::from_str(alloc, name)?,
             text: text.to_vec(alloc)?,
