@@ -12,3 +12,7 @@ pub mod MeantRounds
 pub mod MeantPutting
 pub mod Changing
 pub mod PuttingLoops
+pub mod PuttingSteps
+pub mod ChangingSteps
+pub mod SimplifiedRuns
+pub mod MarkingSteps

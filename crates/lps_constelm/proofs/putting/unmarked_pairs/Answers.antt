@@ -1,0 +1,1 @@
+use Rattle.lps_constelm.proofs.putting.unmarked_pairs.Goals as goal

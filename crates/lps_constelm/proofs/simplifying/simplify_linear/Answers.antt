@@ -1,0 +1,1 @@
+use Rattle.lps_constelm.proofs.simplifying.simplify_linear.Goals as goal
