@@ -10,7 +10,7 @@ pub mod RunLoops
 pub mod SortedTrees
 pub mod MeantRounds
 pub mod MeantPutting
-pub mod Changing
+pub mod ChangingLoops
 pub mod PuttingLoops
 pub mod PuttingSteps
 pub mod ChangingSteps

@@ -6,10 +6,18 @@ use Rattle.std.proofs.lemmas.List.Elements.{All-contains}
 use Rattle.data_theory.specs.declared.ids.TermId.{TermId}
 use Rattle.data_theory.specs.IdTrees.{Tree, variable}
 use Rattle.term_pool.specs.HeadTrees.{trees_at, IsIn, AreIn}
+use Rattle.graphs.specs.Graphs.{IsGraph, IsReversed}
 use Rattle.lps_core.specs.PlainLinears.{PlainLinear}
 use Rattle.lps_parelm.specs.Uses.{AreUses}
-use Rattle.lps_parelm.proofs.UseGraphs.{at_contains}
+use Rattle.lps_parelm.proofs.UseGraphs.{at_contains, edge_begins}
 use Rattle.lps_constelm.specs.Putting.{AreChanging, AreNotConstant, LeadTo}
+
+-- a graph that is turned round is one
+pub turned_graph : (edges back : List (Vec ℕ)) → IsReversed edges back → IsGraph back
+turned_graph edges back t a b e =
+    let l = edge_begins edges b a ((t.exact b a).0 e) in
+    let s = t.size in
+    omega (arith, l, s)
 
 -- the terms of parameters that change are nodes
 pub start_below : (ts : List Tree) (l : PlainLinear) (vars : List TermId) (start : List ℕ) → AreIn ts vars → AreChanging ts l vars start → (a : ℕ) → Contains start a → a < length ts

@@ -38,7 +38,7 @@ zip_weaker_fine P R S w [] (y ∷ ys) k h = absurd h
 zip_weaker_fine P R S w (x ∷ xs) [] k h = absurd h
 zip_weaker_fine P R S w (x ∷ xs) (y ∷ ys) k h = (w x y (All-head P x xs k) h.0, zip_weaker_fine P R S w xs ys (All-tail P x xs k) h.1)
 
-both_ways : {A B C : Type 0} → (A ↔ B) → (B ↔ C) → (A ↔ C)
+pub both_ways : {A B C : Type 0} → (A ↔ B) → (B ↔ C) → (A ↔ C)
 both_ways p q = (λ a. q.0 (p.0 a), λ c. p.1 (q.1 c))
 
 pub record Along (B : Type 0) (Fine : Sig → List Tree → B → Type 0) (Rel : Sig → List Equation → (Term → Type 0) → List Tree → List Tree → B → B → Type 0) (fits fits' : Sig → List Equation → List Tree → Type 0) (simple simple' : Sig → List Equation → Term → Type 0) (old now : List Tree) (all : List B) (i : ℕ) (made : List B) : Type 0 where

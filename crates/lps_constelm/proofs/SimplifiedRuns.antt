@@ -1,6 +1,7 @@
 -- What a simplifier makes of summands and of linear processes, from what it makes of their parts.
-use Rattle.std.proofs.Common.{◌≡◌, ◌<◌, ℕ, List, map, length, get_or, sym, ap, ◌∙◌, subst, arith, Option}
-use Rattle.std.specs.Prelude.{IfSome}
+use Rattle.std.proofs.Common.{◌≡◌, ◌<◌, ℕ, List, map, length, get_or, sym, ap, ◌∙◌, subst, arith, Option, Some, None}
+use Rattle.std.specs.Global.{Global}
+use Rattle.std.specs.Prelude.{Vec, IfSome}
 use Rattle.std.specs.List.{All, AllZip}
 use Rattle.std.proofs.lemmas.List.{get_or-map, length-map}
 use Rattle.std.proofs.lemmas.List.Elements.{All-weaker}
@@ -13,9 +14,9 @@ use Rattle.term_pool.specs.Pools.{Extends}
 use Rattle.process_terms.specs.PlainProcesses.{PlainAction}
 use Rattle.data_rewriter.specs.Simplifying.{AreWellFormed, IsSimplified}
 use Rattle.data_rewriter.specs.Standing.{IsTerm, term_at}
-use Rattle.lps_core.specs.PlainLinears.{PlainSummand, PlainLinear}
+use Rattle.lps_core.specs.PlainLinears.{PlainSummand, PlainLinear, plain_next}
 use Rattle.lps_core.proofs.PoolTrees.{extends_on}
-use Rattle.lps_constelm.specs.Runs.{AreTerms, IsActionWithin, IsSummandWithin, IsLinearWithin, TermBecomes, ActionBecomes, NextBecomes, SummandBecomes, LinearBecomes, Runs, Makes}
+use Rattle.lps_constelm.specs.Runs.{AreTerms, IsActionWithin, IsSummandWithin, IsLinearWithin, TermBecomes, ActionBecomes, NextBecomes, both_end, both_go_on, SummandBecomes, LinearBecomes, Runs, Makes}
 use Rattle.lps_constelm.proofs.RunLoops.{runs_on, zip_weaker, zip_weaker_fine, terms_stable, summands_stable, label_fine_kept, next_fine_kept, summand_fine_kept, label_later, label_sooner, label_alike, next_sooner, next_alike}
 
 abbrev pub Fitting : Type 1
@@ -67,9 +68,12 @@ module _ {f0 f1 f2 : Fitting} {s0 s1 s2 : Simple} (t0 t1 t2 : List Tree) (s : Pl
         }
 
 -- ---- linear processes
+pub lin_within : (g : Sig) (ts us : List Tree) (l : PlainLinear) → Extends ts us → IsLinearWithin g ts l → All (IsSummandWithin g us) l.summands
+lin_within g ts us l e h = All-weaker (IsSummandWithin g ts) (IsSummandWithin g us) (λ s k. summand_fine_kept g ts us s e k) l.summands h.summands
+
 module _ {f0 f1 f2 : Fitting} {s0 s1 s2 : Simple} (t0 t1 t2 : List Tree) (l : PlainLinear) (first : Runs f0 f1 s0 s1 (λ g. AreTerms g t0 l.init) t0 t1) (then : Runs f1 f2 s1 s2 (λ g. All (IsSummandWithin g t1) l.summands) t1 t2) where
   all_within : (g : Sig) → IsLinearWithin g t0 l → All (IsSummandWithin g t1) l.summands
-  all_within g h = All-weaker (IsSummandWithin g t0) (IsSummandWithin g t1) (λ s k. summand_fine_kept g t0 t1 s first.kept k) l.summands h.summands
+  all_within g h = lin_within g t0 t1 l first.kept h
 
   pub linear_runs : Runs f0 f2 s0 s2 (λ g. IsLinearWithin g t0 l) t0 t2
   linear_runs = runs_on f0 f1 f2 s0 s1 s2 _ _ (λ g. IsLinearWithin g t0 l) t0 t1 t2 first then (λ g h. h.init) all_within
@@ -92,3 +96,14 @@ runs_grown {ts = ts} {now = now} {us = us} r e grow = record { kept = extends_on
 
 pub runs_first_grown : {f f' : Fitting} {s s' : Simple} {A : Sig → Type 0} (C : Sig → Type 0) {ts now us : List Tree} → Extends ts now → ((g : Sig) (own : List Equation) → f g own ts → f g own now) → Runs f f' s s' A now us → ((g : Sig) → C g → A g) → Runs f f' s s' C ts us
 runs_first_grown C {ts = ts} {now = now} {us = us} e grow r w = record { kept = extends_on ts now us e r.kept; fitting = λ g own f h. r.fitting g own (grow g own f) (w g h); same = r.same }
+
+-- ---- next terms
+pub next_some : (g : Sig) (ts : List Tree) (next : Option (Vec TermId Global)) (terms : Vec TermId Global) (args : List TermId) → next ≡ Some terms → args ≡ terms.items → IfSome (plain_next next) (AreTerms g ts) → AreTerms g ts args
+next_some g ts next terms args e q h = subst (AreTerms g ts) (sym q) (subst (λ o. IfSome (plain_next o) (AreTerms g ts)) e h)
+
+pub next_made : (g : Sig) (own : List Equation) (P : Term → Type 0) (ts us : List Tree) (next : Option (Vec TermId Global)) (terms made : Vec TermId Global) (args : List TermId) → next ≡ Some terms → args ≡ terms.items → AllZip (TermBecomes g own P ts us) args made.items
+    → NextBecomes g own P ts us (plain_next next) (Some made.items)
+next_made g own P ts us next terms made args e q h = subst (λ o. NextBecomes g own P ts us (plain_next o) (Some made.items)) (sym e) (both_go_on (subst (λ z. AllZip (TermBecomes g own P ts us) z made.items) q h))
+
+pub next_none : (g : Sig) (own : List Equation) (P : Term → Type 0) (ts us : List Tree) (next : Option (Vec TermId Global)) → next ≡ None → NextBecomes g own P ts us (plain_next next) None
+next_none g own P ts us next e = subst (λ o. NextBecomes g own P ts us (plain_next o) None) (sym e) both_end

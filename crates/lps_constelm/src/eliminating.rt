@@ -64,10 +64,10 @@ fn next_round<S: Simplifier>(
 }
 
 /// Whether some parameter isn't marked.
-fn has_unmarked(marks: &[bool]) -> bool
-    ensures { result ≡ list_any (λ (m : Bool). cond m false true) marks.now }
+fn has_unmarked(round: &Round) -> bool
+    ensures { result ≡ list_any (λ (m : Bool). cond m false true) round.now.marks.items }
 {
-    marks.iter().any(|mark| !*mark)
+    round.marks.iter().any(|mark| !*mark)
 }
 
 /// The linear process without its constant parameters (mCRL2 tool set, `lpsconstelm`).
@@ -97,7 +97,7 @@ pub fn eliminate<S: Simplifier>(
     ensures eliminated { IfOk result (λ made. (g : Sig) (own : List Equation) → IsSignature g → Fits g pool.old.trees (plain_linear lin) → S.fits simp.old g own pool.old.trees → AreWellFormed g own → IsWithoutConstants g own (S.simple simp.old g own) pool.new.trees (plain_linear lin) (plain_linear made)) }
 {
     let mut round = first_round(alloc, pool, simp, &lin)?;
-    while has_unmarked(round.marks.as_slice()) {
+    while has_unmarked(&round) {
         round = next_round(alloc, pool, simp, &round)?;
     }
     let Round { lin: made, .. } = round;

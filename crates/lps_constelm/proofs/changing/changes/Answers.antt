@@ -1,4 +1,4 @@
-use Rattle.std.proofs.Common.{◌≡◌, ◌<◌, ◌≤◌, map, length, arith}
+use Rattle.std.proofs.Common.{◌≡◌, ◌<◌, ◌≤◌, ◌∙◌, map, length, sym, arith}
 use Rattle.std.specs.Prelude.{IfSome}
 use Rattle.term_pool.specs.HeadTrees.{AreIn}
 use Rattle.lps_core.specs.PlainLinears.{PlainSummand, plain_summand}
@@ -7,7 +7,7 @@ use Rattle.lps_core.proofs.KeptSummands.{next_in_kept}
 use Rattle.lps_core.proofs.PoolTrees.{all_in_kept, tree_kept, extends_on}
 use Rattle.lps_parelm.proofs.UseLoops.{mapped_item}
 use Rattle.graphs.proofs.Ranking.{on_true, on_false}
-use Rattle.lps_constelm.proofs.ChangingSteps.{none_stays, one_changes_here, one_more_stays, all_stay}
+use Rattle.lps_constelm.proofs.ChangingSteps.{put_back, none_stays, one_changes_here, one_more_stays, all_stay}
 use Rattle.lps_constelm.proofs.changing.changes.Goals as goal
 
 pub loop-summand-init : goal.loop-summand-init
@@ -26,6 +26,12 @@ next_changes-requires-clause-listed c = all_in_kept c.args.pool.now.trees c.loop
 
 pub next_changes-requires-clause-init : goal.next_changes-requires-clause-init
 next_changes-requires-clause-init c = (tree_kept c.args.pool.now.trees c.loop-summand.pool.trees c.args.init c.loop-summand.invariant.kept c.requires.init).1
+
+pub next_changes-requires-clause-own : goal.next_changes-requires-clause-own
+next_changes-requires-clause-own c =
+    let ts = c.args.pool.now.trees in
+    let us = c.loop-summand.pool.trees in
+    put_back ts us c.args.by.now c.args.place c.args.init c.loop-summand.invariant.kept c.requires.listed c.requires.init c.args.own c.requires.own_in ∙ c.requires.own ∙ sym (tree_kept ts us c.args.init c.loop-summand.invariant.kept c.requires.init).0
 
 pub returns-then-branch-clause-changes : goal.returns-then-branch-clause-changes
 returns-then-branch-clause-changes c =

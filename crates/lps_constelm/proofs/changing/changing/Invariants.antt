@@ -1,6 +1,6 @@
 use Rattle.term_pool.specs.Pools.{Extends}
 use Rattle.lps_core.specs.PlainLinears.{plain_linear}
-use Rattle.lps_constelm.proofs.Changing.{AreChangingSoFar}
+use Rattle.lps_constelm.proofs.ChangingLoops.{AreChangingSoFar}
 use Rattle.lps_constelm.proofs.changing.changing.Given as goal
 
 abbrev pub invariant-loop-place : goal.invariant-loop-place

@@ -11,8 +11,8 @@ use Rattle.lps_core.specs.PlainLinears.{plain_linear}
 use Rattle.lps_constelm.proofs.WholeRounds.{IsSoFar}
 use Rattle.lps_constelm.proofs.eliminating.eliminate.Given as goal
 
-abbrev pub invariant-loop-round : goal.invariant-loop-round
-invariant-loop-round g l = record {
+abbrev pub invariant-loop-alloc : goal.invariant-loop-alloc
+invariant-loop-alloc g l = record {
   kept : Extends l.fn.pool.trees l.pool.trees;
   fitting : (sig : Sig) (own : List Equation) → IsSignature sig → Fits sig l.fn.pool.trees (plain_linear l.lin) → g.S.Simplifier.fits l.fn.simp sig own l.fn.pool.trees → AreWellFormed sig own → g.S.Simplifier.fits l.simp sig own l.pool.trees;
   same : (sig : Sig) (own : List Equation) (t : Term) → g.S.Simplifier.simple l.simp sig own t ↔ g.S.Simplifier.simple l.fn.simp sig own t;
@@ -20,5 +20,5 @@ invariant-loop-round g l = record {
       → IsSoFar sig own (g.S.Simplifier.simple l.fn.simp sig own) l.fn.pool.trees l.pool.trees (plain_linear l.lin) (plain_linear l.round.lin) l.round.marks.items;
 }
 
-abbrev pub decreases-loop-round : goal.decreases-loop-round
-decreases-loop-round g l = length l.round.lin.params.items
+abbrev pub decreases-loop-alloc : goal.decreases-loop-alloc
+decreases-loop-alloc g l = length l.round.lin.params.items

@@ -47,6 +47,6 @@ returns-clause-made g c = λ sig own f w h.
     let us = c.mark_others.new.pool.trees in
     let l = plain_linear c.args.lin.now in
     let k = plain_linear c.in_ok-made.made in
-    let P = g.S.Simplifier.simple c.args.simp.now sig own in
+    let simple = g.S.Simplifier.simple c.args.simp.now sig own in
     let becomes = c.in_ok-made.ensures.made sig own f w (linear_within sig h.0 ts l h.1) in
-    is_first_round sig own P ts now us l k _ h.0 h.1 becomes c.mark_others.ensures.kept (c.in_ok-marks.ensures.marked sig h.0 (becomes_fits sig own P h.0 ts now l k h.1 becomes))
+    is_first_round sig own simple ts now us l k _ h.0 h.1 becomes c.mark_others.ensures.kept (c.in_ok-marks.ensures.marked sig h.0 (becomes_fits sig own simple h.0 ts now l k h.1 becomes))

@@ -1,7 +1,7 @@
-use Rattle.std.proofs.Common.{◌≡◌, ◌<◌, ◌≤◌, ◌∙◌, ap, ap₂, length, sym, arith}
+use Rattle.std.proofs.Common.{◌≡◌, ◌<◌, ◌≤◌, ◌∙◌, ◌++◌, ◌∷◌, [], ap, ap₂, length, sym, arith}
 use Rattle.std.proofs.lemmas.List.{take_all}
 use Rattle.lps_constelm.specs.Putting.{pairs_of}
-use Rattle.lps_constelm.proofs.Changing.{pairs_more}
+use Rattle.lps_constelm.proofs.ChangingLoops.{pairs_more}
 use Rattle.lps_constelm.proofs.putting.pairs.Goals as goal
 
 pub loop-place-preserved : goal.loop-place-preserved

@@ -1,4 +1,5 @@
-use Rattle.std.proofs.Common.{◌≡◌, ◌<◌, ◌≤◌, length, get_or, refl, arith}
+use Rattle.std.proofs.Common.{◌≡◌, ◌<◌, ◌≤◌, length, get_or, arith}
+use Rattle.std.proofs.lemmas.List.{get_or_default}
 use Rattle.std.proofs.lemmas.List.Elements.{All-get_or}
 use Rattle.data_theory.specs.declared.ids.TermId.{TermId}
 use Rattle.data_rewriter.specs.Standing.{IsTerm}
@@ -22,17 +23,17 @@ simplify-requires g c =
 
 pub returns-in_err-simplify-clause-runs : goal.returns-in_err-simplify-clause-runs
 returns-in_err-simplify-clause-runs g c =
-    along_fails TermId IsTerm TermBecomes terms_stable _ _ _ _ _ _ _ _ _ _ _ _ _ c.loop-term.invariant c.loop-term-test.true refl
+    along_fails TermId IsTerm TermBecomes terms_stable _ _ _ _ _ _ _ _ _ _ _ _ _ c.loop-term.invariant c.loop-term-test.true (get_or_default c.args.terms.now c.loop-term.term-index (record { 0 = 0 }) (get_or c.args.terms.now c.loop-term.term-index (record { 0 = 0 })) c.loop-term-test.true)
     (record { kept = c.simplify.ensures.kept; fitting = c.simplify.ensures.fitting; same = c.simplify.ensures.same })
 
 pub returns-in_err-push-clause-runs : goal.returns-in_err-push-clause-runs
 returns-in_err-push-clause-runs g c =
-    along_fails TermId IsTerm TermBecomes terms_stable _ _ _ _ _ _ _ _ _ _ _ _ _ c.loop-term.invariant c.loop-term-test.true refl
+    along_fails TermId IsTerm TermBecomes terms_stable _ _ _ _ _ _ _ _ _ _ _ _ _ c.loop-term.invariant c.loop-term-test.true (get_or_default c.args.terms.now c.loop-term.term-index (record { 0 = 0 }) (get_or c.args.terms.now c.loop-term.term-index (record { 0 = 0 })) c.loop-term-test.true)
     (record { kept = c.simplify.ensures.kept; fitting = c.simplify.ensures.fitting; same = c.simplify.ensures.same })
 
 pub loop-term-preserved : goal.loop-term-preserved
 loop-term-preserved g c =
-    along_more TermId IsTerm TermBecomes terms_stable _ _ _ _ _ _ _ _ _ _ _ _ _ _ _ c.loop-term.invariant c.loop-term-test.true refl
+    along_more TermId IsTerm TermBecomes terms_stable _ _ _ _ _ _ _ _ _ _ _ _ _ _ _ c.loop-term.invariant c.loop-term-test.true (get_or_default c.args.terms.now c.loop-term.term-index (record { 0 = 0 }) (get_or c.args.terms.now c.loop-term.term-index (record { 0 = 0 })) c.loop-term-test.true)
     (record { kept = c.simplify.ensures.kept; fitting = c.simplify.ensures.fitting; same = c.simplify.ensures.same })
     (λ sig own f w h. one_becomes sig own _ _ _ _ _ (c.in_ok-simplify.ensures.simplified sig own f h) w (c.in_ok-simplify.ensures.reached sig own f h)) c.in_ok-push.ensures.items
 
