@@ -31,8 +31,8 @@ index-requires c =
     let test = c.loop-place-test.true in
     let count = init_long c.requires.fits.0 ts l c.requires.fits.2 in
     let long = variables_long ts c.args.params.now l c.requires.params in
-    let below : c.loop-place.place < length l.init = omega (arith, test, count, long) in
-    below
+    let items = c.args.lin.now.init.ok.0 in
+    omega (arith, test, count, long, items)
 
 pub changes-requires-clause-place : goal.changes-requires-clause-place
 changes-requires-clause-place c =

@@ -29,8 +29,8 @@ next_round-requires g c =
 pub returns-in_err-round-clause-fitting : goal.returns-in_err-round-clause-fitting
 returns-in_err-round-clause-fitting g c = λ sig own stands fits f w. c.first_round.ensures.runs.fitting sig own f (stands, fits)
 
-pub returns-in_err-next_round-clause-fitting : goal.returns-in_err-next_round-clause-fitting
-returns-in_err-next_round-clause-fitting g c = λ sig own stands fits f w.
+pub returns-in_err-round-2-clause-fitting : goal.returns-in_err-round-2-clause-fitting
+returns-in_err-round-2-clause-fitting g c = λ sig own stands fits f w.
     let inv = c.loop-alloc.invariant in
     c.next_round.ensures.runs.fitting sig own (inv.fitting sig own stands fits f w) (stands, (inv.so_far sig own stands fits f w).marked)
 
@@ -51,18 +51,18 @@ loop-alloc-preserved g c =
       same = λ sig own t. both_ways (runs.same sig own t) (inv.same sig own t);
       so_far = λ sig own stands fits f w.
           let far = inv.so_far sig own stands fits f w in
-          so_far_more sig own (g.S.Simplifier.simple c.args.simp.now sig own) (g.S.Simplifier.simple c.loop-alloc.simp sig own) (λ t. (inv.same sig own t).0) ts us vs l k _ marks _ far some (c.in_ok-next_round.ensures.made sig own (inv.fitting sig own stands fits f w) w (stands, far.marked));
+          so_far_more sig own (g.S.Simplifier.simple c.args.simp.now sig own) (g.S.Simplifier.simple c.loop-alloc.simp sig own) (λ t. (inv.same sig own t).0) ts us vs l k _ marks _ far some (c.in_ok-round-2.ensures.made sig own (inv.fitting sig own stands fits f w) w (stands, far.marked));
     }
 
-pub loop-alloc-decreases : goal.loop-alloc-decreases
-loop-alloc-decreases g c =
+pub loop-alloc-smaller : goal.loop-alloc-smaller
+loop-alloc-smaller g c =
     let r = c.requires in
     let inv = c.loop-alloc.invariant in
     let far = inv.so_far r.0 r.1 r.2 r.3 r.4 r.5 in
     let k = plain_linear c.loop-alloc.round.lin in
     let marks = c.loop-alloc.round.marks.items in
     let some : list_any (λ (m : Bool). cond m false true) marks ≡ true = sym c.has_unmarked.ensures ∙ c.loop-alloc-test.true in
-    let round = c.in_ok-next_round.ensures.made r.0 r.1 (inv.fitting r.0 r.1 r.2 r.3 r.4 r.5) r.5 (r.2, far.marked) in
+    let round = c.in_ok-round-2.ensures.made r.0 r.1 (inv.fitting r.0 r.1 r.2 r.3 r.4 r.5) r.5 (r.2, far.marked) in
     subst (λ n. n < length k.params) (sym (ap length round.params)) (fewer_kept marks k.params far.marked.long some)
 
 pub returns-clause-fits : goal.returns-clause-fits

@@ -1,11 +1,11 @@
-use Rattle.std.proofs.Common.{◌≡◌, ◌<◌, ◌≤◌, ◌∙◌, ◌++◌, ◌∷◌, [], ap, ap₂, length, sym, arith}
+use Rattle.std.proofs.Common.{◌≡◌, ◌<◌, ◌≤◌, ◌∙◌, ◌++◌, ◌∷◌, [], ap, ap₂, length, get_or, sym, arith}
 use Rattle.std.proofs.lemmas.List.{take_all}
 use Rattle.lps_constelm.specs.Putting.{pairs_of}
 use Rattle.lps_constelm.proofs.ChangingLoops.{pairs_more}
 use Rattle.lps_constelm.proofs.putting.pairs.Goals as goal
 
 pub loop-place-preserved : goal.loop-place-preserved
-loop-place-preserved c = c.in_ok-push.ensures.items ∙ ap (λ z. z ++ _ ∷ []) c.loop-place.invariant ∙ sym (pairs_more c.args.vars.now c.args.terms.now c.loop-place.place (record { 0 = 0 }) (record { 0 = 0 }) c.loop-place-test.true c.requires)
+loop-place-preserved c = c.in_ok-push.ensures.items ∙ ap (λ z. z ++ (get_or c.args.vars.now c.loop-place.place (record { 0 = 0 }), get_or c.args.terms.now c.loop-place.place (record { 0 = 0 })) ∷ []) c.loop-place.invariant ∙ sym (pairs_more c.args.vars.now c.args.terms.now c.loop-place.place (record { 0 = 0 }) (record { 0 = 0 }) c.loop-place-test.true c.requires)
 
 pub returns : goal.returns
 returns c =

@@ -54,6 +54,6 @@ returns-clause-made g c =
     let s = plain_summand c.args.summand.now in
     let same : c.in_ok-sums.sums.items ≡ c.args.summand.now.sums.items = search rules in
     let new : PlainSummand = record { sums = c.in_ok-sums.sums.items; condition = c.in_ok-cond.cond; label = plain_label c.in_ok-label.label; next = plain_next c.in_ok-next.next } in
-    summand_made c.args.pool.now.trees c.simplify.new.pool.trees c.simplify_label.new.pool.trees s (record { kept = c.simplify.ensures.kept; fitting = c.simplify.ensures.fitting; same = c.simplify.ensures.same }) c.simplify_label.ensures.runs c.simplify_next.new.pool.trees
+    summand_made {f0 = g.S.Simplifier.fits c.args.simp.now} {s0 = g.S.Simplifier.simple c.args.simp.now} c.args.pool.now.trees c.simplify.new.pool.trees c.simplify_label.new.pool.trees s (record { kept = c.simplify.ensures.kept; fitting = c.simplify.ensures.fitting; same = c.simplify.ensures.same }) c.simplify_label.ensures.runs c.simplify_next.new.pool.trees
     c.simplify_next.ensures.runs new same
     (λ sig own f w h. one_becomes sig own _ _ _ _ _ (c.in_ok-cond.ensures.simplified sig own f h) w (c.in_ok-cond.ensures.reached sig own f h)) c.in_ok-label.ensures.made c.in_ok-next.ensures.made
