@@ -1,0 +1,1 @@
+use Rattle.lps_constelm.proofs.changing.differ.Goals as goal
