@@ -1,5 +1,6 @@
 pub mod EndLines
 pub mod FaultNames
 pub mod Numbers
+pub mod ShortWords
 pub mod TakenWords
 pub mod Told

@@ -21,7 +21,7 @@ is_told_whole : is_simple_and_free command_line ≡ true
 unfolding command_line clap_on_literals
 is_told_whole = refl
 
-asked_by-is : (words : List Text) → asked_by words ≡ cond (is_empty (fault_of command_line words)) (asked_in (matches_of command_line words)) None
+pub asked_by-is : (words : List Text) → asked_by words ≡ cond (is_empty (fault_of command_line words)) (asked_in (matches_of command_line words)) None
 unfolding asked_by
 asked_by-is words = refl
 

@@ -3,6 +3,7 @@
 
 mod command;
 mod command_line;
+mod laws;
 mod options;
 mod real;
 mod refusal;
