@@ -1,5 +1,5 @@
 -- A summand in which initial terms were put in, from its parts.
-use Rattle.std.proofs.Common.{◌≡◌, Bool, List, map, length, ap, ap₂, ◌∙◌, sym, Option}
+use Rattle.std.proofs.Common.{◌≡◌, Bool, List, map, length, ap, ap₂, ◌∙◌, sym}
 use Rattle.std.specs.Prelude.{option_map, IfSome}
 use Rattle.std.specs.List.{All}
 use Rattle.std.proofs.lemmas.List.{length-map}
@@ -12,7 +12,7 @@ use Rattle.term_pool.specs.Pools.{Extends}
 use Rattle.lps_core.specs.PlainLinears.{PlainSummand}
 use Rattle.lps_core.specs.TreeSummands.{trees_of_label, trees_of_summand, put_actions, IsActionIn, IsSummandIn}
 use Rattle.lps_core.proofs.KeptSummands.{next_trees_kept}
-use Rattle.lps_core.proofs.PoolTrees.{extends_on, tree_kept, listed_kept, put_along, actions_in_kept, actions_kept, actions_along}
+use Rattle.lps_core.proofs.PoolTrees.{extends_on, tree_kept, listed_kept, actions_in_kept, actions_kept, actions_along}
 use Rattle.lps_parelm.specs.Keeping.{keep, fates_of}
 use Rattle.lps_parelm.proofs.KeptPlaces.{keep_map}
 use Rattle.lps_constelm.specs.Putting.{put_kept_summand, unmarked}

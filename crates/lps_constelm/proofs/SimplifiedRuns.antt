@@ -11,7 +11,6 @@ use Rattle.data_theory.specs.Signature.{Sig}
 use Rattle.data_theory.specs.Terms.{Term}
 use Rattle.data_theory.specs.IdTrees.{Tree}
 use Rattle.term_pool.specs.Pools.{Extends}
-use Rattle.process_terms.specs.PlainProcesses.{PlainAction}
 use Rattle.data_rewriter.specs.Simplifying.{AreWellFormed, IsSimplified}
 use Rattle.data_rewriter.specs.Standing.{IsTerm, term_at}
 use Rattle.lps_core.specs.PlainLinears.{PlainSummand, PlainLinear, plain_next}

@@ -1,6 +1,6 @@
 //! Constant parameters that are left out, one greatest set after another.
 
-ghost use Rattle.std.specs.Prelude.{◌≡◌, ◌↔◌, List, false, length, true, cond, Bool, IfOk};
+ghost use Rattle.std.specs.Prelude.{◌≡◌, ◌↔◌, Bool, List, cond, false, true, IfOk};
 ghost use Rattle.std.specs.List.{list_any};
 ghost use Rattle.data_theory.specs.Provable.{Equation};
 ghost use Rattle.data_theory.specs.Signature.{Sig};

@@ -1,10 +1,9 @@
-use Rattle.std.proofs.Common.{◌≡◌, ◌<◌, ◌≤◌, ◌∙◌, map, length, sym, arith}
+use Rattle.std.proofs.Common.{◌<◌, ◌≤◌, ◌∙◌, length, sym, arith}
 use Rattle.std.specs.Prelude.{IfSome}
-use Rattle.term_pool.specs.HeadTrees.{AreIn}
 use Rattle.lps_core.specs.PlainLinears.{PlainSummand, plain_summand}
 use Rattle.lps_core.specs.TreeSummands.{IsSummandIn}
 use Rattle.lps_core.proofs.KeptSummands.{next_in_kept}
-use Rattle.lps_core.proofs.PoolTrees.{all_in_kept, tree_kept, extends_on}
+use Rattle.lps_core.proofs.PoolTrees.{all_in_kept, tree_kept}
 use Rattle.lps_parelm.proofs.UseLoops.{mapped_item}
 use Rattle.graphs.proofs.Ranking.{on_true, on_false}
 use Rattle.lps_constelm.proofs.ChangingSteps.{put_back, none_stays, one_changes_here, one_more_stays, all_stay}

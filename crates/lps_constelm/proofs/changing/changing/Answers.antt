@@ -1,10 +1,9 @@
-use Rattle.std.proofs.Common.{◌≡◌, ◌<◌, ◌≤◌, ◌∙◌, ℕ, List, ap, ap₂, length, get_or, subst, sym, map, arith}
+use Rattle.std.proofs.Common.{◌≡◌, ◌<◌, ◌≤◌, ◌∙◌, ap, ap₂, length, get_or, subst, sym, map, arith}
 use Rattle.std.specs.List.{All}
 use Rattle.std.specs.Prelude.{IfSome}
 use Rattle.std.proofs.lemmas.List.{get_or_default}
 use Rattle.std.proofs.lemmas.Option.{slice_get-get_or}
 use Rattle.std.proofs.lemmas.List.Elements.{All-get_or, All-weaker}
-use Rattle.data_theory.specs.declared.ids.TermId.{TermId}
 use Rattle.term_pool.specs.Bindings.{listed, listed_terms}
 use Rattle.term_pool.specs.HeadTrees.{IsIn, AreIn}
 use Rattle.graphs.proofs.Ranking.{on_true, on_false}

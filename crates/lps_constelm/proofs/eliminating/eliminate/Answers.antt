@@ -2,7 +2,6 @@ use Rattle.std.proofs.Common.{◌≡◌, ◌<◌, ◌∙◌, ap, length, Bool, f
 use Rattle.std.specs.List.{list_any}
 use Rattle.lps_core.specs.PlainLinears.{plain_linear}
 use Rattle.lps_core.proofs.PoolTrees.{extends_on}
-use Rattle.lps_parelm.specs.Keeping.{keep, fates_of}
 use Rattle.lps_constelm.proofs.RunLoops.{both_ways}
 use Rattle.lps_constelm.proofs.WholeRounds.{so_far_first, so_far_more, so_far_done, fewer_kept}
 use Rattle.lps_constelm.proofs.eliminating.eliminate.Goals as goal

@@ -1,11 +1,10 @@
-use Rattle.std.proofs.Common.{◌≡◌, ◌∙◌, ap, length, subst, sym}
-use Rattle.std.specs.Prelude.{IfOk}
+use Rattle.std.proofs.Common.{◌∙◌, ap, length, subst, sym}
 use Rattle.data_theory.specs.WholeSignatures.{IsSignature}
 use Rattle.lps_core.specs.PlainLinears.{plain_linear}
 use Rattle.lps_parelm.specs.Uses.{HaveNextTerms}
 use Rattle.lps_parelm.proofs.WholeElimination.{if_ok, init_long, next_terms, summands_inside}
 use Rattle.lps_constelm.specs.Putting.{IsWithoutUnmarked}
-use Rattle.lps_constelm.specs.Rounds.{MarksTheOthers, IsFirstRound, IsNextRound}
+use Rattle.lps_constelm.specs.Rounds.{MarksTheOthers, IsNextRound}
 use Rattle.lps_constelm.specs.Runs.{Makes}
 use Rattle.lps_constelm.proofs.MeantPutting.{without_fits}
 use Rattle.lps_constelm.proofs.SimplifiedRuns.{runs_first_grown}

@@ -1,4 +1,4 @@
-use Rattle.std.proofs.Common.{◌≡◌, ◌∙◌, ap, length, map, subst, sym, arith}
+use Rattle.std.proofs.Common.{◌∙◌, ap, length, map, subst, sym, arith}
 use Rattle.std.specs.Prelude.{Contains}
 use Rattle.data_theory.specs.Signature.{Sig}
 use Rattle.data_theory.specs.IdTrees.{variable}

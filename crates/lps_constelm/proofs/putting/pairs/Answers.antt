@@ -1,4 +1,4 @@
-use Rattle.std.proofs.Common.{◌≡◌, ◌<◌, ◌≤◌, ◌∙◌, ◌++◌, ◌∷◌, [], ap, ap₂, length, get_or, sym, arith}
+use Rattle.std.proofs.Common.{◌≤◌, ◌∙◌, ◌++◌, ◌∷◌, [], ap, ap₂, length, get_or, sym, arith}
 use Rattle.std.proofs.lemmas.List.{take_all}
 use Rattle.lps_constelm.specs.Putting.{pairs_of}
 use Rattle.lps_constelm.proofs.ChangingLoops.{pairs_more}

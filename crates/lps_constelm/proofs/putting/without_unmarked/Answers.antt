@@ -1,4 +1,4 @@
-use Rattle.std.proofs.Common.{◌≡◌, ◌∙◌, ap, length, map, subst, sym}
+use Rattle.std.proofs.Common.{◌∙◌, ap, length, map, subst, sym}
 use Rattle.std.specs.List.{All}
 use Rattle.term_pool.specs.Bindings.{listed, listed_terms}
 use Rattle.term_pool.specs.HeadTrees.{IsIn, AreIn}

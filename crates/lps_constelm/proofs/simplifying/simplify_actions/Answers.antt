@@ -1,4 +1,4 @@
-use Rattle.std.proofs.Common.{◌≡◌, ◌<◌, ◌≤◌, ◌∷◌, [], ◌∙◌, map, length, get_or, ap, arith}
+use Rattle.std.proofs.Common.{◌≤◌, ◌∷◌, [], ◌∙◌, map, length, ap, arith}
 use Rattle.std.proofs.lemmas.List.{map-append, length-map}
 use Rattle.process_terms.specs.PlainProcesses.{PlainAction, plain_action}
 use Rattle.lps_parelm.proofs.UseLoops.{mapped_item}

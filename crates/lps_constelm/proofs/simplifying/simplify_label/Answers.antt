@@ -1,7 +1,7 @@
 use Rattle.std.proofs.Common.{map, subst, sym}
 use Rattle.std.specs.List.{All, AllZip}
 use Rattle.process_terms.specs.PlainProcesses.{plain_action}
-use Rattle.lps_constelm.specs.Runs.{IsActionWithin, ActionBecomes, Makes, Runs}
+use Rattle.lps_constelm.specs.Runs.{IsActionWithin, ActionBecomes, Runs}
 use Rattle.lps_constelm.proofs.simplifying.simplify_label.Goals as goal
 
 pub simplify_actions-requires : goal.simplify_actions-requires

@@ -1,7 +1,7 @@
 use Rattle.std.proofs.Common.{◌≡◌, map, subst, sym, rules}
 use Rattle.std.specs.List.{All, AllZip}
 use Rattle.lps_core.specs.PlainLinears.{PlainLinear, plain_linear, plain_summand}
-use Rattle.lps_constelm.specs.Runs.{AreTerms, IsSummandWithin, IsLinearWithin, TermBecomes, SummandBecomes, Makes, Runs}
+use Rattle.lps_constelm.specs.Runs.{AreTerms, IsSummandWithin, IsLinearWithin, TermBecomes, SummandBecomes}
 use Rattle.lps_constelm.proofs.RunLoops.{runs_nowhere}
 use Rattle.lps_constelm.proofs.SimplifiedRuns.{runs_for, lin_within, linear_runs, linear_made}
 use Rattle.lps_constelm.proofs.simplifying.simplify_linear.Goals as goal

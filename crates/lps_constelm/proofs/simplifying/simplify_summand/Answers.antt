@@ -2,9 +2,8 @@ use Rattle.std.proofs.Common.{◌≡◌, rules}
 use Rattle.process_terms.specs.PlainProcesses.{plain_label}
 use Rattle.lps_core.specs.PlainLinears.{PlainSummand, plain_next, plain_summand}
 use Rattle.lps_core.proofs.PoolTrees.{extends_on}
-use Rattle.lps_constelm.specs.Runs.{IsSummandWithin}
 use Rattle.lps_constelm.proofs.RunLoops.{runs_nowhere, label_fine_kept, next_fine_kept}
-use Rattle.lps_constelm.proofs.SimplifiedRuns.{one_becomes, runs_for, two_run, three_run, summand_made}
+use Rattle.lps_constelm.proofs.SimplifiedRuns.{one_becomes, two_run, three_run, summand_made}
 use Rattle.lps_constelm.proofs.simplifying.simplify_summand.Goals as goal
 
 pub returns-in_err-sums-clause-runs : goal.returns-in_err-sums-clause-runs

@@ -1,1 +1,0 @@
-use Rattle.lps_constelm.proofs.changing.differ.Goals as goal
