@@ -20,3 +20,7 @@ pub mod StackLayouts
 pub mod InhabitedStacks
 pub mod WholeStacks
 pub mod LaidOutStacks
+pub mod WiderOrigins
+pub mod AnsweredTerms
+pub mod StackedPlainly
+pub mod PlainStacks

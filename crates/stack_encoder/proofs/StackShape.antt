@@ -196,7 +196,7 @@ module _ (g : Data) (vs : List Sort) (k : StackSymbols) (c : Columns) (v : ℕ) 
       (frames_sorted us cs u h.1 i)
 
   module _ (i : ℕ) (q : FormEquation) (s : FormSummand) (at : slice_get form i ≡ Some q) (among : Contains q.summands s) where
-    moves_sorted : HaveTheirSorts g vs vs (term_in (to_fields k c v i q))
+    pub moves_sorted : HaveTheirSorts g vs vs (term_in (to_fields k c v i q))
     moves_sorted = bound_has_sort g vs q.params _ (sorted i q at).params
         (place_sorted g vs c q (place_of c i) (fields_of k.fields (variable v)) fits.layout.distinct (fits.layout.places i q at) (fields_sorted g k vs 1 c.columns k.fields (variable v) fits.stack.fields declared))
 

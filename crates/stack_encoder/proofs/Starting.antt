@@ -61,7 +61,7 @@ fields_grown g h w k i [] (p ∷ ps) f = absurd f
 fields_grown g h w k i (x ∷ xs) [] f = absurd f
 fields_grown g h w k i (x ∷ xs) (p ∷ ps) f = (function_grown g h w p _ f.0 (λ q. cc), fields_grown g h w k (suc i) xs ps f.1)
 
-stack_grown : (g h : Data) → Grows g h → (k : StackSymbols) (xs : List Bound) → IsStack g k xs → IsStack h k xs
+pub stack_grown : (g h : Data) → Grows g h → (k : StackSymbols) (xs : List Bound) → IsStack g k xs → IsStack h k xs
 stack_grown g h w k xs s = record {
   is_struct = ap (λ ks. get_or ks k.names.sort by_declarations) w.sorts ∙ get_or_append_left g.sorts w.new_sorts by_declarations k.names.sort (sort_within g k.names.sort s.is_struct) ∙ s.is_struct;
   push = function_grown g h w k.names.push _ s.push (λ q. cc);

@@ -219,10 +219,10 @@ module _ (g h : Sig) (p q : PoolContents) (us : List Tree) (stood : IsSignature 
   has : HasStack h kinds y v
   has = has_stack g kinds laid.declared y v stood laid.sort h stands stood_defaults.0.signature
 
-  kept : Extends p.trees us
+  pub kept : Extends p.trees us
   kept = extends_on p.trees q.trees us stood_defaults.0.pool later
 
-  fits : FormFits h us f
+  pub fits : FormFits h us f
   fits = form_fits_still g h p.trees us f stood.table stood.complete stands.table (record { signature = stack_grown; pool = kept }) old_fits
 
   first_fits : FormFits h p.trees f
@@ -399,7 +399,7 @@ module _ (g h : Sig) (p q : PoolContents) (us : List Tree) (stood : IsSignature 
   sort_meant_is : (bound_at E v).sort ≡ stack_sort K
   sort_meant_is = sort_meant h stands.table stands.complete v has.variable ∙ ap (sort_under h) has.sort ∙ sort_is h y (column_sorts kinds) stands.table stands.roles has.stands
 
-  params_mean : map (bound_at E) (v ∷ []) ≡ stack_params K v.0
+  pub params_mean : map (bound_at E) (v ∷ []) ≡ stack_params K v.0
   params_mean = ap (λ s. record { var = v.0; sort = s } ∷ []) sort_meant_is
 
   first_means : term_under h (first_tree y l (trees_at us f.init)) ≡ first_stack K c (map (term_at E) f.init)
@@ -407,7 +407,7 @@ module _ (g h : Sig) (p q : PoolContents) (us : List Tree) (stood : IsSignature 
       frame_means h stands.table stands.complete y K l c symbols frames 1 (trees_at us f.init) (function y.empty none) (omega arith) some_place
       ∙ ap₂ (λ ts b. application (named_function K.names.push) (terms_of (number_of 0 ∷ (columns_of c (slice_get c.places 0) ts ++ b ∷ [])))) (sym (terms_are h us f.init fits.init.within)) (ap (λ s. application s (terms_of [])) symbols.empty)
 
-  stack_fits : StackFits (data_meant h) K c v.0 (form_of E f)
+  pub stack_fits : StackFits (data_meant h) K c v.0 (form_of E f)
   stack_fits = record {
     is_data = meant_data_are_data h stands.table stands.roles;
     stack = standing_stack h y (column_sorts kinds) c.columns stands.table stands.roles has.stands (sorts_are_meant h 0 kinds);
@@ -417,7 +417,7 @@ module _ (g h : Sig) (p q : PoolContents) (us : List Tree) (stood : IsSignature 
         (terms_sorted h us (column_sorts kinds) defaults stands.table listed_defaults));
   }
 
-  declares : Declares (variable_sorts h) v.0 (stack_sort K)
+  pub declares : Declares (variable_sorts h) v.0 (stack_sort K)
   declares = subst (λ s. Declares (variable_sorts h) v.0 s) sort_meant_is (variables_declared h us (v ∷ []) (All-cons (IsVariable h) v [] has.variable (All-nil (IsVariable h))) (bound_at E v) (contains_first (bound_at E v) []))
 
   first_at : slice_get (form_of E f) 0 ≡ Some (equation_of E fits.first)
@@ -439,12 +439,12 @@ module _ (g h : Sig) (p q : PoolContents) (us : List Tree) (stood : IsSignature 
     all_taken : All (λ (m : PlainSummand). All (HasTakenName h) m.sums) made.summands
     all_taken = all_from (λ (m : PlainSummand). All (HasTakenName h) m.sums) made.summands (λ m i. subst (λ xs. All (HasTakenName h) xs) (sym (ap (λ (z : TreeSummand). z.sums) (from m i).is)) (own_fits m i).taken)
 
-    linear : linear_of E made ≡ stacked K c v.0 (form_of E f)
+    pub linear : linear_of E made ≡ stacked K c v.0 (form_of E f)
     linear = ap₂ (λ xs ss. record { params = xs; summands = ss }) (ap (map (bound_at E)) params ∙ params_mean)
         (summands_read h us made.summands within ∙ ap (map (meant_summand h)) trees
         ∙ equations_mean 0 f.equations (λ n e at. subst (λ m. slice_get f.equations m ≡ Some e) (let m : n ≡ n + 0 = omega arith in m) at))
 
-    initial : initial_of E made ≡ first_stack K c (map (term_at E) f.init) ∷ []
+    pub initial : initial_of E made ≡ first_stack K c (map (term_at E) f.init) ∷ []
     initial = terms_are h us made.init made_in ∙ ap (map (term_under h)) init ∙ ap (λ t. t ∷ []) first_means
 
     closed : HaveSorts (data_meant h) [] (terms_of (first_stack K c (map (term_at E) f.init) ∷ [])) (stack_sort K ∷ [])

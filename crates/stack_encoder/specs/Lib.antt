@@ -6,3 +6,4 @@ pub mod StackColumns
 pub mod Frames
 pub mod WholeStack
 pub mod StackedForms
+pub mod AddedStacks

@@ -13,6 +13,7 @@ ghost use Rattle.lps_core.specs.Fitting.{Fits};
 ghost use Rattle.lps_core.specs.PlainLinears.{plain_linear};
 ghost use Rattle.greibach.specs.FittingForms.{FormFits};
 ghost use Rattle.greibach.specs.PlainForms.{plain_form};
+ghost use Rattle.stack_encoder.specs.AddedStacks.{IsPlainOnStack};
 ghost use Rattle.stack_encoder.specs.Frames.{frame_layout, plain_symbols};
 ghost use Rattle.stack_encoder.specs.StackedForms.{first_tree, summands_due, HasItsStack, IsStackedForm, StackingIsGood};
 ghost use Rattle.stack_encoder.specs.TreeStack.{place_at};
@@ -85,9 +86,10 @@ fn first_stack(
 /// number of the call's equation and a field for each name and sort of the equations' parameters; fields that the equation doesn't use
 /// have the closed term of their sort. A summand with calls becomes one that pushes their frames on the rest of the stack, the first one
 /// on top. A summand without calls becomes two: one goes on with the rest of the stack, where that has a frame, and one ends, where it
-/// has none. The structured sort of the stack is added to the signature, with fresh names. Linear in the number of frames that the
-/// summands push times the number of columns and of the called equations' parameters, in the square of the number of columns, and in the
-/// signature's size for each column that some frame doesn't use.
+/// has none. The structured sort of the stack is added to the signature, with fresh names. With that sort the result is plainly
+/// conditioned for each specification for which the form is. Linear in the number of frames that the summands push times the number of
+/// columns and of the called equations' parameters, in the square of the number of columns, and in the signature's size for each column
+/// that some frame doesn't use.
 ///
 /// After an error the pool and the signature may have got some of this. What was there stays, then too.
 ///
@@ -113,6 +115,7 @@ pub fn encode(
     ensures fits { IfOk result (λ made. Fits sig.new pool.new.trees (plain_linear made)) }
     ensures bisimilar { IfOk result (λ made. StackingIsGood sig.new pool.new.trees (plain_form form.now) (plain_linear made)) }
     ensures summands { IfOk result (λ made. length (plain_linear made).summands ≡ summands_due (plain_form form.now).equations) }
+    ensures plain { IfOk result (λ made. IsPlainOnStack sig.old sig.new pool.new (plain_form form.now) (plain_linear made)) }
 {
     signature_stands(sig);
     let (symbols, layout) = lay_out(alloc, form, sig, pool)?;

@@ -16,6 +16,7 @@ use Rattle.stack_encoder.specs.WholeStack.{trees_stacked_from, AreEquationsFor}
 use Rattle.regular_encoder.specs.FormColumns.{places_in}
 use Rattle.stack_encoder.proofs.FrameTrees.{layout_along}
 use Rattle.stack_encoder.proofs.WholeStacks.{defaults_in, equations_for, first_long, init_in, init_along, some_place, stacked_long, trees_from_first, it_fits, it_is_good}
+use Rattle.stack_encoder.proofs.PlainStacks.{it_is_plain}
 use Rattle.stack_encoder.proofs.linear.encode.Goals as goal
 
 pub encode_equations-requires-clause-equations : goal.encode_equations-requires-clause-equations
@@ -111,3 +112,7 @@ pub returns-clause-summands : goal.returns-clause-summands
 returns-clause-summands c =
     sym (length-map (map plain_summand c.in_ok-summands.summands.items) (trees_of_summand c.first_stack.new.pool.trees)) ∙ ap length (made_trees c)
     ∙ stacked_long (plain_symbols c.in_ok-symbols.symbols) (frame_layout c.first_stack.new.pool.trees c.in_ok-symbols.layout) c.in_ok-symbols.symbols.stack 1 c.args.pool.now.trees (map plain_equation c.args.form.now.equations.items)
+
+pub returns-clause-plain : goal.returns-clause-plain
+returns-clause-plain c = it_is_plain c.args.sig.now c.lay_out.new.sig c.args.pool.now c.lay_out.new.pool c.first_stack.new.pool c.signature_stands.ensures c.in_ok-symbols.ensures.stands (plain_form c.args.form.now) (plain_symbols c.in_ok-symbols.symbols) c.in_ok-symbols.symbols.stack (places_in c.in_ok-symbols.layout.places.items) c.in_ok-symbols.layout.defaults.items
+    c.in_ok-symbols.ensures.stack c.requires.form c.in_ok-symbols.ensures.few (kept c) (made c) c.in_ok-from_array.ensures.items c.in_ok-init.ensures.within (first_last c) (within c) (last_trees c)
