@@ -1,0 +1,2 @@
+pub mod BlankLines
+pub mod Lines
