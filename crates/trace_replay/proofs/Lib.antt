@@ -1,2 +1,10 @@
 pub mod BlankLemmas
+pub mod DecidedTerms
 pub mod LineLemmas
+pub mod ListedValues
+pub mod OneLabel
+pub mod PairedLabels
+pub mod ValueRuns
+pub mod VerdictLaws
+pub mod WayEnvironments
+pub mod WholeReplays

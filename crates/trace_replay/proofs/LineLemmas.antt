@@ -1,6 +1,6 @@
 -- The first line of a text.
 use Rattle.std.specs.Prelude.{◌≡◌, ◌≢◌, ◌<◌, ◌≤◌, ◌+◌, ◌-◌, ℕ, suc, Bool, true, false, List, [], ◌∷◌, ◌==◌, length, take, drop, get_or, if◌then◌else◌}
-use Rattle.std.proofs.Common.{refl, sym, subst, ◌∙◌, ap, arith, drop-cons, add-one, eq-eqb, eqb-true}
+use Rattle.std.proofs.Common.{refl, sym, subst, ◌∙◌, ap, arith, drop-cons, add-one, eq-eqb}
 use Rattle.std.proofs.Math.ListN.{drop_of_length-le}
 use Rattle.std.proofs.lemmas.List.{take_rest}
 use Rattle.std.proofs.lemmas.Bool.Decides.{nat_tests}

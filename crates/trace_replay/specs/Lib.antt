@@ -1,2 +1,10 @@
 pub mod BlankLines
+pub mod Decidings
 pub mod Lines
+pub mod Listings
+pub mod Pairings
+pub mod ReplayLaws
+pub mod Replays
+pub mod Rewritten
+pub mod Runs
+pub mod Settings

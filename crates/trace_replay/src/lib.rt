@@ -5,4 +5,8 @@
 #![tactic(auto)]
 
 mod blank;
+pub mod laws;
 mod lines;
+mod replaying;
+
+pub use replaying::{ReplayFault, Verdict};

@@ -1,4 +1,3 @@
-use Rattle.std.proofs.Common.{arith}
 use Rattle.trace_replay.proofs.LineLemmas.{whole_line, line_in_front}
 use Rattle.trace_replay.proofs.lines.split_line.Goals as goal
 

@@ -1,0 +1,21 @@
+//! Whether a linear process has the steps of a trace.
+
+/// What a trace is to a linear process.
+#[derive(Clone, Copy, Debug, PartialEq, Eq)]
+pub enum Verdict {
+    /// Some states are left behind the last label.
+    Accepted,
+    /// No state is left behind the line with this number, and nothing up to it was left open.
+    Rejected(usize),
+    /// No state is left behind the line with this number, and something up to it was left open.
+    Undecided(usize),
+}
+
+/// Why a trace gets no verdict.
+#[derive(Clone, Copy, Debug, PartialEq, Eq)]
+pub enum ReplayFault {
+    /// The line with this number is the first that spells no closed, typed label.
+    BadTrace(usize),
+    /// No memory was left.
+    NoMemory,
+}
