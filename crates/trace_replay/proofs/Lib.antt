@@ -4,6 +4,8 @@ pub mod LineLemmas
 pub mod ListedValues
 pub mod OneLabel
 pub mod PairedLabels
+pub mod ReadLemmas
+pub mod TraceLemmas
 pub mod ValueRuns
 pub mod VerdictLaws
 pub mod WayEnvironments

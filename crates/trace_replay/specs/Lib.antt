@@ -3,8 +3,11 @@ pub mod Decidings
 pub mod Lines
 pub mod Listings
 pub mod Pairings
+pub mod ReadTraces
+pub mod ReadingFaults
 pub mod ReplayLaws
 pub mod Replays
 pub mod Rewritten
 pub mod Runs
 pub mod Settings
+pub mod Traces

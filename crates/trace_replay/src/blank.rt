@@ -12,9 +12,9 @@ fn faulty(fault: LexFault) -> Result<bool, AllocError>
 {
     match fault {
         LexFault::NoMemory => Err(AllocError),
-        LexFault::BadByte(_) | LexFault::NumeralTooLarge(_) | LexFault::OutOfProfile(_) => Ok(
-            false,
-        ),
+        LexFault::BadByte(_) => Ok(false),
+        LexFault::NumeralTooLarge(_) => Ok(false),
+        LexFault::OutOfProfile(_) => Ok(false),
     }
 }
 

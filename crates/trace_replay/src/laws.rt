@@ -18,3 +18,12 @@ pub fn runs_by_values()
     ensures runs { RunsByValuesAreRuns }
     ensures without_sums { RunsWithoutSumsAreByValues }
 {}
+
+ghost use Rattle.trace_replay.specs.Traces.{BadTracesHaveNoLabels, BadTracesHaveOneFirstBadLine, TracesHaveOneListOfLabels};
+
+/// A text is a trace of one list of labels, or has one first bad line, and never both.
+pub fn traces_are_read_once()
+    ensures labels { TracesHaveOneListOfLabels }
+    ensures apart { BadTracesHaveNoLabels }
+    ensures bad { BadTracesHaveOneFirstBadLine }
+{}

@@ -7,6 +7,8 @@
 mod blank;
 pub mod laws;
 mod lines;
+mod reading;
 mod replaying;
 
+pub use reading::{Line, read_trace};
 pub use replaying::{ReplayFault, Verdict};

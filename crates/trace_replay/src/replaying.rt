@@ -1,5 +1,7 @@
 //! Whether a linear process has the steps of a trace.
 
+use std::alloc::{AllocError, AllocFailed};
+
 /// What a trace is to a linear process.
 #[derive(Clone, Copy, Debug, PartialEq, Eq)]
 pub enum Verdict {
@@ -18,4 +20,26 @@ pub enum ReplayFault {
     BadTrace(usize),
     /// No memory was left.
     NoMemory,
+}
+
+impl From<AllocError> for ReplayFault {
+    ghost use Rattle.std.specs.Prelude.{◌≡◌};
+    ghost use Rattle.trace_replay.specs.declared.replaying.ReplayFault.TheVariants.{NoMemory};
+
+    ghost from_gives = { λ _ fault. fault ≡ NoMemory };
+
+    fn from(_: AllocError) -> Self {
+        ReplayFault::NoMemory
+    }
+}
+
+impl<T: Drop> From<AllocFailed<T>> for ReplayFault {
+    ghost use Rattle.std.specs.Prelude.{◌≡◌};
+    ghost use Rattle.trace_replay.specs.declared.replaying.ReplayFault.TheVariants.{NoMemory};
+
+    ghost from_gives = { λ _ fault. fault ≡ NoMemory };
+
+    fn from(_: AllocFailed<T>) -> Self {
+        ReplayFault::NoMemory
+    }
 }
