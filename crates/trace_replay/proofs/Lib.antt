@@ -1,0 +1,12 @@
+pub mod BlankLemmas
+pub mod DecidedTerms
+pub mod LineLemmas
+pub mod ListedValues
+pub mod OneLabel
+pub mod PairedLabels
+pub mod ReadLemmas
+pub mod TraceLemmas
+pub mod ValueRuns
+pub mod VerdictLaws
+pub mod WayEnvironments
+pub mod WholeReplays

@@ -1,0 +1,13 @@
+pub mod BlankLines
+pub mod Decidings
+pub mod Lines
+pub mod Listings
+pub mod Pairings
+pub mod ReadTraces
+pub mod ReadingFaults
+pub mod ReplayLaws
+pub mod Replays
+pub mod Rewritten
+pub mod Runs
+pub mod Settings
+pub mod Traces

@@ -1,0 +1,14 @@
+//! Whether a linear process has the steps of a trace.
+//!
+//! What the lines of a trace are, which states they lead to and what the answers mean stands in `specs/`, and in plain words in
+//! `docs/definitions/replaying.md`.
+#![tactic(auto)]
+
+mod blank;
+pub mod laws;
+mod lines;
+mod reading;
+mod replaying;
+
+pub use reading::{Line, read_trace};
+pub use replaying::{ReplayFault, Verdict};
