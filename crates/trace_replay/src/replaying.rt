@@ -16,7 +16,7 @@ pub enum Verdict {
 /// Why a trace gets no verdict.
 #[derive(Clone, Copy, Debug, PartialEq, Eq)]
 pub enum ReplayFault {
-    /// The line with this number is the first that spells no closed, typed label.
+    /// The line with this number is the first one that is neither blank nor a label.
     BadTrace(usize),
     /// No memory was left.
     NoMemory,
