@@ -11,6 +11,7 @@ use Rattle.data_theory.specs.Signature.{Sig}
 use Rattle.data_theory.specs.IdData.{data_meant}
 use Rattle.process_terms.specs.Labels.{Label, put_label}
 use Rattle.bisim_laws.specs.LinearProcesses.{Summand, Linear, variables, put_next}
+use Rattle.lps_simulator.specs.declared.options.Open.{Open}
 use Rattle.lps_simulator.specs.Combinations.{combinations}
 use Rattle.lps_simulator.specs.Rewritten.{LabelIsRewritten, NextIsRewritten}
 use Rattle.lps_simulator.specs.SumValues.{Listed, AreListedFor, terms_of_each, is_cut}
@@ -54,31 +55,34 @@ pub record TermMove : Type 0 where
   pub label : Label
   pub next : Option (List Term)
 
-pub record NumberedOpen : Type 0 where
-  pub summand : ℕ
-  pub spent : Bool
-
 abbrev pub moves_of : ℕ → List Answer → List TermMove
 moves_of k [] = []
-moves_of k (it_does m next ∷ as) = record { summand = k; label = m; next = next } ∷ moves_of k as
-moves_of k (it_does_nothing ∷ as) = moves_of k as
-moves_of k (it_is_open by_fuel ∷ as) = moves_of k as
+moves_of k (it_does m next ∷ rest) = record { summand = k; label = m; next = next } ∷ moves_of k rest
+moves_of k (it_does_nothing ∷ rest) = moves_of k rest
+moves_of k (it_is_open by_fuel ∷ rest) = moves_of k rest
 
 -- the first combination that isn't decided tells why
-abbrev pub open_of : ℕ → List Answer → List NumberedOpen
-open_of k [] = []
-open_of k (it_does m next ∷ as) = open_of k as
-open_of k (it_does_nothing ∷ as) = open_of k as
-open_of k (it_is_open by_fuel ∷ as) = record { summand = k; spent = by_fuel } ∷ []
+abbrev pub first_open : List Answer → Option Bool
+first_open [] = None
+first_open (it_does m next ∷ rest) = first_open rest
+first_open (it_does_nothing ∷ rest) = first_open rest
+first_open (it_is_open by_fuel ∷ rest) = Some by_fuel
+
+abbrev pub open_with : ℕ → Option Bool → List Open
+open_with k None = []
+open_with k (Some by_fuel) = record { summand = k; spent = by_fuel } ∷ []
+
+abbrev pub cut_with : ℕ → Bool → List ℕ
+cut_with k b = cond b (k ∷ []) []
 
 abbrev pub moves_from : ℕ → List Tried → List TermMove
 moves_from k [] = []
 moves_from k (t ∷ ts) = moves_of k t.answers ++ moves_from (suc k) ts
 
-abbrev pub opens_from : ℕ → List Tried → List NumberedOpen
+abbrev pub opens_from : ℕ → List Tried → List Open
 opens_from k [] = []
-opens_from k (t ∷ ts) = open_of k t.answers ++ opens_from (suc k) ts
+opens_from k (t ∷ ts) = open_with k (first_open t.answers) ++ opens_from (suc k) ts
 
 abbrev pub cuts_from : ℕ → List Tried → List ℕ
 cuts_from k [] = []
-cuts_from k (t ∷ ts) = cond t.cut (k ∷ []) [] ++ cuts_from (suc k) ts
+cuts_from k (t ∷ ts) = cut_with k t.cut ++ cuts_from (suc k) ts

@@ -4,5 +4,13 @@
 #![tactic(auto)]
 
 pub mod combinations;
+pub mod laws;
+mod options;
 pub mod rewriting;
+mod session;
 pub mod sum_values;
+mod walk;
+
+pub use options::{Move, Open, Options};
+pub use session::Session;
+pub use walk::Walk;

@@ -1,6 +1,6 @@
 //! Terms that are put in for variables, and then decided or rewritten.
 
-ghost use Rattle.std.specs.Prelude.{◌≡◌, ◌++◌, List, IfOk, IfSome, OnOk};
+ghost use Rattle.std.specs.Prelude.{◌≡◌, ◌≤◌, ◌⊎◌, ◌++◌, List, IfOk, IfSome, OnOk};
 ghost use Rattle.std.specs.List.{All, AllZip, zip};
 ghost use Rattle.data_theory.specs.Provable.{Equation};
 ghost use Rattle.data_theory.specs.IdData.{data_meant};
@@ -24,6 +24,18 @@ use process_terms::{Action, Label};
 use std::alloc::Global;
 use term_pool::Pool;
 
+/// The lesser of two numbers.
+fn least(a: usize, b: usize) -> usize
+    ensures first { result ≤ a }
+    ensures second { result ≤ b }
+    ensures one { (result ≡ a) ⊎ (result ≡ b) }
+{
+    if a < b {
+        return a;
+    }
+    b
+}
+
 /// Adds variables with the terms that stand for them, place by place, as far as both go.
 fn bind(
     by: &mut Vec<(VarId, TermId)>,
@@ -32,8 +44,9 @@ fn bind(
 ) -> Result<(), NoMemory>
     ensures { OnOk result (by.new.items ≡ by.old.items ++ zip variables.now terms.now) }
 {
-    for (variable, term) in variables.iter().zip(terms) {
-        by.push((*variable, *term))?;
+    let count = least(variables.len(), terms.len());
+    for number in 0..count {
+        by.push((variables[number], terms[number]))?;
     }
     Ok(())
 }
@@ -75,7 +88,8 @@ pub fn put_in(
     ensures put { IfOk result (λ made. StandsFor sig.now pool.new.trees made (put (term_in (environment_of sig.now pool.old.trees by.now)) (term_at sig.now pool.old.trees term))) }
 {
     signature_stands(sig);
-    pool.subst(term, by)
+    let made = pool.subst(term, by)?;
+    Ok(made)
 }
 
 /// How a term of sort Bool is decided with the listed terms in place of variables, and with this fuel.
@@ -102,7 +116,8 @@ pub fn decide_with<F: Fn(NumOp, Num, Num) -> Option<Num>>(
 {
     let made = put_in(sig, pool, term, by)?;
     let mut left = fuel;
-    rewriter.decide(pool, made, &mut left)
+    let truth = rewriter.decide(pool, made, &mut left)?;
+    Ok(truth)
 }
 
 /// A term with the listed terms in place of variables, rewritten with this fuel: what it goes to, or the term itself, where the

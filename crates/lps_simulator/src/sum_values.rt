@@ -1,6 +1,6 @@
 //! The listed values of sum variables.
 
-ghost use Rattle.std.specs.Prelude.{IfOk};
+ghost use Rattle.std.specs.Prelude.{◌≡◌, ◌||◌, not, IfOk};
 ghost use Rattle.std.specs.List.{All};
 ghost use Rattle.term_pool.specs.Pools.{Extends};
 ghost use Rattle.lps_core.specs.Fitting.{IsVariable};
@@ -11,7 +11,7 @@ use data_theory::{NoMemory, Signature, TermId, VarId};
 use lps_core::signature_stands;
 use std::alloc::Global;
 use term_pool::Pool;
-use value_enum::{Values, values};
+use value_enum::values;
 
 /// The first values of each sum variable.
 #[derive(Debug, Drop)]
@@ -19,6 +19,13 @@ pub struct SumValues {
     pub lists: Vec<Vec<TermId>>,
     /// Whether a variable has others, or some with unknown parts.
     pub cut: bool,
+}
+
+/// Whether values are cut: some were, or these aren't all.
+fn is_cut(cut: bool, whole: bool) -> bool
+    ensures { result ≡ (cut || not whole) }
+{
+    cut || !whole
 }
 
 /// The first constructor values of each of these variables, as many as the bound, or all where there are fewer.
@@ -41,9 +48,9 @@ pub fn sum_values(
     let mut lists = Vec::new(alloc);
     let mut cut = false;
     for sum in sums {
-        let Values { list, whole } = values(alloc, sig, pool, sig.var_sort(*sum), bound)?;
-        lists.push(list)?;
-        cut = cut || !whole;
+        let found = values(alloc, sig, pool, sig.var_sort(*sum), bound)?;
+        cut = is_cut(cut, found.whole);
+        lists.push(found.list)?;
     }
     Ok(SumValues { lists, cut })
 }
