@@ -10,3 +10,5 @@ pub mod TriedCombinations
 pub mod CombinationTerms
 pub mod TriedSummands
 pub mod OptionLaws
+pub mod SessionLemmas
+pub mod TriedSteps

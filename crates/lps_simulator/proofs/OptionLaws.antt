@@ -123,7 +123,7 @@ among_cut k false e = let never : ⊥ = cc in absurd never
 
 -- of all summands, by their places
 module _ {A : Type 0} (of_one : ℕ → Tried → List A) where
-  from : ℕ → List Tried → List A
+  abbrev from : ℕ → List Tried → List A
   from k [] = []
   from k (t ∷ ts) = of_one k t ++ from (suc k) ts
 
@@ -154,17 +154,14 @@ abbrev cuts_one : ℕ → Tried → List ℕ
 cuts_one k t = cut_with k t.cut
 
 moves_are : (k : ℕ) (ts : List Tried) → moves_from k ts ≡ from moves_one k ts
-unfolding from
 moves_are k [] = refl
 moves_are k (t ∷ ts) = ap (λ z. moves_of k t.answers ++ z) (moves_are (suc k) ts)
 
 opens_are : (k : ℕ) (ts : List Tried) → opens_from k ts ≡ from opens_one k ts
-unfolding from
 opens_are k [] = refl
 opens_are k (t ∷ ts) = ap (λ z. open_with k (first_open t.answers) ++ z) (opens_are (suc k) ts)
 
 cuts_are : (k : ℕ) (ts : List Tried) → cuts_from k ts ≡ from cuts_one k ts
-unfolding from
 cuts_are k [] = refl
 cuts_are k (t ∷ ts) = ap (λ z. cut_with k t.cut ++ z) (cuts_are (suc k) ts)
 
@@ -199,8 +196,8 @@ module _ (g : Sig) (stands : IsSignature g) (bound : ℕ) where
   same_bool : (a b : Bool) → (IsTrue a → IsTrue b) → (IsTrue b → IsTrue a) → a ≡ b
   same_bool true true f h = refl
   same_bool false false f h = refl
-  same_bool true false f h = let e : IsTrue false = f tt in absurd e
-  same_bool false true f h = let e : IsTrue false = h tt in absurd e
+  same_bool true false f h = sym (f refl)
+  same_bool false true f h = h refl
 
   same_whole : (x : VarId) (a b : Listed) → AreListedFor g bound x a → AreListedFor g bound x b → a.whole ≡ b.whole
   same_whole x a b h k = same_bool a.whole b.whole
@@ -304,9 +301,9 @@ module _ (g : Sig) (own : List Equation) (fuel bound : ℕ) (ts us : List Tree) 
             let r = cut_among (1 + j.0) j.1.0.cut j.1.1.1 in
             let at_same : j.0 ≡ i = (let q = r.1 in omega (arith, q)) in
             let told : is_cut listed ≡ true = sym same ∙ ap (λ (z : Tried). z.cut) (one_there options.tried i place.0 j.1.0 place.1 (subst (λ n. slice_get options.tried n ≡ Some j.1.0) at_same j.1.1.0)) ∙ r.0 in
-            subst IsTrue (sym told) tt),
+            told),
         (λ t. in_contains (subst (λ z. In (suc i) z) (sym (options.cut ∙ cuts_are 1 options.tried))
-            (from_place cuts_one 1 options.tried i place.0 place.1 (subst (λ n. In n (cut_with (1 + i) place.0.cut)) (let q : 1 + i ≡ suc i = omega arith in q) (among_cut (1 + i) place.0.cut (same ∙ true_is (is_cut listed) t)))))),
+            (from_place cuts_one 1 options.tried i place.0 place.1 (subst (λ n. In n (cut_with (1 + i) place.0.cut)) (let q : 1 + i ≡ suc i = omega arith in q) (among_cut (1 + i) place.0.cut (same ∙ t)))))),
       )
     where
       one_there : (xs : List Tried) (n : ℕ) (x y : Tried) → slice_get xs n ≡ Some x → slice_get xs n ≡ Some y → x ≡ y
@@ -314,10 +311,6 @@ module _ (g : Sig) (own : List Equation) (fuel bound : ℕ) (ts us : List Tree) 
         where
           same_some : {x y : Tried} → Some x ≡ Some y → x ≡ y
           same_some r = cc
-
-      true_is : (b : Bool) → IsTrue b → b ≡ true
-      true_is true t = refl
-      true_is false t = absurd t
 
   causes : (o : Open) → Contains found.undecided o → HasCause g own fuel bound ts l state o
   causes o among =

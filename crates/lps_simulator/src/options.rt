@@ -1,6 +1,6 @@
 //! What a linear process can do in a state.
 
-ghost use Rattle.std.specs.Prelude.{◌≡◌, [], List, map, IfOk, OnOk};
+ghost use Rattle.std.specs.Prelude.{◌≡◌, ◌++◌, [], List, map, IfOk, OnOk};
 ghost use Rattle.std.specs.List.{All, Contains};
 ghost use Rattle.data_theory.specs.Provable.{Equation};
 ghost use Rattle.number_rules.specs.Rule.{IsExact, rule_of};
@@ -14,6 +14,7 @@ ghost use Rattle.lps_core.specs.PlainLinears.{plain_linear, plain_summand};
 ghost use Rattle.lps_simulator.specs.Combinations.{combinations, rows};
 ghost use Rattle.lps_simulator.specs.Rewritten.{environment_of};
 ghost use Rattle.lps_simulator.specs.SumValues.{AreListsFor};
+ghost use Rattle.lps_simulator.specs.Options.{cut_with, open_with};
 ghost use Rattle.lps_simulator.specs.OptionsInCode.{no_options, plain_move, plain_options, AreOptions, IsMove, IsState};
 ghost use Rattle.lps_simulator.specs.Trying.{IsMade, IsSummandOver, ListsSummand, SumsAreTried, TriesWith};
 
@@ -53,7 +54,6 @@ pub struct Options {
 }
 
 /// The move of a summand with these terms in place of its variables.
-#[tactic(none)]
 fn move_with<F: Fn(NumOp, Num, Num) -> Option<Num>>(
     alloc: Global,
     sig: &Signature,
@@ -84,7 +84,6 @@ fn move_with<F: Fn(NumOp, Num, Num) -> Option<Num>>(
 
 /// Adds the move of a summand with these terms in place of its variables, if its condition is decided `Yes`. If it isn't decided, the
 /// answer says whether the fuel was spent.
-#[tactic(none)]
 fn try_with<F: Fn(NumOp, Num, Num) -> Option<Num>>(
     alloc: Global,
     sig: &Signature,
@@ -167,6 +166,33 @@ fn try_summand<F: Fn(NumOp, Num, Num) -> Option<Num>>(
     Ok(why)
 }
 
+/// Adds a summand that isn't decided, if there is a reason.
+fn note_open(
+    undecided: &mut Vec<Open>,
+    number: usize,
+    why: Option<bool>,
+) -> Result<(), NoMemory>
+    ensures { OnOk result (undecided.new.items ≡ undecided.old.items ++ open_with number why) }
+{
+    if let Some(spent) = why {
+        undecided.push(Open {
+            summand: number,
+            spent,
+        })?;
+    }
+    Ok(())
+}
+
+/// Adds a summand that is cut.
+fn note_cut(cuts: &mut Vec<usize>, number: usize, cut: bool) -> Result<(), NoMemory>
+    ensures { OnOk result (cuts.new.items ≡ cuts.old.items ++ cut_with number cut) }
+{
+    if cut {
+        cuts.push(number)?;
+    }
+    Ok(())
+}
+
 /// Adds what a summand can do in a state.
 #[tactic(none)]
 fn list_summand<F: Fn(NumOp, Num, Num) -> Option<Num>>(
@@ -207,20 +233,12 @@ fn list_summand<F: Fn(NumOp, Num, Num) -> Option<Num>>(
         fuel,
         &mut found.moves,
     )?;
-    if let Some(spent) = why {
-        found.undecided.push(Open {
-            summand: number,
-            spent,
-        })?;
-    }
-    if cut {
-        found.cut.push(number)?;
-    }
+    note_open(&mut found.undecided, number, why)?;
+    note_cut(&mut found.cut, number, cut)?;
     Ok(())
 }
 
 /// No options.
-#[tactic(none)]
 pub(crate) fn nothing(alloc: Global) -> Options
     ensures { plain_options result ≡ no_options }
 {

@@ -19,7 +19,7 @@ ghost use Rattle.lps_simulator.specs.SessionLoans.{LendsOptions};
 use crate::options::{Move, Options, nothing, options_at};
 use data_rewriter::Rewriter;
 use data_theory::{NoMemory, Num, Signature, TermId};
-use lps_core::Linear;
+use lps_core::{Linear, signature_stands};
 use number_rules::NumOp;
 use std::alloc::Global;
 use term_pool::Pool;
@@ -35,7 +35,6 @@ pub struct Session {
 }
 
 /// What a linear process can do in a state, and nothing where it has ended.
-#[tactic(none)]
 fn options_in<F: Fn(NumOp, Num, Num) -> Option<Num>>(
     alloc: Global,
     sig: &Signature,
@@ -72,7 +71,6 @@ fn options_in<F: Fn(NumOp, Num, Num) -> Option<Num>>(
 }
 
 /// The state to which a move leads.
-#[tactic(none)]
 fn state_after(options: Options, k: usize) -> Option<Vec<TermId>>
     requires { k < length (plain_options options).moves }
     ensures { (m : PlainMove) → slice_get (plain_options options).moves k ≡ Some m → plain_next result ≡ m.next }
@@ -88,7 +86,6 @@ impl Session {
     /// # Errors
     ///
     /// `NoMemory` where there is none for the state.
-    #[tactic(none)]
     pub fn new(alloc: Global, lin: Linear) -> Result<Session, NoMemory>
         ensures linear { IfOk result (λ session. session_linear session ≡ plain_linear lin) }
         ensures state { IfOk result (λ session. session_state session ≡ Some (plain_linear lin).init) }
@@ -105,7 +102,6 @@ impl Session {
     }
 
     /// Keeps what the process can do in the state in hand.
-    #[tactic(none)]
     fn list<F: Fn(NumOp, Num, Num) -> Option<Num>>(
         &mut self,
         sig: &Signature,
@@ -126,6 +122,7 @@ impl Session {
         ensures none { OnErr result (session_options self.new ≡ None) }
         ensures session { SessionFits sig.now pool.new.trees self.new }
     {
+        signature_stands(sig);
         self.options = None;
         let found = options_in(
             self.alloc,
@@ -142,7 +139,6 @@ impl Session {
     }
 
     /// The options that were kept.
-    #[tactic(none)]
     fn kept(&self) -> Result<&Options, NoMemory>
         ensures { MatchResult result (λ found. session_options self.now ≡ Some (plain_options found.now)) (λ _. session_options self.now ≡ None) }
     {
@@ -159,7 +155,6 @@ impl Session {
     /// # Errors
     ///
     /// `NoMemory` where there is none for the options. The session has none then, and the state that it had.
-    #[tactic(none)]
     pub fn options<F: Fn(NumOp, Num, Num) -> Option<Num>>(
         &mut self,
         sig: &Signature,
@@ -182,7 +177,6 @@ impl Session {
     }
 
     /// Goes on to the state of a move.
-    #[tactic(none)]
     pub fn take(&mut self, k: usize)
         requires { (found : PlainOptions) × (session_options self.old ≡ Some found) × (k < length found.moves) }
         ensures linear { session_linear self.new ≡ session_linear self.old }
@@ -190,13 +184,13 @@ impl Session {
         ensures options { session_options self.new ≡ None }
         ensures fits { (sig : Sig) (ts : List Tree) → SessionFits sig ts self.old → SessionFits sig ts self.new }
     {
-        if let Some(options) = self.options.take() {
-            self.state = state_after(options, k);
+        match self.options.take() {
+            Some(options) => self.state = state_after(options, k),
+            None => {}
         }
     }
 
     /// Goes to a state, also where the process had ended.
-    #[tactic(none)]
     pub fn stand(&mut self, state: Vec<TermId>)
         requires { length state.items ≡ length (session_linear self.old).params }
         ensures linear { session_linear self.new ≡ session_linear self.old }
@@ -209,7 +203,6 @@ impl Session {
     }
 
     /// Whether the process has ended.
-    #[tactic(none)]
     pub fn ended(&self) -> bool
         ensures { result ≡ is_none (session_state self.now) }
     {

@@ -56,10 +56,10 @@ returns-in_ok-push-in-Yes-clause-fits g c = λ own h. c.move_with.ensures.fits o
 
 pub returns-in_ok-push-in-Yes-clause-tried : goal.returns-in_ok-push-in-Yes-clause-tried
 returns-in_ok-push-in-Yes-clause-tried g c = λ own h.
-    with_move (plain_move c.in_ok-made.made)
+    with_move (plain_move c.in_ok-made-in-Yes.made)
     (subst (λ z. IsDecided (data_meant c.args.sig.now) own c.args.fuel (put (term_in (environment_of c.args.sig.now c.args.pool.now.trees c.args.by.now)) (term_at c.args.sig.now c.args.pool.now.trees c.args.summand.now.cond)) (decision_of z)) c.in-Yes.is (c.in_ok-decide_with.ensures.decided own h))
-    (made_from c.args.sig.now own c.args.fuel c.args.pool.now.trees c.decide_with.new.pool.trees c.args.by.now c.decide_with.ensures.kept c.requires.listed (plain_summand c.args.summand.now) c.requires.summand c.move_with.new.pool.trees c.args.number (plain_move c.in_ok-made.made) (c.in_ok-made.ensures.made own (c.decide_with.ensures.fits own h)))
-    (ap (map plain_move) c.in_ok-push.ensures.items ∙ map-append plain_move c.args.moves.now.items (c.in_ok-made.made ∷ []))
+    (made_from c.args.sig.now own c.args.fuel c.args.pool.now.trees c.decide_with.new.pool.trees c.args.by.now c.decide_with.ensures.kept c.requires.listed (plain_summand c.args.summand.now) c.requires.summand c.move_with.new.pool.trees c.args.number (plain_move c.in_ok-made-in-Yes.made) (c.in_ok-made-in-Yes.ensures.made own (c.decide_with.ensures.fits own h)))
+    (ap (map plain_move) c.in_ok-push-in-Yes.ensures.items ∙ map-append plain_move c.args.moves.now.items (c.in_ok-made-in-Yes.made ∷ []))
 
 pub returns-in-No-clause-tried : goal.returns-in-No-clause-tried
 returns-in-No-clause-tried g c = λ own h. without_move (subst (λ z. IsDecided (data_meant c.args.sig.now) own c.args.fuel (put (term_in (environment_of c.args.sig.now c.args.pool.now.trees c.args.by.now)) (term_at c.args.sig.now c.args.pool.now.trees c.args.summand.now.cond)) (decision_of z)) c.in-No.is (c.in_ok-decide_with.ensures.decided own h)) refl

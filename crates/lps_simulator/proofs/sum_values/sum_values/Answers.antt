@@ -23,8 +23,8 @@ loop-sum-preserved c =
     let declared = All-get_or (IsVariable c.args.sig.now) c.args.sums.now c.loop-sum.sum-index (record { 0 = 0 }) c.loop-sum-test.true c.requires in
     record {
       kept = extends_on c.args.pool.now.trees c.loop-sum.pool.trees c.values.new.pool.trees c.loop-sum.invariant.kept c.values.ensures.kept;
-      listed = sums_more c.args.sig.now c.signature_stands.ensures c.args.bound c.loop-sum.pool.trees c.values.new.pool.trees c.values.ensures.kept c.args.sums.now c.loop-sum.sum-index (record { 0 = 0 }) c.var_sort.result c.loop-sum.lists.items c.push.new.self.items c.loop-sum.cut c.is_cut.result c.in_ok-found.found
-          c.loop-sum-test.true (sort_read c.args.sig.now x c.var_sort.result declared c.var_sort.ensures) c.loop-sum.invariant.listed c.in_ok-found.ensures.listed c.in_ok-push.ensures.items c.is_cut.ensures;
+      listed = sums_more c.args.sig.now c.signature_stands.ensures c.args.bound c.loop-sum.pool.trees c.values.new.pool.trees c.values.ensures.kept c.args.sums.now c.loop-sum.sum-index (record { 0 = 0 }) c.var_sort.result c.loop-sum.lists.items c.push.new.self.items c.loop-sum.cut c.is_cut-cut.result c.in_ok-found.found
+          c.loop-sum-test.true (sort_read c.args.sig.now x c.var_sort.result declared c.var_sort.ensures) c.loop-sum.invariant.listed c.in_ok-found.ensures.listed c.in_ok-push.ensures.items c.is_cut-cut.ensures;
     }
 
 pub returns-clause-listed : goal.returns-clause-listed
