@@ -149,7 +149,6 @@ module _ (g : Sig) (own : List Equation) (fuel : ℕ) (e : Environment) (ts vs :
 module _
     (g : Sig) (stands : IsSignature g) (own : List Equation) (fine : AreWellFormed g own) (fuel : ℕ) (ts vs : List Tree) (l : PlainLinear) (fits : Fits g ts l) (s : PlainSummand) (fit : SummandFits g ts l.params s) (over : IsSummandOver g ts s)
     (e : Environment) (state c : List Term) (is_env : e ≡ environment_at (linear_of (entries_of g ts) l) (summand_of (entries_of g ts) s) state c) (instance : IsInstance (data_meant g) (linear_of (entries_of g ts) l) (summand_of (entries_of g ts) s) state c) where
-
   condition_means : (d : Decision) → IsDecided (data_meant g) own fuel (put (term_in e) (standing.term_at g ts s.condition)) d → IsDecided (data_meant g) own fuel (put (term_in e) (summand_of (entries_of g ts) s).condition) d
   condition_means d h = subst (λ z. IsDecided (data_meant g) own fuel (put (term_in e) z) d) (sym (term_is g ts s.condition over.condition.inside)) h
 
@@ -160,11 +159,11 @@ module _
       let label = label_means g own fuel e ts vs s.label m.label over.label made.label in
       let next = next_means g own fuel e ts vs over.next made.next in
       let label_closed : LabelIsSorted (data_meant g) [] (label_of (entries_of g vs) m.label) =
-          label_sorts_kept (data_meant g) own formed fine fuel (put_label e (label_of (entries_of g ts) s.label)) (label_of (entries_of g vs) m.label)
-          (subst (λ d. LabelIsSorted (data_meant g) [] (put_label d (label_of (entries_of g ts) s.label))) (sym is_env) instance.label) label in
+      label_sorts_kept (data_meant g) own formed fine fuel (put_label e (label_of (entries_of g ts) s.label)) (label_of (entries_of g vs) m.label)
+      (subst (λ d. LabelIsSorted (data_meant g) [] (put_label d (label_of (entries_of g ts) s.label))) (sym is_env) instance.label) label in
       let next_closed : NextIsSorted (data_meant g) [] (sorts (map (bound_at (entries_of g ts)) l.params)) (option_map (terms_at g vs) m.next) =
-          next_sorts_kept (data_meant g) own formed fine fuel (sorts (map (bound_at (entries_of g ts)) l.params))
-          (subst (λ d. NextIsSorted (data_meant g) [] (sorts (map (bound_at (entries_of g ts)) l.params)) (put_next d (summand_of (entries_of g ts) s).next)) (sym is_env) instance.next) next in
+      next_sorts_kept (data_meant g) own formed fine fuel (sorts (map (bound_at (entries_of g ts)) l.params))
+      (subst (λ d. NextIsSorted (data_meant g) [] (sorts (map (bound_at (entries_of g ts)) l.params)) (put_next d (summand_of (entries_of g ts) s).next)) (sym is_env) instance.next) next in
       record {
         answer = it_does (label_of (entries_of g vs) m.label) (option_map (terms_at g vs) m.next);
         is = (condition_means yes_decided d, label, next);

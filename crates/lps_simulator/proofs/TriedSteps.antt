@@ -1,9 +1,11 @@
 -- The steps of the loop over the combinations of a summand.
-use Rattle.std.proofs.Common.{◌≡◌, ℕ, Bool, List, [], ◌∷◌, ◌++◌, map, refl, sym, ap, ap₂, ◌∙◌, subst, append_assoc, Option}
-use Rattle.std.specs.Prelude.{Contains}
+use Rattle.std.proofs.Common.{◌≡◌, ◌<◌, ◌≤◌, ◌+◌, ℕ, zero, suc, Bool, List, [], ◌∷◌, ◌++◌, map, take, length, get_or, refl, sym, ap, ap₂, ◌∙◌, subst, arith, append_assoc, Option, Some, None}
+use Rattle.std.specs.Prelude.{Contains, IfSome, MatchOption, Vec}
+use Rattle.std.specs.Global.{Global}
+use Rattle.std.proofs.lemmas.List.{length-map, map-append, take_more, take_all}
 use Rattle.std.specs.Option.{option_or}
 use Rattle.std.specs.List.{All, zip}
-use Rattle.std.proofs.lemmas.List.Elements.{All-contains}
+use Rattle.std.proofs.lemmas.List.Elements.{All-nil, All-contains, Contains-get_or}
 use Rattle.data_theory.specs.declared.ids.VarId.{VarId}
 use Rattle.data_theory.specs.declared.ids.TermId.{TermId}
 use Rattle.data_theory.specs.Terms.{Term}
@@ -22,24 +24,30 @@ use Rattle.data_rewriter.specs.Standing.{IsTerm, term_at}
 use Rattle.process_terms.specs.SignatureEntries.{entries_of}
 use Rattle.bisim_laws.specs.LinearProcesses.{variables}
 use Rattle.lps_core.specs.Fitting.{sort_of_variable, SummandFits, Fits}
-use Rattle.lps_core.specs.PlainLinears.{PlainSummand, PlainLinear, summand_of, linear_of}
+use Rattle.lps_core.specs.declared.linears.Summand.{Summand}
+use Rattle.lps_core.specs.PlainLinears.{PlainSummand, PlainLinear, plain_next, plain_summand, summand_of, linear_of}
+use Rattle.lps_core.proofs.Members.{map_contains}
 use Rattle.lps_core.proofs.MeantTrees.{numbers_meant}
 use Rattle.lps_core.proofs.Staying.{terms_are}
-use Rattle.lps_simulator.specs.Combinations.{combinations}
-use Rattle.lps_simulator.specs.SumValues.{AreListsFor}
+use Rattle.lps_simulator.specs.Combinations.{combinations, rows}
+use Rattle.lps_simulator.specs.SumValues.{AreListsFor, AreSumValues}
 use Rattle.lps_simulator.specs.Rewritten.{environment_of}
 use Rattle.lps_simulator.specs.Options.{environment_at}
-use Rattle.lps_simulator.specs.OptionsInCode.{PlainMove, IsState, terms_at}
+use Rattle.lps_simulator.specs.OptionsInCode.{PlainMove, PlainOptions, no_options, IsMove, IsState, terms_at, AreOptions, AreOptionsAt}
 use Rattle.lps_simulator.specs.Trying.{TriesWith, SumsAreTried}
 use Rattle.lps_simulator.proofs.Bindings.{both_mean, both_over, terms_stay}
 use Rattle.lps_simulator.proofs.ClosedInstances.{is_instance}
 use Rattle.lps_simulator.proofs.CombinationTerms.{IsCombinationFor, combination_closed, combination_over, combination_sorted, in_the_middle}
-use Rattle.lps_simulator.proofs.FittingSummands.{all_inside, all_sorted_within, fitting_declared, fitting_over, fitting_shape, fitting_sorted}
+use Rattle.lps_simulator.proofs.FittingSummands.{all_sorted_within, fitting_declared, fitting_over, fitting_shape, fitting_sorted}
 use Rattle.lps_simulator.proofs.TriedCombinations.{Answered, answered, tries_from, tried_more}
 
 listed_is : (g : Sig) (ts : List Tree) (ids : List TermId) → map (term_at g ts) ids ≡ map (term_under g) (trees_at ts ids)
 listed_is g ts [] = refl
 listed_is g ts (id ∷ ids) = ap (λ (z : List Term). term_under g (tree_at ts id) ∷ z) (listed_is g ts ids)
+
+-- what is bound, by other names of the same lists
+pub by_along : (by : List (VarId × TermId)) (sums sums' : List VarId) (c c' : List TermId) (params params' : List VarId) (state : List TermId) → by ≡ zip sums c ++ zip params state → sums ≡ sums' → c ≡ c' → params ≡ params' → by ≡ zip sums' c' ++ zip params' state
+by_along by sums sums' c c' params params' state e q r p = e ∙ ap₂ (λ (x y : List (VarId × TermId)). x ++ y) (ap₂ (λ xs (ids : List TermId). zip xs ids) q r) (ap (λ (xs : List VarId). zip xs state) p)
 
 -- a combination that is left is one of all
 pub one_of_all : {A : Type 0} (all done now left : List A) (c : A) → all ≡ done ++ now → now ≡ c ∷ left → Contains all c
@@ -60,7 +68,6 @@ module _ (g : Sig) (stands : IsSignature g) (ts : List Tree) (l : PlainLinear) (
 module _
     (g : Sig) (stands : IsSignature g) (own : List Equation) (fine : AreWellFormed g own) (fuel : ℕ) (ts us vs : List Tree) (grows : Extends ts us) (later : Extends us vs) (l : PlainLinear) (fits : Fits g ts l) (state : List TermId) (st : IsState g ts l.params state)
     (k : ℕ) (s : PlainSummand) (among : Contains l.summands s) (lists : List (List TermId)) (closed : AreListsFor g ts s.sums lists) where
-
   environment_is : (c : List TermId) (by : List (VarId × TermId)) → by ≡ zip s.sums c ++ zip l.params state → environment_of g ts by ≡ environment_at (linear_of (entries_of g ts) l) (summand_of (entries_of g ts) s) (terms_at g ts state) (map (term_at g ts) c)
   environment_is c by e =
       let state_is : map (term_at g ts) state ≡ terms_at g ts state = listed_is g ts state ∙ sym (terms_are g ts state st.terms.within) in
@@ -79,9 +86,57 @@ module _
       let fit = All-contains (SummandFits g ts l.params) l.summands s fits.summands among in
       let env = environment_is c by e in
       let instance = is_instance (data_meant g) (variable_sorts g) (linear_of (entries_of g ts) l) (summand_of (entries_of g ts) s) (terms_at g ts state) (map (term_at g ts) c) (fitting_shape g stands ts l s fits among) (fitting_sorted g stands ts l s fits among)
-          (fitting_declared g stands ts l fits) fits.linear.distinct st.closed (combination_sorted g ts s.sums c fit.sums cc) in
+      (fitting_declared g stands ts l fits) fits.linear.distinct st.closed (combination_sorted g ts s.sums c fit.sums cc) in
       let first = tries_from g own fuel ts us by grows (over_by g stands ts l state st s.sums lists closed c is_one by e) s over vs k mid new why tries in
       tried_more g own fuel ts l state k s (combinations lists) old us vs later c left mid new before more why h
       (subst (λ (d : Environment). Answered g own fuel (summand_of (entries_of g ts) s) d vs l.params k mid new why) env
       (answered g stands own fine fuel ts vs l fits s fit over (environment_of g ts by) (terms_at g ts state) (map (term_at g ts) c) env instance k mid new why first))
       m
+
+-- ---- the lists in code
+pub values_in_code : (g : Sig) (bound : ℕ) (ts : List Tree) (xs ys : List VarId) (first lists : Vec (Vec TermId Global) Global) (told cut : Bool) → xs ≡ ys → first ≡ lists → told ≡ cut → AreSumValues g bound ts xs (rows first.items) told → AreSumValues g bound ts ys (rows lists.items) cut
+values_in_code g bound ts xs ys first lists told cut e q r h =
+    subst (λ (z : List VarId). AreSumValues g bound ts z (rows lists.items) cut) e
+    (subst (λ (z : Vec (Vec TermId Global) Global). AreSumValues g bound ts xs (rows z.items) cut) q (subst (λ (z : Bool). AreSumValues g bound ts xs (rows first.items) z) r h))
+
+-- nothing is left where there is no next one
+pub ended : {left : List (List TermId)} {new : List (List TermId)} (o : Option (Vec TermId Global)) → ((v : Vec TermId Global) → o ≡ Some v → ⊥) → MatchOption o (left ≡ []) (λ (v : Vec TermId Global). left ≡ v.items ∷ new) → left ≡ []
+ended None n h = h
+ended (Some v) n h = absurd (n v refl)
+
+-- ---- the summands in code
+pub item_among : (items all : List Summand) (i : ℕ) (a : Summand) → items ≡ all → i < length items → a ≡ get_or items i a → Contains (map plain_summand all) (plain_summand a)
+item_among items all i a q l e =
+    subst (λ (z : List Summand). Contains (map plain_summand z) (plain_summand a)) q
+    (map_contains plain_summand items a (subst (λ (z : Summand). Contains items z) (sym e) (Contains-get_or items i a l)))
+
+pub item_more : (items all : List Summand) (i : ℕ) (a : Summand) → items ≡ all → i < length items → a ≡ get_or items i a → map plain_summand (take i all) ++ plain_summand a ∷ [] ≡ map plain_summand (take (i + 1) all)
+item_more items all i a q l e =
+    subst (λ (z : List Summand). map plain_summand (take i z) ++ plain_summand a ∷ [] ≡ map plain_summand (take (i + 1) z)) q
+    (sym (map-append plain_summand (take i items) (a ∷ [])) ∙ ap (map plain_summand) (ap (λ (z : Summand). take i items ++ z ∷ []) e ∙ sym (take_more items i a l)))
+
+pub number_is : (items all : List Summand) (i : ℕ) → items ≡ all → i < length items → i + 1 ≡ length (map plain_summand (take i all)) + 1
+number_is items all i q l = ap (λ (n : ℕ). n + 1) (sym (length-map (take i all) plain_summand ∙ taken all i (subst (λ (z : List Summand). i < length z) q l)))
+  where
+    taken : (xs : List Summand) (i : ℕ) → i < length xs → length (take i xs) ≡ i
+    taken [] i k = absurd (omega (arith, k))
+    taken (x ∷ xs) zero k = refl
+    taken (x ∷ xs) (suc i) k = ap suc (taken xs i (omega (arith, k)))
+
+pub all_taken : (items all : List Summand) (i : ℕ) → items ≡ all → length items ≤ i → map plain_summand (take i all) ≡ map plain_summand all
+all_taken items all i q l = ap (map plain_summand) (take_all i all (subst (λ (z : List Summand). length z ≤ i) q l))
+
+-- ---- the state in code
+pub state_some : (g : Sig) (ts : List Tree) (ps : List VarId) (state : Option (Vec TermId Global)) (terms : Vec TermId Global) (ids : List TermId) → state ≡ Some terms → ids ≡ terms.items → IfSome (plain_next state) (IsState g ts ps) → IsState g ts ps ids
+state_some g ts ps state terms ids e q h = subst (IsState g ts ps) (sym q) (subst (λ (o : Option (Vec TermId Global)). IfSome (plain_next o) (IsState g ts ps)) e h)
+
+pub some_options : (g : Sig) (own : List Equation) (fuel bound : ℕ) (ts us : List Tree) (l : PlainLinear) (state : Option (Vec TermId Global)) (terms : Vec TermId Global) (ids : List TermId) (found : PlainOptions) → state ≡ Some terms → ids ≡ terms.items → AreOptions g own fuel bound ts us l ids found
+    → AreOptionsAt g own fuel bound ts us l (plain_next state) found
+some_options g own fuel bound ts us l state terms ids found e q h =
+    subst (λ (o : Option (Vec TermId Global)). AreOptionsAt g own fuel bound ts us l (plain_next o) found) (sym e) (subst (λ (z : List TermId). AreOptions g own fuel bound ts us l z found) q h)
+
+pub no_options_at : (g : Sig) (own : List Equation) (fuel bound : ℕ) (ts us : List Tree) (l : PlainLinear) (state : Option (Vec TermId Global)) (found : PlainOptions) → state ≡ None → found ≡ no_options → AreOptionsAt g own fuel bound ts us l (plain_next state) found
+no_options_at g own fuel bound ts us l state found e h = subst (λ (o : Option (Vec TermId Global)). AreOptionsAt g own fuel bound ts us l (plain_next o) found) (sym e) h
+
+pub no_moves : (g : Sig) (ts : List Tree) (ps : List VarId) (found : PlainOptions) → found ≡ no_options → All (IsMove g ts ps) found.moves
+no_moves g ts ps found e = subst (λ (z : PlainOptions). All (IsMove g ts ps) z.moves) (sym e) (All-nil (IsMove g ts ps))

@@ -118,7 +118,6 @@ fn try_with<F: Fn(NumOp, Num, Num) -> Option<Num>>(
 
 /// Adds the moves of a summand in a state, for the combinations of these values of its sums. If it isn't decided for one of them, the
 /// answer says whether the fuel was spent for the first such one.
-#[tactic(none)]
 fn try_summand<F: Fn(NumOp, Num, Num) -> Option<Num>>(
     alloc: Global,
     sig: &Signature,
@@ -167,11 +166,7 @@ fn try_summand<F: Fn(NumOp, Num, Num) -> Option<Num>>(
 }
 
 /// Adds a summand that isn't decided, if there is a reason.
-fn note_open(
-    undecided: &mut Vec<Open>,
-    number: usize,
-    why: Option<bool>,
-) -> Result<(), NoMemory>
+fn note_open(undecided: &mut Vec<Open>, number: usize, why: Option<bool>) -> Result<(), NoMemory>
     ensures { OnOk result (undecided.new.items ≡ undecided.old.items ++ open_with number why) }
 {
     if let Some(spent) = why {
@@ -194,7 +189,6 @@ fn note_cut(cuts: &mut Vec<usize>, number: usize, cut: bool) -> Result<(), NoMem
 }
 
 /// Adds what a summand can do in a state.
-#[tactic(none)]
 fn list_summand<F: Fn(NumOp, Num, Num) -> Option<Num>>(
     alloc: Global,
     sig: &Signature,
@@ -250,7 +244,6 @@ pub(crate) fn nothing(alloc: Global) -> Options
 }
 
 /// What a linear process can do in a state.
-#[tactic(none)]
 pub(crate) fn options_at<F: Fn(NumOp, Num, Num) -> Option<Num>>(
     alloc: Global,
     sig: &Signature,

@@ -56,16 +56,11 @@ fn options_in<F: Fn(NumOp, Num, Num) -> Option<Num>>(
     ensures moves { IfOk result (λ found. (own : List Equation) → FitsPool rewriter.old sig.now own pool.old.trees → AreWellFormed sig.now own → All (IsMove sig.now pool.new.trees (plain_linear lin.now).params) (plain_options found).moves) }
 {
     match state {
-        Some(terms) => options_at(
-            alloc,
-            sig,
-            pool,
-            rewriter,
-            lin,
-            terms.as_slice(),
-            fuel,
-            bound,
-        ),
+        Some(terms) => {
+            let terms = terms.as_slice();
+            let found = options_at(alloc, sig, pool, rewriter, lin, terms, fuel, bound)?;
+            Ok(found)
+        }
         None => Ok(nothing(alloc)),
     }
 }
