@@ -100,9 +100,9 @@ values_in_code g bound ts xs ys first lists told cut e q r h =
     (subst (λ (z : Vec (Vec TermId Global) Global). AreSumValues g bound ts xs (rows z.items) cut) q (subst (λ (z : Bool). AreSumValues g bound ts xs (rows first.items) z) r h))
 
 -- nothing is left where there is no next one
-pub ended : {left : List (List TermId)} {new : List (List TermId)} (o : Option (Vec TermId Global)) → ((v : Vec TermId Global) → o ≡ Some v → ⊥) → MatchOption o (left ≡ []) (λ (v : Vec TermId Global). left ≡ v.items ∷ new) → left ≡ []
-ended None n h = h
-ended (Some v) n h = absurd (n v refl)
+pub ended : (left new : List (List TermId)) (o : Option (Vec TermId Global)) → ((v : Vec TermId Global) → o ≡ Some v → ⊥) → MatchOption o (left ≡ []) (λ (v : Vec TermId Global). left ≡ v.items ∷ new) → left ≡ []
+ended left new None n h = h
+ended left new (Some v) n h = absurd (n v refl)
 
 -- ---- the summands in code
 pub item_among : (items all : List Summand) (i : ℕ) (a : Summand) → items ≡ all → i < length items → a ≡ get_or items i a → Contains (map plain_summand all) (plain_summand a)

@@ -33,7 +33,7 @@ pub try_summand-requires-clause-state : goal.try_summand-requires-clause-state
 try_summand-requires-clause-state g c = state_stays c.args.sig.now c.args.pool.now.trees c.sum_values.new.pool.trees c.sum_values.ensures.kept c.args.lin.now.params.items c.args.state.now c.requires.state
 
 pub try_summand-requires-clause-lists : goal.try_summand-requires-clause-lists
-try_summand-requires-clause-lists g c = (values_in_code c.args.sig.now c.args.bound c.sum_values.new.pool.trees c.as_slice.result.now c.args.summand.now.sums.items c.in_ok-lists.field-0.lists c.in_ok-lists.lists c.in_ok-lists.field-0.cut c.in_ok-lists.cut c.as_slice.ensures.value c.in_ok-lists.lists-is c.in_ok-lists.cut-is c.in_ok-lists.ensures.listed).closed
+try_summand-requires-clause-lists g c = (values_in_code c.args.sig.now c.args.bound c.sum_values.new.pool.trees c.as_slice.result.now c.args.summand.now.sums.items c.in_ok-lists.field-0.lists c.in_ok-lists.field-0.lists c.in_ok-lists.field-0.cut c.in_ok-lists.field-0.cut c.as_slice.ensures.value refl refl c.in_ok-lists.ensures.listed).closed
 
 pub returns-in_err-why-clause-kept : goal.returns-in_err-why-clause-kept
 returns-in_err-why-clause-kept g c = extends_on c.args.pool.now.trees c.sum_values.new.pool.trees c.try_summand.new.pool.trees c.sum_values.ensures.kept c.try_summand.ensures.kept
@@ -73,7 +73,7 @@ returns-clause-fits g c = λ own h. c.try_summand.ensures.fits own (a_rewriter_s
 
 pub returns-clause-listed : goal.returns-clause-listed
 returns-clause-listed g c = λ own h fine.
-    lists_one c.args.sig.now c.signature_stands.ensures own c.args.fuel c.args.bound c.args.pool.now.trees c.sum_values.new.pool.trees c.try_summand.new.pool.trees c.sum_values.ensures.kept c.try_summand.ensures.kept (plain_linear c.args.lin.now) c.requires.lin c.args.state.now c.requires.state c.args.number (plain_summand c.args.summand.now) c.requires.summand (rows c.in_ok-lists.lists.items) c.in_ok-lists.cut
+    lists_one c.args.sig.now c.signature_stands.ensures own c.args.fuel c.args.bound c.args.pool.now.trees c.sum_values.new.pool.trees c.try_summand.new.pool.trees c.sum_values.ensures.kept c.try_summand.ensures.kept (plain_linear c.args.lin.now) c.requires.lin c.args.state.now c.requires.state c.args.number (plain_summand c.args.summand.now) c.requires.summand (rows c.in_ok-lists.field-0.lists.items) c.in_ok-lists.field-0.cut
     (plain_options c.args.found.now) (plain_options (record { moves = c.try_summand.new.moves; undecided = c.note_open.new.undecided; cut = c.note_cut.new.cuts })) (map plain_move c.try_summand.new.moves.items) c.in_ok-why.why
-    (values_in_code c.args.sig.now c.args.bound c.sum_values.new.pool.trees c.as_slice.result.now c.args.summand.now.sums.items c.in_ok-lists.field-0.lists c.in_ok-lists.lists c.in_ok-lists.field-0.cut c.in_ok-lists.cut c.as_slice.ensures.value c.in_ok-lists.lists-is c.in_ok-lists.cut-is c.in_ok-lists.ensures.listed)
-    (c.in_ok-why.ensures.tried own (a_rewriter_stays c.args.rewriter.now c.args.sig.now own c.args.pool.now.trees c.sum_values.new.pool.trees c.sum_values.ensures.kept h) fine) refl c.in_ok-note_open.ensures c.in_ok-note_cut.ensures
+    (values_in_code c.args.sig.now c.args.bound c.sum_values.new.pool.trees c.as_slice.result.now c.args.summand.now.sums.items c.in_ok-lists.field-0.lists c.in_ok-lists.field-0.lists c.in_ok-lists.field-0.cut c.in_ok-lists.field-0.cut c.as_slice.ensures.value refl refl c.in_ok-lists.ensures.listed)
+    (c.in_ok-why.ensures.tried own (a_rewriter_stays c.args.rewriter.now c.args.sig.now own c.args.pool.now.trees c.sum_values.new.pool.trees c.sum_values.ensures.kept h) fine) refl c.in_ok-note_open.ensures (let e = c.in_ok-note_cut.ensures in let q = c.in_ok-lists.cut-is in cc)

@@ -69,4 +69,4 @@ loop-combinations-preserved g c =
 pub returns-clause-tried : goal.returns-clause-tried
 returns-clause-tried g c = λ own h fine.
     subst (λ z. SumsAreTried c.args.sig.now own c.args.fuel c.args.pool.now.trees c.loop-combinations.pool.trees (plain_linear c.args.lin.now) c.args.state.now c.args.number (plain_summand c.args.summand.now) (combinations (rows c.args.lists.items)) z (map plain_move c.args.moves.now.items) (map plain_move c.loop-combinations.moves.items) c.loop-combinations.why)
-    (ended c.in_ok-combination.field-0 c.in_default.not-Some c.in_ok-combination.ensures) (c.loop-combinations.invariant.tried own h fine)
+    (ended c.loop-combinations.combinations c.next.new.self c.in_ok-combination.field-0 c.in_default.not-Some c.in_ok-combination.ensures) (c.loop-combinations.invariant.tried own h fine)
