@@ -1,0 +1,14 @@
+pub mod Placing
+pub mod SortedTrees
+pub mod Bindings
+pub mod RewrittenTerms
+pub mod RewrittenClosed
+pub mod ClosedInstances
+pub mod SumListing
+pub mod FittingSummands
+pub mod TriedCombinations
+pub mod CombinationTerms
+pub mod TriedSummands
+pub mod OptionLaws
+pub mod SessionLemmas
+pub mod TriedSteps

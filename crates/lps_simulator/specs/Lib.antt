@@ -1,0 +1,11 @@
+pub mod Combinations
+pub mod Places
+pub mod SumValues
+pub mod Rewritten
+pub mod Options
+pub mod OptionsInCode
+pub mod Trying
+pub mod Sessions
+pub mod SessionLoans
+pub mod Walks
+pub mod OptionLaws

@@ -1,0 +1,119 @@
+//! Combinations of values.
+
+ghost use Rattle.std.specs.Prelude.{◌≡◌, ◌<◌, ◌≤◌, List, [], ◌∷◌, cond, length, IfOk, OnOk, MatchOption, IsTrue, false};
+ghost use Rattle.lps_simulator.specs.Combinations.{combinations, rows, AreWithin, AreFilled, from_places, behind_places, places_read};
+
+use data_theory::{NoMemory, TermId};
+use std::alloc::Global;
+use std::marker::Model;
+
+/// The combinations of one value of each list that are still to come, in order. The last value changes fastest.
+#[derive(Debug, Drop)]
+pub struct Combinations {
+    lists: Vec<Vec<TermId>>,
+    /// Places in the first lists. What is to come begins with the first combination of the values at these places.
+    places: Vec<usize>,
+    over: bool,
+}
+
+impl Model for Combinations {
+    ghost use Rattle.std.specs.Prelude.{List, [], cond};
+    ghost use Rattle.data_theory.specs.declared.ids.TermId.{TermId};
+
+    ghost Value = { List (List TermId) };
+
+    ghost use Rattle.lps_simulator.specs.Combinations.{rows, from_places};
+    ghost use Rattle.lps_simulator.specs.Places.{StandsAtPlaces};
+
+    ghost view = { λ c. cond c.over [] (from_places (rows c.lists.items) c.places.items) };
+
+    ghost invariant = { StandsAtPlaces };
+}
+
+/// Whether one of the lists has no value.
+fn has_empty(lists: &[Vec<TermId>]) -> bool
+    ensures empty { IsTrue result → combinations (rows lists.now) ≡ [] }
+    ensures filled { result ≡ false → AreFilled (rows lists.now) }
+{
+    for list in lists {
+        if list.is_empty() {
+            return true;
+        }
+    }
+    false
+}
+
+/// Goes on to the first combination of those that begin with the values at these places.
+fn fill(lists: &[Vec<TermId>], places: &mut Vec<usize>) -> Result<(), NoMemory>
+    requires within { AreWithin (rows lists.now) places.old.items }
+    requires filled { AreFilled (rows lists.now) }
+    ensures within { AreWithin (rows lists.now) places.new.items }
+    ensures left { OnOk result (from_places (rows lists.now) places.new.items ≡ from_places (rows lists.now) places.old.items) }
+    ensures full { OnOk result (length places.new.items ≡ length lists.now) }
+{
+    while places.len() < lists.len() {
+        places.push(0)?;
+    }
+    Ok(())
+}
+
+/// Goes on behind the combinations that begin with the values at these places. Whether there are others.
+fn pass(lists: &[Vec<TermId>], places: &mut Vec<usize>) -> Result<bool, NoMemory>
+    requires { AreWithin (rows lists.now) places.old.items }
+    ensures within { AreWithin (rows lists.now) places.new.items }
+    ensures left { IfOk result (λ more. cond more (from_places (rows lists.now) places.new.items) [] ≡ behind_places (rows lists.now) places.old.items) }
+{
+    while let Some(place) = places.pop() {
+        let count = lists[places.len()].len();
+        if place + 1 < count {
+            places.push(place + 1)?;
+            return Ok(true);
+        }
+    }
+    Ok(false)
+}
+
+/// The values at these places.
+fn values_at(
+    alloc: Global,
+    lists: &[Vec<TermId>],
+    places: &[usize],
+) -> Result<Vec<TermId>, NoMemory>
+    requires within { AreWithin (rows lists.now) places.now }
+    ensures { IfOk result (λ values. values.items ≡ places_read (rows lists.now) places.now) }
+{
+    let mut values = Vec::new(alloc);
+    for number in 0..places.len() {
+        let list = lists[number].as_slice();
+        values.push(list[places[number]])?;
+    }
+    Ok(values)
+}
+
+impl Combinations {
+    /// All combinations of one value of each list. Of no list there is one, which is empty.
+    pub fn new(alloc: Global, lists: Vec<Vec<TermId>>) -> Combinations
+        ensures { result ≡ combinations (rows lists.items) }
+    {
+        let over = has_empty(lists.as_slice());
+        Combinations {
+            lists,
+            places: Vec::new(alloc),
+            over,
+        }
+    }
+
+    /// The next combination, where there is one.
+    pub fn next(&mut self, alloc: Global) -> Result<Option<Vec<TermId>>, NoMemory>
+        ensures { IfOk result (λ next. MatchOption next (self.old ≡ []) (λ values. self.old ≡ values.items ∷ self.new)) }
+    {
+        if self.over {
+            return Ok(None);
+        }
+        let lists = self.lists.as_slice();
+        fill(lists, &mut self.places)?;
+        let values = values_at(alloc, lists, self.places.as_slice())?;
+        self.over = !pass(lists, &mut self.places)?;
+        Ok(Some(values))
+    }
+}

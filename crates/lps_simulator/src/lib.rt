@@ -1,0 +1,16 @@
+//! What a linear process can do in a state, move by move.
+//!
+//! What the options of a state are stands in `specs/`, and in plain words in `docs/definitions/simulating.md`.
+#![tactic(auto)]
+
+pub mod combinations;
+pub mod laws;
+mod options;
+pub mod rewriting;
+mod session;
+pub mod sum_values;
+mod walk;
+
+pub use options::{Move, Open, Options};
+pub use session::Session;
+pub use walk::Walk;
