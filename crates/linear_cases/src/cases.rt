@@ -13,6 +13,7 @@ ghost use Rattle.greibach.specs.PlainForms.{plain_form};
 use crate::around::{
     have_results, have_targets, names_of, pairs_of, rename_once, rules_of, sets_of,
 };
+use crate::constants::without_constants;
 use crate::drafts::{Draft, add_line, first_word};
 use crate::fitting::may_be_encoded;
 use crate::form_shown::{Words, form_size, form_text};
@@ -252,6 +253,7 @@ fn operated(
         }
         "block" => block(alloc, &lin, names.as_slice(), sig),
         "comm" => joined(alloc, lin, text, sig, pool),
+        "constelm" => without_constants(alloc, lin, text, sig, pool),
         "hide" => hide(alloc, &lin, names.as_slice(), sig),
         "name" => name_sums(alloc, lin, sig, pool),
         "parelm" => lps_parelm::eliminate(alloc, lin, pool),

@@ -18,9 +18,10 @@
 //!   with sets of names, `block` and `hide` with names, `rename a -> b, c -> d` and `comm a b -> c, d d -> e` with pairs and rules (they
 //!   change nothing where a new name has no action with sorts that the old one has, or a result none with sorts that all names on its
 //!   left side have), `product`, which puts a second linear process beside it at the right, the form's own at first, `swap`, after which
-//!   each of the two stands for the other, `parelm`, which leaves out the parameters that aren't needed, and `name`, which names the
-//!   sums. With `count` as the last word the answer says no more than
-//!   how many parameters and summands there are.
+//!   each of the two stands for the other, `parelm`, which leaves out the parameters that aren't needed, `constelm 9`, which leaves out the
+//!   constant ones with 9 uses of equations for the normal form of a term (terms stay as they are where no number stands there), and
+//!   `name`, which names the sums. With `count` as the last word the answer says no more than how many parameters and summands there
+//!   are.
 //!
 //! Steps make a process term, with semicolons between them: `do a t, b` is a label of actions, `call 2 t u` a call, and `delta` is itself;
 //! `seq 3` and `choice 3` put `.` and `+` between the last three terms, `cond t` a condition in front of the last two, and `sum x y` a
@@ -35,6 +36,7 @@
 
 mod around;
 mod cases;
+mod constants;
 mod drafts;
 mod fitting;
 mod form_shown;

@@ -207,7 +207,7 @@ module _ (g : Sig) (ts : List Tree) (l : PlainLinear) (marks : List Bool) (n : A
   ps_long = length-map l.init (term_at (entries_of g ts)) ∙ init_long g ts l fits ∙ sym ps_params
 
   pub marks_long : length marks ≡ length l.params
-  marks_long = ap length n.marks_are ∙ length-map n.vars _ ∙ vars_long
+  marks_long = ap length n.lead.marks_are ∙ length-map n.vars _ ∙ vars_long
 
   marks_init : length marks ≡ length init
   marks_init = marks_long ∙ sym ps_params ∙ sym ps_long
@@ -314,18 +314,18 @@ module _ (g : Sig) (ts : List Tree) (l : PlainLinear) (marks : List Bool) (n : A
       other = λ m. r.other (reads_members w (under g ts (record { 0 = a })) m nt r.var r.inside);
     }
 
-    reached_reads : (b : ℕ) → IsReached n.back n.start b → ReadsOther b
-    reached_reads = holds_where_reached n.back n.start ReadsOther changing_reads (λ a b r e. by_edge a b r (edge_means g ts l n.vars n.edges graph b a ((n.turned.exact b a).0 e)))
+    reached_reads : (b : ℕ) → IsReached n.lead.back n.start b → ReadsOther b
+    reached_reads = holds_where_reached n.lead.back n.start ReadsOther changing_reads (λ a b r e. by_edge a b r (edge_means g ts l n.vars n.edges graph b a ((n.lead.turned.exact b a).0 e)))
 
     -- a member isn't marked
     not_marked : (v place : ℕ) → Contains (members C L) v → slice_get ps place ≡ Some v → slice_get marks place ≡ Some true → ⊥
     not_marked v place i e m =
-        let r = marked_var n.reached n.vars place (subst (λ z. slice_get z place ≡ Some true) n.marks_are m) in
+        let r = marked_var n.lead.reached n.vars place (subst (λ z. slice_get z place ≡ Some true) n.lead.marks_are m) in
         let p = by_var g ts l n.vars n.edges graph place r.0 r.1.0 in
         let k = param_var g ts l n.vars n.edges graph place p.param p.at in
         let same : p.param.0 ≡ v = cc in
         let var : p.var ≡ r.0 = let q = r.1.0 in let s = p.var_at in cc in
-        let o = reached_reads r.0.0 ((n.exact.exact r.0.0).0 r.1.1) in
+        let o = reached_reads r.0.0 ((n.lead.exact.exact r.0.0).0 r.1.1) in
         let tree : under g ts r.0 ≡ terms.variable v = ap (under g ts) (sym var) ∙ ap (term_under g) p.tree ∙ ap terms.variable same in
         ⊎_elim (λ q. o.other (subst (λ z. Contains (members C L) z) q i)) (λ j. contains_nothing o.var j) (contains_cases v o.var [] (subst (λ t. Contains (variables_of t) o.var) tree o.inside))
 
@@ -337,8 +337,8 @@ module _ (g : Sig) (ts : List Tree) (l : PlainLinear) (marks : List Bool) (n : A
         ⊎_elim (λ m. absurd (not_marked v k.0 i k.1 m)) (λ m. place_member marks init ps v k.0 marks_init k.1 m) (true_or_false marks k.0 (omega (arith, below, count)))
 
   -- ---- the unmarked ones are a constant set
-  marked_where_reached : (place : ℕ) (p : ParameterAt ts l n.vars place) → IsReached n.back n.start p.var.0 → slice_get marks place ≡ Some true
-  marked_where_reached place p r = ap (λ z. slice_get z place) n.marks_are ∙ mark_at n.reached n.vars place p.var p.var_at ∙ ap (λ b. Some b) ((n.exact.exact p.var.0).1 r)
+  marked_where_reached : (place : ℕ) (p : ParameterAt ts l n.vars place) → IsReached n.lead.back n.start p.var.0 → slice_get marks place ≡ Some true
+  marked_where_reached place p r = ap (λ z. slice_get z place) n.lead.marks_are ∙ mark_at n.lead.reached n.vars place p.var p.var_at ∙ ap (λ b. Some b) ((n.lead.exact.exact p.var.0).1 r)
 
   differ : (place : ℕ) → slice_get marks place ≡ Some false → slice_get marks place ≡ Some true → ⊥
   differ place e q = cc
@@ -370,17 +370,17 @@ module _ (g : Sig) (ts : List Tree) (l : PlainLinear) (marks : List Bool) (n : A
           let below = param_below at.0 w at.1 in
           let count = marks_long in
           ⊎_elim
-          (λ m. absurd (differ place unset (marked_where_reached place p (reached_up n.edges n.back n.start n.turned (marked_is_reached at.0 q m) (one_edge edge down)))))
+          (λ m. absurd (differ place unset (marked_where_reached place p (reached_up n.edges n.lead.back n.start n.lead.turned (marked_is_reached at.0 q m) (one_edge edge down)))))
           (λ m. member_reads set ps init w fits.linear.distinct ps_long (set_initial marks init marks_init) (place_member marks init ps w at.0 marks_init at.1 m))
           (true_or_false marks at.0 (omega (arith, below, count))))
           (λ no. unbound set ps w no ∙ sym (unbound_stay (bound ps init) w (λ k. no (subst (λ z. Contains z w) (bound_are_the_parameters ps init ps_long) k))))
           (among_or_not ps w)
         where
-          marked_is_reached : (place : ℕ) (q : ParameterAt ts l n.vars place) → slice_get marks place ≡ Some true → IsReached n.back n.start q.var.0
+          marked_is_reached : (place : ℕ) (q : ParameterAt ts l n.vars place) → slice_get marks place ≡ Some true → IsReached n.lead.back n.start q.var.0
           marked_is_reached place q m =
-              let r = marked_var n.reached n.vars place (subst (λ z. slice_get z place ≡ Some true) n.marks_are m) in
+              let r = marked_var n.lead.reached n.vars place (subst (λ z. slice_get z place ≡ Some true) n.lead.marks_are m) in
               let same : r.0 ≡ q.var = let a = r.1.0 in let b = q.var_at in cc in
-              subst (λ (z : TermId). IsReached n.back n.start z.0) same ((n.exact.exact r.0.0).0 r.1.1)
+              subst (λ (z : TermId). IsReached n.lead.back n.start z.0) same ((n.lead.exact.exact r.0.0).0 r.1.1)
 
   pub greatest_set : IsGreatestConstantSet L init set
   greatest_set = record {

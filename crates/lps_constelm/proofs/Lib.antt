@@ -10,5 +10,9 @@ pub mod RunLoops
 pub mod SortedTrees
 pub mod MeantRounds
 pub mod MeantPutting
-pub mod Changing
+pub mod ChangingLoops
 pub mod PuttingLoops
+pub mod PuttingSteps
+pub mod ChangingSteps
+pub mod SimplifiedRuns
+pub mod MarkingSteps

@@ -45,7 +45,7 @@ use Rattle.lps_parelm.proofs.WholeElimination.{init_long, summands_inside}
 use Rattle.lps_constelm.specs.Constants.{AreInitial, put_in, putting, put_summand, without_constants}
 use Rattle.lps_constelm.specs.Putting.{set_of, unmarked, put_kept_summand, unmarked_trees, IsWithoutUnmarked}
 use Rattle.lps_constelm.proofs.ConstantParameters.{constants_linear}
-use Rattle.lps_constelm.proofs.Changing.{pairs_listed}
+use Rattle.lps_constelm.proofs.ChangingLoops.{pairs_listed}
 use Rattle.lps_constelm.proofs.GreatestSets.{set_initial}
 
 -- ---- the set of the unmarked ones

@@ -19,7 +19,7 @@ use Rattle.lps_core.proofs.PoolTrees.{extends_itself, extends_on, listed_kept, p
 use Rattle.lps_parelm.specs.Keeping.{keep, fates_of}
 use Rattle.lps_constelm.specs.Putting.{put_kept_summand}
 
-next_put_along : (d e : VarId → Tree) → ((v : VarId) → d v ≡ e v) → (fates : List Fate) (next : Option (List Tree)) → option_map (λ us. map (put_tree d) (keep fates us)) next ≡ option_map (λ us. map (put_tree e) (keep fates us)) next
+pub next_put_along : (d e : VarId → Tree) → ((v : VarId) → d v ≡ e v) → (fates : List Fate) (next : Option (List Tree)) → option_map (λ us. map (put_tree d) (keep fates us)) next ≡ option_map (λ us. map (put_tree e) (keep fates us)) next
 next_put_along d e h fates None = refl
 next_put_along d e h fates (Some us) = ap (λ z. Some z) (args_along d e h (keep fates us))
 

@@ -1,18 +1,21 @@
 -- The rounds of the elimination: what is left is bisimilar, and each of its terms is simple.
 use Rattle.std.proofs.Common.{◌≡◌, suc, List, [], ◌∷◌, length, refl, sym, ap, ◌∙◌, subst}
 use Rattle.data_theory.specs.Terms.{Sort, Term}
-use Rattle.data_theory.specs.Declarations.{HasSort, HaveSorts, IsSort}
+use Rattle.data_theory.specs.Declarations.{HaveSorts}
 use Rattle.data_theory.specs.Environments.{terms_of}
 use Rattle.data_theory.specs.Provable.{Equation, reflexive}
+use Rattle.data_theory.specs.EqualityLaws.{AreAmong}
 use Rattle.data_theory.specs.Rewriting.{AreSorts}
 use Rattle.data_theory.specs.Signature.{Sig}
 use Rattle.data_theory.specs.IdData.{data_meant}
 use Rattle.process_terms.specs.Theories.{Theory, Equal, Equals, AreOfSorts}
+use Rattle.data_rewriter.specs.Simplifying.{AreLater}
 use Rattle.process_terms.specs.Processes.{Bound}
 use Rattle.process_terms.proofs.AgreeingLabels.{equals_refl, equals_trans}
 use Rattle.bisim_laws.specs.LinearProcesses.{Linear, sorts, state_of, IsLinear, IsWellSorted}
 use Rattle.bisim_laws.specs.BaseStates.{Fate, kept, constant, not_needed}
 use Rattle.bisim_laws.specs.Links.{Dropped, IsGood}
+use Rattle.lps_core.specs.GoingOn.{GoesOn}
 use Rattle.lps_core.specs.Moving.{all_kept}
 use Rattle.lps_core.proofs.GrowingData.{linear_grown, terms_grown}
 use Rattle.lps_core.proofs.SortedTerms.{columns_long}
@@ -22,10 +25,9 @@ use Rattle.lps_parelm.proofs.KeptPlaces.{keep_sorts, keep_sorted}
 use Rattle.lps_parelm.proofs.DroppedArguments.{dropped_bisimilar}
 use Rattle.lps_constelm.specs.Simplified.{IsSimplerTerm, Becomes, IsAllOf}
 use Rattle.lps_constelm.specs.Constants.{AreInitial, IsConstantSet, IsGreatestConstantSet, without_constants, then_fates}
-use Rattle.lps_constelm.specs.Eliminating.{Eliminates, simplified, one_more, GoesOnWith}
+use Rattle.lps_constelm.specs.Eliminating.{Eliminates, simplified, one_more}
 use Rattle.lps_constelm.proofs.ComposedDrops.{drops_then, join_stay, keep_then, stay_long, stay_equal, keep_equal}
 use Rattle.lps_constelm.proofs.ConstantParameters.{initial_long, constants_drop, constants_linear, constants_sorted}
-use Rattle.lps_constelm.proofs.Values.{some_value}
 use Rattle.lps_constelm.proofs.SimplifiedTerms.{stay_all, keep_whole, becomes_linear, becomes_sorted, becomes_closed, becomes_drops, initial_equal, becomes_simple}
 
 then_all : (fates : List Fate) (xs : List Bound) → then_fates fates (all_kept xs) ≡ fates
@@ -78,12 +80,12 @@ module _ (g : Sig) (own : List Equation) (IsSimple : Term → Type 0) (vs : List
   all_simple (simplified {k = k} {first = first} b) = becomes_simple g own IsSimple l k init first b
   all_simple (one_more {m = m} {k = k} {mid = mid} {first = first} set h c n b) = becomes_simple g own IsSimple (without_constants set m) k (keep set mid) first b
 
-  module _ (th : Theory) (on : GoesOnWith g own th) where
-    some : (s : Sort) → IsSort (data_meant g) s → (t : Term) × HasSort (data_meant g) [] t s
-    some = some_value g own th on
+  module _ (th : Theory) (on : GoesOn g th) (among : AreAmong own th.equations) where
+    later : AreLater g own th.declared th.equations
+    later = record { grows = on.grows; is_data = on.is_data; among = among }
 
     closed_there : (ts : List Term) (ss : List Sort) → HaveSorts (data_meant g) [] (terms_of ts) ss → AreOfSorts th ss ts
-    closed_there ts ss h = terms_grown (data_meant g) th.declared on.goes_on.grows [] (terms_of ts) ss h
+    closed_there ts ss h = terms_grown (data_meant g) th.declared on.grows [] (terms_of ts) ss h
 
     record IsDrop (k : Linear) (first : List Term) (fates : List Fate) : Type 0 where
       drops : Drops th fates l k
@@ -96,22 +98,22 @@ module _ (g : Sig) (own : List Equation) (IsSimple : Term → Type 0) (vs : List
         let there = closed_there mid (sorts m.params) h.are_closed in
         let long : length set ≡ length m.params = sym (initial_long set mid c.constant_set.initial) ∙ columns_long (data_meant g) [] mid m.params h.are_closed in
         let removed = drops_then th fates set l m (without_constants set m) d.drops (constants_drop th set m mid h.linear there c.constant_set) long in
-        let simpler = becomes_drops g own IsSimple th on some vs are (without_constants set m) w.linear w.well_sorted k (keep set mid) first b in
+        let simpler = becomes_drops g own IsSimple th later on.inhabited vs are (without_constants set m) w.linear w.well_sorted k (keep set mid) first b in
         let mid_stays : Stay th set (keep fates init) = stay_equal set d.equal (stay_initial th set mid c.constant_set.initial) in
         record {
           drops = subst (λ z. Drops th z l k) (then_all (then_fates fates set) (without_constants set m).params) (drops_then th (then_fates fates set) (all_kept (without_constants set m).params) l (without_constants set m) k removed simpler (all_kept_long (without_constants set m).params));
           stay = join_stay th fates set init d.stay mid_stays;
           equal = subst (λ z. Equals th z first) (sym (keep_then fates set init (stay_long th set (keep fates init) mid_stays)))
-              (equals_trans (keep_equal set d.equal) (initial_equal g own IsSimple th on some (keep set mid) first (sorts (without_constants set m).params) b.initial w.are_closed));
+              (equals_trans (keep_equal set d.equal) (initial_equal g own IsSimple th later on.inhabited (keep set mid) first (sorts (without_constants set m).params) b.initial w.are_closed));
         }
 
     dropped : {k : Linear} {first : List Term} {fates : List Fate} → Eliminates R l init k first fates → IsDrop k first fates
     dropped (simplified {k = k} {first = first} b) =
         let long = columns_long (data_meant g) [] init l.params closed in
         record {
-          drops = becomes_drops g own IsSimple th on some vs are l is sorted k init first b;
+          drops = becomes_drops g own IsSimple th later on.inhabited vs are l is sorted k init first b;
           stay = stay_all th l.params init long;
-          equal = subst (λ z. Equals th z first) (sym (keep_whole l.params init long)) (initial_equal g own IsSimple th on some init first (sorts l.params) b.initial closed);
+          equal = subst (λ z. Equals th z first) (sym (keep_whole l.params init long)) (initial_equal g own IsSimple th later on.inhabited init first (sorts l.params) b.initial closed);
         }
     dropped (one_more {fates = fates} set h c n b) = one_drop set (shaped h) (dropped h) c b
 
@@ -119,7 +121,7 @@ module _ (g : Sig) (own : List Equation) (IsSimple : Term → Type 0) (vs : List
     eliminated_good {k} {first} {fates} h =
         let s = shaped h in
         let d = dropped h in
-        dropped_bisimilar th vs fates l k init first is s.linear (linear_grown (data_meant g) th.declared on.goes_on.grows vs l sorted) (linear_grown (data_meant g) th.declared on.goes_on.grows vs k s.well_sorted) d.drops
+        dropped_bisimilar th vs fates l k init first is s.linear (linear_grown (data_meant g) th.declared on.grows vs l sorted) (linear_grown (data_meant g) th.declared on.grows vs k s.well_sorted) d.drops
         (closed_there init (sorts l.params) closed) (closed_there first (sorts k.params) s.are_closed) d.stay d.equal
 
 -- ---- one set that is removed

@@ -25,20 +25,20 @@ pub record IsStable (B : Type 0) (Fine : Sig → List Tree → B → Type 0) (Re
   pub sooner : (g : Sig) (own : List Equation) (P : Term → Type 0) (ts us vs : List Tree) (x y : B) → Fine g ts x → Extends ts us → Rel g own P us vs x y → Rel g own P ts vs x y
   pub alike : (g : Sig) (own : List Equation) (P Q : Term → Type 0) (ts us : List Tree) (x y : B) → ((t : Term) → P t → Q t) → Rel g own P ts us x y → Rel g own Q ts us x y
 
-zip_weaker : {A B : Type 0} (R S : A → B → Type 0) → ((x : A) (y : B) → R x y → S x y) → (xs : List A) (ys : List B) → AllZip R xs ys → AllZip S xs ys
+pub zip_weaker : {A B : Type 0} (R S : A → B → Type 0) → ((x : A) (y : B) → R x y → S x y) → (xs : List A) (ys : List B) → AllZip R xs ys → AllZip S xs ys
 zip_weaker R S w [] [] h = tt
 zip_weaker R S w [] (y ∷ ys) h = absurd h
 zip_weaker R S w (x ∷ xs) [] h = absurd h
 zip_weaker R S w (x ∷ xs) (y ∷ ys) h = (w x y h.0, zip_weaker R S w xs ys h.1)
 
 -- where it holds of the left ones, too
-zip_weaker_fine : {A B : Type 0} (P : A → Type 0) (R S : A → B → Type 0) → ((x : A) (y : B) → P x → R x y → S x y) → (xs : List A) (ys : List B) → All P xs → AllZip R xs ys → AllZip S xs ys
+pub zip_weaker_fine : {A B : Type 0} (P : A → Type 0) (R S : A → B → Type 0) → ((x : A) (y : B) → P x → R x y → S x y) → (xs : List A) (ys : List B) → All P xs → AllZip R xs ys → AllZip S xs ys
 zip_weaker_fine P R S w [] [] k h = tt
 zip_weaker_fine P R S w [] (y ∷ ys) k h = absurd h
 zip_weaker_fine P R S w (x ∷ xs) [] k h = absurd h
 zip_weaker_fine P R S w (x ∷ xs) (y ∷ ys) k h = (w x y (All-head P x xs k) h.0, zip_weaker_fine P R S w xs ys (All-tail P x xs k) h.1)
 
-both_ways : {A B C : Type 0} → (A ↔ B) → (B ↔ C) → (A ↔ C)
+pub both_ways : {A B C : Type 0} → (A ↔ B) → (B ↔ C) → (A ↔ C)
 both_ways p q = (λ a. q.0 (p.0 a), λ c. p.1 (q.1 c))
 
 pub record Along (B : Type 0) (Fine : Sig → List Tree → B → Type 0) (Rel : Sig → List Equation → (Term → Type 0) → List Tree → List Tree → B → B → Type 0) (fits fits' : Sig → List Equation → List Tree → Type 0) (simple simple' : Sig → List Equation → Term → Type 0) (old now : List Tree) (all : List B) (i : ℕ) (made : List B) : Type 0 where

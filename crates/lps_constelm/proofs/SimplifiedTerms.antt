@@ -5,13 +5,14 @@ use Rattle.std.specs.List.{All, AllZip}
 use Rattle.std.proofs.lemmas.List.{length-map}
 use Rattle.std.proofs.lemmas.List.Elements.{All-nil, All-cons, length_all_zip}
 use Rattle.data_theory.specs.Terms.{Sort, Term, put}
-use Rattle.data_theory.specs.Declarations.{HasSort, HaveSorts, IsSort}
+use Rattle.data_theory.specs.Declarations.{HaveSorts, NoSortIsEmpty}
 use Rattle.data_theory.specs.Environments.{Environment, term_in, terms_of, AreOver, AreDistinct}
 use Rattle.data_theory.specs.Provable.{Equation}
 use Rattle.data_theory.specs.Rewriting.{AreSorts}
 use Rattle.data_theory.specs.Signature.{Sig}
 use Rattle.data_theory.specs.IdData.{data_meant}
 use Rattle.data_theory.proofs.EnvironmentLemmas.{closed_terms_stay}
+use Rattle.data_rewriter.specs.Simplifying.{AreLater}
 use Rattle.process_terms.specs.Theories.{Theory, Equal, Equals, no_terms, more_terms}
 use Rattle.process_terms.specs.Labels.{Action, Label, put_label, equal_args, AgreeInOrder, both_silent, next_agree}
 use Rattle.process_terms.specs.Processes.{Bound}
@@ -22,7 +23,6 @@ use Rattle.lps_core.proofs.SortedTerms.{HaveTerms, bound_have_terms, read_bound,
 use Rattle.lps_parelm.specs.Keeping.{keep}
 use Rattle.lps_parelm.proofs.Drops.{Stay, IsAt, NextDropped, neither_goes_on, both_go_on, IsDropped, AreDropped, no_summand, one_summand, Drops}
 use Rattle.lps_constelm.specs.Simplified.{IsSimplerTerm, ActionBecomes, NextBecomes, both_end, both_go_on as both_become, SummandBecomes, Becomes, IsAllOfSummand, IsAllOf}
-use Rattle.lps_constelm.specs.Eliminating.{GoesOnWith}
 use Rattle.lps_constelm.proofs.ConstantParameters.{closed_over}
 use Rattle.lps_constelm.proofs.Values.{simpler_is_equal}
 
@@ -131,14 +131,14 @@ module _ (g : Sig) (own : List Equation) (IsSimple : Term → Type 0) where
   becomes_closed l k init first b h = subst (λ ps. HaveSorts (data_meant g) [] (terms_of first) (sorts ps)) (sym b.params) (terms_sorted [] no_sorts init first (sorts l.params) b.initial h)
 
   -- ---- provable equality
-  module _ (th : Theory) (on : GoesOnWith g own th) (some : (s : Sort) → IsSort (data_meant g) s → (t : Term) × HasSort (data_meant g) [] t s) where
+  module _ (th : Theory) (later : AreLater g own th.declared th.equations) (some : NoSortIsEmpty th.declared) where
     module _ (vs : List Sort) (are : AreSorts (data_meant g) vs) (xs : List ℕ) (e : Environment) (terms : HaveTerms th.declared vs xs (term_in e)) where
       terms_equal : (ts us : List Term) (ss : List Sort) → AllZip R ts us → AreOver xs (terms_of ts) → HaveSorts (data_meant g) vs (terms_of ts) ss → Equals th (map (put (term_in e)) ts) (map (put (term_in e)) us)
       terms_equal [] [] ss z i h = no_terms
       terms_equal [] (u ∷ us) ss z i h = absurd z
       terms_equal (t ∷ ts) [] ss z i h = absurd z
       terms_equal (t ∷ ts) (u ∷ us) [] z i h = absurd h
-      terms_equal (t ∷ ts) (u ∷ us) (s ∷ ss) z i h = more_terms (simpler_is_equal g own th on vs are some xs (term_in e) terms IsSimple t u s z.0 i.0 h.0) (terms_equal ts us ss z.1 i.1 h.1)
+      terms_equal (t ∷ ts) (u ∷ us) (s ∷ ss) z i h = more_terms (simpler_is_equal g own th later some vs are xs (term_in e) terms IsSimple t u s z.0 i.0 h.0) (terms_equal ts us ss z.1 i.1 h.1)
 
       label_equal : (m n : Label) → AllZip (ActionBecomes R) m n → LabelIsOver xs m → LabelIsSorted (data_meant g) vs m → AgreeInOrder th (put_label e m) (put_label e n)
       label_equal _ [] z no_action_left no_action_to_sort = both_silent
@@ -168,7 +168,7 @@ module _ (g : Sig) (own : List Equation) (IsSimple : Term → Type 0) where
           let xs = variables s.sums ++ variables l.params in
           record {
             sums = w.sums;
-            condition = λ e h. simpler_is_equal g own th on vs are some xs (term_in e) (at s i e h) IsSimple s.condition t.condition _ w.condition f.condition o.condition;
+            condition = λ e h. simpler_is_equal g own th later some vs are xs (term_in e) (at s i e h) IsSimple s.condition t.condition _ w.condition f.condition o.condition;
             label = λ e h. label_equal vs are xs e (at s i e h) s.label t.label w.label f.label o.label;
             next = λ e h. next_equal vs are xs e (at s i e h) l.params w.next f.next o.next;
           }
@@ -195,7 +195,7 @@ module _ (g : Sig) (own : List Equation) (IsSimple : Term → Type 0) where
         more_terms
         (subst (λ w. Equal th w u) (closed_terms_stay (data_meant g) (term_in e) t s h.0)
         (subst (λ w. Equal th (put (term_in e) t) w) (closed_terms_stay (data_meant g) (term_in e) u s (z.0.sort [] no_sorts s h.0))
-        (simpler_is_equal g own th on [] no_sorts some [] (term_in e) (λ v a i. absurd (contains_none v i)) IsSimple t u s z.0 (closed_over (data_meant g) [] t s h.0) h.0)))
+        (simpler_is_equal g own th later some [] no_sorts [] (term_in e) (λ v a i. absurd (contains_none v i)) IsSimple t u s z.0 (closed_over (data_meant g) [] t s h.0) h.0)))
         (initial_equal ts us ss z.1 h.1)
 
   -- ---- all terms are simple

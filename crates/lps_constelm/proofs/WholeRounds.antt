@@ -18,7 +18,6 @@ use Rattle.bisim_laws.specs.LinearProcesses.{variables}
 use Rattle.bisim_laws.specs.BaseStates.{Fate}
 use Rattle.lps_core.specs.Fitting.{Fits}
 use Rattle.lps_core.specs.PlainLinears.{PlainLinear, linear_of, initial_of}
-use Rattle.lps_core.proofs.PoolTrees.{extends_on}
 use Rattle.lps_core.proofs.Staying.{what_fits_stays, what_fits_is_sorted}
 use Rattle.lps_parelm.specs.Keeping.{keep, fates_of}
 use Rattle.lps_parelm.proofs.WholeElimination.{fits_on, init_long}
@@ -56,15 +55,14 @@ marks_the_others g ts mid us k marks stands fits first later n =
     }
 
 -- the first round
-pub is_first_round : (g : Sig) (own : List Equation) (P : Term → Type 0) (ts now mid us : List Tree) (l k : PlainLinear) (marks : List Bool) → IsSignature g → Fits g ts l → LinearBecomes g own P ts now l k → Extends now mid → Extends mid us → AreNotConstant mid k marks → IsFirstRound g own P ts us l k marks
-is_first_round g own P ts now mid us l k marks stands fits b first later n =
+pub is_first_round : (g : Sig) (own : List Equation) (P : Term → Type 0) (ts now us : List Tree) (l k : PlainLinear) (marks : List Bool) → IsSignature g → Fits g ts l → LinearBecomes g own P ts now l k → Extends now us → MarksTheOthers g us k marks → IsFirstRound g own P ts us l k marks
+is_first_round g own P ts now us l k marks stands fits b grown marked =
     let made = becomes_fits g own P stands ts now l k fits b in
-    let grown = extends_on now mid us first later in
     record {
       becomes = subst (λ z. Becomes (IsSimplerTerm g own P) (linear_of (entries_of g ts) l) (initial_of (entries_of g ts) l) z (initial_of (entries_of g us) k)) (sym (process_stays g now us k stands grown made))
           (subst (λ z. Becomes (IsSimplerTerm g own P) (linear_of (entries_of g ts) l) (initial_of (entries_of g ts) l) (linear_of (entries_of g now) k) z) (sym (initial_stays g now us k stands grown made)) (becomes_meant g own P stands ts now l k fits b));
       params = b.params;
-      marked = marks_the_others g now mid us k marks stands made first later n;
+      marked = marked;
     }
 
 -- the next one
@@ -139,5 +137,5 @@ so_far_done g own P ts us l k marks stands grown fits s e =
       eliminated = now;
       done = none_left (linear_of (entries_of g us) k) (initial_of (entries_of g us) k) marks (none_false marks e) s.marked.greatest;
       simple = all_simple g own P (variable_sorts g) (variables_are_sorts g stands) (linear_of (entries_of g us) l) (initial_of (entries_of g us) l) there.linear sorted there.closed now;
-      bisimilar = λ th on sane. eliminated_good g own P (variable_sorts g) (variables_are_sorts g stands) (linear_of (entries_of g us) l) (initial_of (entries_of g us) l) there.linear sorted there.closed th on now;
+      bisimilar = λ th on among sane. eliminated_good g own P (variable_sorts g) (variables_are_sorts g stands) (linear_of (entries_of g us) l) (initial_of (entries_of g us) l) there.linear sorted there.closed th on among now;
     }

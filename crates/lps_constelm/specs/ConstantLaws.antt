@@ -4,6 +4,7 @@ use Rattle.data_theory.specs.Terms.{Sort, Term}
 use Rattle.data_theory.specs.Declarations.{Data, HaveSorts}
 use Rattle.data_theory.specs.Environments.{terms_of}
 use Rattle.data_theory.specs.Provable.{Equation}
+use Rattle.data_theory.specs.EqualityLaws.{AreAmong}
 use Rattle.data_theory.specs.Rewriting.{AreSorts}
 use Rattle.data_theory.specs.Signature.{Sig}
 use Rattle.data_theory.specs.WholeSignatures.{IsSignature}
@@ -16,11 +17,12 @@ use Rattle.bisim_laws.specs.LinearProcesses.{Linear, sorts, state_of, IsLinear, 
 use Rattle.bisim_laws.specs.BaseStates.{Fate}
 use Rattle.bisim_laws.specs.Links.{Dropped, IsGood}
 use Rattle.lps_core.specs.Fitting.{Fits}
+use Rattle.lps_core.specs.GoingOn.{GoesOn}
 use Rattle.lps_core.specs.PlainLinears.{PlainLinear, linear_of, initial_of}
 use Rattle.lps_parelm.specs.Keeping.{keep}
 use Rattle.lps_constelm.specs.Simplified.{IsSimplerTerm, Becomes}
 use Rattle.lps_constelm.specs.Constants.{AreInitial, IsConstantSet, IsGreatestConstantSet, HasNoConstantSet, without_constants}
-use Rattle.lps_constelm.specs.Eliminating.{Eliminates, GoesOnWith}
+use Rattle.lps_constelm.specs.Eliminating.{Eliminates}
 use Rattle.lps_constelm.specs.Putting.{AreNotConstant, IsWithoutUnmarked, set_of}
 use Rattle.lps_constelm.specs.Runs.{LinearBecomes}
 
@@ -41,7 +43,7 @@ RemovedConstantsAreGood =
 abbrev pub EliminatedProcessesAreGood : Type 0
 EliminatedProcessesAreGood =
     (g : Sig) (own : List Equation) (vs : List Sort) (l k : Linear) (init first : List Term) (fates : List Fate) → AreSorts (data_meant g) vs → IsLinear l → IsWellSorted (data_meant g) vs l
-    → HaveSorts (data_meant g) [] (terms_of init) (sorts l.params) → Eliminates (IsSimplerTerm g own (λ t. Unit {0})) l init k first fates → (th : Theory) → GoesOnWith g own th → IsGood th (Dropped fates l k) (state_of l init) (state_of k first)
+    → HaveSorts (data_meant g) [] (terms_of init) (sorts l.params) → Eliminates (IsSimplerTerm g own (λ t. Unit {0})) l init k first fates → (th : Theory) → GoesOn g th → AreAmong own th.equations → IsGood th (Dropped fates l k) (state_of l init) (state_of k first)
 
 -- ---- the greatest one, by what uses what
 abbrev pub WhatIsNotReachedIsGreatest : Type 0

@@ -1,13 +1,11 @@
 -- Constant parameters that are eliminated, one greatest set after another.
 use Rattle.std.specs.Prelude.{◌≡◌, List, []}
-use Rattle.data_theory.specs.Terms.{Sort, Term}
-use Rattle.data_theory.specs.Declarations.{HasSort, IsSort}
+use Rattle.data_theory.specs.Terms.{Term}
 use Rattle.data_theory.specs.Provable.{Equation}
 use Rattle.data_theory.specs.EqualityLaws.{AreAmong}
 use Rattle.data_theory.specs.Signature.{Sig}
-use Rattle.data_theory.specs.IdData.{data_meant}
 use Rattle.data_theory.specs.IdTrees.{Tree}
-use Rattle.process_terms.specs.Theories.{Theory, Equal, IsOfSort, IsConsistent}
+use Rattle.process_terms.specs.Theories.{Theory, IsConsistent}
 use Rattle.process_terms.specs.Processes.{Process}
 use Rattle.process_terms.specs.SignatureEntries.{entries_of}
 use Rattle.bisim_laws.specs.LinearProcesses.{Linear}
@@ -27,16 +25,9 @@ pub data Eliminates (R : Term → Term → Type 0) (l : Linear) (init : List Ter
   one_more : {m k : Linear} {mid first : List Term} {fates : List Fate} (set : List Fate) → Eliminates R l init m mid fates → IsGreatestConstantSet m mid set → ¬ (members set m ≡ [])
       → Becomes R (without_constants set m) (keep set mid) k first → Eliminates R l init k first (then_fates fates set)
 
--- A theory that goes on from the signature's data, has the equations, and has no new values: each of its closed terms of a sort of the
--- signature is provably equal to one over the signature.
-pub record GoesOnWith (g : Sig) (own : List Equation) (th : Theory) : Type 0 where
-  pub goes_on : GoesOn g th
-  pub equations : AreAmong own th.equations
-  pub no_new_values : (s : Sort) → IsSort (data_meant g) s → (t : Term) → IsOfSort th s t → (u : Term) × (HasSort (data_meant g) [] u s × Equal th t u)
-
--- in each such theory whose data are consistent
+-- in each consistent theory whose data go on from the signature's, with the written equations among its own
 abbrev pub IsGoodWith : Sig → List Equation → Link → Process → Process → Type 0
-IsGoodWith g own k p q = (th : Theory) → GoesOnWith g own th → IsConsistent th → IsGood th k p q
+IsGoodWith g own k p q = (th : Theory) → GoesOn g th → AreAmong own th.equations → IsConsistent th → IsGood th k p q
 
 -- No constant set is left but the empty one, each term is simple, and the parameters that were dropped are constant.
 pub record IsWithoutConstants (g : Sig) (own : List Equation) (IsSimple : Term → Type 0) (ts : List Tree) (l k : PlainLinear) : Type 0 where

@@ -39,6 +39,14 @@ pub record AreChanging (ts : List Tree) (l : PlainLinear) (vars : List TermId) (
   pub sound : (n : ℕ) → Contains start n → (place : ℕ) × (var : TermId) × (slice_get vars place ≡ Some var) × (var.0 ≡ n) × Changes ts l place
   pub others : (place : ℕ) (var : TermId) → slice_get vars place ≡ Some var → ¬ (Contains start var.0) → StaysInitial ts l place
 
+-- a mark for each of the parameters, set where a path leads from its term to one of these
+pub record LeadTo (edges : List (Vec ℕ)) (start : List ℕ) (vars : List TermId) (marks : List Bool) : Type 0 where
+  pub back : List (Vec ℕ)
+  pub turned : IsReversed edges back
+  pub reached : List Bool
+  pub exact : AreReached back start reached
+  pub marks_are : marks ≡ map (λ (var : TermId). slice_index_or reached var.0 false) vars
+
 -- a mark for each parameter, set where it uses one that changes
 pub record AreNotConstant (ts : List Tree) (l : PlainLinear) (marks : List Bool) : Type 0 where
   pub vars : List TermId
@@ -46,13 +54,9 @@ pub record AreNotConstant (ts : List Tree) (l : PlainLinear) (marks : List Bool)
   pub are : trees_at ts vars ≡ map variable l.params
   pub edges : List (Vec ℕ)
   pub uses : AreUses ts vars l.summands edges
-  pub back : List (Vec ℕ)
-  pub turned : IsReversed edges back
   pub start : List ℕ
   pub changing : AreChanging ts l vars start
-  pub reached : List Bool
-  pub exact : AreReached back start reached
-  pub marks_are : marks ≡ map (λ (var : TermId). slice_index_or reached var.0 false) vars
+  pub lead : LeadTo edges start vars marks
 
 -- the marked ones are kept, and the others are constant with their initial terms
 abbrev pub set_of : List Bool → List Term → List Fate

@@ -2,21 +2,24 @@
 use Rattle.std.specs.Prelude.{◌≡◌, ℕ, List, Option, Some, None}
 use Rattle.std.specs.List.{All, AllZip}
 use Rattle.data_theory.specs.Terms.{Sort, Term, put}
-use Rattle.data_theory.specs.Declarations.{HasSort}
+use Rattle.data_theory.specs.Declarations.{Data, HasSort}
 use Rattle.data_theory.specs.Environments.{IsOver}
 use Rattle.data_theory.specs.Provable.{Equation, ProvablyEqual}
 use Rattle.data_theory.specs.Rewriting.{AreSorts, Closes}
 use Rattle.data_theory.specs.Signature.{Sig}
 use Rattle.data_theory.specs.IdData.{data_meant}
+use Rattle.data_rewriter.specs.Simplifying.{AreLater}
 use Rattle.process_terms.specs.Labels.{Action}
 use Rattle.bisim_laws.specs.LinearProcesses.{Summand, Linear}
 
--- A simple term with the sort of t and without a variable that t hasn't, which is provably equal to t in every closed instance.
+-- A simple term with the sort of t and without a variable that t hasn't, which is provably equal to t in every closed instance over all
+-- later data.
 pub record IsSimplerTerm (g : Sig) (own : List Equation) (IsSimple : Term → Type 0) (t u : Term) : Type 0 where
   pub simple : IsSimple u
   pub variables : (xs : List ℕ) → IsOver xs t → IsOver xs u
   pub sort : (vs : List Sort) → AreSorts (data_meant g) vs → (s : Sort) → HasSort (data_meant g) vs t s → HasSort (data_meant g) vs u s
-  pub equal : (vs : List Sort) → AreSorts (data_meant g) vs → (s : Sort) → HasSort (data_meant g) vs t s → (e : ℕ → Term) → Closes (data_meant g) vs e → ProvablyEqual (data_meant g) own (put e t) (put e u)
+  pub equal : (vs : List Sort) → AreSorts (data_meant g) vs → (s : Sort) → HasSort (data_meant g) vs t s → (h : Data) (theirs : List Equation) → AreLater g own h theirs → (e : ℕ → Term) → Closes h vs e
+      → ProvablyEqual h theirs (put e t) (put e u)
 
 -- ---- term by term
 pub record ActionBecomes (R : Term → Term → Type 0) (a b : Action) : Type 0 where

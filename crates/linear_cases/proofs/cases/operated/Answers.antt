@@ -19,3 +19,6 @@ returns-in-parelm-clause-right c = first_fits_on c.signature_stands.ensures c.el
 
 pub returns-in-parelm-clause-fits : goal.returns-in-parelm-clause-fits
 returns-in-parelm-clause-fits c = eliminated_fits c.args.sig.now c.args.pool.now.trees c.eliminate.new.pool.trees (plain_linear c.args.lin) c.eliminate.result c.signature_stands.ensures c.requires.fits c.eliminate.ensures.fits
+
+pub returns-in-constelm-clause-right : goal.returns-in-constelm-clause-right
+returns-in-constelm-clause-right c = first_fits_on c.signature_stands.ensures c.without_constants.ensures.kept c.requires.right

@@ -12,4 +12,4 @@ pub returns-clause-removed : goal.returns-clause-removed
 returns-clause-removed c = removed_good
 
 pub returns-clause-eliminated : goal.returns-clause-eliminated
-returns-clause-eliminated c = λ g own vs l k init first fates are is sorted closed e th on. eliminated_good g own (λ t. Unit {0}) vs are l init is sorted closed th on e
+returns-clause-eliminated c = λ g own vs l k init first fates are is sorted closed e th on among. eliminated_good g own (λ t. Unit {0}) vs are l init is sorted closed th on among e
