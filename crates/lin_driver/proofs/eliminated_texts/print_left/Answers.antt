@@ -1,5 +1,4 @@
 use Rattle.std.proofs.Common.{◌≡◌}
-use Rattle.std.proofs.lemmas.Option.{slice_get_within}
 use Rattle.mcrl2_syntax.specs.Declarations.{spec_of}
 use Rattle.mcrl2_syntax.proofs.WordsOfTokens.{specs_are_of_words}
 use Rattle.lps_core.specs.PlainLinears.{plain_linear}
@@ -15,3 +14,9 @@ pub left_of-requires-clause-equations : goal.left_of-requires-clause-equations
 left_of-requires-clause-equations c =
     let made = c.requires.1 in
     can_rewrite (spec_of c.args.made.spec) c.args.made.sig c.args.made.pool.trees c.args.made.theory c.args.made.name (plain_linear c.args.made.lin) made.made (specs_are_of_words c.requires.0 (spec_of c.args.made.spec) made.tokens made.cut made.spelled)
+
+pub returns-in_err-left-clause-no_fault : goal.returns-in_err-left-clause-no_fault
+returns-in_err-left-clause-no_fault c = is_told c.from_residual.result (λ fault. fault ≡ NoMemory) c.from_residual.ensures.1
+
+pub returns-in_err-text-clause-no_fault : goal.returns-in_err-text-clause-no_fault
+returns-in_err-text-clause-no_fault c = is_told c.from_residual-in_err-text.result (λ fault. fault ≡ NoMemory) c.from_residual-in_err-text.ensures.1
