@@ -46,3 +46,8 @@ mod SameShapes
 mod UpToRecursion
 pub mod AcceptedTexts
 mod ReadTexts
+mod SomeOf
+mod FewerVariables
+mod RewritableEquations
+mod EliminatedTexts
+mod LeftInCode

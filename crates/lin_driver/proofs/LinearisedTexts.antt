@@ -1,31 +1,36 @@
 -- From a specification in code to the text that is printed for it.
-use Rattle.std.proofs.Common.{◌≡◌, ℕ, List, [], ◌++◌, refl, sym, ap, subst, ◌∙◌, append_assoc, append-nil}
+use Rattle.std.proofs.Common.{◌≡◌, ℕ, List, [], ◌++◌, map, refl, sym, ap, subst, ◌∙◌, append_assoc, append-nil}
 use Rattle.data_theory.specs.Declarations.{Data, IsData, NoSortIsEmpty}
 use Rattle.data_theory.specs.Environments.{terms_of}
 use Rattle.data_theory.specs.Signature.{Sig}
 use Rattle.data_theory.specs.IdData.{data_meant}
 use Rattle.data_theory.specs.IdTerms.{variable_sorts}
+use Rattle.data_theory.specs.IdTrees.{Tree}
+use Rattle.data_theory.specs.declared.ids.NameId.{NameId}
+use Rattle.mcrl2_syntax.specs.Declarations.{PlainSpec}
 use Rattle.data_theory.proofs.IdDataLemmas.{meant_data_are_data}
 use Rattle.sort_table.specs.Growth.{More, with_more}
 use Rattle.sort_table.specs.Vocabularies.{Vocabulary}
 use Rattle.sort_table.specs.SignatureVocabularies.{vocabulary_of}
 use Rattle.sort_table.proofs.GrowingSignatures.{grown_signatures_have_more}
 use Rattle.sort_checker.specs.FullVocabularies.{FullVocabulary}
-use Rattle.process_terms.specs.Theories.{Theory, AreOfSorts}
+use Rattle.process_terms.specs.Theories.{Theory, AreOfSorts, IsConsistent}
 use Rattle.process_terms.specs.Processes.{Process}
-use Rattle.process_terms.specs.Meanings.{theory_of, process_of}
+use Rattle.process_terms.specs.Meanings.{theory_of, process_of, equation_of}
+use Rattle.process_terms.specs.PlainProcesses.{PlainEquation}
 use Rattle.process_terms.specs.SignatureEntries.{entries_of}
 use Rattle.bisim_laws.specs.LinearProcesses.{sorts, state_of}
-use Rattle.bisim_laws.specs.Links.{Then, Dropped}
+use Rattle.bisim_laws.specs.Links.{Link, Then, Dropped, IsGood}
 use Rattle.bisim_laws.proofs.ComposedLinks.{then_good}
 use Rattle.lps_core.specs.GoingOn.{GoesOn, IsGoodOver}
 use Rattle.lps_core.specs.Moving.{all_kept}
-use Rattle.lps_core.specs.PlainLinears.{linear_of, initial_of, linear_state}
+use Rattle.lps_core.specs.Fitting.{Fits}
+use Rattle.lps_core.specs.PlainLinears.{PlainLinear, linear_of, initial_of, linear_state}
 use Rattle.lps_core.proofs.GrowingData.{goes_back, linear_grown, terms_grown}
 use Rattle.lps_core.proofs.Staying.{what_fits_is_sorted}
 use Rattle.lps_printer.proofs.GrowingByAdditions.{additions_grow, same_actions}
-use Rattle.lin_driver.specs.Headline.{Specifies, AddsOnly}
-use Rattle.lin_driver.specs.Linearised.{WhatIsLedToStandsForTheText, WhatIsMadeStandsForTheText, WhatIsPrintedStandsForTheText}
+use Rattle.lin_driver.specs.Headline.{Specifies, AddsOnly, StandsFor}
+use Rattle.lin_driver.specs.Linearised.{IsMadeOf, IsLinearised, ReadsBack, WhatIsLedToStandsForTheText, WhatIsMadeStandsForTheText, WhatIsPrintedStandsForTheText}
 use Rattle.lin_driver.proofs.EqualLinears.{equal_linears_are_good}
 use Rattle.lin_driver.proofs.GrownModels.{model_stays}
 
@@ -73,11 +78,19 @@ made_stands_for text spec h us equations x l made =
     let specifies : Specifies text is.vocabulary (theory_of (data_meant m.signature) (entries_of m.signature ts) m.model) (process_of (entries_of m.signature ts) m.model) = record { tokens = made.tokens; cut = made.cut; spec = spec; spelled = made.spelled; system = is.system } in
     led_to_stands_for text is.vocabulary (theory_of (data_meant m.signature) (entries_of m.signature ts) m.model) m.signature h ts us m.model l specifies is.over.declared m.stands m.fits m.grow m.leads
 
+-- its equations are those of the model
+pub made_has_equations : (text : List ℕ) (spec : PlainSpec) (h : Sig) (us : List Tree) (equations : List PlainEquation) (x : NameId) (l : PlainLinear) (made : IsMadeOf text spec h us equations x l)
+    → (made_stands_for text spec h us equations x l made).theory.equations ≡ map (equation_of (entries_of made.made.signature made.made.pool.trees)) made.made.model.equations
+unfolding made_stands_for led_to_stands_for
+made_has_equations text spec h us equations x l made = refl
+
 -- ---- to the printed text
-pub printed_stands_for : WhatIsPrintedStandsForTheText
-printed_stands_for text printed spec g ts l a b =
+-- A link leads from the text's process to a linear process, over the theory of what is printed for that one.
+pub led_on_stands_for : (text printed : List ℕ) (spec : PlainSpec) (g : Sig) (ts us : List Tree) (l k : PlainLinear) (a : IsLinearised text spec g ts l) (b : ReadsBack spec g us k printed) → Fits g us k → (link : Link)
+    → (GoesOn g b.theory → IsConsistent b.theory → IsGood b.theory link a.process (linear_state (entries_of g us) k)) → StandsFor text printed
+led_on_stands_for text printed spec g ts us l k a b fits link good =
     let h = b.signature in
-    let L = linear_of (entries_of g ts) l in
+    let K = linear_of (entries_of g us) k in
     let own_data : b.theory.declared ≡ data_meant h = text_has_data printed b.vocabulary b.theory (state_of b.linear b.initial) h b.specifies b.declared in
     let on : GoesOn h b.theory = record {
       grows = record { new_sorts = []; new_functions = []; sorts = ap (λ (d : Data). d.sorts) own_data ∙ sym (append-nil (data_meant h).sorts); functions = ap (λ (d : Data). d.functions) own_data ∙ sym (append-nil (data_meant h).functions) };
@@ -86,9 +99,9 @@ printed_stands_for text printed spec g ts l a b =
     } in
     let from_g : GoesOn g b.theory = goes_back g h a.stands.table a.stands.roles b.stands.roles b.grown b.theory on in
     let more = grown_signatures_have_more g h a.stands.complete a.stands.table a.stands.roles b.stands.roles b.grown b.actions in
-    let sorted = linear_grown (data_meant g) b.theory.declared from_g.grows (variable_sorts g) L (what_fits_is_sorted g ts l a.stands.table a.stands.complete a.fits) in
-    let from : AreOfSorts b.theory (sorts L.params) (initial_of (entries_of g ts) l) = terms_grown (data_meant g) b.theory.declared from_g.grows [] (terms_of (initial_of (entries_of g ts) l)) (sorts L.params) a.fits.closed in
-    let to : AreOfSorts b.theory (sorts L.params) b.initial = subst (λ ps. AreOfSorts b.theory (sorts ps) b.initial) b.equal.params b.of_sorts in
+    let sorted = linear_grown (data_meant g) b.theory.declared from_g.grows (variable_sorts g) K (what_fits_is_sorted g us k a.stands.table a.stands.complete fits) in
+    let from : AreOfSorts b.theory (sorts K.params) (initial_of (entries_of g us) k) = terms_grown (data_meant g) b.theory.declared from_g.grows [] (terms_of (initial_of (entries_of g us) k)) (sorts K.params) fits.closed in
+    let to : AreOfSorts b.theory (sorts K.params) b.initial = subst (λ ps. AreOfSorts b.theory (sorts ps) b.initial) b.equal.params b.of_sorts in
     record {
       vocabulary = a.vocabulary;
       own_theory = a.theory;
@@ -101,7 +114,10 @@ printed_stands_for text printed spec g ts l a b =
       adds_only = subst (λ s. AddsOnly s b.specifies.spec) (sym a.spec_is) b.adds_only;
       numbers = (both_more a.numbers.0 more.0, b.declared ∙ more.1 ∙ ap (λ v. with_more v more.0) a.numbers.1 ∙ more_twice a.vocabulary.declared a.numbers.0 more.0);
       is_linear = b.is_linear_text;
-      link = Then a.link (Dropped (all_kept L.params) L b.linear);
-      bisimilar = λ con. then_good b.theory a.link (Dropped (all_kept L.params) L b.linear) a.process (linear_state (entries_of g ts) l) (state_of b.linear b.initial) (a.bisimilar b.theory from_g con)
-          (equal_linears_are_good b.theory (variable_sorts g) b.variable_sorts L b.linear (initial_of (entries_of g ts) l) b.initial a.fits.linear b.is_linear sorted b.is_sorted b.equal from to b.starts_equal);
+      link = Then link (Dropped (all_kept K.params) K b.linear);
+      bisimilar = λ con. then_good b.theory link (Dropped (all_kept K.params) K b.linear) a.process (linear_state (entries_of g us) k) (state_of b.linear b.initial) (good from_g con)
+          (equal_linears_are_good b.theory (variable_sorts g) b.variable_sorts K b.linear (initial_of (entries_of g us) k) b.initial fits.linear b.is_linear sorted b.is_sorted b.equal from to b.starts_equal);
     }
+
+pub printed_stands_for : WhatIsPrintedStandsForTheText
+printed_stands_for text printed spec g ts l a b = led_on_stands_for text printed spec g ts ts l l a b a.fits a.link (λ on con. a.bisimilar b.theory on con)

@@ -1,9 +1,15 @@
 -- What is made of a text can be printed, and then stands for the text.
-use Rattle.std.proofs.Common.{◌≡◌, [], codes, refl, sym, ◌∙◌, subst}
+use Rattle.std.proofs.Common.{◌≡◌, ℕ, List, [], map, codes, refl, sym, ◌∙◌, subst}
 use Rattle.std.proofs.lemmas.Option.{slice_get_within, get_or_from_slice_get}
+use Rattle.data_theory.specs.declared.ids.NameId.{NameId}
 use Rattle.data_theory.specs.IdData.{data_meant}
-use Rattle.data_theory.specs.Signature.{IsTaken}
-use Rattle.process_terms.specs.Meanings.{theory_of, process_of}
+use Rattle.data_theory.specs.IdTrees.{Tree}
+use Rattle.data_theory.specs.Signature.{Sig, IsTaken}
+use Rattle.mcrl2_syntax.specs.Declarations.{PlainSpec}
+use Rattle.process_terms.specs.Meanings.{theory_of, process_of, equation_of}
+use Rattle.process_terms.specs.PlainProcesses.{PlainEquation}
+use Rattle.lps_core.specs.PlainLinears.{PlainLinear}
+use Rattle.lin_driver.specs.Linearised.{IsMadeOf}
 use Rattle.process_terms.specs.SignatureEntries.{entries_of}
 use Rattle.sort_table.specs.SignatureVocabularies.{text_under}
 use Rattle.sort_table.proofs.SpelledPlaces.{spelled_specs_are_placed}
@@ -47,6 +53,12 @@ made_can_be_printed text spec h us equations x l made =
       process_new = λ t. m.name.fresh.free (subst (IsTaken m.signature) named t);
       process_named = subst IsIdentifier (sym (named ∙ m.name.fresh.named)) (fresh_names_are_identifiers (codes "P") (refl, refl) m.name.fresh.number);
     }
+
+-- its equations are those of the model
+pub printable_equations : (text : List ℕ) (spec : PlainSpec) (h : Sig) (us : List Tree) (equations : List PlainEquation) (x : NameId) (l : PlainLinear) (made : IsMadeOf text spec h us equations x l)
+    → (made_can_be_printed text spec h us equations x l made).own.theory.equations ≡ map (equation_of (entries_of made.made.signature made.made.pool.trees)) made.made.model.equations
+unfolding made_can_be_printed
+printable_equations text spec h us equations x l made = refl
 
 pub printed_for_stands_for : WhatIsPrintedForATextStandsForIt
 printed_for_stands_for text printed spec g h us equations x l made stands is =

@@ -217,3 +217,9 @@ module _ (spec : PlainSpec) (g h : Sig) (ts : List Tree) (x : NameId) (l : Plain
 
 pub printed_texts_read_back : PrintedTextsReadBack
 printed_texts_read_back spec g h ts x l printed can after is = reads_back spec g h ts x l printed can after is
+
+-- its equations are those of the text, and behind them those of empty lists
+pub printed_equations : (spec : PlainSpec) (g h : Sig) (ts : List Tree) (x : NameId) (l : PlainLinear) (printed : List ℕ) (can : CanBePrinted spec g ts x l) (after : IsSignature h) (is : IsPrinted spec g h ts x l printed)
+    → (printed_texts_read_back spec g h ts x l printed can after is).theory.equations ≡ can.own.theory.equations ++ empty_equations (length g.declared) is.needed
+unfolding printed_texts_read_back reads_back
+printed_equations spec g h ts x l printed can after is = refl

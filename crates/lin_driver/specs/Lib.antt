@@ -20,3 +20,5 @@ pub mod MadeTexts
 pub mod Accepted
 pub mod Numberings
 pub mod MethodForms
+pub mod Eliminations
+pub mod Eliminated

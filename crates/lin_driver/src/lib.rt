@@ -8,6 +8,8 @@
 mod checking;
 mod components;
 mod composing;
+mod eliminated_texts;
+mod eliminations;
 mod fault;
 mod form_encoding;
 pub mod laws;
@@ -20,6 +22,8 @@ mod reading;
 mod variable_names;
 
 pub use checking::check_text;
+pub use eliminated_texts::eliminated_text;
+pub use eliminations::Elimination;
 pub use fault::{LinFault, ModelFault};
 pub use form_encoding::encode_form;
 pub use linear_texts::linear_text;

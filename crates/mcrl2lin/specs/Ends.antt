@@ -4,8 +4,10 @@ use Rattle.mcrl2_text.specs.Bytes.{TakesPrefix}
 use Rattle.mcrl2_text.specs.declared.loading.TheConstants.{MAX_TEXT_LEN}
 use Rattle.mcrl2_text.specs.Faults.{Rose}
 use Rattle.lin_driver.specs.Accepted.{CanBeLinearised}
+use Rattle.lin_driver.specs.Eliminated.{IsEliminated}
 use Rattle.lin_driver.specs.Headline.{StandsFor}
 use Rattle.lin_driver.specs.Refusals.{IsRefusedWith}
+use Rattle.lin_driver.specs.declared.eliminations.Elimination.TheVariants.{Constants, Parameters, Sums}
 use Rattle.lin_driver.specs.declared.fault.LinFault.TheVariants.{NotTail}
 use Rattle.lin_driver.specs.declared.methods.Method.{Method}
 use Rattle.lin_driver.specs.declared.methods.Method.TheVariants.{Regular}
@@ -18,13 +20,14 @@ use Rattle.mcrl2lin.specs.declared.stop.Stop.TheVariants as stop
 use Rattle.mcrl2lin.specs.declared.top.Status.{Status}
 use Rattle.mcrl2lin.specs.declared.top.Status.TheVariants.{Done, Refused, Words, ReadFault, WriteFault, NoMemory, Undecided, No}
 
--- The answer of a task, where the text can be linearised: `ok`, or a text that stands for it.
+-- The answer of a task, where the text can be linearised: `ok`, or a text that stands for it, which for an elimination is that of what is left of a linear
+-- process for the text.
 abbrev pub IsAnswer : Task → List ℕ → List ℕ → Type 0
 IsAnswer Check text answer = CanBeLinearised text × (answer ≡ codes "ok\n")
 IsAnswer (Linearise method) text answer = CanBeLinearised text × StandsFor text answer
-IsAnswer (Constelm method fuel) text answer = CanBeLinearised text × StandsFor text answer
-IsAnswer (Parelm method) text answer = CanBeLinearised text × StandsFor text answer
-IsAnswer (Sumelm method fuel) text answer = CanBeLinearised text × StandsFor text answer
+IsAnswer (Constelm method fuel) text answer = CanBeLinearised text × StandsFor text answer × IsEliminated (Constants fuel) text answer
+IsAnswer (Parelm method) text answer = CanBeLinearised text × StandsFor text answer × IsEliminated Parameters text answer
+IsAnswer (Sumelm method fuel) text answer = CanBeLinearised text × StandsFor text answer × IsEliminated (Sums fuel) text answer
 
 -- The texts that are made linear by a method: those that can be linearised. By `Regular` no form of such a text may have a summand of two
 -- calls, either.

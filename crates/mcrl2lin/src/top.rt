@@ -10,7 +10,7 @@ ghost use Rattle.mcrl2lin.specs.Stops.{HasCause, IsFaultFor, status_of_stop};
 use crate::command::{Task, command_of};
 use crate::stop::Stop;
 use data_theory::Names;
-use lin_driver::{LinFault, check_text, linear_text};
+use lin_driver::{Elimination, LinFault, check_text, eliminated_text, linear_text};
 use mcrl2_text::{MAX_TEXT_LEN, Shelf, Sink, load, write_all};
 use std::alloc::Global;
 
@@ -67,7 +67,7 @@ pub fn run<H: Shelf, O: Sink, E: Sink>(
 
     ensures shelf_kept { asked_by (map string_bytes words.now.items) ≡ None → shelf.new ≡ shelf.old }
 
-    // For each text that the task takes it is done: what `linearise` writes stands for the text.
+    // For each text that the task takes it is done: what is written stands for the text, and that of an elimination has its effect.
     ensures headline { IfSome (question (H.text_of shelf.old) (map string_bytes words.now.items)) (λ q. IsTaken q.task q.text
         → length q.text ≤ MAX_TEXT_LEN → ¬ (Rose (H.faults shelf.old) (H.faults shelf.new)) → ¬ (Rose (O.faults out.old) (O.faults out.new))
         → EndsWell result q (O.taken out.old) (O.taken out.new)) }
@@ -126,7 +126,15 @@ fn answer_to(alloc: Global, task: Task, text: &[u8], names: &mut Names) -> Resul
             }
         }
         Task::Linearise(method) => linear_text(alloc, text, names, method),
-        Task::Constelm { .. } | Task::Parelm(_) | Task::Sumelm { .. } => Err(LinFault::NoMemory),
+        Task::Constelm { method, fuel } => {
+            eliminated_text(alloc, text, names, method, Elimination::Constants(fuel))
+        }
+        Task::Parelm(method) => {
+            eliminated_text(alloc, text, names, method, Elimination::Parameters)
+        }
+        Task::Sumelm { method, fuel } => {
+            eliminated_text(alloc, text, names, method, Elimination::Sums(fuel))
+        }
     }
 }
 

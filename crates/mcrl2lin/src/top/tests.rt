@@ -316,6 +316,61 @@ linearise f --method=stack
 linearise - --method=stack
 --method=stack -- linearise -f";
 
+/// What an elimination writes.
+struct Left {
+    words: &'static str,
+    text: &'static [u8],
+    out: &'static [u8],
+}
+
+const ELIMINATIONS: [Left; 9] = [
+    Left {
+        words: "constelm f",
+        text: b"act a; proc P(x: Nat, y: Nat) = a . P(x = y, y = x); init P(1, 1);",
+        out: b"act a;\nproc P = a . P;\ninit P;\n",
+    },
+    Left {
+        words: "constelm f",
+        text: b"act a; proc P(x: Nat, y: Nat) = a . P(x = y, y = x); init P(1, 2);",
+        out: b"act a;\nproc P(x: Nat, y: Nat) = a . P(x = y, y = x);\ninit P(1, 2);\n",
+    },
+    Left {
+        words: "constelm f",
+        text: b"act a; proc P(x: Nat, y: Nat) = a . P(x = y); init P(1, 2);",
+        out: b"act a;\nproc P(x: Nat) = a . P(x = 2);\ninit P(1);\n",
+    },
+    Left {
+        words: "constelm f",
+        text: b"act a: Nat; init (1 < 2) -> a(1 + 1);",
+        out: b"act a: Nat;\nproc P = a(2);\ninit P;\n",
+    },
+    Left {
+        words: "parelm f",
+        text: b"act a: Nat; proc P(x: Nat, y: Nat) = a(x) . P(y = y + 1); init P(0, 0);",
+        out: b"act a: Nat;\nproc P(x: Nat) = a(x) . P();\ninit P(0);\n",
+    },
+    Left {
+        words: "sumelm f",
+        text: b"act a: Nat; proc P(x: Nat) = sum n: Nat . (n == x + 1) -> a(n) . P(n); init P(0);",
+        out: b"act a: Nat;\nproc P(x: Nat) = a(Pos2Nat(x + 1)) . P(x = Pos2Nat(x + 1));\ninit P(0);\n",
+    },
+    Left {
+        words: "sumelm f",
+        text: b"act a: Nat; proc P(x: Nat) = sum n: Nat . (n == n + 1) -> a(n) . P(n); init P(0);",
+        out: b"act a: Nat;\nproc P(x: Nat) = sum n: Nat . (n == Pos2Nat(n + 1)) -> a(n) . P(x = n);\ninit P(0);\n",
+    },
+    Left {
+        words: "sumelm f",
+        text: b"act a: Nat; init (1 < 2) -> a(1 + 1);",
+        out: b"act a: Nat;\nproc P = a(2);\ninit P;\n",
+    },
+    Left {
+        words: "sumelm f --fuel 0",
+        text: b"act a: Nat; init (1 < 2) -> a(1 + 1);",
+        out: b"act a: Nat;\nproc P = (1 < 2) -> a(Pos2Nat(1 + 1));\ninit P;\n",
+    },
+];
+
 fn strings(alloc: Global, words: &[&str]) -> Result<Vec<String>, Fail> {
     let mut strings = Vec::new(alloc);
     for word in words {
@@ -408,6 +463,14 @@ fn words_give_the_command_that_they_spell(rt: HostRuntime) -> Result<(), Fail> {
     }
     for words in STACK_COMMANDS.lines() {
         writes(&rt, rt.alloc(), words, b"act a; init a;", STACKED)?;
+    }
+    Ok(())
+}
+
+#[test]
+fn eliminations_write_what_they_leave(rt: HostRuntime) -> Result<(), Fail> {
+    for row in &ELIMINATIONS {
+        writes(&rt, rt.alloc(), row.words, row.text, row.out)?;
     }
     Ok(())
 }

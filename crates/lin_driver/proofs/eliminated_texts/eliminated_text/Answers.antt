@@ -1,0 +1,31 @@
+use Rattle.std.proofs.Common.{map}
+use Rattle.mcrl2_syntax.specs.Declarations.{spec_of}
+use Rattle.process_terms.specs.PlainProcesses.{plain_equation}
+use Rattle.lps_core.specs.PlainLinears.{plain_linear}
+use Rattle.lin_driver.specs.Eliminated.{IsEliminated, IsPrintedLeft}
+use Rattle.lin_driver.specs.Headline.{StandsFor}
+use Rattle.lin_driver.proofs.EliminatedTexts.{printed_left_stands_for, printed_left_is_eliminated}
+use Rattle.lin_driver.proofs.Refused.{if_ok, no_fault_refused}
+use Rattle.lin_driver.proofs.eliminated_texts.eliminated_text.Goals as goal
+
+pub print_left-requires : goal.print_left-requires
+print_left-requires c = (c.args.text.now, c.in_ok-made.ensures.made)
+
+pub returns-clause-stands_for : goal.returns-clause-stands_for
+returns-clause-stands_for c =
+    let made = c.in_ok-made.made in
+    let equations = map plain_equation made.theory.equations.items in
+    if_ok c.print_left.result (λ text. IsPrintedLeft c.args.elimination (spec_of made.spec) made.sig made.pool.trees equations made.name (plain_linear made.lin) text.items) (λ printed. StandsFor c.args.text.now printed.items)
+    (λ printed w. printed_left_stands_for c.args.text.now printed.items (spec_of made.spec) made.sig made.pool.trees equations made.name (plain_linear made.lin) c.args.elimination c.in_ok-made.ensures.made w)
+    c.print_left.ensures.written
+
+pub returns-clause-eliminated : goal.returns-clause-eliminated
+returns-clause-eliminated c =
+    let made = c.in_ok-made.made in
+    let equations = map plain_equation made.theory.equations.items in
+    if_ok c.print_left.result (λ text. IsPrintedLeft c.args.elimination (spec_of made.spec) made.sig made.pool.trees equations made.name (plain_linear made.lin) text.items) (λ printed. IsEliminated c.args.elimination c.args.text.now printed.items)
+    (λ printed w. printed_left_is_eliminated c.args.text.now printed.items (spec_of made.spec) made.sig made.pool.trees equations made.name (plain_linear made.lin) c.args.elimination c.in_ok-made.ensures.made w)
+    c.print_left.ensures.written
+
+pub returns-clause-refused : goal.returns-clause-refused
+returns-clause-refused c = no_fault_refused c.print_left.result c.args.text.now c.linearise.new.names c.print_left.ensures.no_fault

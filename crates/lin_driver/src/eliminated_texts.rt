@@ -1,0 +1,72 @@
+//! The text of the linear process of a text from which something is eliminated.
+
+ghost use Rattle.std.specs.Prelude.{◌≡◌, ◌≢◌, List, ℕ, IfErr, IfOk, OnOk, map};
+ghost use Rattle.mcrl2_syntax.specs.Declarations.{spec_of};
+ghost use Rattle.process_terms.specs.PlainProcesses.{plain_equation};
+ghost use Rattle.lps_core.specs.PlainLinears.{plain_linear};
+ghost use Rattle.lin_driver.specs.Accepted.{CanBeLinearised};
+ghost use Rattle.lin_driver.specs.Eliminated.{IsEliminated, IsPrintedLeft};
+ghost use Rattle.lin_driver.specs.Faults.{IsFaultBy};
+ghost use Rattle.lin_driver.specs.Headline.{StandsFor};
+ghost use Rattle.lin_driver.specs.Linearised.{IsMadeOf};
+ghost use Rattle.lin_driver.specs.Refusals.{IsRefusedWith};
+
+use crate::eliminations::{Elimination, left_of};
+use crate::fault::LinFault;
+use crate::linearising::{Linearised, linearise};
+use crate::methods::Method;
+use data_theory::Names;
+use lps_printer::print;
+use std::alloc::Global;
+
+/// What the elimination leaves of what was made of a text, printed.
+fn print_left(
+    alloc: Global,
+    made: Linearised,
+    elimination: Elimination,
+) -> Result<Vec<u8>, LinFault>
+    requires { (text : List ℕ) × IsMadeOf text (spec_of made.spec) made.sig made.pool.trees (map plain_equation made.theory.equations.items) made.name (plain_linear made.lin) }
+    ensures written { IfOk result (λ text. IsPrintedLeft elimination (spec_of made.spec) made.sig made.pool.trees (map plain_equation made.theory.equations.items) made.name (plain_linear made.lin) text.items) }
+    ensures no_fault { IfErr result (λ fault. fault ≡ LinFault.NoMemory) }
+{
+    let Linearised {
+        spec,
+        sig,
+        pool,
+        theory,
+        name,
+        lin,
+        components: _,
+    } = made;
+    let mut sig = sig;
+    let mut pool = pool;
+    let left = left_of(alloc, lin, &sig, &mut pool, &theory, elimination)?;
+    let text = print(alloc, &spec, &mut sig, &pool, name, &left)?;
+    let _ = sig.next_sort();
+    Ok(text)
+}
+
+/// The text of what an elimination leaves of the linear process of a text, which is made by a method.
+///
+/// It stands for the given text as that of [`linear_text`](crate::linear_text) does. The parameters and the sums that are left keep their
+/// names and their order, and so do the summands.
+///
+/// # Errors
+///
+/// Those of [`linearise`](crate::linearise) with that method.
+pub fn eliminated_text(
+    alloc: Global,
+    text: &[u8],
+    names: &mut Names,
+    method: Method,
+    elimination: Elimination,
+) -> Result<Vec<u8>, LinFault>
+    ensures accepted { OnOk result (CanBeLinearised text.now) }
+    ensures stands_for { IfOk result (λ printed. StandsFor text.now printed.items) }
+    ensures eliminated { IfOk result (λ printed. IsEliminated elimination text.now printed.items) }
+    ensures refused { IfErr result (λ fault. fault ≢ LinFault.NoMemory → IsRefusedWith text.now names.new fault) }
+    ensures by { IfErr result (IsFaultBy method) }
+{
+    let made = linearise(alloc, text, names, method)?;
+    print_left(alloc, made, elimination)
+}
