@@ -123,3 +123,8 @@ no_fault_refused (Err e) text texts none = λ some. absurd (some none)
 pub is_told : {T E : Type 0} (r : Result T E) (P : E → Type 0) → IsErrAnd r P → IfErr r P
 is_told (Ok x) P h = absurd h
 is_told (Err e) P h = h
+
+-- want of memory is the fault of no method
+pub no_fault_by : {T : Type 0} (r : Result T LinFault) (method : Method) → IfErr r (λ fault. fault ≡ NoMemory) → IfErr r (IsFaultBy method)
+no_fault_by (Ok x) method none = tt
+no_fault_by (Err fault) method none = subst (IsFaultBy method) (sym none) tt

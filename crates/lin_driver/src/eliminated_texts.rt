@@ -16,33 +16,34 @@ use crate::fault::LinFault;
 use crate::linearising::{Linearised, linearise};
 use crate::methods::Method;
 use data_theory::Names;
+use lps_core::{Linear, signature_stands};
 use lps_printer::print;
 use std::alloc::Global;
+use std::mem;
 
-/// What the elimination leaves of what was made of a text, printed.
+/// What the elimination leaves of what was made of a text, printed. The linear process is used up: none is left in its place.
+///
+/// # Errors
+///
+/// `NoMemory` only.
 fn print_left(
     alloc: Global,
-    made: Linearised,
+    made: &mut Linearised,
     elimination: Elimination,
 ) -> Result<Vec<u8>, LinFault>
-    requires { (text : List ℕ) × IsMadeOf text (spec_of made.spec) made.sig made.pool.trees (map plain_equation made.theory.equations.items) made.name (plain_linear made.lin) }
-    ensures written { IfOk result (λ text. IsPrintedLeft elimination (spec_of made.spec) made.sig made.pool.trees (map plain_equation made.theory.equations.items) made.name (plain_linear made.lin) text.items) }
+    requires { (text : List ℕ) × IsMadeOf text (spec_of made.old.spec) made.old.sig made.old.pool.trees (map plain_equation made.old.theory.equations.items) made.old.name (plain_linear made.old.lin) }
+    ensures written { IfOk result (λ text. IsPrintedLeft elimination (spec_of made.old.spec) made.old.sig made.old.pool.trees (map plain_equation made.old.theory.equations.items) made.old.name (plain_linear made.old.lin) text.items) }
     ensures no_fault { IfErr result (λ fault. fault ≡ LinFault.NoMemory) }
 {
-    let Linearised {
-        spec,
-        sig,
-        pool,
-        theory,
-        name,
-        lin,
-        components: _,
-    } = made;
-    let mut sig = sig;
-    let mut pool = pool;
-    let left = left_of(alloc, lin, &sig, &mut pool, &theory, elimination)?;
-    let text = print(alloc, &spec, &mut sig, &pool, name, &left)?;
-    let _ = sig.next_sort();
+    let nothing = Linear {
+        params: Vec::new(alloc),
+        init: Vec::new(alloc),
+        summands: Vec::new(alloc),
+    };
+    let lin = mem::replace(&mut made.lin, nothing);
+    let left = left_of(alloc, lin, &made.sig, &mut made.pool, &made.theory, elimination)?;
+    let text = print(alloc, &made.spec, &mut made.sig, &made.pool, made.name, &left)?;
+    signature_stands(&made.sig);
     Ok(text)
 }
 
@@ -67,6 +68,6 @@ pub fn eliminated_text(
     ensures refused { IfErr result (λ fault. fault ≢ LinFault.NoMemory → IsRefusedWith text.now names.new fault) }
     ensures by { IfErr result (IsFaultBy method) }
 {
-    let made = linearise(alloc, text, names, method)?;
-    print_left(alloc, made, elimination)
+    let mut made = linearise(alloc, text, names, method)?;
+    print_left(alloc, &mut made, elimination)
 }

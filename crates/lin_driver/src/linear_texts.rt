@@ -16,28 +16,23 @@ use crate::fault::LinFault;
 use crate::linearising::{Linearised, linearise};
 use crate::methods::Method;
 use data_theory::Names;
+use lps_core::signature_stands;
 use lps_printer::print;
 use std::alloc::Global;
 
 /// What was made of a text, printed.
-fn print_out(alloc: Global, made: Linearised) -> Result<Vec<u8>, LinFault>
-    requires fits { Fits made.sig made.pool.trees (plain_linear made.lin) }
-    requires name { made.name.0 < length made.sig.texts }
-    ensures written { IfOk result (λ text. (h : Sig) × IsSignature h × IsPrinted (spec_of made.spec) made.sig h made.pool.trees made.name (plain_linear made.lin) text.items) }
+///
+/// # Errors
+///
+/// `NoMemory` only.
+fn print_out(alloc: Global, made: &mut Linearised) -> Result<Vec<u8>, LinFault>
+    requires fits { Fits made.old.sig made.old.pool.trees (plain_linear made.old.lin) }
+    requires name { made.old.name.0 < length made.old.sig.texts }
+    ensures written { IfOk result (λ text. (h : Sig) × IsSignature h × IsPrinted (spec_of made.old.spec) made.old.sig h made.old.pool.trees made.old.name (plain_linear made.old.lin) text.items) }
     ensures no_fault { IfErr result (λ fault. fault ≡ LinFault.NoMemory) }
 {
-    let Linearised {
-        spec,
-        sig,
-        pool,
-        theory: _,
-        name,
-        lin,
-        components: _,
-    } = made;
-    let mut sig = sig;
-    let text = print(alloc, &spec, &mut sig, &pool, name, &lin)?;
-    let _ = sig.next_sort();
+    let text = print(alloc, &made.spec, &mut made.sig, &made.pool, made.name, &made.lin)?;
+    signature_stands(&made.sig);
     Ok(text)
 }
 
@@ -60,6 +55,6 @@ pub fn linear_text(
     ensures refused { IfErr result (λ fault. fault ≢ LinFault.NoMemory → IsRefusedWith text.now names.new fault) }
     ensures by { IfErr result (IsFaultBy method) }
 {
-    let made = linearise(alloc, text, names, method)?;
-    print_out(alloc, made)
+    let mut made = linearise(alloc, text, names, method)?;
+    print_out(alloc, &mut made)
 }

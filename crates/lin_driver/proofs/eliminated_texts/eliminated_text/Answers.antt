@@ -5,7 +5,7 @@ use Rattle.lps_core.specs.PlainLinears.{plain_linear}
 use Rattle.lin_driver.specs.Eliminated.{IsEliminated, IsPrintedLeft}
 use Rattle.lin_driver.specs.Headline.{StandsFor}
 use Rattle.lin_driver.proofs.EliminatedTexts.{printed_left_stands_for, printed_left_is_eliminated}
-use Rattle.lin_driver.proofs.Refused.{if_ok, no_fault_refused}
+use Rattle.lin_driver.proofs.Refused.{if_ok, no_fault_refused, no_fault_by}
 use Rattle.lin_driver.proofs.eliminated_texts.eliminated_text.Goals as goal
 
 pub print_left-requires : goal.print_left-requires
@@ -29,3 +29,6 @@ returns-clause-eliminated c =
 
 pub returns-clause-refused : goal.returns-clause-refused
 returns-clause-refused c = no_fault_refused c.print_left.result c.args.text.now c.linearise.new.names c.print_left.ensures.no_fault
+
+pub returns-clause-by : goal.returns-clause-by
+returns-clause-by c = no_fault_by c.print_left.result c.args.method c.print_left.ensures.no_fault

@@ -1,21 +1,23 @@
-use Rattle.std.proofs.Common.{List}
+use Rattle.std.proofs.Common.{List, subst}
+use Rattle.std.specs.Prelude.{ℕ, IfOk}
 use Rattle.data_theory.specs.Provable.{Equation}
 use Rattle.lps_core.specs.PlainLinears.{plain_linear}
-use Rattle.lin_driver.specs.Eliminations.{equations_in}
+use Rattle.lin_driver.specs.Eliminations.{equations_in, IsLeft}
+use Rattle.lin_driver.specs.declared.eliminations.Elimination.TheVariants.{Constants}
 use Rattle.lin_driver.proofs.LeftInCode.{if_so, left_without_constants}
 use Rattle.lin_driver.proofs.eliminations.without_constants.Goals as goal
 
 pub eliminate-requires : goal.eliminate-requires
 eliminate-requires c =
-    let own : List Equation = equations_in c.args.sig.now c.args.pool.now.trees c.args.theory.now in
-    (c.args.sig.now, own, c.signature_stands.ensures, c.requires.fits, (c.in_ok-rewriter.ensures.fits own c.requires.equations.equations, c.new-rules.ensures), c.requires.equations.well_formed)
+    (c.args.sig.now, equations_in c.args.sig.now c.args.pool.now.trees c.args.theory.now, c.signature_stands.ensures, c.requires.fits, (c.in_ok-simplifier.ensures.fits, c.new-rules.ensures), c.requires.equations.well_formed)
 
 pub returns : goal.returns
 returns c =
-    let own : List Equation = equations_in c.args.sig.now c.args.pool.now.trees c.args.theory.now in
-    let fits = c.in_ok-rewriter.ensures.fits own c.requires.equations.equations in
-    let exact = c.new-rules.ensures in
+    let g = c.args.sig.now in
+    let own : List Equation = equations_in g c.args.pool.now.trees c.args.theory.now in
+    let l = plain_linear c.args.lin in
     let well = c.requires.equations.well_formed in
     let stands = c.signature_stands.ensures in
-    left_without_constants c.args.sig.now stands c.args.pool.now.trees c.eliminate.new.pool.trees c.eliminate.ensures.kept (plain_linear c.args.lin) c.requires.fits own c.args.fuel c.eliminate.result
-    (if_so c.eliminate.result _ _ c.eliminate.ensures.fits (λ left w. w c.args.sig.now own stands c.requires.fits (fits, exact) well)) (if_so c.eliminate.result _ _ c.eliminate.ensures.eliminated (λ left w. w c.args.sig.now own stands c.requires.fits (fits, exact) well))
+    subst (λ (fuel : ℕ). IfOk c.eliminate.result (λ left. IsLeft (Constants fuel) g own c.args.pool.now.trees c.eliminate.new.pool.trees l (plain_linear left))) c.in_ok-simplifier.ensures.fuel
+    (left_without_constants g stands c.args.pool.now.trees c.eliminate.new.pool.trees c.eliminate.ensures.kept l c.requires.fits own c.in_ok-simplifier.simplifier.fuel c.eliminate.result
+    (if_so c.eliminate.result _ _ c.eliminate.ensures.fits (λ left w. w g own stands c.requires.fits (c.in_ok-simplifier.ensures.fits, c.new-rules.ensures) well)) (if_so c.eliminate.result _ _ c.eliminate.ensures.eliminated (λ left w. w g own stands c.requires.fits (c.in_ok-simplifier.ensures.fits, c.new-rules.ensures) well)))

@@ -8,7 +8,7 @@ use Rattle.lps_core.specs.PlainLinears.{plain_linear}
 use Rattle.lps_printer.specs.PrintedLinears.{IsPrinted}
 use Rattle.lin_driver.specs.Headline.{StandsFor}
 use Rattle.lin_driver.proofs.MadeTexts.{printed_for_stands_for}
-use Rattle.lin_driver.proofs.Refused.{if_ok, no_fault_refused}
+use Rattle.lin_driver.proofs.Refused.{if_ok, no_fault_refused, no_fault_by}
 use Rattle.lin_driver.proofs.linear_texts.linear_text.Goals as goal
 
 pub print_out-requires-clause-fits : goal.print_out-requires-clause-fits
@@ -26,3 +26,6 @@ returns-clause-stands_for c =
 
 pub returns-clause-refused : goal.returns-clause-refused
 returns-clause-refused c = no_fault_refused c.print_out.result c.args.text.now c.linearise.new.names c.print_out.ensures.no_fault
+
+pub returns-clause-by : goal.returns-clause-by
+returns-clause-by c = no_fault_by c.print_out.result c.args.method c.print_out.ensures.no_fault
