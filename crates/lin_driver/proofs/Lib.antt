@@ -51,3 +51,4 @@ mod FewerVariables
 mod RewritableEquations
 mod EliminatedTexts
 mod LeftInCode
+mod WrittenPieces

@@ -22,3 +22,4 @@ pub mod Numberings
 pub mod MethodForms
 pub mod Eliminations
 pub mod Eliminated
+pub mod BufferLines

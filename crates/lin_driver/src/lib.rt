@@ -5,6 +5,7 @@
 //! crates above can cite it.
 #![tactic(auto)]
 
+mod buffers;
 mod checking;
 mod components;
 mod composing;
@@ -21,6 +22,7 @@ mod model_linearising;
 mod reading;
 mod variable_names;
 
+pub use buffers::buffer_line;
 pub use checking::check_text;
 pub use eliminated_texts::eliminated_text;
 pub use eliminations::Elimination;
