@@ -13,6 +13,7 @@ pub mod OneLabel
 pub mod PairedLabels
 pub mod ReadLemmas
 pub mod StateLemmas
+pub mod StateSets
 pub mod TraceLemmas
 pub mod TracedLabels
 pub mod TriedCombinations

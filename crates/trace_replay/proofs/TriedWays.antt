@@ -9,6 +9,7 @@ use Rattle.std.proofs.lemmas.Option.{slice_get_within, get_or_from_slice_get, sl
 use Rattle.bisim_laws.proofs.Firing.{contains_first, contains_cases, contains_none}
 use Rattle.data_theory.specs.declared.ids.TermId.{TermId}
 use Rattle.data_theory.specs.IdTrees.{Tree}
+use Rattle.data_theory.specs.Provable.{Equation}
 use Rattle.data_theory.specs.Signature.{Sig}
 use Rattle.data_theory.specs.Terms.{Term}
 use Rattle.data_theory.specs.WholeSignatures.{IsSignature}
@@ -21,16 +22,21 @@ use Rattle.lps_core.specs.Fitting.{Fits, SummandFits}
 use Rattle.lps_core.specs.PlainLinears.{PlainSummand, PlainLinear, plain_summand, linear_of, summand_of}
 use Rattle.lps_core.proofs.Members.{map_contains, contains_map}
 use Rattle.lps_core.proofs.Staying.{read_mapped, what_fits_stays, summand_stays}
+use Rattle.lps_core.proofs.PoolTrees.{extends_on}
+use Rattle.lps_simulator.specs.Combinations.{combinations}
+use Rattle.lps_simulator.specs.SumValues.{AreSumValues}
 use Rattle.lps_simulator.proofs.TriedSummands.{both_grow}
 use Rattle.trace_replay.specs.declared.states.States.{States}
 use Rattle.trace_replay.specs.declared.ways.Way.{Way}
 use Rattle.trace_replay.specs.Settings.{Setting}
 use Rattle.trace_replay.specs.Replays.{State}
-use Rattle.trace_replay.specs.Attempts.{Attempt, OfSummand, AreTried}
+use Rattle.trace_replay.specs.Attempts.{Attempt, OfCombinations, OfSummand, AreTried}
+use Rattle.trace_replay.specs.DecidedConditions.{setting}
 use Rattle.trace_replay.specs.States.{running, ended_state, plain_states, meant_state, meant_states, StateStands, StatesStand}
-use Rattle.trace_replay.specs.Ways.{PlainWay, plain_way, no_summand, summand_at, OfWays, InStates}
+use Rattle.trace_replay.specs.Ways.{PlainWay, plain_way, no_summand, summand_at, OfWays, InStates, WayStands}
 use Rattle.trace_replay.proofs.Attempted.{tried_none, tried_both, tried_as}
-use Rattle.trace_replay.proofs.StateLemmas.{terms_kept}
+use Rattle.trace_replay.proofs.ListedCombinations.{summand_tried}
+use Rattle.trace_replay.proofs.StateLemmas.{states_kept, terms_kept}
 
 -- ---- as the pool grows
 pub linear_kept : (g : Sig) → IsSignature g → (ts us : List Tree) (l : PlainLinear) → Extends ts us → Fits g ts l → linear_of (entries_of g us) l ≡ linear_of (entries_of g ts) l
@@ -136,3 +142,73 @@ running_taken states i k e =
     let here : get_or (running states) i k.items ≡ k.items = read_mapped (λ (v : Vec TermId Global). v.items) states.running.keys i k.items k inside ∙ ap (λ (v : Vec TermId Global). v.items) (get_or_from_slice_get states.running.keys i k k e) in
     ap (λ (z : List TermId). take i (running states) ++ z ∷ []) (sym here)
     ∙ sym (take_more (running states) i k.items (subst (λ (n : ℕ). i < n) (sym (length-map states.running.keys (λ (v : Vec TermId Global). v.items))) inside))
+
+-- ---- in code
+-- the way at an index
+pub way_stands : (g : Sig) (ts : List Tree) (summands : List CodeSummand) (ways : List Way) (i : ℕ) (w : Way) → i < length ways → w ≡ get_or ways i w → All (WayStands g ts (length summands)) (map plain_way ways) → WayStands g ts (length summands) (plain_way w)
+way_stands g ts summands ways i w inside is stand =
+    All-contains (WayStands g ts (length summands)) (map plain_way ways) (plain_way w) stand (map_contains plain_way ways w (subst (λ (z : Way). Contains ways z) (sym is) (Contains-get_or ways i w inside)))
+
+ways_taken : (ways : List Way) (i : ℕ) (w : Way) → i < length ways → w ≡ get_or ways i w → map plain_way (take i ways) ++ plain_way w ∷ [] ≡ map plain_way (take (i + 1) ways)
+ways_taken ways i w inside is =
+    sym (map-append plain_way (take i ways) (w ∷ []))
+    ∙ ap (map plain_way) (ap (λ (z : Way). take i ways ++ z ∷ []) is ∙ sym (take_more ways i w inside))
+
+-- a summand, whose sums are listed first
+pub summand_turn : (g : Sig) → IsSignature g → (own : List Equation) (fuel bound : ℕ) (ts us : List Tree) → Extends ts us → (l : PlainLinear) → Fits g ts l → (s : PlainSummand) → Contains l.summands s → (conditions : List TermId) → All (IsTerm g ts) conditions → (state : List TermId) → All (IsTerm g ts) state
+    → (lists : List (List TermId)) (cut : Bool) → AreSumValues g bound us s.sums lists cut → (to : States) → StatesStand g ts to → (new : List State) (open after : Bool) → after ≡ (cut || open)
+    → AreTried (setting g own fuel bound) (OfCombinations (linear_of (entries_of g us) l) (summand_of (entries_of g us) s) (map (term_at g us) state) (map (term_at g us) conditions) (map (map (term_at g us)) (combinations lists))) (meant_states g us to) new open
+    → AreTried (setting g own fuel bound) (OfSummand (setting g own fuel bound) (linear_of (entries_of g ts) l) (summand_of (entries_of g ts) s) (map (term_at g ts) state) (map (term_at g ts) conditions)) (meant_states g ts to) new after
+summand_turn g stands own fuel bound ts us grows l fits s among conditions over state state_over lists cut values to stand new open after is h =
+    let q : Setting = setting g own fuel bound in
+    let all : AreTried q (OfSummand q (linear_of (entries_of g us) l) (summand_of (entries_of g us) s) (map (term_at g us) state) (map (term_at g us) conditions)) (meant_states g us to) new (cut || open) =
+    summand_tried g own fuel bound (entries_of g us) s.sums us lists cut values (linear_of (entries_of g us) l) (summand_of (entries_of g us) s) (map (term_at g us) state) (map (term_at g us) conditions) refl (meant_states g us to) new open h in
+    summand_as q (linear_of (entries_of g us) l) (linear_of (entries_of g ts) l) (summand_of (entries_of g us) s) (summand_of (entries_of g ts) s) (map (term_at g us) state) (map (term_at g ts) state) (map (term_at g us) conditions) (map (term_at g ts) conditions) (meant_states g ts to) new after
+    (linear_kept g stands ts us l grows fits)
+    (summand_kept g stands ts us l s grows fits among)
+    (terms_kept g ts us grows state state_over)
+    (terms_kept g ts us grows conditions over)
+    (subst (λ (d : Bool). AreTried q (OfSummand q (linear_of (entries_of g us) l) (summand_of (entries_of g us) s) (map (term_at g us) state) (map (term_at g us) conditions)) (meant_states g ts to) new d) (sym is)
+    (subst (λ (os : List State). AreTried q (OfSummand q (linear_of (entries_of g us) l) (summand_of (entries_of g us) s) (map (term_at g us) state) (map (term_at g us) conditions)) os new (cut || open)) (states_kept g ts us grows to stand) all))
+
+-- one way more: it is tried over a later pool
+pub way_turn : (g : Sig) → IsSignature g → (own : List Equation) (fuel bound : ℕ) (ts us : List Tree) → Extends ts us → (l : PlainLinear) → Fits g ts l → (summands : List CodeSummand) → l.summands ≡ map plain_summand summands → (state : List TermId) → All (IsTerm g ts) state → (ways : List Way) (i : ℕ) (w : Way) → i < length ways → w ≡ get_or ways i w
+    → All (WayStands g ts (length summands)) (map plain_way ways) → (a : CodeSummand) → a ≡ get_or summands w.summand a → (old mid new : List State) (before open after : Bool) → after ≡ (before || open)
+    → AreTried (setting g own fuel bound) (OfWays g ts (setting g own fuel bound) (linear_of (entries_of g ts) l) (map (term_at g ts) state) (map plain_way (take i ways))) old mid before
+    → AreTried (setting g own fuel bound) (OfSummand (setting g own fuel bound) (linear_of (entries_of g us) l) (summand_of (entries_of g us) (plain_summand a)) (map (term_at g us) state) (map (term_at g us) w.conditions.items)) mid new open
+    → AreTried (setting g own fuel bound) (OfWays g ts (setting g own fuel bound) (linear_of (entries_of g ts) l) (map (term_at g ts) state) (map plain_way (take (i + 1) ways))) old new after
+way_turn g stands own fuel bound ts us grows l fits summands same state state_over ways i w inside is stand a at old mid new before open after d h k =
+    let q : Setting = setting g own fuel bound in
+    let L : Linear = linear_of (entries_of g ts) l in
+    let ok : WayStands g ts (length summands) (plain_way w) = way_stands g ts summands ways i w inside is stand in
+    let here : summand_of (entries_of g us) (plain_summand a) ≡ summand_at L w.summand =
+    summand_in g us l summands w.summand a same ok.number at ∙ ap (λ (z : Linear). summand_at z w.summand) (linear_kept g stands ts us l grows fits) in
+    let one : AreTried q (OfSummand q L (summand_at L w.summand) (map (term_at g ts) state) (map (term_at g ts) w.conditions.items)) mid new open =
+    summand_as q (linear_of (entries_of g us) l) L (summand_of (entries_of g us) (plain_summand a)) (summand_at L w.summand) (map (term_at g us) state) (map (term_at g ts) state) (map (term_at g us) w.conditions.items) (map (term_at g ts) w.conditions.items) mid new open
+    (linear_kept g stands ts us l grows fits) here (terms_kept g ts us grows state state_over) (terms_kept g ts us grows w.conditions.items ok.over) k in
+    subst (λ (b : Bool). AreTried q (OfWays g ts q L (map (term_at g ts) state) (map plain_way (take (i + 1) ways))) old new b) (sym d)
+    (subst (λ (ws : List PlainWay). AreTried q (OfWays g ts q L (map (term_at g ts) state) ws) old new (before || open)) (ways_taken ways i w inside is)
+    (ways_one_more g ts q L (map (term_at g ts) state) (map plain_way (take i ways)) (plain_way w) old mid new before open h one))
+
+-- one state more: its ways are tried over a later pool
+pub state_turn : (g : Sig) → IsSignature g → (own : List Equation) (fuel bound : ℕ) (ts us vs : List Tree) → Extends ts us → Extends us vs → (l : PlainLinear) → Fits g ts l → (states : States) (i : ℕ) (key : Vec TermId Global) → slice_get states.running.keys i ≡ Some key → StatesStand g ts states → (ids : List TermId) → ids ≡ key.items
+    → (ws : List PlainWay) → ((w : PlainWay) → Contains ws w → All (IsTerm g us) w.conditions) → (old mid new : List State) (before open after : Bool) → after ≡ (before || open)
+    → AreTried (setting g own fuel bound) (InRunning g us (setting g own fuel bound) (linear_of (entries_of g ts) l) (map (map (term_at g ts)) (take i (running states))) ws) old mid before
+    → AreTried (setting g own fuel bound) (OfWays g vs (setting g own fuel bound) (linear_of (entries_of g vs) l) (map (term_at g vs) ids) ws) mid new open
+    → AreTried (setting g own fuel bound) (InRunning g us (setting g own fuel bound) (linear_of (entries_of g ts) l) (map (map (term_at g ts)) (take (i + 1) (running states))) ws) old new after
+state_turn g stands own fuel bound ts us vs grows later l fits states i key at stand ids is ws over old mid new before open after d h k =
+    let q : Setting = setting g own fuel bound in
+    let L : Linear = linear_of (entries_of g ts) l in
+    let all : Extends ts vs = extends_on ts us vs grows later in
+    let state : List Term = map (term_at g ts) key.items in
+    let one : AreTried q (OfWays g us q L state ws) mid new open =
+    ways_as g us vs q L (linear_of (entries_of g vs) l) state (map (term_at g vs) ids) ws mid new open later over (linear_kept g stands ts vs l all fits)
+    (ap (map (term_at g vs)) is ∙ terms_kept g ts vs all key.items (state_stands g ts states i key at stand)) k in
+    subst (λ (b : Bool). AreTried q (InRunning g us q L (map (map (term_at g ts)) (take (i + 1) (running states))) ws) old new b) (sym d)
+    (subst (λ (z : List (List Term)). AreTried q (InRunning g us q L z ws) old new (before || open)) (sym (map-append (map (term_at g ts)) (take i (running states)) (key.items ∷ [])) ∙ ap (map (map (term_at g ts))) (running_taken states i key at))
+    (running_more g us q L (map (map (term_at g ts)) (take i (running states))) state ws old mid new before open h one))
+
+-- the summand at an index is one of the process
+pub summand_among : (l : PlainLinear) (summands : List CodeSummand) (i : ℕ) (a : CodeSummand) → l.summands ≡ map plain_summand summands → i < length summands → a ≡ get_or summands i a → Contains l.summands (plain_summand a)
+summand_among l summands i a same inside is =
+    subst (λ (xs : List PlainSummand). Contains xs (plain_summand a)) (sym same) (map_contains plain_summand summands a (subst (λ (z : CodeSummand). Contains summands z) (sym is) (Contains-get_or summands i a inside)))

@@ -44,19 +44,21 @@ impl States {
     pub fn is_empty(&self) -> bool
         ensures { IsTrue result ↔ (plain_states self.now ≡ []) }
     {
-        !self.ended && self.running.is_empty()
+        if self.ended {
+            return false;
+        }
+        self.running.is_empty()
     }
 
     /// Adds a state, where it isn't there.
     pub fn insert(&mut self, state: Option<Vec<TermId>>) -> Result<(), NoMemory>
         ensures added { OnOk result ((o : Option (List TermId)) → Contains (plain_states self.new) o ↔ (Contains (plain_states self.old) o ⊎ (o ≡ plain_next state))) }
     {
-        match state {
-            Some(args) => {
-                self.running.insert(args)?;
-            }
-            None => self.ended = true,
-        }
+        let Some(args) = state else {
+            self.ended = true;
+            return Ok(());
+        };
+        self.running.insert(args)?;
         Ok(())
     }
 }

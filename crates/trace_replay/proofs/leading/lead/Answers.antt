@@ -1,0 +1,18 @@
+use Rattle.std.proofs.Common.{◌≡◌, ◌∙◌, List, [], map, refl, sym, subst, take}
+use Rattle.std.proofs.lemmas.List.{take_all}
+use Rattle.data_theory.specs.declared.ids.TermId.{TermId}
+use Rattle.data_rewriter.specs.Standing.{term_at}
+use Rattle.process_terms.specs.SignatureEntries.{entries_of}
+use Rattle.lps_core.specs.PlainLinears.{plain_linear, linear_of}
+use Rattle.lps_core.proofs.PoolTrees.{extends_on}
+use Rattle.lps_simulator.proofs.Bindings.{terms_stay}
+use Rattle.lps_simulator.proofs.SessionLemmas.{linear_stays}
+use Rattle.trace_replay.specs.Attempts.{AreTried}
+use Rattle.trace_replay.specs.DecidedConditions.{setting}
+use Rattle.trace_replay.specs.States.{meant_states, running}
+use Rattle.trace_replay.specs.Ways.{plain_way}
+use Rattle.trace_replay.proofs.Keepings.{keeps_grown, keeps_itself, keeps_then, known_on}
+use Rattle.trace_replay.proofs.leading.lead.Goals as goal
+
+pub returns-in_err-ways-clause-kept : goal.returns-in_err-ways-clause-kept
+returns-in_err-ways-clause-kept g c = keeps_grown c.args.sig.now c.args.pool.now.trees c.ways.new.pool.trees c.args.rewriter.now c.ways.ensures.kept
