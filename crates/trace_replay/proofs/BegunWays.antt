@@ -1,7 +1,9 @@
 -- Ways that are begun: the next action is paired with one that is left.
 use Rattle.std.specs.Prelude.{◌≡◌, ◌<◌, ◌≤◌, ◌+◌, ◌-◌, ◌++◌, ◌⊎◌, ℕ, zero, suc, List, [], ◌∷◌, map, length, take, drop, get_or, Some, slice_get}
-use Rattle.std.proofs.Common.{refl, sym, subst, ap, ap₂, ◌∙◌, arith, inl, inr, ⊎_elim, append_assoc, append-nil}
+use Rattle.std.proofs.Common.{refl, sym, subst, ap, ap₂, ◌∙◌, arith, inl, inr, ⊎_elim, append_assoc, append-nil, add-one, drop-cons}
 use Rattle.std.specs.List.{All, AllZip, Contains}
+use Rattle.std.proofs.Math.ListN.{drop_of_length-le}
+use Rattle.std.proofs.lemmas.List.{map-append, take_more}
 use Rattle.std.proofs.lemmas.List.Elements.{All-nil, All-cons, All-head, All-tail, All-contains, All-get_or, Contains-append_cases, Contains-append_left, Contains-append_right, Contains-push_cases, Contains-push, Contains-get_or}
 use Rattle.std.proofs.lemmas.Option.{slice_get_within, get_or_from_slice_get, slice_get-get_or}
 use Rattle.bisim_laws.proofs.Firing.{contains_first, contains_cases, contains_none}
@@ -22,7 +24,7 @@ use Rattle.process_terms.specs.Communication.{equalities}
 use Rattle.process_terms.specs.Labels.{Action, Label, Inserted, at_front, further, Permuted, nothing_left, one_placed}
 use Rattle.process_terms.specs.PlainProcesses.{PlainAction}
 use Rattle.bisim_laws.specs.LinearProcesses.{Summand}
-use Rattle.lps_core.proofs.Members.{all_at}
+use Rattle.lps_core.proofs.Members.{all_at, all_from}
 use Rattle.lps_simulator.proofs.Bindings.{terms_stay}
 use Rattle.trace_replay.specs.Pairings.{AreAlike, Pairing, label_equalities}
 use Rattle.trace_replay.specs.Ways.{PlainWay, ActionIs, LabelIs, no_action, action_at, actions_at, without, open_conditions, AreBegun, AreWaysOf, IsNextWay, AreNext}
@@ -247,3 +249,31 @@ no_ways g ts a m number differs = record {
   sound = λ w c. absurd (contains_none w c);
   complete = λ p. absurd (differs (alike_long a.label p.paired p.alike ∙ permuted_long p.same));
 }
+
+-- ---- in code
+pub places_more : (m : Label) (places : List ℕ) (i n : ℕ) → length m ≡ n → i < n → actions_at m places ≡ take i m → actions_at m (places ++ i ∷ []) ≡ take (i + 1) m
+places_more m places i n long inside is =
+    map-append (action_at m) places (i ∷ [])
+    ∙ ap (λ (z : Label). z ++ action_at m i ∷ []) is
+    ∙ sym (take_more m i no_action (subst (λ (k : ℕ). i < k) (sym long) inside))
+
+pub begun_over : (g : Sig) (ts : List Tree) (a : Summand) (m : Label) (number : ℕ) (rest : Label) (ws : List PlainWay) → AreBegun g ts a m number rest ws → All (λ (w : PlainWay). All (IsTerm g ts) w.conditions) ws
+begun_over g ts a m number rest ws h = all_from (λ (w : PlainWay). All (IsTerm g ts) w.conditions) ws h.over
+
+pub begun_within : (g : Sig) (ts : List Tree) (a : Summand) (m : Label) (number : ℕ) (rest : Label) (ws : List PlainWay) (n : ℕ) → n ≡ length m → AreBegun g ts a m number rest ws → All (λ (w : PlainWay). All (λ (place : ℕ). place < n) w.left) ws
+begun_within g ts a m number rest ws n e h = all_from (λ (w : PlainWay). All (λ (place : ℕ). place < n) w.left) ws (λ w c. subst (λ (k : ℕ). All (λ (place : ℕ). place < k) w.left) (sym e) (h.within w c))
+
+-- a turn of the loop over the actions of a summand
+pub begun_turn : (g : Sig) → IsSignature g → (ts us vs : List Tree) → Extends us vs → (a : Summand) (m : Label) (number : ℕ) (ys xs : List PlainAction) (i : ℕ) (x : PlainAction) → LabelIs g ts ys a.label → LabelIs g ts xs m → i < length ys → x ≡ get_or ys i x → (bs ws : List PlainWay)
+    → AreBegun g us a m number (drop i a.label) bs → ((b : Action) → ActionIs g ts x b → AreNext g us vs x.act b xs m bs ws) → AreBegun g vs a m number (drop (i + 1) a.label) ws
+begun_turn g stands ts us vs later a m number ys xs i x label given inside is bs ws begun next =
+    let b : Action = action_at a.label i in
+    let this : ActionIs g ts x b = subst (λ (z : PlainAction). ActionIs g ts z b) (sym is) (at_place g ts ys a.label i x label inside) in
+    let here : drop i a.label ≡ b ∷ drop (i + 1) a.label = drop-cons a.label i no_action (subst (λ (k : ℕ). i < k) (label_long g ts ys a.label label) inside) ∙ ap (λ (k : ℕ). b ∷ drop k a.label) (sym (add-one i)) in
+    begun_more g stands ts us vs later a m number x b (drop (i + 1) a.label) xs bs ws this given (subst (λ (z : Label). AreBegun g us a m number z bs) here begun) (next b this)
+
+pub begun_end : (g : Sig) (ts us : List Tree) (a : Summand) (m : Label) (number : ℕ) (ys : List PlainAction) (i : ℕ) (ws : List PlainWay) → LabelIs g ts ys a.label → length ys ≤ i → AreBegun g us a m number (drop i a.label) ws → AreWaysOf g us a m number ws
+begun_end g ts us a m number ys i ws label l begun =
+    let long : length ys ≡ length a.label = label_long g ts ys a.label label in
+    let none : drop i a.label ≡ [] = drop_of_length-le a.label {i = i} (omega (arith, long, l)) in
+    begun_all g us a m number ws (subst (λ (z : Label). AreBegun g us a m number z ws) none begun)

@@ -38,11 +38,11 @@ all_weaker : {A : Type 0} (P Q : A → Type 0) → ((x : A) → P x → Q x) →
 all_weaker P Q f [] h = tt
 all_weaker P Q f (x ∷ xs) h = (f x h.0, all_weaker P Q f xs h.1)
 
-yes_more : (s : Setting) (cs : List Term) (c : Term) (open : Bool) → HaveNoNo s cs open → Decides s yes_decided c → HaveNoNo s (cs ++ c ∷ []) open
+yes_more : (s : Setting) (cs : List Term) (c : Term) (unsure : Bool) → HaveNoNo s cs unsure → Decides s yes_decided c → HaveNoNo s (cs ++ c ∷ []) unsure
 yes_more s cs c true h d = (all_behind (λ (d : Term). Decides s yes_decided d ⊎ IsOpen s d) cs c h.0 (inl d), (h.1.0, (Contains-append_left cs (c ∷ []) h.1.0 h.1.1.0, h.1.1.1)))
 yes_more s cs c false h d = all_behind (Decides s yes_decided) cs c h d
 
-open_more : (s : Setting) (cs : List Term) (c : Term) (open : Bool) → HaveNoNo s cs open → IsOpen s c → HaveNoNo s (cs ++ c ∷ []) true
+open_more : (s : Setting) (cs : List Term) (c : Term) (unsure : Bool) → HaveNoNo s cs unsure → IsOpen s c → HaveNoNo s (cs ++ c ∷ []) true
 open_more s cs c true h d = (
   all_behind (λ (d : Term). Decides s yes_decided d ⊎ IsOpen s d) cs c h.0 (inr d),
   (c, (Contains-append_right cs (c ∷ []) c (contains_first c []), d)),
@@ -52,7 +52,7 @@ open_more s cs c false h d = (
   (c, (Contains-append_right cs (c ∷ []) c (contains_first c []), d)),
 )
 
-pub without_no_come_out : (s : Setting) (cs : List Term) (open : Bool) → HaveNoNo s cs open → ComeOut s cs (cond open stay_open hold)
+pub without_no_come_out : (s : Setting) (cs : List Term) (unsure : Bool) → HaveNoNo s cs unsure → ComeOut s cs (cond unsure stay_open hold)
 without_no_come_out s cs true h = one_is_open h.0 h.1.1.0 h.1.1.1
 without_no_come_out s cs false h = all_hold h
 
@@ -77,13 +77,13 @@ module _ (g : Sig) (ts us : List Tree) (by : List (VarId × TermId)) (grows : Ex
       ∙ ap (map (put (term_in (environment_of g ts by)))) (sym (map-append (term_at g ts) (take i conditions) (this_one ∷ [])))
       ∙ ap (conditions_with g ts by) (sym (take_more conditions i d inside))
 
-  pub yes_turn : (own : List Equation) (fuel bound : ℕ) (open : Bool) → HaveNoNo (setting g own fuel bound) (conditions_with g ts by (take i conditions)) open → IsDecided (data_meant g) own fuel (meant this_one) yes_decided
-      → HaveNoNo (setting g own fuel bound) (conditions_with g ts by (take (i + 1) conditions)) open
-  yes_turn own fuel bound open h k = subst (λ z. HaveNoNo (setting g own fuel bound) z open) taken_more (yes_more (setting g own fuel bound) (conditions_with g ts by (take i conditions)) (meant this_one) open h k)
+  pub yes_turn : (own : List Equation) (fuel bound : ℕ) (unsure : Bool) → HaveNoNo (setting g own fuel bound) (conditions_with g ts by (take i conditions)) unsure → IsDecided (data_meant g) own fuel (meant this_one) yes_decided
+      → HaveNoNo (setting g own fuel bound) (conditions_with g ts by (take (i + 1) conditions)) unsure
+  yes_turn own fuel bound unsure h k = subst (λ z. HaveNoNo (setting g own fuel bound) z unsure) taken_more (yes_more (setting g own fuel bound) (conditions_with g ts by (take i conditions)) (meant this_one) unsure h k)
 
-  pub open_turn : (own : List Equation) (fuel bound : ℕ) (open : Bool) → HaveNoNo (setting g own fuel bound) (conditions_with g ts by (take i conditions)) open → IsOpen (setting g own fuel bound) (meant this_one)
+  pub open_turn : (own : List Equation) (fuel bound : ℕ) (unsure : Bool) → HaveNoNo (setting g own fuel bound) (conditions_with g ts by (take i conditions)) unsure → IsOpen (setting g own fuel bound) (meant this_one)
       → HaveNoNo (setting g own fuel bound) (conditions_with g ts by (take (i + 1) conditions)) true
-  open_turn own fuel bound open h k = subst (λ z. HaveNoNo (setting g own fuel bound) z true) taken_more (open_more (setting g own fuel bound) (conditions_with g ts by (take i conditions)) (meant this_one) open h k)
+  open_turn own fuel bound unsure h k = subst (λ z. HaveNoNo (setting g own fuel bound) z true) taken_more (open_more (setting g own fuel bound) (conditions_with g ts by (take i conditions)) (meant this_one) unsure h k)
 
   pub no_turn : (own : List Equation) (fuel bound : ℕ) → IsDecided (data_meant g) own fuel (meant this_one) no_decided → ComeOut (setting g own fuel bound) (conditions_with g ts by conditions) fail
   no_turn own fuel bound h =

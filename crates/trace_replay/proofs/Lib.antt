@@ -22,4 +22,5 @@ pub mod ValueRuns
 pub mod VerdictLaws
 pub mod WayEnvironments
 pub mod WayLemmas
+pub mod WaysInCode
 pub mod WholeReplays

@@ -98,11 +98,11 @@ module _ (g : Sig) (own : List Equation) (fuel bound : ℕ) where
     combination_listed vs c = subst (λ (z : List (List Term)). Contains z vs) (sym all_combinations) (in_contains (in_listed e xs values.listed values.each c))
 
     -- its sums and all combinations are all that is looked at
-    pub summand_tried : (l : Linear) (a : Summand) (state cs : List Term) → a.sums ≡ map (bound_at e) xs → (old new : List State) (open : Bool) → AreTried (setting g own fuel bound) (OfCombinations l a state cs (map (map (term_at g ts)) (combinations lists))) old new open
-        → AreTried (setting g own fuel bound) (OfSummand (setting g own fuel bound) l a state cs) old new (cut || open)
-    summand_tried l a state cs sums old new open h =
+    pub summand_tried : (l : Linear) (a : Summand) (state cs : List Term) → a.sums ≡ map (bound_at e) xs → (old new : List State) (unsure : Bool) → AreTried (setting g own fuel bound) (OfCombinations l a state cs (map (map (term_at g ts)) (combinations lists))) old new unsure
+        → AreTried (setting g own fuel bound) (OfSummand (setting g own fuel bound) l a state cs) old new (cut || unsure)
+    summand_tried l a state cs sums old new unsure h =
         let s : Setting = setting g own fuel bound in
-        tried_both s (OfSummand s l a state cs) (OfSums (map (bound_at e) xs)) (OfCombinations l a state cs (map (map (term_at g ts)) (combinations lists))) old old new cut open
+        tried_both s (OfSummand s l a state cs) (OfSums (map (bound_at e) xs)) (OfCombinations l a state cs (map (map (term_at g ts)) (combinations lists))) old old new cut unsure
         (cases l a state cs sums)
         (λ t c. subst (OfSummand s l a state cs) (sym c.1.1) (its_sum (subst (λ (ys : List Bound). Contains ys c.0) (sym sums) c.1.0)))
         (λ t c. subst (OfSummand s l a state cs) (sym c.1.1) (with_values (subst (λ (ys : List Bound). AreListed s ys c.0) (sym sums) (listed_combination c.0 c.1.0))))

@@ -30,11 +30,11 @@ module _ (same : Vec TermId Global → Vec TermId Global → Bool) (tells : (x y
 
   any_there : (k : Vec TermId Global) (ks : List (Vec TermId Global)) → list_any (same k) ks ≡ true → Contains (items_of ks) k.items
   any_there k [] e = absurd (cc e)
-  any_there k (x ∷ xs) e = by_first (same k x) refl e
+  any_there k (x ∷ xs) e = by_first (same k x) refl e (λ later. any_there k xs later)
     where
-      by_first : (b : Bool) → same k x ≡ b → (same k x || list_any (same k) xs) ≡ true → Contains (items_of (x ∷ xs)) k.items
-      by_first true q h = subst (Contains (items_of (x ∷ xs))) (sym (tells k x q)) (contains_first x.items (items_of xs))
-      by_first false q h = contains_later x.items k.items (items_of xs) (any_there k xs (subst (λ (b : Bool). (b || list_any (same k) xs) ≡ true) q h))
+      by_first : (b : Bool) → same k x ≡ b → (same k x || list_any (same k) xs) ≡ true → (list_any (same k) xs ≡ true → Contains (items_of xs) k.items) → Contains (items_of (x ∷ xs)) k.items
+      by_first true q h further = subst (Contains (items_of (x ∷ xs))) (sym (tells k x q)) (contains_first x.items (items_of xs))
+      by_first false q h further = contains_later x.items k.items (items_of xs) (further (subst (λ (b : Bool). (b || list_any (same k) xs) ≡ true) q h))
 
   abbrev IsAdded : Vec TermId Global → List (Vec TermId Global) → List (Vec TermId Global) → Type 0
   IsAdded k old new = (ids : List TermId) → Contains (items_of new) ids ↔ (Contains (items_of old) ids ⊎ (ids ≡ k.items))

@@ -119,9 +119,9 @@ module _ (g : Sig) (own : List Equation) (fuel bound : ℕ) (ts us : List Tree) 
       (tried_failing (setting g own fuel bound) (conditions_with g ts by conditions) (put_next (environment_of g ts by) (summand_of (entries_of g ts) s).next) (meant_states g ts old) fails)
 
   pub tried_left_open : ComeOut (setting g own fuel bound) (conditions_with g ts by conditions) stay_open → AreTried (setting g own fuel bound) this_attempt (meant_states g ts old) (meant_states g us old) true
-  tried_left_open open =
+  tried_left_open unsure =
       subst (λ (os : List State). AreTried (setting g own fuel bound) this_attempt (meant_states g ts old) os true) (sym (states_kept g ts us grows old stand))
-      (tried_open (setting g own fuel bound) (attempt_with g ts by conditions s) (meant_states g ts old) open)
+      (tried_open (setting g own fuel bound) (attempt_with g ts by conditions s) (meant_states g ts old) unsure)
 
 -- ---- combinations one after the other
 pub combinations_first : (s : Setting) (l : Linear) (a : Summand) (ts cs : List Term) (os : List State) → AreTried s (OfCombinations l a ts cs []) os os false
@@ -149,19 +149,19 @@ listed_over g stands ts xs ps lists closed state over c among by e =
 -- a turn of the loop over the combinations
 pub combination_turn : (g : Sig) → IsSignature g → (own : List Equation) (fuel bound : ℕ) (ts us : List Tree) → Extends ts us → (l : PlainLinear) (s : PlainSummand) (conditions : List TermId) → All (IsTerm g ts) conditions → IfSome s.next (All (IsTerm g ts)) → (state : List TermId) → All (IsTerm g ts) state
     → (lists : List (List TermId)) → AreListsFor g ts s.sums lists → (done now left : List (List TermId)) (c : List TermId) (by : List (VarId × TermId)) → combinations lists ≡ done ++ now → now ≡ c ∷ left → by ≡ zip s.sums c ++ zip l.params state
-    → (old mid new : List State) (before open after : Bool) → after ≡ (before || open)
+    → (old mid new : List State) (before unsure after : Bool) → after ≡ (before || unsure)
     → AreTried (setting g own fuel bound) (OfCombinations (linear_of (entries_of g ts) l) (summand_of (entries_of g ts) s) (map (term_at g ts) state) (map (term_at g ts) conditions) (map (map (term_at g ts)) done)) old mid before
-    → AreTried (setting g own fuel bound) (λ a. a ≡ attempt_with g us by conditions s) mid new open
+    → AreTried (setting g own fuel bound) (λ a. a ≡ attempt_with g us by conditions s) mid new unsure
     → AreTried (setting g own fuel bound) (OfCombinations (linear_of (entries_of g ts) l) (summand_of (entries_of g ts) s) (map (term_at g ts) state) (map (term_at g ts) conditions) (map (map (term_at g ts)) (done ++ c ∷ []))) old new after
-combination_turn g stands own fuel bound ts us grows l s conditions over next state state_over lists closed done now left c by split one e old mid new before open after is h k =
+combination_turn g stands own fuel bound ts us grows l s conditions over next state state_over lists closed done now left c by split one e old mid new before unsure after is h k =
     let L : Linear = linear_of (entries_of g ts) l in
     let A : Summand = summand_of (entries_of g ts) s in
     let listed : All (IsTerm g ts) (listed_terms by) = listed_over g stands ts s.sums l.params lists closed state state_over c (one_of_all (combinations lists) done now left c split one) by e in
     let same : attempt_with g us by conditions s ≡ combination_at L A (map (term_at g ts) state) (map (term_at g ts) conditions) (map (term_at g ts) c) =
     attempt_kept g ts us grows by listed conditions over s next (next_stays_over g ts us s.next grows next) ∙ attempt_meant g ts l s c state by conditions e in
     subst (λ (d : Bool). AreTried (setting g own fuel bound) (OfCombinations L A (map (term_at g ts) state) (map (term_at g ts) conditions) (map (map (term_at g ts)) (done ++ c ∷ []))) old new d) (sym is)
-    (subst (λ (z : List (List Term)). AreTried (setting g own fuel bound) (OfCombinations L A (map (term_at g ts) state) (map (term_at g ts) conditions) z) old new (before || open)) (sym (map-append (map (term_at g ts)) done (c ∷ [])))
-    (combinations_more (setting g own fuel bound) L A (map (term_at g ts) state) (map (term_at g ts) conditions) (map (map (term_at g ts)) done) (map (term_at g ts) c) (attempt_with g us by conditions s) old mid new before open same h k))
+    (subst (λ (z : List (List Term)). AreTried (setting g own fuel bound) (OfCombinations L A (map (term_at g ts) state) (map (term_at g ts) conditions) z) old new (before || unsure)) (sym (map-append (map (term_at g ts)) done (c ∷ [])))
+    (combinations_more (setting g own fuel bound) L A (map (term_at g ts) state) (map (term_at g ts) conditions) (map (map (term_at g ts)) done) (map (term_at g ts) c) (attempt_with g us by conditions s) old mid new before unsure same h k))
 
 pub split_on : {A : Type 0} (all done now left : List A) (c : A) → all ≡ done ++ now → now ≡ c ∷ left → all ≡ (done ++ c ∷ []) ++ left
 split_on {A} all done now left c e q = e ∙ ap (λ (z : List A). done ++ z) q ∙ sym (append_assoc done (c ∷ []) left)

@@ -8,6 +8,7 @@ use Rattle.std.proofs.lemmas.List.Elements.{All-contains, All-get_or, Contains-a
 use Rattle.std.proofs.lemmas.Option.{slice_get_within, get_or_from_slice_get, slice_get-get_or}
 use Rattle.bisim_laws.proofs.Firing.{contains_first, contains_cases, contains_none}
 use Rattle.data_theory.specs.declared.ids.TermId.{TermId}
+use Rattle.data_theory.specs.IdData.{data_meant}
 use Rattle.data_theory.specs.IdTrees.{Tree}
 use Rattle.data_theory.specs.Provable.{Equation}
 use Rattle.data_theory.specs.Signature.{Sig}
@@ -15,26 +16,30 @@ use Rattle.data_theory.specs.Terms.{Term}
 use Rattle.data_theory.specs.WholeSignatures.{IsSignature}
 use Rattle.term_pool.specs.Pools.{Extends}
 use Rattle.data_rewriter.specs.Standing.{IsTerm, term_at}
+use Rattle.process_terms.specs.Labels.{Label}
 use Rattle.process_terms.specs.SignatureEntries.{entries_of}
 use Rattle.bisim_laws.specs.LinearProcesses.{Summand, Linear}
 use Rattle.lps_core.specs.declared.linears.Summand.{Summand as CodeSummand}
 use Rattle.lps_core.specs.Fitting.{Fits, SummandFits}
 use Rattle.lps_core.specs.PlainLinears.{PlainSummand, PlainLinear, plain_summand, linear_of, summand_of}
-use Rattle.lps_core.proofs.Members.{map_contains, contains_map}
+use Rattle.lps_core.proofs.Members.{all_from, map_contains, contains_map}
 use Rattle.lps_core.proofs.Staying.{read_mapped, what_fits_stays, summand_stays}
 use Rattle.lps_core.proofs.PoolTrees.{extends_on}
 use Rattle.lps_simulator.specs.Combinations.{combinations}
 use Rattle.lps_simulator.specs.SumValues.{AreSumValues}
+use Rattle.lps_simulator.proofs.Bindings.{terms_stay}
 use Rattle.lps_simulator.proofs.TriedSummands.{both_grow}
 use Rattle.trace_replay.specs.declared.states.States.{States}
 use Rattle.trace_replay.specs.declared.ways.Way.{Way}
 use Rattle.trace_replay.specs.Settings.{Setting}
-use Rattle.trace_replay.specs.Replays.{State}
+use Rattle.trace_replay.specs.Pairings.{IsClosedLabel}
+use Rattle.trace_replay.specs.Replays.{State, LeadTo}
 use Rattle.trace_replay.specs.Attempts.{Attempt, OfCombinations, OfSummand, AreTried}
 use Rattle.trace_replay.specs.DecidedConditions.{setting}
 use Rattle.trace_replay.specs.States.{running, ended_state, plain_states, meant_state, meant_states, StateStands, StatesStand}
-use Rattle.trace_replay.specs.Ways.{PlainWay, plain_way, no_summand, summand_at, OfWays, InStates, WayStands}
+use Rattle.trace_replay.specs.Ways.{PlainWay, plain_way, no_summand, summand_at, AreWays, OfWays, InStates, WayStands}
 use Rattle.trace_replay.proofs.Attempted.{tried_none, tried_both, tried_as}
+use Rattle.trace_replay.proofs.LabelLeads.{label_leads}
 use Rattle.trace_replay.proofs.ListedCombinations.{summand_tried}
 use Rattle.trace_replay.proofs.StateLemmas.{states_kept, terms_kept}
 
@@ -156,59 +161,72 @@ ways_taken ways i w inside is =
 
 -- a summand, whose sums are listed first
 pub summand_turn : (g : Sig) → IsSignature g → (own : List Equation) (fuel bound : ℕ) (ts us : List Tree) → Extends ts us → (l : PlainLinear) → Fits g ts l → (s : PlainSummand) → Contains l.summands s → (conditions : List TermId) → All (IsTerm g ts) conditions → (state : List TermId) → All (IsTerm g ts) state
-    → (lists : List (List TermId)) (cut : Bool) → AreSumValues g bound us s.sums lists cut → (to : States) → StatesStand g ts to → (new : List State) (open after : Bool) → after ≡ (cut || open)
-    → AreTried (setting g own fuel bound) (OfCombinations (linear_of (entries_of g us) l) (summand_of (entries_of g us) s) (map (term_at g us) state) (map (term_at g us) conditions) (map (map (term_at g us)) (combinations lists))) (meant_states g us to) new open
+    → (lists : List (List TermId)) (cut : Bool) → AreSumValues g bound us s.sums lists cut → (to : States) → StatesStand g ts to → (new : List State) (unsure after : Bool) → after ≡ (cut || unsure)
+    → AreTried (setting g own fuel bound) (OfCombinations (linear_of (entries_of g us) l) (summand_of (entries_of g us) s) (map (term_at g us) state) (map (term_at g us) conditions) (map (map (term_at g us)) (combinations lists))) (meant_states g us to) new unsure
     → AreTried (setting g own fuel bound) (OfSummand (setting g own fuel bound) (linear_of (entries_of g ts) l) (summand_of (entries_of g ts) s) (map (term_at g ts) state) (map (term_at g ts) conditions)) (meant_states g ts to) new after
-summand_turn g stands own fuel bound ts us grows l fits s among conditions over state state_over lists cut values to stand new open after is h =
+summand_turn g stands own fuel bound ts us grows l fits s among conditions over state state_over lists cut values to stand new unsure after is h =
     let q : Setting = setting g own fuel bound in
-    let all : AreTried q (OfSummand q (linear_of (entries_of g us) l) (summand_of (entries_of g us) s) (map (term_at g us) state) (map (term_at g us) conditions)) (meant_states g us to) new (cut || open) =
-    summand_tried g own fuel bound (entries_of g us) s.sums us lists cut values (linear_of (entries_of g us) l) (summand_of (entries_of g us) s) (map (term_at g us) state) (map (term_at g us) conditions) refl (meant_states g us to) new open h in
+    let all : AreTried q (OfSummand q (linear_of (entries_of g us) l) (summand_of (entries_of g us) s) (map (term_at g us) state) (map (term_at g us) conditions)) (meant_states g us to) new (cut || unsure) =
+    summand_tried g own fuel bound (entries_of g us) s.sums us lists cut values (linear_of (entries_of g us) l) (summand_of (entries_of g us) s) (map (term_at g us) state) (map (term_at g us) conditions) refl (meant_states g us to) new unsure h in
     summand_as q (linear_of (entries_of g us) l) (linear_of (entries_of g ts) l) (summand_of (entries_of g us) s) (summand_of (entries_of g ts) s) (map (term_at g us) state) (map (term_at g ts) state) (map (term_at g us) conditions) (map (term_at g ts) conditions) (meant_states g ts to) new after
     (linear_kept g stands ts us l grows fits)
     (summand_kept g stands ts us l s grows fits among)
     (terms_kept g ts us grows state state_over)
     (terms_kept g ts us grows conditions over)
     (subst (λ (d : Bool). AreTried q (OfSummand q (linear_of (entries_of g us) l) (summand_of (entries_of g us) s) (map (term_at g us) state) (map (term_at g us) conditions)) (meant_states g ts to) new d) (sym is)
-    (subst (λ (os : List State). AreTried q (OfSummand q (linear_of (entries_of g us) l) (summand_of (entries_of g us) s) (map (term_at g us) state) (map (term_at g us) conditions)) os new (cut || open)) (states_kept g ts us grows to stand) all))
+    (subst (λ (os : List State). AreTried q (OfSummand q (linear_of (entries_of g us) l) (summand_of (entries_of g us) s) (map (term_at g us) state) (map (term_at g us) conditions)) os new (cut || unsure)) (states_kept g ts us grows to stand) all))
 
 -- one way more: it is tried over a later pool
 pub way_turn : (g : Sig) → IsSignature g → (own : List Equation) (fuel bound : ℕ) (ts us : List Tree) → Extends ts us → (l : PlainLinear) → Fits g ts l → (summands : List CodeSummand) → l.summands ≡ map plain_summand summands → (state : List TermId) → All (IsTerm g ts) state → (ways : List Way) (i : ℕ) (w : Way) → i < length ways → w ≡ get_or ways i w
-    → All (WayStands g ts (length summands)) (map plain_way ways) → (a : CodeSummand) → a ≡ get_or summands w.summand a → (old mid new : List State) (before open after : Bool) → after ≡ (before || open)
+    → All (WayStands g ts (length summands)) (map plain_way ways) → (a : CodeSummand) → a ≡ get_or summands w.summand a → (old mid new : List State) (before unsure after : Bool) → after ≡ (before || unsure)
     → AreTried (setting g own fuel bound) (OfWays g ts (setting g own fuel bound) (linear_of (entries_of g ts) l) (map (term_at g ts) state) (map plain_way (take i ways))) old mid before
-    → AreTried (setting g own fuel bound) (OfSummand (setting g own fuel bound) (linear_of (entries_of g us) l) (summand_of (entries_of g us) (plain_summand a)) (map (term_at g us) state) (map (term_at g us) w.conditions.items)) mid new open
+    → AreTried (setting g own fuel bound) (OfSummand (setting g own fuel bound) (linear_of (entries_of g us) l) (summand_of (entries_of g us) (plain_summand a)) (map (term_at g us) state) (map (term_at g us) w.conditions.items)) mid new unsure
     → AreTried (setting g own fuel bound) (OfWays g ts (setting g own fuel bound) (linear_of (entries_of g ts) l) (map (term_at g ts) state) (map plain_way (take (i + 1) ways))) old new after
-way_turn g stands own fuel bound ts us grows l fits summands same state state_over ways i w inside is stand a at old mid new before open after d h k =
+way_turn g stands own fuel bound ts us grows l fits summands same state state_over ways i w inside is stand a at old mid new before unsure after d h k =
     let q : Setting = setting g own fuel bound in
     let L : Linear = linear_of (entries_of g ts) l in
     let ok : WayStands g ts (length summands) (plain_way w) = way_stands g ts summands ways i w inside is stand in
     let here : summand_of (entries_of g us) (plain_summand a) ≡ summand_at L w.summand =
     summand_in g us l summands w.summand a same ok.number at ∙ ap (λ (z : Linear). summand_at z w.summand) (linear_kept g stands ts us l grows fits) in
-    let one : AreTried q (OfSummand q L (summand_at L w.summand) (map (term_at g ts) state) (map (term_at g ts) w.conditions.items)) mid new open =
-    summand_as q (linear_of (entries_of g us) l) L (summand_of (entries_of g us) (plain_summand a)) (summand_at L w.summand) (map (term_at g us) state) (map (term_at g ts) state) (map (term_at g us) w.conditions.items) (map (term_at g ts) w.conditions.items) mid new open
+    let one : AreTried q (OfSummand q L (summand_at L w.summand) (map (term_at g ts) state) (map (term_at g ts) w.conditions.items)) mid new unsure =
+    summand_as q (linear_of (entries_of g us) l) L (summand_of (entries_of g us) (plain_summand a)) (summand_at L w.summand) (map (term_at g us) state) (map (term_at g ts) state) (map (term_at g us) w.conditions.items) (map (term_at g ts) w.conditions.items) mid new unsure
     (linear_kept g stands ts us l grows fits) here (terms_kept g ts us grows state state_over) (terms_kept g ts us grows w.conditions.items ok.over) k in
     subst (λ (b : Bool). AreTried q (OfWays g ts q L (map (term_at g ts) state) (map plain_way (take (i + 1) ways))) old new b) (sym d)
-    (subst (λ (ws : List PlainWay). AreTried q (OfWays g ts q L (map (term_at g ts) state) ws) old new (before || open)) (ways_taken ways i w inside is)
-    (ways_one_more g ts q L (map (term_at g ts) state) (map plain_way (take i ways)) (plain_way w) old mid new before open h one))
+    (subst (λ (ws : List PlainWay). AreTried q (OfWays g ts q L (map (term_at g ts) state) ws) old new (before || unsure)) (ways_taken ways i w inside is)
+    (ways_one_more g ts q L (map (term_at g ts) state) (map plain_way (take i ways)) (plain_way w) old mid new before unsure h one))
 
 -- one state more: its ways are tried over a later pool
 pub state_turn : (g : Sig) → IsSignature g → (own : List Equation) (fuel bound : ℕ) (ts us vs : List Tree) → Extends ts us → Extends us vs → (l : PlainLinear) → Fits g ts l → (states : States) (i : ℕ) (key : Vec TermId Global) → slice_get states.running.keys i ≡ Some key → StatesStand g ts states → (ids : List TermId) → ids ≡ key.items
-    → (ws : List PlainWay) → ((w : PlainWay) → Contains ws w → All (IsTerm g us) w.conditions) → (old mid new : List State) (before open after : Bool) → after ≡ (before || open)
+    → (ws : List PlainWay) → ((w : PlainWay) → Contains ws w → All (IsTerm g us) w.conditions) → (old mid new : List State) (before unsure after : Bool) → after ≡ (before || unsure)
     → AreTried (setting g own fuel bound) (InRunning g us (setting g own fuel bound) (linear_of (entries_of g ts) l) (map (map (term_at g ts)) (take i (running states))) ws) old mid before
-    → AreTried (setting g own fuel bound) (OfWays g vs (setting g own fuel bound) (linear_of (entries_of g vs) l) (map (term_at g vs) ids) ws) mid new open
+    → AreTried (setting g own fuel bound) (OfWays g vs (setting g own fuel bound) (linear_of (entries_of g vs) l) (map (term_at g vs) ids) ws) mid new unsure
     → AreTried (setting g own fuel bound) (InRunning g us (setting g own fuel bound) (linear_of (entries_of g ts) l) (map (map (term_at g ts)) (take (i + 1) (running states))) ws) old new after
-state_turn g stands own fuel bound ts us vs grows later l fits states i key at stand ids is ws over old mid new before open after d h k =
+state_turn g stands own fuel bound ts us vs grows later l fits states i key at stand ids is ws over old mid new before unsure after d h k =
     let q : Setting = setting g own fuel bound in
     let L : Linear = linear_of (entries_of g ts) l in
     let all : Extends ts vs = extends_on ts us vs grows later in
     let state : List Term = map (term_at g ts) key.items in
-    let one : AreTried q (OfWays g us q L state ws) mid new open =
-    ways_as g us vs q L (linear_of (entries_of g vs) l) state (map (term_at g vs) ids) ws mid new open later over (linear_kept g stands ts vs l all fits)
+    let one : AreTried q (OfWays g us q L state ws) mid new unsure =
+    ways_as g us vs q L (linear_of (entries_of g vs) l) state (map (term_at g vs) ids) ws mid new unsure later over (linear_kept g stands ts vs l all fits)
     (ap (map (term_at g vs)) is ∙ terms_kept g ts vs all key.items (state_stands g ts states i key at stand)) k in
     subst (λ (b : Bool). AreTried q (InRunning g us q L (map (map (term_at g ts)) (take (i + 1) (running states))) ws) old new b) (sym d)
-    (subst (λ (z : List (List Term)). AreTried q (InRunning g us q L z ws) old new (before || open)) (sym (map-append (map (term_at g ts)) (take i (running states)) (key.items ∷ [])) ∙ ap (map (map (term_at g ts))) (running_taken states i key at))
-    (running_more g us q L (map (map (term_at g ts)) (take i (running states))) state ws old mid new before open h one))
+    (subst (λ (z : List (List Term)). AreTried q (InRunning g us q L z ws) old new (before || unsure)) (sym (map-append (map (term_at g ts)) (take i (running states)) (key.items ∷ [])) ∙ ap (map (map (term_at g ts))) (running_taken states i key at))
+    (running_more g us q L (map (map (term_at g ts)) (take i (running states))) state ws old mid new before unsure h one))
 
 -- the summand at an index is one of the process
 pub summand_among : (l : PlainLinear) (summands : List CodeSummand) (i : ℕ) (a : CodeSummand) → l.summands ≡ map plain_summand summands → i < length summands → a ≡ get_or summands i a → Contains l.summands (plain_summand a)
 summand_among l summands i a same inside is =
     subst (λ (xs : List PlainSummand). Contains xs (plain_summand a)) (sym same) (map_contains plain_summand summands a (subst (λ (z : CodeSummand). Contains summands z) (sym is) (Contains-get_or summands i a inside)))
+
+pub ways_stand : (g : Sig) (ts us : List Tree) → Extends ts us → (l : Linear) (m : Label) (count : ℕ) (ws : List PlainWay) → AreWays g ts l m count ws → All (WayStands g us count) ws
+ways_stand g ts us grows l m count ws h = all_from (WayStands g us count) ws (λ w c. record { number = h.number w c; over = terms_stay g ts us w.conditions grows (h.over w c) })
+
+-- what was tried in all states says where the label leads
+pub label_done : (g : Sig) (own : List Equation) (fuel bound : ℕ) (ts us : List Tree) (l : PlainLinear) (summands : List CodeSummand) → l.summands ≡ map plain_summand summands → (m : Label) → IsClosedLabel (data_meant g) m → (states : States) (ws : List PlainWay)
+    → AreWays g us (linear_of (entries_of g ts) l) m (length summands) ws → (to : List State) (doubt : Bool)
+    → AreTried (setting g own fuel bound) (InRunning g us (setting g own fuel bound) (linear_of (entries_of g ts) l) (map (map (term_at g ts)) (running states)) ws) [] to doubt
+    → LeadTo (setting g own fuel bound) (linear_of (entries_of g ts) l) m (meant_states g ts states) to doubt
+label_done g own fuel bound ts us l summands same m closed states ws ways to doubt h =
+    let L : Linear = linear_of (entries_of g ts) l in
+    let many : length summands ≡ length L.summands = sym (length-map summands plain_summand) ∙ ap length (sym same) ∙ sym (length-map l.summands (summand_of (entries_of g ts))) in
+    label_leads g us (setting g own fuel bound) L m (meant_states g ts states) to doubt ws closed (subst (λ (n : ℕ). AreWays g us L m n ws) many ways) (all_states_tried g ts us (setting g own fuel bound) L states ws [] to doubt h)

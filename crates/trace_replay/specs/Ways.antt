@@ -77,8 +77,8 @@ abbrev pub HasPairing : Sig → List Tree → Summand → Label → PlainWay →
 HasPairing g ts a m w = (p : Pairing a.label m) × (map (term_at g ts) w.conditions ≡ open_conditions a p.paired)
 
 -- a way for each pairing of a summand with the label, and no others
-pub record AreWaysOf (g : Sig) (ts : List Tree) (a : Summand) (m : Label) (number : ℕ) (ws : List PlainWay) : Type 0 where
-  pub number : (w : PlainWay) → Contains ws w → w.summand ≡ number
+pub record AreWaysOf (g : Sig) (ts : List Tree) (a : Summand) (m : Label) (n : ℕ) (ws : List PlainWay) : Type 0 where
+  pub number : (w : PlainWay) → Contains ws w → w.summand ≡ n
   pub over : (w : PlainWay) → Contains ws w → All (IsTerm g ts) w.conditions
   pub sound : (w : PlainWay) → Contains ws w → HasPairing g ts a m w
   pub complete : (p : Pairing a.label m) → (w : PlainWay) × (Contains ws w × (map (term_at g ts) w.conditions ≡ open_conditions a p.paired))
@@ -105,8 +105,8 @@ InStates g ts s l states ws t = (state : List Term) × (Contains states (Some st
 
 -- ---- ways that are begun
 -- what is left to be paired: the conditions so far go on to those of a pairing, by any order of what is left that is alike with the rest
-pub record AreBegun (g : Sig) (ts : List Tree) (a : Summand) (m : Label) (number : ℕ) (rest : Label) (ws : List PlainWay) : Type 0 where
-  pub number : (w : PlainWay) → Contains ws w → w.summand ≡ number
+pub record AreBegun (g : Sig) (ts : List Tree) (a : Summand) (m : Label) (k : ℕ) (rest : Label) (ws : List PlainWay) : Type 0 where
+  pub number : (w : PlainWay) → Contains ws w → w.summand ≡ k
   pub over : (w : PlainWay) → Contains ws w → All (IsTerm g ts) w.conditions
   pub within : (w : PlainWay) → Contains ws w → All (λ (place : ℕ). place < length m) w.left
   pub count : (w : PlainWay) → Contains ws w → length w.left ≡ length rest

@@ -29,10 +29,10 @@ pub(crate) enum Answer {
 }
 
 /// How conditions come out of which none is decided `No`.
-fn without_no(open: bool) -> Answer
-    ensures { answer_of result ≡ cond open stay_open hold }
+fn without_no(is_open: bool) -> Answer
+    ensures { answer_of result ≡ cond is_open stay_open hold }
 {
-    if open {
+    if is_open {
         return Answer::Open;
     }
     Answer::Hold
@@ -59,14 +59,14 @@ pub(crate) fn decide_all<F: Fn(NumOp, Num, Num) -> Option<Num>>(
     ensures kept { Keeps sig.now pool.old.trees pool.new.trees rewriter.old rewriter.new }
     ensures comes { IfOk result (λ answer. (own : List Equation) (bound : ℕ) → Fits rewriter.old sig.now own pool.old.trees → ComeOut (setting sig.now own fuel bound) (conditions_with sig.now pool.old.trees by.now conditions.now) (answer_of answer)) }
 {
-    let mut open = false;
+    let mut is_open = false;
     for condition in conditions {
         match decide_with(sig, pool, rewriter, *condition, by, fuel)? {
             Truth::Yes => continue,
             Truth::No => return Ok(Answer::Fail),
-            Truth::Stuck(_) => open = true,
-            Truth::Spent(_) => open = true,
+            Truth::Stuck(_) => is_open = true,
+            Truth::Spent(_) => is_open = true,
         }
     }
-    Ok(without_no(open))
+    Ok(without_no(is_open))
 }

@@ -65,7 +65,7 @@ fn try_with<F: Fn(NumOp, Num, Num) -> Option<Num>>(
     requires states { StatesStand sig.now pool.old.trees to.old }
     ensures kept { Keeps sig.now pool.old.trees pool.new.trees rewriter.old rewriter.new }
     ensures states { OnOk result (StatesStand sig.now pool.new.trees to.new) }
-    ensures tried { IfOk result (λ open. (own : List Equation) (bound : ℕ) → FitsPool rewriter.old sig.now own pool.old.trees → AreTried (setting sig.now own fuel bound) (λ a. a ≡ attempt_with sig.now pool.old.trees by.now conditions.now (plain_summand summand.now)) (meant_states sig.now pool.old.trees to.old) (meant_states sig.now pool.new.trees to.new) open) }
+    ensures tried { IfOk result (λ is_open. (own : List Equation) (bound : ℕ) → FitsPool rewriter.old sig.now own pool.old.trees → AreTried (setting sig.now own fuel bound) (λ a. a ≡ attempt_with sig.now pool.old.trees by.now conditions.now (plain_summand summand.now)) (meant_states sig.now pool.old.trees to.old) (meant_states sig.now pool.new.trees to.new) is_open) }
 {
     match decide_all(sig, pool, rewriter, conditions, by, fuel)? {
         Answer::Hold => {
@@ -110,7 +110,7 @@ fn try_combinations<F: Fn(NumOp, Num, Num) -> Option<Num>>(
     let mut doubt = false;
     while let Some(combination) = combinations.next(alloc)? {
         let by = bindings(alloc, sums, combination.as_slice(), params, state)?;
-        let open = try_with(
+        let is_open = try_with(
             alloc,
             sig,
             pool,
@@ -121,7 +121,7 @@ fn try_combinations<F: Fn(NumOp, Num, Num) -> Option<Num>>(
             fuel,
             to,
         )?;
-        doubt = either(doubt, open);
+        doubt = either(doubt, is_open);
     }
     Ok(doubt)
 }
@@ -154,10 +154,10 @@ fn try_summand<F: Fn(NumOp, Num, Num) -> Option<Num>>(
 {
     signature_stands(sig);
     let SumValues { lists, cut } = sum_values(alloc, sig, pool, summand.sums.as_slice(), bound)?;
-    let open = try_combinations(
+    let is_open = try_combinations(
         alloc, sig, pool, rewriter, lin, state, summand, conditions, lists, fuel, to,
     )?;
-    Ok(either(cut, open))
+    Ok(either(cut, is_open))
 }
 
 /// Tries these ways in a state, and adds the states to which they lead. Whether there is doubt.
@@ -188,10 +188,10 @@ fn try_ways<F: Fn(NumOp, Num, Num) -> Option<Num>>(
     for way in ways {
         let summand = &lin.summands[way.summand];
         let conditions = way.conditions.as_slice();
-        let open = try_summand(
+        let is_open = try_summand(
             alloc, sig, pool, rewriter, lin, state, summand, conditions, fuel, bound, to,
         )?;
-        doubt = either(doubt, open);
+        doubt = either(doubt, is_open);
     }
     Ok(doubt)
 }
@@ -227,7 +227,7 @@ pub(crate) fn lead<F: Fn(NumOp, Num, Num) -> Option<Num>>(
     let mut doubt = false;
     for number in 0..states.running.len() {
         let state = states.running[number].as_slice();
-        let open = try_ways(
+        let is_open = try_ways(
             alloc,
             sig,
             pool,
@@ -239,7 +239,7 @@ pub(crate) fn lead<F: Fn(NumOp, Num, Num) -> Option<Num>>(
             bound,
             &mut to,
         )?;
-        doubt = either(doubt, open);
+        doubt = either(doubt, is_open);
     }
     *states = to;
     Ok(doubt)

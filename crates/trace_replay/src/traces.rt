@@ -64,7 +64,7 @@ fn replay_lines<F: Fn(NumOp, Num, Num) -> Option<Num>>(
     signature_stands(sig);
     let mut doubt = false;
     for line in lines {
-        let open = lead(
+        let is_open = lead(
             alloc,
             sig,
             pool,
@@ -75,7 +75,7 @@ fn replay_lines<F: Fn(NumOp, Num, Num) -> Option<Num>>(
             bound,
             states,
         )?;
-        doubt = either(doubt, open);
+        doubt = either(doubt, is_open);
         if states.is_empty() {
             return Ok(verdict_at(line.number, doubt));
         }

@@ -28,3 +28,15 @@ decide_with-requires-clause-term g c =
 
 pub decide_with-requires-clause-listed : goal.decide_with-requires-clause-listed
 decide_with-requires-clause-listed g c = terms_stay c.args.sig.now c.args.pool.now.trees c.loop-condition.pool.trees (listed_terms c.args.by.now) c.loop-condition.invariant.kept.pool c.requires.listed
+
+pub loop-condition-preserved-in-Yes : goal.loop-condition-preserved-in-Yes
+loop-condition-preserved-in-Yes g c = ?
+
+pub returns-in-No-clause-comes : goal.returns-in-No-clause-comes
+returns-in-No-clause-comes g c = ?
+
+pub loop-condition-preserved : goal.loop-condition-preserved
+loop-condition-preserved g c = ?
+
+pub returns-clause-comes : goal.returns-clause-comes
+returns-clause-comes g c = ?

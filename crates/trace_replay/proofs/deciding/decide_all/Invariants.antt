@@ -9,5 +9,5 @@ use Rattle.trace_replay.proofs.deciding.decide_all.Given as goal
 abbrev pub invariant-loop-condition : goal.invariant-loop-condition
 invariant-loop-condition g l = record {
   kept : Keeps l.sig l.fn.pool.trees l.pool.trees l.fn.rewriter l.rewriter;
-  so_far : (own : List Equation) (bound : ℕ) → Fits l.fn.rewriter l.sig own l.fn.pool.trees → HaveNoNo (setting l.sig own l.fuel bound) (conditions_with l.sig l.fn.pool.trees l.by (take l.condition-index l.conditions)) l.open;
+  so_far : (own : List Equation) (bound : ℕ) → Fits l.fn.rewriter l.sig own l.fn.pool.trees → HaveNoNo (setting l.sig own l.fuel bound) (conditions_with l.sig l.fn.pool.trees l.by (take l.condition-index l.conditions)) l.is_open;
 }

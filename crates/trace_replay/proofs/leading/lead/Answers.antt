@@ -16,3 +16,30 @@ use Rattle.trace_replay.proofs.leading.lead.Goals as goal
 
 pub returns-in_err-ways-clause-kept : goal.returns-in_err-ways-clause-kept
 returns-in_err-ways-clause-kept g c = keeps_grown c.args.sig.now c.args.pool.now.trees c.ways.new.pool.trees c.args.rewriter.now c.ways.ensures.kept
+
+pub loop-number-init : goal.loop-number-init
+loop-number-init g c = ?
+
+pub try_ways-requires-clause-known : goal.try_ways-requires-clause-known
+try_ways-requires-clause-known g c = ?
+
+pub try_ways-requires-clause-lin : goal.try_ways-requires-clause-lin
+try_ways-requires-clause-lin g c = ?
+
+pub try_ways-requires-clause-state : goal.try_ways-requires-clause-state
+try_ways-requires-clause-state g c = ?
+
+pub try_ways-requires-clause-ways : goal.try_ways-requires-clause-ways
+try_ways-requires-clause-ways g c = ?
+
+pub returns-in_err-is_open-clause-kept : goal.returns-in_err-is_open-clause-kept
+returns-in_err-is_open-clause-kept g c = ?
+
+pub loop-number-preserved : goal.loop-number-preserved
+loop-number-preserved g c = ?
+
+pub returns-clause-kept : goal.returns-clause-kept
+returns-clause-kept g c = ?
+
+pub returns-clause-leads : goal.returns-clause-leads
+returns-clause-leads g c = ?

@@ -49,8 +49,8 @@ try_with-requires-clause-listed g c =
 pub try_with-requires-clause-states : goal.try_with-requires-clause-states
 try_with-requires-clause-states g c = c.loop-combinations.invariant.states
 
-pub returns-in_err-open-clause-kept : goal.returns-in_err-open-clause-kept
-returns-in_err-open-clause-kept g c = keeps_then c.args.sig.now c.args.pool.now.trees c.loop-combinations.pool.trees c.try_with.new.pool.trees c.args.rewriter.now c.loop-combinations.rewriter c.try_with.new.rewriter c.loop-combinations.invariant.kept c.try_with.ensures.kept
+pub returns-in_err-is_open-clause-kept : goal.returns-in_err-is_open-clause-kept
+returns-in_err-is_open-clause-kept g c = keeps_then c.args.sig.now c.args.pool.now.trees c.loop-combinations.pool.trees c.try_with.new.pool.trees c.args.rewriter.now c.loop-combinations.rewriter c.try_with.new.rewriter c.loop-combinations.invariant.kept c.try_with.ensures.kept
 
 pub same-combinations : goal.same-combinations
 same-combinations g c = refl
@@ -63,15 +63,15 @@ loop-combinations-preserved g c =
     let next = (subst (λ z. MatchOption z (c.loop-combinations.combinations ≡ []) (λ values. c.loop-combinations.combinations ≡ values.items ∷ c.next.new.self)) c.in-Some.is c.in_ok-combination.ensures) in
     record {
       kept = keeps_then c.args.sig.now c.args.pool.now.trees c.loop-combinations.pool.trees c.try_with.new.pool.trees c.args.rewriter.now c.loop-combinations.rewriter c.try_with.new.rewriter c.loop-combinations.invariant.kept c.try_with.ensures.kept;
-      states = c.in_ok-open.ensures.states;
+      states = c.in_ok-is_open.ensures.states;
       done = c.loop-combinations.invariant.done ++ c.in-Some.combination.items ∷ [];
       left = split_on (combinations (rows c.args.lists.items)) c.loop-combinations.invariant.done c.loop-combinations.combinations c.next.new.self c.in-Some.combination.items c.loop-combinations.invariant.left next;
       tried = λ own bound h.
           combination_turn c.args.sig.now c.signature_stands.ensures own c.args.fuel bound c.args.pool.now.trees c.loop-combinations.pool.trees c.loop-combinations.invariant.kept.pool (plain_linear c.args.lin.now) (plain_summand c.args.summand.now) c.args.conditions.now c.requires.conditions c.requires.next c.args.state.now c.requires.state
           (rows c.args.lists.items) c.requires.lists c.loop-combinations.invariant.done c.loop-combinations.combinations c.next.new.self c.in-Some.combination.items c.as_slice-in-Some.result.now c.loop-combinations.invariant.left next
           (c.as_slice-in-Some.ensures.value ∙ by_along c.in_ok-by.by.items c.as_slice-sums.result.now c.args.summand.now.sums.items c.as_slice.result.now c.in-Some.combination.items c.as_slice-params.result.now c.args.lin.now.params.items c.args.state.now c.in_ok-by.ensures c.as_slice-sums.ensures.value c.as_slice.ensures.value c.as_slice-params.ensures.value)
-          (meant_states c.args.sig.now c.args.pool.now.trees c.args.to.now) (meant_states c.args.sig.now c.loop-combinations.pool.trees c.loop-combinations.to) (meant_states c.args.sig.now c.try_with.new.pool.trees c.try_with.new.to) c.loop-combinations.doubt c.in_ok-open.open c.either-doubt.result c.either-doubt.ensures
-          (c.loop-combinations.invariant.tried own bound h) (c.in_ok-open.ensures.tried own bound (c.loop-combinations.invariant.kept.fits own h));
+          (meant_states c.args.sig.now c.args.pool.now.trees c.args.to.now) (meant_states c.args.sig.now c.loop-combinations.pool.trees c.loop-combinations.to) (meant_states c.args.sig.now c.try_with.new.pool.trees c.try_with.new.to) c.loop-combinations.doubt c.in_ok-is_open.is_open c.either-doubt.result c.either-doubt.ensures
+          (c.loop-combinations.invariant.tried own bound h) (c.in_ok-is_open.ensures.tried own bound (c.loop-combinations.invariant.kept.fits own h));
     }
 
 pub returns-clause-tried : goal.returns-clause-tried

@@ -1,4 +1,4 @@
-use Rattle.std.proofs.Common.{◌≡◌, ◌++◌, ◌×◌, ℕ, List, map, length}
+use Rattle.std.proofs.Common.{◌≡◌, ◌++◌, ℕ, List, map, length}
 use Rattle.data_theory.specs.declared.ids.TermId.{TermId}
 use Rattle.data_theory.specs.Provable.{Equation}
 use Rattle.data_rewriter.specs.Rewriters.{Fits as FitsPool}

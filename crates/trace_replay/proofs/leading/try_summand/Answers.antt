@@ -44,8 +44,8 @@ try_combinations-requires-clause-lists g c = (values_in_code c.args.sig.now c.ar
 pub try_combinations-requires-clause-states : goal.try_combinations-requires-clause-states
 try_combinations-requires-clause-states g c = states_stay c.args.sig.now c.args.pool.now.trees c.sum_values.new.pool.trees c.sum_values.ensures.kept c.args.to.now c.requires.states
 
-pub returns-in_err-open-clause-kept : goal.returns-in_err-open-clause-kept
-returns-in_err-open-clause-kept g c =
+pub returns-in_err-is_open-clause-kept : goal.returns-in_err-is_open-clause-kept
+returns-in_err-is_open-clause-kept g c =
     keeps_then c.args.sig.now c.args.pool.now.trees c.sum_values.new.pool.trees c.try_combinations.new.pool.trees c.args.rewriter.now c.args.rewriter.now c.try_combinations.new.rewriter
     (keeps_grown c.args.sig.now c.args.pool.now.trees c.sum_values.new.pool.trees c.args.rewriter.now c.sum_values.ensures.kept) c.try_combinations.ensures.kept
 
@@ -59,5 +59,5 @@ returns-clause-tried g c = λ own h.
     summand_turn c.args.sig.now c.signature_stands.ensures own c.args.fuel c.args.bound c.args.pool.now.trees c.sum_values.new.pool.trees c.sum_values.ensures.kept (plain_linear c.args.lin.now) c.requires.lin (plain_summand c.args.summand.now) c.requires.summand c.args.conditions.now c.requires.conditions c.args.state.now c.requires.state
     (rows c.in_ok-lists.field-0.lists.items) c.in_ok-lists.field-0.cut
     (values_in_code c.args.sig.now c.args.bound c.sum_values.new.pool.trees c.as_slice.result.now c.args.summand.now.sums.items c.in_ok-lists.field-0.lists c.in_ok-lists.field-0.lists c.in_ok-lists.field-0.cut c.in_ok-lists.field-0.cut c.as_slice.ensures.value refl refl c.in_ok-lists.ensures.listed)
-    c.args.to.now c.requires.states (meant_states c.args.sig.now c.try_combinations.new.pool.trees c.try_combinations.new.to) c.in_ok-open.open c.either.result c.either.ensures
-    (c.in_ok-open.ensures.tried own c.args.bound ((keeps_grown c.args.sig.now c.args.pool.now.trees c.sum_values.new.pool.trees c.args.rewriter.now c.sum_values.ensures.kept).fits own h))
+    c.args.to.now c.requires.states (meant_states c.args.sig.now c.try_combinations.new.pool.trees c.try_combinations.new.to) c.in_ok-is_open.is_open c.either.result c.either.ensures
+    (c.in_ok-is_open.ensures.tried own c.args.bound ((keeps_grown c.args.sig.now c.args.pool.now.trees c.sum_values.new.pool.trees c.args.rewriter.now c.sum_values.ensures.kept).fits own h))

@@ -37,10 +37,22 @@ try_summand-requires-clause-state g c = terms_stay c.args.sig.now c.args.pool.no
 pub try_summand-requires-clause-states : goal.try_summand-requires-clause-states
 try_summand-requires-clause-states g c = c.loop-way.invariant.states
 
-pub returns-in_err-open-clause-kept : goal.returns-in_err-open-clause-kept
-returns-in_err-open-clause-kept g c = keeps_then c.args.sig.now c.args.pool.now.trees c.loop-way.pool.trees c.try_summand.new.pool.trees c.args.rewriter.now c.loop-way.rewriter c.try_summand.new.rewriter c.loop-way.invariant.kept c.try_summand.ensures.kept
+pub returns-in_err-is_open-clause-kept : goal.returns-in_err-is_open-clause-kept
+returns-in_err-is_open-clause-kept g c = keeps_then c.args.sig.now c.args.pool.now.trees c.loop-way.pool.trees c.try_summand.new.pool.trees c.args.rewriter.now c.loop-way.rewriter c.try_summand.new.rewriter c.loop-way.invariant.kept c.try_summand.ensures.kept
 
 pub returns-clause-tried : goal.returns-clause-tried
 returns-clause-tried g c = λ own h.
     subst (λ (z : List Way). AreTried (setting c.args.sig.now own c.args.fuel c.args.bound) (OfWays c.args.sig.now c.args.pool.now.trees (setting c.args.sig.now own c.args.fuel c.args.bound) (linear_of (entries_of c.args.sig.now c.args.pool.now.trees) (plain_linear c.args.lin.now)) (map (term_at c.args.sig.now c.args.pool.now.trees) c.args.state.now) (map plain_way z)) (meant_states c.args.sig.now c.args.pool.now.trees c.args.to.now) (meant_states c.args.sig.now c.loop-way.pool.trees c.loop-way.to) c.loop-way.doubt)
     (take_all c.loop-way.way-index c.args.ways.now c.loop-way-test.false) (c.loop-way.invariant.tried own h)
+
+pub index-summand-requires : goal.index-summand-requires
+index-summand-requires g c = ?
+
+pub try_summand-requires-clause-summand : goal.try_summand-requires-clause-summand
+try_summand-requires-clause-summand g c = ?
+
+pub try_summand-requires-clause-conditions : goal.try_summand-requires-clause-conditions
+try_summand-requires-clause-conditions g c = ?
+
+pub loop-way-preserved : goal.loop-way-preserved
+loop-way-preserved g c = ?

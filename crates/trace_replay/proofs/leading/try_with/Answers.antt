@@ -42,14 +42,14 @@ returns-in_ok-insert-in-Hold-clause-kept g c =
 pub returns-in_ok-insert-in-Hold-clause-states : goal.returns-in_ok-insert-in-Hold-clause-states
 returns-in_ok-insert-in-Hold-clause-states g c =
     let r = c.requires.known in
-    states_added c.args.sig.now c.rewrite_next_with.new.pool.trees (plain_states c.args.to.now) (plain_states c.insert.new.self) (plain_next c.in_ok-next-in-Hold.next) (λ o i. (c.in_ok-insert-in-Hold.ensures o).0 i)
+    states_added c.args.sig.now c.rewrite_next_with.new.pool.trees (plain_states c.args.to.now) (plain_states c.insert.new.self) (plain_next c.in_ok-next-in-Hold.next) (λ o i. (c.in_ok-insert-in-Hold.ensures.added o).0 i)
     (states_stay c.args.sig.now c.decide_all.new.pool.trees c.rewrite_next_with.new.pool.trees c.rewrite_next_with.ensures.kept c.args.to.now (states_stay c.args.sig.now c.args.pool.now.trees c.decide_all.new.pool.trees c.decide_all.ensures.kept.pool c.args.to.now c.requires.states))
     (next_stands c.args.sig.now r.0 c.args.fuel _ c.decide_all.new.pool.trees c.rewrite_next_with.new.pool.trees (c.in_ok-next-in-Hold.ensures.rewritten r.0 (c.decide_all.ensures.kept.fits r.0 r.1)))
 
 pub returns-in_ok-insert-in-Hold-clause-tried : goal.returns-in_ok-insert-in-Hold-clause-tried
 returns-in_ok-insert-in-Hold-clause-tried g c = λ own bound h.
     tried_hold c.args.sig.now own c.args.fuel bound c.args.pool.now.trees c.decide_all.new.pool.trees c.decide_all.ensures.kept.pool c.args.by.now c.args.conditions.now (plain_summand c.args.summand.now) c.args.to.now c.requires.states c.requires.listed c.requires.next
-    c.rewrite_next_with.new.pool.trees c.rewrite_next_with.ensures.kept c.insert.new.self (plain_next c.in_ok-next-in-Hold.next) c.in_ok-insert-in-Hold.ensures
+    c.rewrite_next_with.new.pool.trees c.rewrite_next_with.ensures.kept c.insert.new.self (plain_next c.in_ok-next-in-Hold.next) c.in_ok-insert-in-Hold.ensures.added
     (subst (λ z. ComeOut (setting c.args.sig.now own c.args.fuel bound) (conditions_with c.args.sig.now c.args.pool.now.trees c.args.by.now c.args.conditions.now) (answer_of z)) c.in-Hold.is (c.in_ok-decide_all.ensures.comes own bound h))
     (c.in_ok-next-in-Hold.ensures.rewritten own (c.decide_all.ensures.kept.fits own h))
 

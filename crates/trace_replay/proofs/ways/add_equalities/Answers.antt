@@ -9,8 +9,14 @@ use Rattle.lps_simulator.proofs.Bindings.{terms_stay}
 use Rattle.trace_replay.proofs.EqualityTerms.{action_inside, equalities_all, equalities_turn, sort_inside}
 use Rattle.trace_replay.proofs.ways.add_equalities.Goals as goal
 
-pub sorts_of-requires : goal.sorts_of-requires
-sorts_of-requires c = action_inside c.args.sig.now c.args.pool.now.trees (plain_action c.args.left.now) c.requires.left.0 c.requires.left.1
-
 pub loop-index-init : goal.loop-index-init
 loop-index-init c = record { kept = extends_itself c.args.pool.now.trees; over = c.requires.conditions; left = refl }
+
+pub returns-in_err-push-clause-kept : goal.returns-in_err-push-clause-kept
+returns-in_err-push-clause-kept c = ?
+
+pub loop-index-preserved : goal.loop-index-preserved
+loop-index-preserved c = ?
+
+pub returns-clause-added : goal.returns-clause-added
+returns-clause-added c = ?

@@ -11,8 +11,8 @@ use Rattle.trace_replay.proofs.ways.equality.Goals as goal
 pub returns-in_default-clause-means : goal.returns-in_default-clause-means
 returns-in_default-clause-means c = absurd (no_equality c.args.sig.now c.signature_stands.ensures c.args.sort c.requires.sort c.in_default.ensures)
 
-pub intern-2-requires-clause-within : goal.intern-2-requires-clause-within
-intern-2-requires-clause-within c = All-cons (IsIn c.args.pool.now.trees) c.args.left (c.args.right ∷ []) c.requires.left.inside (All-cons (IsIn c.args.pool.now.trees) c.args.right [] c.requires.right.inside (All-nil (IsIn c.args.pool.now.trees)))
+pub intern-requires-2-clause-within : goal.intern-requires-2-clause-within
+intern-requires-2-clause-within c = All-cons (IsIn c.args.pool.now.trees) c.args.left (c.args.right ∷ []) c.requires.left.inside (All-cons (IsIn c.args.pool.now.trees) c.args.right [] c.requires.right.inside (All-nil (IsIn c.args.pool.now.trees)))
 
 pub returns-clause-means : goal.returns-clause-means
 returns-clause-means c =
