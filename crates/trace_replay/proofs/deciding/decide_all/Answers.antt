@@ -1,4 +1,4 @@
-use Rattle.std.proofs.Common.{◌+◌, Bool, List, inl, inr, refl, sym, subst, take}
+use Rattle.std.proofs.Common.{◌+◌, Bool, List, get_or, inl, inr, refl, sym, subst, take}
 use Rattle.std.proofs.lemmas.List.{take_all}
 use Rattle.data_theory.specs.declared.ids.TermId.{TermId}
 use Rattle.trace_replay.specs.Decidings.{ComeOut}
@@ -39,13 +39,13 @@ loop-condition-preserved-in-Yes g c = record {
   kept = keeps_then c.args.sig.now c.args.pool.now.trees c.loop-condition.pool.trees c.decide_with.new.pool.trees c.args.rewriter.now c.loop-condition.rewriter c.decide_with.new.rewriter c.loop-condition.invariant.kept (record { pool = c.decide_with.ensures.kept; rules = c.decide_with.ensures.rules; fits = c.decide_with.ensures.fits });
   so_far = λ own bound h.
       yes_turn c.args.sig.now c.args.pool.now.trees c.loop-condition.pool.trees c.args.by.now c.loop-condition.invariant.kept.pool c.requires.listed c.args.conditions.now c.requires.conditions c.loop-condition.condition-index (record { 0 = 0 }) c.loop-condition-test.true own c.args.fuel bound c.loop-condition.is_open (c.loop-condition.invariant.so_far own bound h)
-      (decided_first c.args.sig.now c.args.pool.now.trees c.loop-condition.pool.trees c.args.by.now c.loop-condition.invariant.kept.pool c.requires.listed c.args.conditions.now c.requires.conditions c.loop-condition.condition-index (record { 0 = 0 }) c.loop-condition-test.true own c.args.fuel yes_decided _ refl (subst (λ z. IsDecided (data_meant c.args.sig.now) own c.args.fuel (put (term_in (environment_of c.args.sig.now c.loop-condition.pool.trees c.args.by.now)) (term_at c.args.sig.now c.loop-condition.pool.trees _)) (decision_of z)) c.in-Yes.is (c.in_ok-decide_with.ensures.decided own (c.loop-condition.invariant.kept.fits own h))));
+      (decided_first c.args.sig.now c.args.pool.now.trees c.loop-condition.pool.trees c.args.by.now c.loop-condition.invariant.kept.pool c.requires.listed c.args.conditions.now c.requires.conditions c.loop-condition.condition-index (record { 0 = 0 }) c.loop-condition-test.true own c.args.fuel yes_decided (get_or c.args.conditions.now c.loop-condition.condition-index (record { 0 = 0 })) refl (subst (λ z. IsDecided (data_meant c.args.sig.now) own c.args.fuel (put (term_in (environment_of c.args.sig.now c.loop-condition.pool.trees c.args.by.now)) (term_at c.args.sig.now c.loop-condition.pool.trees (get_or c.args.conditions.now c.loop-condition.condition-index (record { 0 = 0 })))) (decision_of z)) c.in-Yes.is (c.in_ok-decide_with.ensures.decided own (c.loop-condition.invariant.kept.fits own h))));
 }
 
 pub returns-in-No-clause-comes : goal.returns-in-No-clause-comes
 returns-in-No-clause-comes g c = λ own bound h.
     no_turn c.args.sig.now c.args.pool.now.trees c.loop-condition.pool.trees c.args.by.now c.loop-condition.invariant.kept.pool c.requires.listed c.args.conditions.now c.requires.conditions c.loop-condition.condition-index (record { 0 = 0 }) c.loop-condition-test.true own c.args.fuel bound
-    (decided_first c.args.sig.now c.args.pool.now.trees c.loop-condition.pool.trees c.args.by.now c.loop-condition.invariant.kept.pool c.requires.listed c.args.conditions.now c.requires.conditions c.loop-condition.condition-index (record { 0 = 0 }) c.loop-condition-test.true own c.args.fuel no_decided _ refl (subst (λ z. IsDecided (data_meant c.args.sig.now) own c.args.fuel (put (term_in (environment_of c.args.sig.now c.loop-condition.pool.trees c.args.by.now)) (term_at c.args.sig.now c.loop-condition.pool.trees _)) (decision_of z)) c.in-No.is (c.in_ok-decide_with.ensures.decided own (c.loop-condition.invariant.kept.fits own h))))
+    (decided_first c.args.sig.now c.args.pool.now.trees c.loop-condition.pool.trees c.args.by.now c.loop-condition.invariant.kept.pool c.requires.listed c.args.conditions.now c.requires.conditions c.loop-condition.condition-index (record { 0 = 0 }) c.loop-condition-test.true own c.args.fuel no_decided (get_or c.args.conditions.now c.loop-condition.condition-index (record { 0 = 0 })) refl (subst (λ z. IsDecided (data_meant c.args.sig.now) own c.args.fuel (put (term_in (environment_of c.args.sig.now c.loop-condition.pool.trees c.args.by.now)) (term_at c.args.sig.now c.loop-condition.pool.trees (get_or c.args.conditions.now c.loop-condition.condition-index (record { 0 = 0 })))) (decision_of z)) c.in-No.is (c.in_ok-decide_with.ensures.decided own (c.loop-condition.invariant.kept.fits own h))))
 
 pub loop-condition-preserved : goal.loop-condition-preserved
 loop-condition-preserved g c = record {
@@ -53,10 +53,10 @@ loop-condition-preserved g c = record {
   so_far = λ own bound h. elim c.match-branch-2.branch [
     | in-Stuck w ↦ subst (λ (b : Bool). HaveNoNo (setting c.args.sig.now own c.args.fuel bound) (conditions_with c.args.sig.now c.args.pool.now.trees c.args.by.now (take (c.loop-condition.condition-index + 1) c.args.conditions.now)) b) (sym w.is_open-is)
         (open_turn c.args.sig.now c.args.pool.now.trees c.loop-condition.pool.trees c.args.by.now c.loop-condition.invariant.kept.pool c.requires.listed c.args.conditions.now c.requires.conditions c.loop-condition.condition-index (record { 0 = 0 }) c.loop-condition-test.true own c.args.fuel bound c.loop-condition.is_open (c.loop-condition.invariant.so_far own bound h)
-        (inl (decided_first c.args.sig.now c.args.pool.now.trees c.loop-condition.pool.trees c.args.by.now c.loop-condition.invariant.kept.pool c.requires.listed c.args.conditions.now c.requires.conditions c.loop-condition.condition-index (record { 0 = 0 }) c.loop-condition-test.true own c.args.fuel stuck _ refl (subst (λ z. IsDecided (data_meant c.args.sig.now) own c.args.fuel (put (term_in (environment_of c.args.sig.now c.loop-condition.pool.trees c.args.by.now)) (term_at c.args.sig.now c.loop-condition.pool.trees _)) (decision_of z)) w.in-Stuck.is (c.in_ok-decide_with.ensures.decided own (c.loop-condition.invariant.kept.fits own h))))))
+        (inl (decided_first c.args.sig.now c.args.pool.now.trees c.loop-condition.pool.trees c.args.by.now c.loop-condition.invariant.kept.pool c.requires.listed c.args.conditions.now c.requires.conditions c.loop-condition.condition-index (record { 0 = 0 }) c.loop-condition-test.true own c.args.fuel stuck (get_or c.args.conditions.now c.loop-condition.condition-index (record { 0 = 0 })) refl (subst (λ z. IsDecided (data_meant c.args.sig.now) own c.args.fuel (put (term_in (environment_of c.args.sig.now c.loop-condition.pool.trees c.args.by.now)) (term_at c.args.sig.now c.loop-condition.pool.trees (get_or c.args.conditions.now c.loop-condition.condition-index (record { 0 = 0 })))) (decision_of z)) w.in-Stuck.is (c.in_ok-decide_with.ensures.decided own (c.loop-condition.invariant.kept.fits own h))))))
     | in-Spent w ↦ subst (λ (b : Bool). HaveNoNo (setting c.args.sig.now own c.args.fuel bound) (conditions_with c.args.sig.now c.args.pool.now.trees c.args.by.now (take (c.loop-condition.condition-index + 1) c.args.conditions.now)) b) (sym w.is_open-is)
         (open_turn c.args.sig.now c.args.pool.now.trees c.loop-condition.pool.trees c.args.by.now c.loop-condition.invariant.kept.pool c.requires.listed c.args.conditions.now c.requires.conditions c.loop-condition.condition-index (record { 0 = 0 }) c.loop-condition-test.true own c.args.fuel bound c.loop-condition.is_open (c.loop-condition.invariant.so_far own bound h)
-        (inr (decided_first c.args.sig.now c.args.pool.now.trees c.loop-condition.pool.trees c.args.by.now c.loop-condition.invariant.kept.pool c.requires.listed c.args.conditions.now c.requires.conditions c.loop-condition.condition-index (record { 0 = 0 }) c.loop-condition-test.true own c.args.fuel spent _ refl (subst (λ z. IsDecided (data_meant c.args.sig.now) own c.args.fuel (put (term_in (environment_of c.args.sig.now c.loop-condition.pool.trees c.args.by.now)) (term_at c.args.sig.now c.loop-condition.pool.trees _)) (decision_of z)) w.in-Spent.is (c.in_ok-decide_with.ensures.decided own (c.loop-condition.invariant.kept.fits own h))))))
+        (inr (decided_first c.args.sig.now c.args.pool.now.trees c.loop-condition.pool.trees c.args.by.now c.loop-condition.invariant.kept.pool c.requires.listed c.args.conditions.now c.requires.conditions c.loop-condition.condition-index (record { 0 = 0 }) c.loop-condition-test.true own c.args.fuel spent (get_or c.args.conditions.now c.loop-condition.condition-index (record { 0 = 0 })) refl (subst (λ z. IsDecided (data_meant c.args.sig.now) own c.args.fuel (put (term_in (environment_of c.args.sig.now c.loop-condition.pool.trees c.args.by.now)) (term_at c.args.sig.now c.loop-condition.pool.trees (get_or c.args.conditions.now c.loop-condition.condition-index (record { 0 = 0 })))) (decision_of z)) w.in-Spent.is (c.in_ok-decide_with.ensures.decided own (c.loop-condition.invariant.kept.fits own h))))))
   ];
 }
 

@@ -23,7 +23,7 @@ loop-index-preserved c =
     record {
       kept = extends_on c.args.pool.now.trees c.loop-index.pool.trees c.equality.new.pool.trees c.loop-index.invariant.kept c.equality.ensures.kept;
       over = subst (λ (ids : List TermId). All (IsTerm c.args.sig.now c.equality.new.pool.trees) ids) (sym c.in_ok-push.ensures.items)
-          (All-push c.loop-index.conditions.items c.in_ok-equality.field-0 (terms_stay c.args.sig.now c.loop-index.pool.trees c.equality.new.pool.trees c.loop-index.conditions.items c.equality.ensures.kept c.loop-index.invariant.over) c.in_ok-equality.ensures.means.term);
+          (All-push (IsTerm c.args.sig.now c.equality.new.pool.trees) c.loop-index.conditions.items c.in_ok-equality.field-0 (terms_stay c.args.sig.now c.loop-index.pool.trees c.equality.new.pool.trees c.loop-index.conditions.items c.equality.ensures.kept c.loop-index.invariant.over) c.in_ok-equality.ensures.means.term);
       left = equalities_turn c.args.sig.now c.args.pool.now.trees c.loop-index.pool.trees c.equality.new.pool.trees c.loop-index.invariant.kept c.equality.ensures.kept c.sorts_of-sorts.result.now c.as_slice-firsts.result.now c.as_slice-seconds.result.now c.loop-index.index (record { 0 = 0 }) (record { 0 = 0 }) (record { 0 = 0 })
           inside.0 inside.1 inside.2 (subst (All (IsTerm c.args.sig.now c.args.pool.now.trees)) (sym c.as_slice-firsts.ensures.value) c.requires.left.1.over) (subst (All (IsTerm c.args.sig.now c.args.pool.now.trees)) (sym c.as_slice-seconds.ensures.value) c.requires.right.1.over)
           c.loop-index.conditions.items c.push.new.self.items c.in_ok-equality.field-0 _ c.loop-index.invariant.over c.in_ok-push.ensures.items c.in_ok-equality.ensures.means c.loop-index.invariant.left;
