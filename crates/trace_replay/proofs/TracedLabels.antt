@@ -1,5 +1,5 @@
 -- The labels of a trace, one after the other.
-use Rattle.std.specs.Prelude.{◌≡◌, ◌<◌, ◌≤◌, ◌+◌, ◌||◌, ℕ, zero, suc, Bool, true, false, cond, List, [], ◌∷◌, map, length, drop, get_or, Some, slice_get}
+use Rattle.std.specs.Prelude.{◌≡◌, ◌<◌, ◌≤◌, ◌+◌, ◌||◌, ℕ, zero, suc, Bool, true, false, cond, List, [], ◌∷◌, map, length, drop, get_or, Option, Some, slice_get}
 use Rattle.std.proofs.Common.{refl, sym, subst, ap, ap₂, ◌∙◌, arith, add-one, drop-cons}
 use Rattle.std.specs.List.{All, AllByRecursion, AllZip, Contains}
 use Rattle.std.proofs.lemmas.List.{length-map}
@@ -20,16 +20,23 @@ use Rattle.process_terms.specs.Meanings.{action_at, action_of, label_of, HasTerm
 use Rattle.process_terms.specs.PlainProcesses.{PlainAction}
 use Rattle.process_terms.specs.SignatureEntries.{action_entry, entries_of}
 use Rattle.bisim_laws.specs.LinearProcesses.{Linear}
+use Rattle.lps_core.specs.Fitting.{Fits, sort_of_variable}
+use Rattle.lps_core.specs.PlainLinears.{PlainLinear, initial_of}
 use Rattle.lps_core.proofs.Staying.{read_mapped}
+use Rattle.lps_simulator.proofs.Bindings.{terms_stay}
+use Rattle.lps_simulator.proofs.FittingSummands.{all_sorted_within}
+use Rattle.trace_replay.specs.declared.reading.Line.{Line}
 use Rattle.trace_replay.specs.declared.replaying.Verdict.{Verdict}
 use Rattle.trace_replay.specs.declared.replaying.Verdict.TheVariants.{Accepted, Rejected, Undecided}
 use Rattle.trace_replay.specs.Pairings.{IsClosedLabel}
-use Rattle.trace_replay.specs.ReadTraces.{PlainLine, IsEntry, AreEntries, no_entries, entry_then}
+use Rattle.trace_replay.specs.ReadTraces.{PlainLine, plain_line, IsEntry, AreEntries, no_entries, entry_then}
 use Rattle.trace_replay.specs.Replays.{State, Entry, LeadTo, Replays, accepted, leads_on, undecided, rejected}
 use Rattle.trace_replay.specs.Settings.{Setting, data_in}
+use Rattle.trace_replay.specs.States.{meant_state, StateStands}
 use Rattle.trace_replay.specs.Verdicts.{LineIs, LinesAre}
 use Rattle.trace_replay.specs.Ways.{ActionIs, LabelIs}
 use Rattle.trace_replay.proofs.EqualityTerms.{label_stays, terms_meant}
+use Rattle.trace_replay.proofs.StateLemmas.{terms_kept}
 
 -- ---- labels that were read
 module _ (g : Sig) (ts : List Tree) (within : All (IsTreeWithin g) ts) where
@@ -84,7 +91,7 @@ pub has_entry : (g : Sig) (ts : List Tree) (xs : List PlainLine) (es : List Entr
 has_entry g ts [] es i x h l is = absurd (omega (arith, l))
 has_entry g ts (y ∷ xs) [] i x h l is = absurd h
 has_entry g ts (y ∷ xs) (e ∷ es) zero x h l is = record { entry = e; line = subst (λ (z : PlainLine). LineIs g ts z e) (sym is) h.0; here = refl }
-has_entry g ts (y ∷ xs) (e ∷ es) (suc i) x h l is = let r = has_entry g ts xs es i x h.1 (omega (arith, l)) is in record { entry = r.entry; line = r.line; here = r.here }
+has_entry g ts (y ∷ xs) (e ∷ es) (suc i) x h l is = let r = has_entry g ts xs es i x h.1 (omega (arith, l)) is in let q : suc (i + 1) ≡ suc i + 1 = omega arith in record { entry = r.entry; line = r.line; here = r.here ∙ ap (λ (n : ℕ). r.entry ∷ drop n (e ∷ es)) q }
 
 pub no_entry_left : (g : Sig) (ts : List Tree) (xs : List PlainLine) (es : List Entry) (i : ℕ) → LinesAre g ts xs es → length xs ≤ i → drop i es ≡ []
 no_entry_left g ts [] [] zero h l = refl
@@ -113,3 +120,40 @@ line_ends s l from to before doubt now e es number lead none is same =
 pub all_lines : (s : Setting) (l : Linear) (from : List State) (before : Bool) (es : List Entry) → (from ≡ [] → ⊥) → es ≡ [] → Replays s l from before es Accepted
 all_lines s l [] before es some none = absurd (some refl)
 all_lines s l (o ∷ os) before es some none = subst (λ (z : List Entry). Replays s l (o ∷ os) before z Accepted) (sym none) accepted
+
+-- ---- in code
+pub none_mapped : {A B : Type 0} (f : A → B) (xs : List A) → map f xs ≡ [] → xs ≡ []
+none_mapped f [] e = refl
+none_mapped f (x ∷ xs) e = absurd (cc e)
+
+-- the line at an index
+pub line_has_entry : (g : Sig) (ts : List Tree) (lines : List Line) (es : List Entry) (i : ℕ) (x : Line) → LinesAre g ts (map plain_line lines) es → i < length lines → x ≡ get_or lines i x → HasEntry g ts (plain_line x) i es
+line_has_entry g ts lines es i x h inside is =
+    has_entry g ts (map plain_line lines) es i (plain_line x) h (subst (λ (n : ℕ). i < n) (sym (length-map lines plain_line)) inside) (ap plain_line is ∙ sym (read_mapped plain_line lines i (plain_line x) x inside))
+
+pub lead_kept : (s : Setting) (l k : Linear) (m : Label) (from to : List State) (doubt : Bool) → l ≡ k → LeadTo s l m from to doubt → LeadTo s k m from to doubt
+lead_kept s l k m from to doubt e h = subst (λ (z : Linear). LeadTo s z m from to doubt) e h
+
+-- ---- the initial state
+pub init_over : (g : Sig) → IsSignature g → (ts us : List Tree) → Extends ts us → (l : PlainLinear) → Fits g ts l → All (IsTerm g us) l.init
+init_over g stands ts us grows l fits = terms_stay g ts us l.init grows (all_sorted_within g stands ts (map (sort_of_variable g) l.params) l.init fits.init)
+
+pub start_stands : (g : Sig) (us : List Tree) (ids init : List TermId) (os : List (Option (List TermId))) → ids ≡ init → All (IsTerm g us) init → os ≡ Some ids ∷ [] → All (StateStands g us) os
+start_stands g us ids init os e over is =
+    subst (All (StateStands g us)) (sym is) (All-cons (StateStands g us) (Some ids) [] (subst (All (IsTerm g us)) (sym e) over) (All-nil (StateStands g us)))
+
+pub start_is : (g : Sig) → IsSignature g → (ts us : List Tree) → Extends ts us → (l : PlainLinear) → Fits g ts l → (ids : List TermId) (os : List (Option (List TermId))) → ids ≡ l.init → os ≡ Some ids ∷ [] → map (meant_state g us) os ≡ Some (initial_of (entries_of g ts) l) ∷ []
+start_is g stands ts us grows l fits ids os e is =
+    let over : All (IsTerm g ts) l.init = all_sorted_within g stands ts (map (sort_of_variable g) l.params) l.init fits.init in
+    ap (map (meant_state g us)) (is ∙ ap (λ (z : List TermId). Some z ∷ []) e)
+    ∙ ap (λ (z : List Term). Some z ∷ []) (terms_kept g ts us grows l.init over ∙ terms_meant g ts l.init over)
+
+some_is_left : {A : Type 0} (x : A) (xs os : List A) → os ≡ x ∷ xs → os ≡ [] → ⊥
+some_is_left x xs os e none = let q : x ∷ xs ≡ [] = sym e ∙ none in cc q
+
+pub a_state_is_left : (ids : List TermId) (os : List (Option (List TermId))) → os ≡ Some ids ∷ [] → os ≡ [] → ⊥
+a_state_is_left ids os e none = some_is_left (Some ids) [] os e none
+
+-- the verdict over the first pool
+pub replays_from_start : (s : Setting) (l k : Linear) (os starts : List State) (es : List Entry) (v : Verdict) → l ≡ k → os ≡ starts → Replays s l os false es v → Replays s k starts false es v
+replays_from_start s l k os starts es v e q h = subst (λ (z : List State). Replays s k z false es v) q (subst (λ (z : Linear). Replays s z os false es v) e h)
