@@ -154,8 +154,8 @@ module _ (g : Sig) (stands : IsSignature g) (ts us vs : List Tree) (later : Exte
       let r = begun.sound o from.1.0 (y ∷ n) (same.0, same.1, alike) whole in (
         r.0,
         ap (λ (z : List Term). z ++ label_equalities rest n) h.conditions
-        ∙ append_assoc (map (term_at g us) o.conditions) (equalities b.sorts b.args y.args) (label_equalities rest n)
-        ∙ r.1,
+            ∙ append_assoc (map (term_at g us) o.conditions) (equalities b.sorts b.args y.args) (label_equalities rest n)
+            ∙ r.1,
       )
 
   more_complete : (p : Pairing a.label m)
@@ -174,12 +174,21 @@ module _ (g : Sig) (stands : IsSignature g) (ts us vs : List Tree) (later : Exte
           (name ∙ ap (λ (z : Action). z.name) (sym is)) (sorts ∙ ap (λ (z : Action). z.sorts) (sym is)) in
           let w = next.complete o c i out.within same in (
             w.0,
-            (w.1.0, (n, (alike, (
-              subst (λ (z : List ℕ). Permuted n (actions_at m z)) (sym w.1.1.left) (subst (Permuted n) out.others permuted),
-              ap (λ (z : List Term). z ++ label_equalities rest n) (w.1.1.conditions ∙ ap (λ (z : Action). map (term_at g us) o.conditions ++ equalities b.sorts b.args z.args) is)
-              ∙ append_assoc (map (term_at g us) o.conditions) (equalities b.sorts b.args y.args) (label_equalities rest n)
-              ∙ e,
-            )))),
+            (
+              w.1.0,
+              (
+                n,
+                (
+                  alike,
+                  (
+                    subst (λ (z : List ℕ). Permuted n (actions_at m z)) (sym w.1.1.left) (subst (Permuted n) out.others permuted),
+                    ap (λ (z : List Term). z ++ label_equalities rest n) (w.1.1.conditions ∙ ap (λ (z : Action). map (term_at g us) o.conditions ++ equalities b.sorts b.args z.args) is)
+                        ∙ append_assoc (map (term_at g us) o.conditions) (equalities b.sorts b.args y.args) (label_equalities rest n)
+                        ∙ e,
+                  ),
+                ),
+              ),
+            ),
           )
 
       go : (o : PlainWay) → Contains bs o → (n : Label) → AreAlike (b ∷ rest) n → Permuted n (actions_at m o.left) → map (term_at g us) o.conditions ++ label_equalities (b ∷ rest) n ≡ open_conditions a p.paired

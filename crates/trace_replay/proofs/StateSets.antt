@@ -46,12 +46,12 @@ module _ (same : Vec TermId Global → Vec TermId Global → Bool) (tells : (x y
       by_any true q ids = (λ i. inl i, λ h. ⊎_elim (λ i. i) (λ r. subst (Contains (items_of old)) (sym r) (any_there k old q)) h)
       by_any false q ids = (
         λ i. let r = contains_map (λ (v : Vec TermId Global). v.items) (old ++ k ∷ []) ids i in
-          ⊎_elim (λ j. inl (subst (Contains (items_of old)) (sym r.1.1) (map_contains (λ (v : Vec TermId Global). v.items) old r.0 j))) (λ s. inr (r.1.1 ∙ ap (λ (v : Vec TermId Global). v.items) (sym s))) (Contains-push_cases old k r.0 r.1.0),
+            ⊎_elim (λ j. inl (subst (Contains (items_of old)) (sym r.1.1) (map_contains (λ (v : Vec TermId Global). v.items) old r.0 j))) (λ s. inr (r.1.1 ∙ ap (λ (v : Vec TermId Global). v.items) (sym s))) (Contains-push_cases old k r.0 r.1.0),
         λ h. ⊎_elim
-          (λ i. let r = contains_map (λ (v : Vec TermId Global). v.items) old ids i in
-          subst (Contains (items_of (old ++ k ∷ []))) (sym r.1.1) (map_contains (λ (v : Vec TermId Global). v.items) (old ++ k ∷ []) r.0 (Contains-append_left old (k ∷ []) r.0 r.1.0)))
-          (λ s. subst (Contains (items_of (old ++ k ∷ []))) (sym s) (map_contains (λ (v : Vec TermId Global). v.items) (old ++ k ∷ []) k (Contains-push old k)))
-          h,
+            (λ i. let r = contains_map (λ (v : Vec TermId Global). v.items) old ids i in
+            subst (Contains (items_of (old ++ k ∷ []))) (sym r.1.1) (map_contains (λ (v : Vec TermId Global). v.items) (old ++ k ∷ []) r.0 (Contains-append_left old (k ∷ []) r.0 r.1.0)))
+            (λ s. subst (Contains (items_of (old ++ k ∷ []))) (sym s) (map_contains (λ (v : Vec TermId Global). v.items) (old ++ k ∷ []) k (Contains-push old k)))
+            h,
       )
 
   -- ---- states
@@ -63,23 +63,23 @@ module _ (same : Vec TermId Global → Vec TermId Global → Bool) (tells : (x y
   running_added k old new state is ended keys o =
       let next : plain_next state ≡ Some k.items = ap plain_next is in (
         λ c. ⊎_elim
-          (λ i. let r = contains_map (λ (ids : List TermId). Some ids) (running new) o i in
-          ⊎_elim
-          (λ j. inl (Contains-append_left (some_ids (running old)) (ended_state old.ended) o (subst (Contains (some_ids (running old))) (sym r.1.1) (map_contains (λ (ids : List TermId). Some ids) (running old) r.0 j))))
-          (λ e. inr (r.1.1 ∙ ap (λ (ids : List TermId). Some ids) e ∙ sym next))
-          ((key_added k old.running.keys new.running.keys keys r.0).0 r.1.0))
-          (λ i. inl (Contains-append_right (some_ids (running old)) (ended_state old.ended) o (subst (λ (b : Bool). Contains (ended_state b) o) ended i)))
-          (Contains-append_cases (some_ids (running new)) (ended_state new.ended) o c),
+            (λ i. let r = contains_map (λ (ids : List TermId). Some ids) (running new) o i in
+            ⊎_elim
+            (λ j. inl (Contains-append_left (some_ids (running old)) (ended_state old.ended) o (subst (Contains (some_ids (running old))) (sym r.1.1) (map_contains (λ (ids : List TermId). Some ids) (running old) r.0 j))))
+            (λ e. inr (r.1.1 ∙ ap (λ (ids : List TermId). Some ids) e ∙ sym next))
+            ((key_added k old.running.keys new.running.keys keys r.0).0 r.1.0))
+            (λ i. inl (Contains-append_right (some_ids (running old)) (ended_state old.ended) o (subst (λ (b : Bool). Contains (ended_state b) o) ended i)))
+            (Contains-append_cases (some_ids (running new)) (ended_state new.ended) o c),
         λ h. ⊎_elim
-          (λ c. ⊎_elim
-          (λ i. let r = contains_map (λ (ids : List TermId). Some ids) (running old) o i in
-          Contains-append_left (some_ids (running new)) (ended_state new.ended) o
-          (subst (Contains (some_ids (running new))) (sym r.1.1) (map_contains (λ (ids : List TermId). Some ids) (running new) r.0 ((key_added k old.running.keys new.running.keys keys r.0).1 (inl r.1.0)))))
-          (λ i. Contains-append_right (some_ids (running new)) (ended_state new.ended) o (subst (λ (b : Bool). Contains (ended_state b) o) (sym ended) i))
-          (Contains-append_cases (some_ids (running old)) (ended_state old.ended) o c))
-          (λ e. Contains-append_left (some_ids (running new)) (ended_state new.ended) o
-          (subst (Contains (some_ids (running new))) (sym (e ∙ next)) (map_contains (λ (ids : List TermId). Some ids) (running new) k.items ((key_added k old.running.keys new.running.keys keys k.items).1 (inr refl)))))
-          h,
+            (λ c. ⊎_elim
+            (λ i. let r = contains_map (λ (ids : List TermId). Some ids) (running old) o i in
+            Contains-append_left (some_ids (running new)) (ended_state new.ended) o
+            (subst (Contains (some_ids (running new))) (sym r.1.1) (map_contains (λ (ids : List TermId). Some ids) (running new) r.0 ((key_added k old.running.keys new.running.keys keys r.0).1 (inl r.1.0)))))
+            (λ i. Contains-append_right (some_ids (running new)) (ended_state new.ended) o (subst (λ (b : Bool). Contains (ended_state b) o) (sym ended) i))
+            (Contains-append_cases (some_ids (running old)) (ended_state old.ended) o c))
+            (λ e. Contains-append_left (some_ids (running new)) (ended_state new.ended) o
+            (subst (Contains (some_ids (running new))) (sym (e ∙ next)) (map_contains (λ (ids : List TermId). Some ids) (running new) k.items ((key_added k old.running.keys new.running.keys keys k.items).1 (inr refl)))))
+            h,
       )
 
 end_cases : (b : Bool) (o : Option (List TermId)) → Contains (ended_state b) o → o ≡ None
@@ -92,16 +92,16 @@ end_added old new state is ended same o =
     let runs : running new ≡ running old = ap (λ r. map (λ (v : Vec TermId Global). v.items) r.keys) same in
     let there : Contains (ended_state new.ended) None = subst (λ (b : Bool). Contains (ended_state b) None) (sym ended) (contains_first None []) in (
       λ c. ⊎_elim
-        (λ i. inl (Contains-append_left (map (λ (ids : List TermId). Some ids) (running old)) (ended_state old.ended) o (subst (λ (xs : List (List TermId)). Contains (map (λ (ids : List TermId). Some ids) xs) o) runs i)))
-        (λ i. inr (end_cases new.ended o i ∙ sym next))
-        (Contains-append_cases (map (λ (ids : List TermId). Some ids) (running new)) (ended_state new.ended) o c),
+          (λ i. inl (Contains-append_left (map (λ (ids : List TermId). Some ids) (running old)) (ended_state old.ended) o (subst (λ (xs : List (List TermId)). Contains (map (λ (ids : List TermId). Some ids) xs) o) runs i)))
+          (λ i. inr (end_cases new.ended o i ∙ sym next))
+          (Contains-append_cases (map (λ (ids : List TermId). Some ids) (running new)) (ended_state new.ended) o c),
       λ h. ⊎_elim
-        (λ c. ⊎_elim
-        (λ i. Contains-append_left (map (λ (ids : List TermId). Some ids) (running new)) (ended_state new.ended) o (subst (λ (xs : List (List TermId)). Contains (map (λ (ids : List TermId). Some ids) xs) o) (sym runs) i))
-        (λ i. Contains-append_right (map (λ (ids : List TermId). Some ids) (running new)) (ended_state new.ended) o (subst (Contains (ended_state new.ended)) (sym (end_cases old.ended o i)) there))
-        (Contains-append_cases (map (λ (ids : List TermId). Some ids) (running old)) (ended_state old.ended) o c))
-        (λ e. Contains-append_right (map (λ (ids : List TermId). Some ids) (running new)) (ended_state new.ended) o (subst (Contains (ended_state new.ended)) (sym (e ∙ next)) there))
-        h,
+          (λ c. ⊎_elim
+          (λ i. Contains-append_left (map (λ (ids : List TermId). Some ids) (running new)) (ended_state new.ended) o (subst (λ (xs : List (List TermId)). Contains (map (λ (ids : List TermId). Some ids) xs) o) (sym runs) i))
+          (λ i. Contains-append_right (map (λ (ids : List TermId). Some ids) (running new)) (ended_state new.ended) o (subst (Contains (ended_state new.ended)) (sym (end_cases old.ended o i)) there))
+          (Contains-append_cases (map (λ (ids : List TermId). Some ids) (running old)) (ended_state old.ended) o c))
+          (λ e. Contains-append_right (map (λ (ids : List TermId). Some ids) (running new)) (ended_state new.ended) o (subst (Contains (ended_state new.ended)) (sym (e ∙ next)) there))
+          h,
     )
 
 -- ---- no state

@@ -126,10 +126,15 @@ pub all_states_tried : (g : Sig) (ts us : List Tree) (s : Setting) (l : Linear) 
 all_states_tried g ts us s l states ws old new d h =
     tried_as s (InRunning g us s l (map (map (term_at g ts)) (running states)) ws) (InStates g us s l (meant_states g ts states) ws) old new d
     (λ a i.
-    let r = contains_map (map (term_at g ts)) (running states) i.0 i.1.0 in
-    (i.0, (subst (λ (z : List Term). Contains (meant_states g ts states) (Some z)) (sym r.1.1)
-    (map_contains (meant_state g ts) (plain_states states) (Some r.0)
-    (Contains-append_left (map (λ (z : List TermId). Some z) (running states)) (ended_state states.ended) (Some r.0) (map_contains (λ (z : List TermId). Some z) (running states) r.0 r.1.0))), i.1.1)))
+    let r = contains_map (map (term_at g ts)) (running states) i.0 i.1.0 in (
+      i.0,
+      (
+        subst (λ (z : List Term). Contains (meant_states g ts states) (Some z)) (sym r.1.1)
+            (map_contains (meant_state g ts) (plain_states states) (Some r.0)
+            (Contains-append_left (map (λ (z : List TermId). Some z) (running states)) (ended_state states.ended) (Some r.0) (map_contains (λ (z : List TermId). Some z) (running states) r.0 r.1.0))),
+        i.1.1,
+      ),
+    ))
     (λ a i. let r = contains_map (meant_state g ts) (plain_states states) (Some i.0) i.1.0 in (i.0, (state_goes_on g ts states i.0 r.0 r.1.0 r.1.1, i.1.1)))
     h
 

@@ -14,7 +14,6 @@ use Rattle.process_terms.specs.Communication.{equalities}
 use Rattle.process_terms.specs.Labels.{Action, Label, Permuted}
 use Rattle.process_terms.specs.PlainProcesses.{PlainAction}
 use Rattle.bisim_laws.specs.LinearProcesses.{Summand, Linear}
-
 use Rattle.trace_replay.specs.declared.ways.Way.{Way}
 use Rattle.trace_replay.specs.Attempts.{Attempt, OfSummand}
 use Rattle.trace_replay.specs.Replays.{State}

@@ -194,12 +194,7 @@ fn all_places(alloc: Global, count: usize) -> Result<Vec<usize>, NoMemory>
 }
 
 /// The way of a summand that is begun with no action, where so many are left.
-fn first_way(
-    alloc: Global,
-    number: usize,
-    cond: TermId,
-    count: usize,
-) -> Result<Way, NoMemory>
+fn first_way(alloc: Global, number: usize, cond: TermId, count: usize) -> Result<Way, NoMemory>
     ensures number { IfOk result (λ way. way.summand ≡ number) }
     ensures conditions { IfOk result (λ way. way.conditions.items ≡ cond ∷ []) }
     ensures many { IfOk result (λ way. length way.left.items ≡ count) }

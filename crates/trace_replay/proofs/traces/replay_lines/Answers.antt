@@ -64,7 +64,7 @@ loop-line-preserved g c = record {
       (subst (λ (z : List Entry). Replays (setting c.args.sig.now own c.args.fuel c.args.bound) (linear_of (entries_of c.args.sig.now c.args.pool.now.trees) (plain_linear c.args.lin.now)) (meant_states c.args.sig.now c.loop-line.pool.trees c.loop-line.states) c.loop-line.doubt z verdict) (sym e.here)
       (line_leads_on (setting c.args.sig.now own c.args.fuel c.args.bound) (linear_of (entries_of c.args.sig.now c.args.pool.now.trees) (plain_linear c.args.lin.now)) (meant_states c.args.sig.now c.loop-line.pool.trees c.loop-line.states) (meant_states c.args.sig.now c.lead.new.pool.trees c.lead.new.states) c.loop-line.doubt c.in_ok-is_open.is_open c.either-doubt.result e.entry (drop (c.loop-line.line-index + 1) es) verdict
       (lead_kept (setting c.args.sig.now own c.args.fuel c.args.bound) (linear_of (entries_of c.args.sig.now c.loop-line.pool.trees) (plain_linear c.args.lin.now)) (linear_of (entries_of c.args.sig.now c.args.pool.now.trees) (plain_linear c.args.lin.now)) e.entry.label (meant_states c.args.sig.now c.loop-line.pool.trees c.loop-line.states) (meant_states c.args.sig.now c.lead.new.pool.trees c.lead.new.states) c.in_ok-is_open.is_open (linear_kept c.args.sig.now c.signature_stands.ensures c.args.pool.now.trees c.loop-line.pool.trees (plain_linear c.args.lin.now) c.loop-line.invariant.kept.pool c.requires.lin)
-    (c.in_ok-is_open.ensures.leads own e.entry.label (c.loop-line.invariant.kept.fits own h) (label_stays c.args.sig.now c.args.pool.now.trees c.loop-line.pool.trees c.loop-line.invariant.kept.pool (plain_label c.line-item.result.label) e.entry.label e.line.label) e.line.closed))
+      (c.in_ok-is_open.ensures.leads own e.entry.label (c.loop-line.invariant.kept.fits own h) (label_stays c.args.sig.now c.args.pool.now.trees c.loop-line.pool.trees c.loop-line.invariant.kept.pool (plain_label c.line-item.result.label) e.entry.label e.line.label) e.line.closed))
       (λ none. let yes : IsTrue c.is_empty.result = c.is_empty.ensures.1 (none_mapped (meant_state c.args.sig.now c.lead.new.pool.trees) (plain_states c.lead.new.states) none) in absurd (cc (yes, c.if-is_empty.false)))
       c.either-doubt.ensures r));
 }

@@ -26,10 +26,11 @@ loop-action-init c = record {
 pub next_ways-requires-clause-action : goal.next_ways-requires-clause-action
 next_ways-requires-clause-action c =
     let inside : c.loop-action.action-index < length c.args.summand.now.label.actions.items = subst (λ (xs : List Action). c.loop-action.action-index < length xs) c.deref-action-items.ensures.value c.loop-action-test.true in
-    let is = c.action-item.is ∙ ap (λ (xs : List Action). get_or xs c.loop-action.action-index c.action-item.result) c.deref-action-items.ensures.value in
-    (action_at (summand_of (entries_of c.args.sig.now c.args.pool.now.trees) (plain_summand c.args.summand.now)).label c.loop-action.action-index,
-    action_stays c.args.sig.now c.args.pool.now.trees c.loop-action.pool.trees c.loop-action.invariant.kept (plain_action c.action-item.result) (action_at (summand_of (entries_of c.args.sig.now c.args.pool.now.trees) (plain_summand c.args.summand.now)).label c.loop-action.action-index)
-    (action_there c.args.sig.now c.args.pool.now.trees c.args.summand.now.label.actions.items (summand_of (entries_of c.args.sig.now c.args.pool.now.trees) (plain_summand c.args.summand.now)).label c.loop-action.action-index c.action-item.result c.requires.summand inside is))
+    let is = c.action-item.is ∙ ap (λ (xs : List Action). get_or xs c.loop-action.action-index c.action-item.result) c.deref-action-items.ensures.value in (
+      action_at (summand_of (entries_of c.args.sig.now c.args.pool.now.trees) (plain_summand c.args.summand.now)).label c.loop-action.action-index,
+      action_stays c.args.sig.now c.args.pool.now.trees c.loop-action.pool.trees c.loop-action.invariant.kept (plain_action c.action-item.result) (action_at (summand_of (entries_of c.args.sig.now c.args.pool.now.trees) (plain_summand c.args.summand.now)).label c.loop-action.action-index)
+          (action_there c.args.sig.now c.args.pool.now.trees c.args.summand.now.label.actions.items (summand_of (entries_of c.args.sig.now c.args.pool.now.trees) (plain_summand c.args.summand.now)).label c.loop-action.action-index c.action-item.result c.requires.summand inside is),
+    )
 
 pub next_ways-requires-clause-given : goal.next_ways-requires-clause-given
 next_ways-requires-clause-given c =
