@@ -14,7 +14,7 @@ use Rattle.process_terms.specs.Theories.{Equal, IsTrue, IsConsistent, Equals, no
 use Rattle.bisim_laws.specs.LinearProcesses.{NextEquals, both_without, both_with}
 use Rattle.bisim_laws.proofs.Firing.{contains_cases, contains_none}
 use Rattle.trace_replay.specs.Settings.{Setting, data_in, theory_in}
-use Rattle.trace_replay.specs.Rewritten.{IsRewritten, NextIsRewritten, both_end, both_go_on}
+use Rattle.lps_simulator.specs.Rewritten.{IsRewritten, NextIsRewritten, both_end, both_go_on}
 use Rattle.trace_replay.specs.Decidings.{Decides}
 
 -- what holds of all elements holds of each one

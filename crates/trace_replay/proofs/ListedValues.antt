@@ -21,7 +21,8 @@ use Rattle.lps_core.specs.PlainLinears.{PlainLinear, summand_of}
 use Rattle.lps_core.proofs.Members.{map_contains, contains_map}
 use Rattle.lps_core.proofs.Staying.{read_mapped}
 use Rattle.trace_replay.specs.Settings.{Setting, data_in}
-use Rattle.trace_replay.specs.Listings.{value_term, number_of, IsConstructorValue, IsListed, IsWhole}
+use Rattle.lps_simulator.specs.SumValues.{value_term}
+use Rattle.trace_replay.specs.Listings.{number_of, IsConstructorValue, IsListed, IsWhole}
 use Rattle.trace_replay.specs.ReplayLaws.{meant}
 use Rattle.trace_replay.proofs.ValueRuns.{ValuesHaveSorts}
 use Rattle.trace_replay.proofs.WayEnvironments.{ListedHaveSorts}

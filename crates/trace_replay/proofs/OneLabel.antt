@@ -22,7 +22,8 @@ use Rattle.trace_replay.specs.Settings.{Setting, data_in, theory_in}
 use Rattle.trace_replay.specs.Listings.{IsConstructorValue, IsListed, IsWhole, AreListed, no_values, one_value}
 use Rattle.trace_replay.specs.Decidings.{Decides, ComeOut, hold, fail, all_hold, one_fails}
 use Rattle.trace_replay.specs.Pairings.{Pairing, IsClosedAction, IsClosedLabel}
-use Rattle.trace_replay.specs.Replays.{State, Way, environment_at, conditions, next_under, Takes, IsTried, it_fails, it_is_open, it_is_taken, LeadTo}
+use Rattle.lps_simulator.specs.Options.{environment_at}
+use Rattle.trace_replay.specs.Replays.{State, Way, conditions, next_under, Takes, IsTried, it_fails, it_is_open, it_is_taken, LeadTo}
 use Rattle.trace_replay.specs.Runs.{FiresByValues}
 use Rattle.trace_replay.proofs.DecidedTerms.{HaveStateSorts, one_of_all, yes_is_true, true_is_not_no, next_rewritten_equal, next_rewritten_sorted}
 use Rattle.trace_replay.proofs.PairedLabels.{permuted_all, alike_put, put_alike, agreeing_are_alike, Holds, decided_agree, agreeing_hold}

@@ -14,7 +14,7 @@ use Rattle.bisim_laws.proofs.Firing.{contains_first, contains_later, reading_sam
 use Rattle.bisim_laws.proofs.SortedFiring.{HaveTerms, put_sorted, put_all_sorted, bound_sorted, read_sorted, terms_on_both}
 use Rattle.trace_replay.specs.Settings.{Setting, data_in, theory_in}
 use Rattle.trace_replay.specs.Listings.{IsListed, AreListed, no_values, one_value}
-use Rattle.trace_replay.specs.Replays.{environment_at}
+use Rattle.lps_simulator.specs.Options.{environment_at}
 use Rattle.trace_replay.proofs.DecidedTerms.{HaveStateSorts}
 use Rattle.trace_replay.specs.Pairings.{IsClosedLabel}
 

@@ -1,5 +1,8 @@
+pub mod Attempts
 pub mod BlankLines
+pub mod DecidedConditions
 pub mod Decidings
+pub mod Keeping
 pub mod Lines
 pub mod Listings
 pub mod Pairings
@@ -7,7 +10,9 @@ pub mod ReadTraces
 pub mod ReadingFaults
 pub mod ReplayLaws
 pub mod Replays
-pub mod Rewritten
 pub mod Runs
 pub mod Settings
+pub mod States
 pub mod Traces
+pub mod Verdicts
+pub mod Ways

@@ -1,32 +1,15 @@
 -- The values that are listed for sum variables.
-use Rattle.std.specs.Prelude.{◌≡◌, ◌↔◌, ℕ, Bool, List, [], ◌∷◌, map, IsTrue}
+use Rattle.std.specs.Prelude.{◌≡◌, List, [], ◌∷◌, IsTrue}
 use Rattle.std.specs.List.{Contains}
 use Rattle.data_theory.specs.declared.ids.VarId.{VarId}
-use Rattle.data_theory.specs.IdTerms.{term_under}
 use Rattle.data_theory.specs.Signature.{Sig}
 use Rattle.data_theory.specs.Terms.{Term}
 use Rattle.term_pool.specs.ConstructorValues.{ConstructorValue}
-use Rattle.value_enum.specs.Values.{IsPlainValueOf, AreFirst, AreWhole, value_tree}
+use Rattle.value_enum.specs.Values.{IsPlainValueOf}
 use Rattle.process_terms.specs.Processes.{Bound}
 use Rattle.lps_core.specs.Fitting.{sort_of_variable}
+use Rattle.lps_simulator.specs.SumValues.{value_term, Listed, AreListedFor}
 use Rattle.trace_replay.specs.Settings.{Setting}
-
--- the term of a value
-abbrev pub value_term : Sig → ConstructorValue → Term
-value_term g v = term_under g (value_tree v)
-
--- ---- one variable
--- terms, and whether there are no others
-pub record Listed : Type 0 where
-  pub terms : List Term
-  pub whole : Bool
-
--- These are the first values of a variable's sort for a bound, in their order, and it is told whether the sort has no others.
-pub record AreListedFor (g : Sig) (bound : ℕ) (x : VarId) (found : Listed) : Type 0 where
-  pub values : List ConstructorValue
-  pub first : AreFirst g (sort_of_variable g x) bound values
-  pub terms : found.terms ≡ map (value_term g) values
-  pub whole : IsTrue found.whole ↔ AreWhole g (sort_of_variable g x) values
 
 -- the number of a sum variable
 abbrev pub number_of : Bound → VarId

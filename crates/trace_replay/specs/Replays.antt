@@ -1,18 +1,19 @@
 -- The states to which a trace leads, and the verdict.
-use Rattle.std.specs.Prelude.{◌≡◌, ◌||◌, ℕ, Bool, true, false, List, [], ◌∷◌, ◌++◌, Option, Some, IsTrue, ◌⊎◌}
+use Rattle.std.specs.Prelude.{◌≡◌, ◌||◌, ℕ, Bool, true, false, List, [], ◌∷◌, Option, Some, IsTrue, ◌⊎◌}
 use Rattle.std.specs.List.{AllByRecursion, Contains}
-use Rattle.data_theory.specs.Environments.{Environment, bound, term_in}
+use Rattle.data_theory.specs.Environments.{term_in}
 use Rattle.data_theory.specs.Terms.{Term, put}
 use Rattle.process_terms.specs.Labels.{Label, put_label}
 use Rattle.process_terms.specs.Processes.{Bound}
-use Rattle.bisim_laws.specs.LinearProcesses.{Summand, Linear, variables, put_next}
+use Rattle.bisim_laws.specs.LinearProcesses.{Summand, Linear, put_next}
+use Rattle.lps_simulator.specs.Options.{environment_at}
+use Rattle.lps_simulator.specs.Rewritten.{NextIsRewritten}
 use Rattle.trace_replay.specs.declared.replaying.Verdict.{Verdict}
 use Rattle.trace_replay.specs.declared.replaying.Verdict.TheVariants.{Accepted, Rejected, Undecided}
 use Rattle.trace_replay.specs.Settings.{Setting, data_in}
 use Rattle.trace_replay.specs.Listings.{AreListed, IsWhole}
 use Rattle.trace_replay.specs.Decidings.{Answer, ComeOut, hold, fail, stay_open}
 use Rattle.trace_replay.specs.Pairings.{Pairing, label_equalities}
-use Rattle.trace_replay.specs.Rewritten.{NextIsRewritten}
 
 -- ---- states
 -- the arguments of the linear process's call, or the end
@@ -28,10 +29,6 @@ pub record Way (s : Setting) (l : Linear) (m : Label) : Type 0 where
   pub pairing : Pairing summand.label m
   pub values : List Term
   pub listed : AreListed s summand.sums values
-
--- the sums with the terms of a combination, in front of the parameters with those of a state
-abbrev pub environment_at : Linear → Summand → List Term → List Term → Environment
-environment_at l a state combination = bound (variables a.sums) combination ++ bound (variables l.params) state
 
 -- the condition, and the equalities of the paired arguments
 abbrev pub conditions : Linear → Summand → Label → List Term → List Term → List Term

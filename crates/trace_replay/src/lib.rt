@@ -5,10 +5,16 @@
 #![tactic(auto)]
 
 mod blank;
+mod deciding;
 pub mod laws;
+mod leading;
 mod lines;
 mod reading;
 mod replaying;
+mod states;
+mod traces;
+mod ways;
 
 pub use reading::{Line, read_trace};
 pub use replaying::{ReplayFault, Verdict};
+pub use traces::replay;

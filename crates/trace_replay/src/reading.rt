@@ -82,6 +82,7 @@ pub fn read_trace(
 ) -> Result<Vec<Line>, ReplayFault>
     requires { All (IsTreeWithin sig.now) pool.old.trees }
     ensures kept { GoesOn sig.now pool.old sig.now pool.new }
+    ensures trees { OnOk result (All (IsTreeWithin sig.now) pool.new.trees) }
     ensures read { IfOk result (λ lines. IsReadTrace sig.now pool.new.trees trace.now (map plain_line lines.items)) }
     ensures fault { IfErr result (IsTraceFault sig.now trace.now) }
 {

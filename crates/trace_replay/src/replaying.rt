@@ -1,5 +1,6 @@
 //! Whether a linear process has the steps of a trace.
 
+use data_theory::NoMemory;
 use std::alloc::{AllocError, AllocFailed};
 
 /// What a trace is to a linear process.
@@ -40,6 +41,17 @@ impl<T: Drop> From<AllocFailed<T>> for ReplayFault {
     ghost from_gives = { λ _ fault. fault ≡ NoMemory };
 
     fn from(_: AllocFailed<T>) -> Self {
+        ReplayFault::NoMemory
+    }
+}
+
+impl From<NoMemory> for ReplayFault {
+    ghost use Rattle.std.specs.Prelude.{◌≡◌};
+    ghost use Rattle.trace_replay.specs.declared.replaying.ReplayFault.TheVariants as faults;
+
+    ghost from_gives = { λ _ fault. fault ≡ faults.NoMemory };
+
+    fn from(_: NoMemory) -> Self {
         ReplayFault::NoMemory
     }
 }
