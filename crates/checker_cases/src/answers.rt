@@ -16,6 +16,7 @@ use sort_checker::{FoundFault, elaborate_label, ill_typed};
 use sort_table::build;
 use std::alloc::{AllocError, Global};
 use term_pool::Pool;
+use trace_replay::{Line, ReplayFault, read_trace};
 
 /// The answer to a line.
 pub fn answer(alloc: Global, line: &str) -> Result<Vec<u8>, AllocError> {
@@ -35,7 +36,7 @@ pub fn answer(alloc: Global, line: &str) -> Result<Vec<u8>, AllocError> {
     spec_text(alloc, &spec, label)
 }
 
-/// The first fault of a specification, over the signature that is built of it, or what a label is over it.
+/// The first fault of a specification, over the signature that is built of it, or what a label or a trace is over it.
 fn spec_text(alloc: Global, spec: &Spec, label: Option<&str>) -> Result<Vec<u8>, AllocError>
     requires words { IsSpecOfWords (spec_of spec.now) }
     requires placed { IsPlaced (spec_of spec.now) }
@@ -43,10 +44,18 @@ fn spec_text(alloc: Global, spec: &Spec, label: Option<&str>) -> Result<Vec<u8>,
     let mut names = Names::new(alloc);
     match build(alloc, spec, &mut names) {
         Ok(sig) => match label {
-            Some(line) => label_text(alloc, &sig, line),
+            Some(line) => line_text(alloc, &sig, line),
             None => typed_text(alloc, &sig, spec),
         },
         Err(_) => b"refused declarations".to_vec(alloc),
+    }
+}
+
+/// What a trace behind `@`, or else a label, is over a signature.
+fn line_text(alloc: Global, sig: &Signature, line: &str) -> Result<Vec<u8>, AllocError> {
+    match line.strip_prefix('@') {
+        Some(trace) => trace_text(alloc, sig, trace),
+        None => label_text(alloc, sig, line),
     }
 }
 
@@ -80,6 +89,54 @@ fn found_label(
         Err(LabelFault::NotALabel) => b"not a label".to_vec(alloc),
         Err(LabelFault::NoMemory) => b"no memory".to_vec(alloc),
     }
+}
+
+/// The byte of a trace that a byte of the table stands for.
+fn trace_byte(byte: u8) -> u8 {
+    match byte {
+        b'$' => b'\n',
+        b'^' => b'\r',
+        other => other,
+    }
+}
+
+/// What a text is as a trace over a signature.
+fn trace_text(alloc: Global, sig: &Signature, text: &str) -> Result<Vec<u8>, AllocError> {
+    let mut trace = Vec::new(alloc);
+    for byte in text.as_bytes() {
+        trace.push(trace_byte(*byte))?;
+    }
+    match Pool::new(alloc) {
+        Ok(pool) => found_lines(alloc, sig, pool, trace.as_slice()),
+        Err(_) => b"no memory".to_vec(alloc),
+    }
+}
+
+/// Which labels a trace has over a signature.
+fn found_lines(
+    alloc: Global,
+    sig: &Signature,
+    pool: Pool,
+    trace: &[u8],
+) -> Result<Vec<u8>, AllocError>
+    requires { All (IsTreeWithin sig.now) pool.trees }
+{
+    let mut pool = pool;
+    match read_trace(alloc, sig, &mut pool, trace) {
+        Ok(lines) => lines_text(alloc, lines.as_slice(), pool.len()),
+        Err(ReplayFault::BadTrace(number)) => numbered(alloc, "no label", number),
+        Err(ReplayFault::NoMemory) => b"no memory".to_vec(alloc),
+    }
+}
+
+/// How many labels there are, where the last one stands, and how many terms there are.
+fn lines_text(alloc: Global, lines: &[Line], terms: usize) -> Result<Vec<u8>, AllocError> {
+    let last = match lines.last() {
+        Some(line) => line.number,
+        None => 0,
+    };
+    let text = format!(in alloc; "{} labels up to line {last}, {terms} terms", lines.len())?;
+    text.as_bytes().to_vec(alloc)
 }
 
 /// The first fault of a specification over a signature.

@@ -5,3 +5,4 @@ mod TestedModels
 mod Readings
 pub mod FirstFits
 mod AroundTold
+mod Playing

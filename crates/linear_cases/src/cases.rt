@@ -19,6 +19,8 @@ use crate::fitting::may_be_encoded;
 use crate::form_shown::{Words, form_size, form_text};
 use crate::known::count_variables;
 use crate::shown::{Texts, shown, term_texts, variable_names};
+use crate::simulating::played;
+use crate::solving::without_sums;
 use crate::unfolding::unfolded;
 use action_filters::{allow, block, hide, rename};
 use communication::communicate;
@@ -259,6 +261,7 @@ fn operated(
         "parelm" => lps_parelm::eliminate(alloc, lin, pool),
         "product" => product(alloc, &lin, right, sig, pool),
         "rename" => renamed(alloc, lin, text, sig),
+        "sumelm" => without_sums(alloc, lin, text, sig, pool),
         _ => Ok(lin),
     }
 }
@@ -272,6 +275,7 @@ fn operated_on(
     pool: &mut Pool,
 ) -> Result<Linear, NoMemory>
     requires { Fits sig.old pool.old.trees (plain_linear first.now) }
+    ensures { IfOk result (λ made. Fits sig.new pool.new.trees (plain_linear made)) }
 {
     let mut lin = first.copy(alloc)?;
     let mut right = first.copy(alloc)?;
@@ -285,7 +289,8 @@ fn operated_on(
     Ok(lin)
 }
 
-/// Does what stands behind the initial terms, and shows the linear process, or how large it is where the last word is `count`.
+/// Does what stands behind the initial terms, and shows the linear process, or how large it is where the last word is `count`, or what it
+/// does where `session` stands behind.
 fn done(
     alloc: Global,
     draft: &Draft,
@@ -299,6 +304,9 @@ fn done(
     let lin = operated_on(alloc, first, line, sig, pool)?;
     if line.ends_with(" count") {
         return linear_size(alloc, &lin);
+    }
+    if let Some((_, text)) = line.split_once("| session ") {
+        return played(alloc, draft.actions.as_slice(), lin, text, sig, pool);
     }
     linear_text(alloc, draft, &lin, sig, pool)
 }

@@ -19,9 +19,13 @@
 //!   change nothing where a new name has no action with sorts that the old one has, or a result none with sorts that all names on its
 //!   left side have), `product`, which puts a second linear process beside it at the right, the form's own at first, `swap`, after which
 //!   each of the two stands for the other, `parelm`, which leaves out the parameters that aren't needed, `constelm 9`, which leaves out the
-//!   constant ones with 9 uses of equations for the normal form of a term (terms stay as they are where no number stands there), and
-//!   `name`, which names the sums. With `count` as the last word the answer says no more than how many parameters and summands there
-//!   are.
+//!   constant ones with 9 uses of equations for the normal form of a term (terms stay as they are where no number stands there),
+//!   `sumelm 9`, which leaves out the sums that an equality gives or that don't occur, with terms as there, and `name`, which names the
+//!   sums. With `count` as the last word the answer says no more than how many parameters and summands there are. With
+//!   `session 9 3: take 1, options` last the answer says what the linear process does, with 9 uses of equations for each rewriting and 3
+//!   values for each sum: of each command the moves of the state, with their summands, the summands that aren't decided or whose sums are
+//!   cut, and whether the process has ended then. `take 1` goes on by the first move, `restart` goes back to the initial state, and
+//!   `picks 1 3 5` says what a walk with the seed 1 picks of 3 and then of 5.
 //!
 //! Steps make a process term, with semicolons between them: `do a t, b` is a label of actions, `call 2 t u` a call, and `delta` is itself;
 //! `seq 3` and `choice 3` put `.` and `+` between the last three terms, `cond t` a condition in front of the last two, and `sum x y` a
@@ -43,6 +47,8 @@ mod form_shown;
 mod known;
 mod process_drafts;
 mod shown;
+mod simulating;
+mod solving;
 mod unfolding;
 
 use cases::answer;

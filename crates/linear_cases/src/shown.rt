@@ -137,7 +137,7 @@ pub fn push_variables(
 }
 
 /// Adds a label.
-fn push_label(texts: &Texts<'_>, label: &Label, out: &mut String) -> Result<(), NoMemory> {
+pub fn push_label(texts: &Texts<'_>, label: &Label, out: &mut String) -> Result<(), NoMemory> {
     if label.actions.is_empty() {
         out.push_str("tau")?;
     }

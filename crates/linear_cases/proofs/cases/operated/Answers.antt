@@ -22,3 +22,6 @@ returns-in-parelm-clause-fits c = eliminated_fits c.args.sig.now c.args.pool.now
 
 pub returns-in-constelm-clause-right : goal.returns-in-constelm-clause-right
 returns-in-constelm-clause-right c = first_fits_on c.signature_stands.ensures c.without_constants.ensures.kept c.requires.right
+
+pub returns-in-sumelm-clause-right : goal.returns-in-sumelm-clause-right
+returns-in-sumelm-clause-right c = first_fits_on c.signature_stands.ensures c.without_sums.ensures.kept c.requires.right
