@@ -41,8 +41,22 @@ fn print_left(
         summands: Vec::new(alloc),
     };
     let lin = mem::replace(&mut made.lin, nothing);
-    let left = left_of(alloc, lin, &made.sig, &mut made.pool, &made.theory, elimination)?;
-    let text = print(alloc, &made.spec, &mut made.sig, &made.pool, made.name, &left)?;
+    let left = left_of(
+        alloc,
+        lin,
+        &made.sig,
+        &mut made.pool,
+        &made.theory,
+        elimination,
+    )?;
+    let text = print(
+        alloc,
+        &made.spec,
+        &mut made.sig,
+        &made.pool,
+        made.name,
+        &left,
+    )?;
     signature_stands(&made.sig);
     Ok(text)
 }

@@ -12,8 +12,8 @@ ghost use Rattle.lin_driver.specs.declared.eliminations.Elimination.TheVariants.
 use data_rewriter::{ByRewriter, Rewriter};
 use data_theory::{NoMemory, Num, Signature};
 use lps_core::{Linear, signature_stands};
-use number_rules::{NumOp, NumberRules};
 use number_rules::operations::exact;
+use number_rules::{NumOp, NumberRules};
 use std::alloc::Global;
 use term_pool::{Pool, Theory};
 

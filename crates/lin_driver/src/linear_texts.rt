@@ -31,7 +31,14 @@ fn print_out(alloc: Global, made: &mut Linearised) -> Result<Vec<u8>, LinFault>
     ensures written { IfOk result (λ text. (h : Sig) × IsSignature h × IsPrinted (spec_of made.old.spec) made.old.sig h made.old.pool.trees made.old.name (plain_linear made.old.lin) text.items) }
     ensures no_fault { IfErr result (λ fault. fault ≡ LinFault.NoMemory) }
 {
-    let text = print(alloc, &made.spec, &mut made.sig, &made.pool, made.name, &made.lin)?;
+    let text = print(
+        alloc,
+        &made.spec,
+        &mut made.sig,
+        &made.pool,
+        made.name,
+        &made.lin,
+    )?;
     signature_stands(&made.sig);
     Ok(text)
 }
