@@ -18,7 +18,7 @@ mod ProcessNames
 mod ColumnNames
 mod AddedParts
 pub mod Additions
-mod LinearisedTexts
+pub mod LinearisedTexts
 mod SortedTerms
 mod FittingOperators
 mod OpenedOperators
@@ -32,7 +32,7 @@ mod ModelLinears
 mod ElaboratedModels
 mod ModelsOfTexts
 pub mod OneStart
-mod Refused
+pub mod Refused
 mod MadeLinears
 mod ReadingBack
 mod MadeNames
@@ -48,7 +48,7 @@ pub mod AcceptedTexts
 mod ReadTexts
 mod SomeOf
 mod FewerVariables
-mod RewritableEquations
+pub mod RewritableEquations
 mod EliminatedTexts
 mod LeftInCode
 mod WrittenPieces

@@ -1,23 +1,26 @@
 -- How a run ended, and the line that says so.
-use Rattle.std.proofs.Common.{◌≡◌, ◌≤◌, ◌⊎◌, ℕ, List, Option, Some, None, IfSome, OnOk, OnErr, Result, Ok, Err, inl, inr, ◌++◌, length, refl, ap, arith}
+use Rattle.std.proofs.Common.{◌≡◌, ◌≤◌, ◌⊎◌, ℕ, List, [], Option, Some, None, IfSome, OnOk, OnErr, Result, Ok, Err, inl, inr, ◌++◌, length, append-nil, refl, sym, ap, subst, arith, rules}
 use Rattle.std.specs.Prelude.{option_and_then, option_map}
 use Rattle.mcrl2_text.specs.declared.loading.TheConstants.{MAX_TEXT_LEN}
+use Rattle.mcrl2_text.specs.Bytes.{TakesPrefix}
 use Rattle.mcrl2_text.specs.Faults.{Rose}
 use Rattle.lin_driver.specs.Faults.{IsFaultBy}
 use Rattle.lin_driver.specs.Refusals.{IsRefusedWith}
 use Rattle.lin_driver.specs.declared.fault.LinFault.{LinFault}
 use Rattle.lin_driver.specs.declared.fault.LinFault.TheVariants as lin
 use Rattle.lin_driver.specs.declared.methods.Method.{Method}
+use Rattle.lin_driver.specs.declared.methods.Method.TheVariants.{Auto}
 use Rattle.lin_driver.proofs.AcceptedTexts.{faulty_texts_cannot_be_linearised}
-use Rattle.mcrl2lin.specs.Commands.{Asked, asked_by, Question, question}
-use Rattle.mcrl2lin.specs.Ends.{IsAnswer, IsTaken, IsTakenBy, IsLineOf, EndsWell}
+use Rattle.mcrl2lin.specs.Commands.{Asked, asked_by, Question, question, text_asked}
+use Rattle.mcrl2lin.specs.Ends.{IsAnswer, IsAnswered, IsTaken, IsTakenBy, IsLineOf, EndsWithLine, TookAnswer, EndsWell}
 use Rattle.mcrl2lin.specs.Lines.{line_of}
 use Rattle.mcrl2lin.specs.Stops.{HasCause, IsFaultFor, status_of_stop}
 use Rattle.mcrl2lin.specs.declared.command.Task.{Task}
-use Rattle.mcrl2lin.specs.declared.command.Task.TheVariants.{Check, Linearise, Constelm, Parelm, Sumelm}
+use Rattle.mcrl2lin.specs.declared.command.Task.TheVariants.{Check, Linearise, Constelm, Parelm, Sumelm, Steps, Walk, Generate}
 use Rattle.mcrl2lin.specs.declared.stop.Stop.{Stop}
 use Rattle.mcrl2lin.specs.declared.stop.Stop.TheVariants.{Words, ReadFault, TooLong, Refused, NoMemory}
-use Rattle.mcrl2lin.specs.declared.top.Status.TheVariants.{Done}
+use Rattle.mcrl2lin.specs.declared.status.Status.{Status}
+use Rattle.mcrl2lin.specs.declared.status.Status.TheVariants as status
 use Rattle.mcrl2lin.proofs.Told.{on_told}
 
 -- the line of a stop is that of its status
@@ -31,6 +34,39 @@ line_of-stop NoMemory asked cause = refl
 pub failed_or_whole : {T E : Type 0} (r : Result T E) (P Q : Type 0) → OnOk r P → OnErr r Q → Q ⊎ P
 failed_or_whole (Ok x) P Q whole failed = inr whole
 failed_or_whole (Err e) P Q whole failed = inl failed
+
+-- ---- the statuses of an answer
+pub other_status : (s t : Status) → IsAnswered s → (IsAnswered t → ⊥) → s ≡ t → ⊥
+other_status s t is never same = never (subst IsAnswered same is)
+
+pub stops_unanswered : (stop : Stop) → IsAnswered (status_of_stop stop) → ⊥
+stops_unanswered Words is = is
+stops_unanswered ReadFault is = is
+stops_unanswered TooLong is = is
+stops_unanswered (Refused line) is = is
+stops_unanswered NoMemory is = is
+
+-- its line is empty
+answered_line : (s : Status) (asked : Option Question) → IsAnswered s → IsLineOf s asked []
+answered_line status.Done asked is = refl
+answered_line status.Undecided asked is = refl
+answered_line status.No asked is = refl
+answered_line status.Refused asked is = absurd is
+answered_line status.Words asked is = absurd is
+answered_line status.ReadFault asked is = absurd is
+answered_line status.WriteFault asked is = absurd is
+answered_line status.NoMemory asked is = absurd is
+
+pub answered_ends : (s : Status) (asked : Option Question) (told : Option (List ℕ)) (faults : ℕ) → IsAnswered s → EndsWithLine s asked told told faults faults
+answered_ends s asked told faults is = record { line = []; says = answered_line s asked is; prefix = nothing_taken told; whole = inr (nothing_more told) }
+  where
+    nothing_taken : (told : Option (List ℕ)) → IfSome told (λ bytes. TakesPrefix bytes told [])
+    nothing_taken None = tt
+    nothing_taken (Some bytes) = search rules
+
+    nothing_more : (told : Option (List ℕ)) → IfSome told (λ bytes. told ≡ Some (bytes ++ []))
+    nothing_more None = tt
+    nothing_more (Some bytes) = ap Some (sym (append-nil bytes))
 
 -- ---- where nothing counted a fault
 -- a text that is made linear by a method has none of the faults for which that refuses one
@@ -51,6 +87,9 @@ never_refused (Linearise method) text is texts fault of has = never_refused_by m
 never_refused (Constelm method fuel) text is texts fault of has = never_refused_by method text is texts fault of has
 never_refused (Parelm method) text is texts fault of has = never_refused_by method text is texts fault of has
 never_refused (Sumelm method fuel) text is texts fault of has = never_refused_by method text is texts fault of has
+never_refused (Steps method fuel bound) text is texts fault of has = never_refused_by method text is texts fault of has
+never_refused (Walk method plan) text is texts fault of has = never_refused_by method text is texts fault of has
+never_refused (Generate size) text is texts fault of has = never_refused_by Auto text (is, λ e. let never : ⊥ = cc in absurd never) texts fault of has
 
 module _ (asked : Option Question) (a b c d : ℕ) (before after : Option (List ℕ)) where
   -- a stop is for want of memory where the text asked for has none of the faults for which its task refuses one
@@ -85,28 +124,44 @@ module _ (asked : Option Question) (a b c d : ℕ) (before after : Option (List 
       (stopped_well P (λ q free texts fault of has. free texts fault has) stop none rose cause)
 
   -- the whole answer was written
-  ends_well : (answer : List ℕ) → IfSome before (λ bytes. after ≡ Some (bytes ++ answer)) → (q : Question) → IsAnswer q.task q.text answer → EndsWell Done q before after
-  ends_well answer whole q is = on_told before (λ bytes. after ≡ Some (bytes ++ answer)) (λ bytes. (printed : List ℕ) × (after ≡ Some (bytes ++ printed)) × IsAnswer q.task q.text printed) (λ bytes took. (answer, took, is)) whole
+  ends_well : (s : Status) (answer : List ℕ) → IsAnswered s → IfSome before (λ bytes. after ≡ Some (bytes ++ answer)) → (q : Question) → IsAnswer q.task q.text s answer → EndsWell s q before after
+  ends_well s answer answered whole q is = by_status s answered (on_told before (λ bytes. after ≡ Some (bytes ++ answer)) (λ bytes. (printed : List ℕ) × (after ≡ Some (bytes ++ printed)) × IsAnswer q.task q.text s printed) (λ bytes took. (answer, took, is)) whole)
+    where
+      by_status : (s : Status) → IsAnswered s → TookAnswer s q before after → EndsWell s q before after
+      by_status status.Done a took = took
+      by_status status.Undecided a took = took
+      by_status status.No a took = took
+      by_status status.Refused a took = absurd a
+      by_status status.Words a took = absurd a
+      by_status status.ReadFault a took = absurd a
+      by_status status.WriteFault a took = absurd a
+      by_status status.NoMemory a took = absurd a
 
-  pub whole_answer : (answer : List ℕ) → IfSome asked (λ q. (length q.text ≤ MAX_TEXT_LEN) × IsAnswer q.task q.text answer) → IfSome before (λ bytes. after ≡ Some (bytes ++ answer))
-      → IfSome asked (λ q. (length q.text ≤ MAX_TEXT_LEN) × (x : List ℕ) × IsAnswer q.task q.text x × IfSome before (λ bytes. after ≡ Some (bytes ++ x)))
-  whole_answer answer answered whole =
-      on_told asked (λ q. (length q.text ≤ MAX_TEXT_LEN) × IsAnswer q.task q.text answer) (λ q. (length q.text ≤ MAX_TEXT_LEN) × (x : List ℕ) × IsAnswer q.task q.text x × IfSome before (λ bytes. after ≡ Some (bytes ++ x)))
+  pub whole_answer : (s : Status) (answer : List ℕ) → IfSome asked (λ q. (length q.text ≤ MAX_TEXT_LEN) × IsAnswer q.task q.text s answer) → IfSome before (λ bytes. after ≡ Some (bytes ++ answer))
+      → IfSome asked (λ q. (length q.text ≤ MAX_TEXT_LEN) × (x : List ℕ) × IsAnswer q.task q.text s x × IfSome before (λ bytes. after ≡ Some (bytes ++ x)))
+  whole_answer s answer answered whole =
+      on_told asked (λ q. (length q.text ≤ MAX_TEXT_LEN) × IsAnswer q.task q.text s answer) (λ q. (length q.text ≤ MAX_TEXT_LEN) × (x : List ℕ) × IsAnswer q.task q.text s x × IfSome before (λ bytes. after ≡ Some (bytes ++ x)))
       (λ q is. (is.0, answer, is.1, whole)) answered
 
-  pub taken_ends_well : (answer : List ℕ) → IfSome asked (λ q. (length q.text ≤ MAX_TEXT_LEN) × IsAnswer q.task q.text answer) → IfSome before (λ bytes. after ≡ Some (bytes ++ answer))
-      → IfSome asked (λ q. IsTaken q.task q.text → length q.text ≤ MAX_TEXT_LEN → ¬ (Rose a b) → ¬ (Rose c d) → EndsWell Done q before after)
-  taken_ends_well answer answered whole =
-      on_told asked (λ q. (length q.text ≤ MAX_TEXT_LEN) × IsAnswer q.task q.text answer) (λ q. IsTaken q.task q.text → length q.text ≤ MAX_TEXT_LEN → ¬ (Rose a b) → ¬ (Rose c d) → EndsWell Done q before after)
-      (λ q is taken short quiet still. ends_well answer whole q is.1) answered
+  pub part_of_answer : (s : Status) (answer : List ℕ) → IfSome asked (λ q. (length q.text ≤ MAX_TEXT_LEN) × IsAnswer q.task q.text s answer) → IfSome before (λ bytes. TakesPrefix bytes after answer)
+      → IfSome asked (λ q. (length q.text ≤ MAX_TEXT_LEN) × (t : Status) × (x : List ℕ) × IsAnswer q.task q.text t x × IfSome before (λ bytes. TakesPrefix bytes after x))
+  part_of_answer s answer answered part =
+      on_told asked (λ q. (length q.text ≤ MAX_TEXT_LEN) × IsAnswer q.task q.text s answer) (λ q. (length q.text ≤ MAX_TEXT_LEN) × (t : Status) × (x : List ℕ) × IsAnswer q.task q.text t x × IfSome before (λ bytes. TakesPrefix bytes after x))
+      (λ q is. (is.0, s, answer, is.1, part)) answered
 
-  pub linearised_ends_well : (answer : List ℕ) → IfSome asked (λ q. (length q.text ≤ MAX_TEXT_LEN) × IsAnswer q.task q.text answer) → IfSome before (λ bytes. after ≡ Some (bytes ++ answer))
-      → IfSome asked (λ q. ((texts : List (List ℕ)) (fault : LinFault) → ¬ (IsRefusedWith q.text texts fault)) → length q.text ≤ MAX_TEXT_LEN → ¬ (Rose a b) → ¬ (Rose c d) → EndsWell Done q before after)
-  linearised_ends_well answer answered whole =
-      on_told asked (λ q. (length q.text ≤ MAX_TEXT_LEN) × IsAnswer q.task q.text answer)
-      (λ q. ((texts : List (List ℕ)) (fault : LinFault) → ¬ (IsRefusedWith q.text texts fault)) → length q.text ≤ MAX_TEXT_LEN → ¬ (Rose a b) → ¬ (Rose c d) → EndsWell Done q before after)
-      (λ q is free short quiet still. ends_well answer whole q is.1) answered
+  pub taken_ends_well : (s : Status) (answer : List ℕ) → IsAnswered s → IfSome asked (λ q. (length q.text ≤ MAX_TEXT_LEN) × IsAnswer q.task q.text s answer) → IfSome before (λ bytes. after ≡ Some (bytes ++ answer))
+      → IfSome asked (λ q. IsTaken q.task q.text → length q.text ≤ MAX_TEXT_LEN → ¬ (Rose a b) → ¬ (Rose c d) → EndsWell s q before after)
+  taken_ends_well s answer ok answered whole =
+      on_told asked (λ q. (length q.text ≤ MAX_TEXT_LEN) × IsAnswer q.task q.text s answer) (λ q. IsTaken q.task q.text → length q.text ≤ MAX_TEXT_LEN → ¬ (Rose a b) → ¬ (Rose c d) → EndsWell s q before after)
+      (λ q is taken short quiet still. ends_well s answer ok whole q is.1) answered
+
+  pub linearised_ends_well : (s : Status) (answer : List ℕ) → IsAnswered s → IfSome asked (λ q. (length q.text ≤ MAX_TEXT_LEN) × IsAnswer q.task q.text s answer) → IfSome before (λ bytes. after ≡ Some (bytes ++ answer))
+      → IfSome asked (λ q. ((texts : List (List ℕ)) (fault : LinFault) → ¬ (IsRefusedWith q.text texts fault)) → length q.text ≤ MAX_TEXT_LEN → ¬ (Rose a b) → ¬ (Rose c d) → EndsWell s q before after)
+  linearised_ends_well s answer ok answered whole =
+      on_told asked (λ q. (length q.text ≤ MAX_TEXT_LEN) × IsAnswer q.task q.text s answer)
+      (λ q. ((texts : List (List ℕ)) (fault : LinFault) → ¬ (IsRefusedWith q.text texts fault)) → length q.text ≤ MAX_TEXT_LEN → ¬ (Rose a b) → ¬ (Rose c d) → EndsWell s q before after)
+      (λ q is free short quiet still. ends_well s answer ok whole q is.1) answered
 
 -- words that give no command ask for no text
 pub nothing_asked : (text_of : List ℕ → Option (List ℕ)) (words : List (List ℕ)) → asked_by words ≡ None → question text_of words ≡ None
-nothing_asked text_of words none = ap (option_and_then (λ (x : Asked). option_map (λ t. record { task = x.task; text = t }) (text_of x.file))) none
+nothing_asked text_of words none = ap (option_and_then (λ (x : Asked). option_map (λ t. record { task = x.task; text = t }) (text_asked text_of x))) none

@@ -4,3 +4,13 @@ pub mod Numbers
 pub mod ShortWords
 pub mod TakenWords
 pub mod Told
+pub mod AnswerStatuses
+pub mod Performing
+pub mod ListedSteps
+pub mod ShownLines
+pub mod SessionFacts
+pub mod WalkSteps
+pub mod ShownSteps
+pub mod ShownTexts
+pub mod LineLengths
+pub mod FirstMoves

@@ -5,7 +5,7 @@ use Rattle.mcrl2_text.specs.declared.loading.TheConstants.{MAX_TEXT_LEN}
 use Rattle.lin_driver.specs.Refusals.{IsRefusedWith}
 use Rattle.lin_driver.specs.declared.fault.LinFault.{LinFault}
 use Rattle.lin_driver.specs.declared.fault.LinFault.TheVariants as lin
-use Rattle.mcrl2lin.specs.Commands.{Asked, asked_by, Question, question}
+use Rattle.mcrl2lin.specs.Commands.{Asked, asked_by, Question, question, text_asked}
 use Rattle.mcrl2lin.specs.Stops.{HasCause, IsFaultFor, IsStopFor}
 use Rattle.mcrl2lin.specs.declared.stop.Stop.{Stop}
 use Rattle.mcrl2lin.specs.declared.stop.Stop.TheVariants.{Words, ReadFault, TooLong, Refused, NoMemory}
@@ -17,9 +17,9 @@ on_told (Some x) P Q follows holds = follows x holds
 
 -- what holds of the bytes that were loaded holds of the text asked for
 pub of_loaded : (text_of : List ℕ → Option (List ℕ)) (words : List (List ℕ)) (a : Asked) (bytes : List ℕ) (P : Question → Type 0) → asked_by words ≡ Some a
-    → IfSome (text_of a.file) (λ text. bytes ≡ text) → P (record { task = a.task; text = bytes }) → IfSome (question text_of words) P
+    → IfSome (text_asked text_of a) (λ text. bytes ≡ text) → P (record { task = a.task; text = bytes }) → IfSome (question text_of words) P
 of_loaded text_of words a bytes P is told holds =
-    subst (λ (asked : Option Asked). IfSome (option_and_then (λ (b : Asked). option_map (λ t. record { task = b.task; text = t }) (text_of b.file)) asked) P) (sym is) (by_text (text_of a.file) told)
+    subst (λ (asked : Option Asked). IfSome (option_and_then (λ (b : Asked). option_map (λ t. record { task = b.task; text = t }) (text_asked text_of b)) asked) P) (sym is) (by_text (text_asked text_of a) told)
   where
     by_text : (o : Option (List ℕ)) → IfSome o (λ text. bytes ≡ text) → IfSome (option_map (λ t. record { task = a.task; text = t }) o) P
     by_text None told = tt
@@ -27,7 +27,7 @@ of_loaded text_of words a bytes P is told holds =
 
 -- a stop for a fault of the bytes that were loaded has its cause in the text asked for
 pub has_cause : (text_of : List ℕ → Option (List ℕ)) (words : List (List ℕ)) (a : Asked) (bytes : List ℕ) (texts : List (List ℕ)) (fault : LinFault) (stop : Stop) → asked_by words ≡ Some a
-    → IfSome (text_of a.file) (λ text. bytes ≡ text) → length bytes ≤ MAX_TEXT_LEN → (fault ≢ lin.NoMemory → IsFaultFor a.task fault) → (fault ≢ lin.NoMemory → IsRefusedWith bytes texts fault)
+    → IfSome (text_asked text_of a) (λ text. bytes ≡ text) → length bytes ≤ MAX_TEXT_LEN → (fault ≢ lin.NoMemory → IsFaultFor a.task fault) → (fault ≢ lin.NoMemory → IsRefusedWith bytes texts fault)
     → IsStopFor texts fault stop → HasCause stop (question text_of words)
 has_cause text_of words a bytes texts fault Words asked told short of refused is = absurd is
 has_cause text_of words a bytes texts fault ReadFault asked told short of refused is = absurd is

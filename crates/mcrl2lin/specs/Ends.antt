@@ -12,22 +12,50 @@ use Rattle.lin_driver.specs.declared.fault.LinFault.TheVariants.{NotTail}
 use Rattle.lin_driver.specs.declared.methods.Method.{Method}
 use Rattle.lin_driver.specs.declared.methods.Method.TheVariants.{Regular}
 use Rattle.mcrl2lin.specs.Commands.{Question}
+use Rattle.mcrl2lin.specs.Counts.{AreCounts}
 use Rattle.mcrl2lin.specs.Lines.{line_of, write_fault_line}
+use Rattle.mcrl2lin.specs.ShownTexts.{AreShownSteps, IsShownWalk}
 use Rattle.mcrl2lin.specs.Stops.{IsRefusal}
 use Rattle.mcrl2lin.specs.declared.command.Task.{Task}
-use Rattle.mcrl2lin.specs.declared.command.Task.TheVariants.{Check, Linearise, Constelm, Parelm, Sumelm}
+use Rattle.mcrl2lin.specs.declared.command.Task.TheVariants.{Check, Linearise, Constelm, Parelm, Sumelm, Steps, Walk, Generate}
 use Rattle.mcrl2lin.specs.declared.stop.Stop.TheVariants as stop
-use Rattle.mcrl2lin.specs.declared.top.Status.{Status}
-use Rattle.mcrl2lin.specs.declared.top.Status.TheVariants.{Done, Refused, Words, ReadFault, WriteFault, NoMemory, Undecided, No}
+use Rattle.mcrl2lin.specs.declared.status.Status.{Status}
+use Rattle.mcrl2lin.specs.declared.status.Status.TheVariants.{Done, Refused, Words, ReadFault, WriteFault, NoMemory, Undecided, No}
 
--- The answer of a task, where the text can be linearised: `ok`, or a text that stands for it, which for an elimination is that of what is left of a linear
--- process for the text.
-abbrev pub IsAnswer : Task → List ℕ → List ℕ → Type 0
-IsAnswer Check text answer = CanBeLinearised text × (answer ≡ codes "ok\n")
-IsAnswer (Linearise method) text answer = CanBeLinearised text × StandsFor text answer
-IsAnswer (Constelm method fuel) text answer = CanBeLinearised text × StandsFor text answer × IsEliminated (Constants fuel) text answer
-IsAnswer (Parelm method) text answer = CanBeLinearised text × StandsFor text answer × IsEliminated Parameters text answer
-IsAnswer (Sumelm method fuel) text answer = CanBeLinearised text × StandsFor text answer × IsEliminated (Sums fuel) text answer
+-- The answer of a task, where the text can be linearised, and its status: `ok`, or a text that stands for it, which for an elimination is that of what is
+-- left of a linear process for the text; or what such a process can do first, or a walk of it, and whether a summand is left undecided; or how large
+-- it is.
+abbrev pub IsAnswer : Task → List ℕ → Status → List ℕ → Type 0
+IsAnswer Check text status answer = CanBeLinearised text × (status ≡ Done) × (answer ≡ codes "ok\n")
+IsAnswer (Linearise method) text status answer = CanBeLinearised text × (status ≡ Done) × StandsFor text answer
+IsAnswer (Constelm method fuel) text status answer = CanBeLinearised text × (status ≡ Done) × StandsFor text answer × IsEliminated (Constants fuel) text answer
+IsAnswer (Parelm method) text status answer = CanBeLinearised text × (status ≡ Done) × StandsFor text answer × IsEliminated Parameters text answer
+IsAnswer (Sumelm method fuel) text status answer = CanBeLinearised text × (status ≡ Done) × StandsFor text answer × IsEliminated (Sums fuel) text answer
+IsAnswer (Steps method fuel bound) text status answer = CanBeLinearised text × AreShownSteps fuel bound text status answer
+IsAnswer (Walk method plan) text status answer = CanBeLinearised text × IsShownWalk plan text status answer
+IsAnswer (Generate size) text status answer = CanBeLinearised text × (status ≡ Done) × AreCounts text answer
+
+-- the tasks that may leave something undecided
+abbrev pub MayStayOpen : Task → Type 0
+MayStayOpen Check = ⊥
+MayStayOpen (Linearise method) = ⊥
+MayStayOpen (Constelm method fuel) = ⊥
+MayStayOpen (Parelm method) = ⊥
+MayStayOpen (Sumelm method fuel) = ⊥
+MayStayOpen (Steps method fuel bound) = ⊤
+MayStayOpen (Walk method plan) = ⊤
+MayStayOpen (Generate size) = ⊥
+
+-- the statuses of an answer
+abbrev pub IsAnswered : Status → Type 0
+IsAnswered Done = ⊤
+IsAnswered Undecided = ⊤
+IsAnswered No = ⊤
+IsAnswered Refused = ⊥
+IsAnswered Words = ⊥
+IsAnswered ReadFault = ⊥
+IsAnswered WriteFault = ⊥
+IsAnswered NoMemory = ⊥
 
 -- The texts that are made linear by a method: those that can be linearised. By `Regular` no form of such a text may have a summand of two
 -- calls, either.
@@ -41,6 +69,9 @@ IsTaken (Linearise method) text = IsTakenBy method text
 IsTaken (Constelm method fuel) text = IsTakenBy method text
 IsTaken (Parelm method) text = IsTakenBy method text
 IsTaken (Sumelm method fuel) text = IsTakenBy method text
+IsTaken (Steps method fuel bound) text = IsTakenBy method text
+IsTaken (Walk method plan) text = IsTakenBy method text
+IsTaken (Generate size) text = CanBeLinearised text
 
 -- the line of a status, with its cause in the text where that is told
 abbrev pub IsLineOf : Status → Option Question → List ℕ → Type 0
@@ -60,13 +91,17 @@ pub record EndsWithLine (status : Status) (asked : Option Question) (before afte
   pub prefix : IfSome before (λ bytes. TakesPrefix bytes after line)
   pub whole : Rose faults_before faults_after ⊎ IfSome before (λ bytes. after ≡ Some (bytes ++ line))
 
--- the run is done, and the bytes that the output took are the answer; or memory ran out
+-- the bytes that the output took are the answer, with this status
+abbrev pub TookAnswer : Status → Question → Option (List ℕ) → Option (List ℕ) → Type 0
+TookAnswer status q before after = IfSome before (λ bytes. (answer : List ℕ) × (after ≡ Some (bytes ++ answer)) × IsAnswer q.task q.text status answer)
+
+-- the task was done, and the output took its answer with the status that it has; or memory ran out
 abbrev pub EndsWell : Status → Question → Option (List ℕ) → Option (List ℕ) → Type 0
-EndsWell Done q before after = IfSome before (λ bytes. (answer : List ℕ) × (after ≡ Some (bytes ++ answer)) × IsAnswer q.task q.text answer)
+EndsWell Done q before after = TookAnswer Done q before after
+EndsWell Undecided q before after = TookAnswer Undecided q before after
+EndsWell No q before after = TookAnswer No q before after
 EndsWell NoMemory q before after = ⊤
 EndsWell Refused q before after = ⊥
 EndsWell Words q before after = ⊥
 EndsWell ReadFault q before after = ⊥
 EndsWell WriteFault q before after = ⊥
-EndsWell Undecided q before after = ⊥
-EndsWell No q before after = ⊥

@@ -4,4 +4,9 @@ pub mod Commands
 pub mod WordLaws
 pub mod Lines
 pub mod Stops
+pub mod Shown
+pub mod FirstSteps
+pub mod Walks
+pub mod ShownTexts
+pub mod Counts
 pub mod Ends

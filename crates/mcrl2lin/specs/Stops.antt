@@ -8,19 +8,28 @@ use Rattle.lin_driver.specs.Faults.{IsFaultBy}
 use Rattle.lin_driver.specs.Refusals.{IsRefusedWith}
 use Rattle.lin_driver.specs.declared.fault.LinFault.{LinFault}
 use Rattle.lin_driver.specs.declared.fault.LinFault.TheVariants as lin
+use Rattle.lin_driver.specs.declared.methods.Method.TheVariants.{Auto}
 use Rattle.mcrl2lin.specs.Commands.{Question}
 use Rattle.mcrl2lin.specs.Lines.{refusal_line}
 use Rattle.mcrl2lin.specs.declared.command.Task.{Task}
-use Rattle.mcrl2lin.specs.declared.command.Task.TheVariants.{Check, Linearise, Constelm, Parelm, Sumelm}
+use Rattle.mcrl2lin.specs.declared.command.Task.TheVariants.{Check, Linearise, Constelm, Parelm, Sumelm, Steps, Walk, Generate}
 use Rattle.mcrl2lin.specs.declared.stop.Stop.{Stop}
 use Rattle.mcrl2lin.specs.declared.stop.Stop.TheVariants.{Words, ReadFault, TooLong, Refused, NoMemory}
-use Rattle.mcrl2lin.specs.declared.top.Status.{Status}
-use Rattle.mcrl2lin.specs.declared.top.Status.TheVariants as status
+use Rattle.mcrl2lin.specs.declared.status.Status.{Status}
+use Rattle.mcrl2lin.specs.declared.status.Status.TheVariants as status
 
 abbrev pub stop_of_load : LoadFault → Stop
 stop_of_load load.ReadFault = ReadFault
 stop_of_load load.TooLong = TooLong
 stop_of_load load.NoMemory = NoMemory
+
+-- the stops where there is no text in hand
+abbrev pub IsOfLoading : Stop → Type 0
+IsOfLoading Words = ⊥
+IsOfLoading ReadFault = ⊤
+IsOfLoading TooLong = ⊤
+IsOfLoading (Refused line) = ⊥
+IsOfLoading NoMemory = ⊤
 
 -- the stop is a refusal for that fault, whose names stand among these texts, or want of memory
 abbrev pub IsStopFor : List (List ℕ) → LinFault → Stop → Type 0
@@ -37,6 +46,9 @@ IsFaultFor (Linearise method) fault = IsFaultBy method fault
 IsFaultFor (Constelm method fuel) fault = IsFaultBy method fault
 IsFaultFor (Parelm method) fault = IsFaultBy method fault
 IsFaultFor (Sumelm method fuel) fault = IsFaultBy method fault
+IsFaultFor (Steps method fuel bound) fault = IsFaultBy method fault
+IsFaultFor (Walk method plan) fault = IsFaultBy method fault
+IsFaultFor (Generate size) fault = IsFaultBy Auto fault
 
 -- the line refuses the text, where that is told, for a fault that it has
 pub record IsRefusal (asked : Option Question) (line : List ℕ) : Type 0 where

@@ -1,10 +1,11 @@
 //! What the words of the command line ask for.
-ghost use Rattle.std.specs.Prelude.{◌≡◌, IfOk, map, option_map, string_bytes};
+ghost use Rattle.std.specs.Prelude.{◌≡◌, ◌≤◌, IfOk, IfSome, map, option_map, string_bytes};
 ghost use Rattle.clap.specs.Words.{found_of, rows_of};
-ghost use Rattle.mcrl2lin.specs.Commands.{asked, asked_by, asked_in, asked_with, task_named};
+ghost use Rattle.mcrl2lin.specs.Commands.{asked, asked_by, asked_in, asked_with, plan_of, size_named, task_named, IsSized};
 
 use crate::command_line::{program, value_of};
-use crate::options::{Options, options_of};
+use crate::options::{Options, number, options_of};
+use crate::walking::Plan;
 use clap::ArgMatches;
 use clap::error::ErrorKind;
 use data_theory::NoMemory;
@@ -34,6 +35,24 @@ pub enum Task {
         /// The uses of equations that a rewriting has.
         fuel: u64,
     },
+    /// Write what its linear process can do first.
+    Steps {
+        /// How the components are encoded.
+        method: Method,
+        /// The uses of equations that a rewriting has.
+        fuel: u64,
+        /// The values that are tried of a sum.
+        bound: u64,
+    },
+    /// Write the labels of a walk of its linear process.
+    Walk {
+        /// How the components are encoded.
+        method: Method,
+        /// How the walk goes.
+        plan: Plan,
+    },
+    /// Write how large the linear process of a line of so many buffers is.
+    Generate(u64),
 }
 
 /// A task, and the file that it is to be done with.
@@ -51,7 +70,8 @@ pub struct Command<'a> {
 ///
 /// No memory was left.
 pub fn command_of<'a>(alloc: Global, words: &'a [String]) -> Result<Option<Command<'a>>, NoMemory>
-    ensures { IfOk result (λ command. option_map asked command ≡ asked_by (map string_bytes words.entry.now)) }
+    ensures asked { IfOk result (λ command. option_map asked command ≡ asked_by (map string_bytes words.entry.now)) }
+    ensures sized { IfOk result (λ command. IfSome command (λ c. IsSized c.task)) }
 {
     let Ok(program) = program(alloc) else {
         return Err(NoMemory);
@@ -65,7 +85,8 @@ pub fn command_of<'a>(alloc: Global, words: &'a [String]) -> Result<Option<Comma
 
 /// The command in the matches.
 fn command_in<'a>(matches: &ArgMatches<'a>) -> Option<Command<'a>>
-    ensures { option_map asked result ≡ asked_in (rows_of (found_of matches.now)) }
+    ensures asked { option_map asked result ≡ asked_in (rows_of (found_of matches.now)) }
+    ensures sized { IfSome result (λ c. IsSized c.task) }
 {
     command_with(
         value_of(matches, "task"),
@@ -80,26 +101,74 @@ fn command_with<'a>(
     file: Option<&'a str>,
     options: Option<Options>,
 ) -> Option<Command<'a>>
-    ensures { option_map asked result ≡ asked_with (option_map (λ s. s.now) word.entry) (option_map (λ s. s.now) file.entry) options }
+    ensures asked { option_map asked result ≡ asked_with (option_map (λ s. s.now) word.entry) (option_map (λ s. s.now) file.entry) options }
+    ensures sized { IfSome result (λ c. IsSized c.task) }
 {
     let (Some(word), Some(file), Some(options)) = (word, file, options) else {
         return None;
     };
-    let task = task_of(word, options)?;
+    let task = task_of(word, file, options)?;
     Some(Command { task, file })
 }
 
-/// The task of this name, with what it takes of the options.
-fn task_of(word: &str, options: Options) -> Option<Task>
-    ensures { result ≡ task_named word.now options }
+/// The task of this name, with what it takes of the file and of the options.
+fn task_of(word: &str, file: &str, options: Options) -> Option<Task>
+    ensures named { result ≡ task_named word.now file.now options }
+    ensures sized { IfSome result IsSized }
 {
-    let Options { method, fuel, .. } = options;
+    let Options {
+        method,
+        fuel,
+        bound,
+        ..
+    } = options;
     match word {
         "check" => Some(Task::Check),
         "linearise" => Some(Task::Linearise(method)),
         "constelm" => Some(Task::Constelm { method, fuel }),
         "parelm" => Some(Task::Parelm(method)),
         "sumelm" => Some(Task::Sumelm { method, fuel }),
+        "steps" => Some(Task::Steps {
+            method,
+            fuel,
+            bound,
+        }),
+        "walk" => Some(Task::Walk {
+            method,
+            plan: plan_of(options),
+        }),
+        "generate" => Some(Task::Generate(size_of(file)?)),
         _ => None,
+    }
+}
+
+/// How many buffers a line has that is named so: a number from 2 to 6.
+fn size_of(word: &str) -> Option<u64>
+    ensures named { result ≡ size_named word.now }
+    ensures within { IfSome result (λ size. (2 ≤ size) × (size ≤ 6)) }
+{
+    let size = number(word, 6)?;
+    if size < 2 {
+        return None;
+    }
+    Some(size)
+}
+
+/// How the options let a walk go.
+fn plan_of(options: Options) -> Plan
+    ensures { result ≡ plan_of options }
+{
+    let Options {
+        method: _,
+        fuel,
+        bound,
+        seed,
+        depth,
+    } = options;
+    Plan {
+        fuel,
+        bound,
+        seed,
+        depth,
     }
 }

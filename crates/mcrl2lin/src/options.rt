@@ -1,5 +1,5 @@
 //! What the options of the command line give.
-ghost use Rattle.std.specs.Prelude.{◌≡◌, option_map};
+ghost use Rattle.std.specs.Prelude.{◌≡◌, ◌≤◌, IfSome, option_map};
 ghost use Rattle.std.specs.Char.{is_ascii_digit};
 ghost use Rattle.std.specs.List.{list_all};
 ghost use Rattle.clap.specs.Words.{found_of, rows_of};
@@ -83,8 +83,10 @@ fn number_given(text: Option<&str>, default: u64, greatest: u64) -> Option<u64>
     }
 }
 
-fn number(text: &str, greatest: u64) -> Option<u64>
-    ensures { result ≡ number_of greatest text.now }
+/// The number that a text is, where it is one up to the greatest: digits alone, without leading zeros.
+pub fn number(text: &str, greatest: u64) -> Option<u64>
+    ensures value { result ≡ number_of greatest text.now }
+    ensures within { IfSome result (λ n. n ≤ greatest) }
 {
     if !is_plain_number(text.as_bytes()) {
         return None;

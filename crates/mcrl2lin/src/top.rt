@@ -1,39 +1,25 @@
 //! The program over any shelf and sinks.
-ghost use Rattle.std.specs.Prelude.{◌≡◌, ◌≢◌, ◌≤◌, ◌<◌, ◌⊎◌, ◌++◌, List, ℕ, Some, None, IfErr, IfOk, IfSome, IsErrOf, length, map, string_bytes};
+ghost use Rattle.std.specs.Prelude.{◌≡◌, ◌≢◌, ◌≤◌, ◌<◌, ◌⊎◌, ◌++◌, List, ℕ, Some, None, codes, IfErr, IfOk, IfSome, IsErrOf, OnOk, length, map, string_bytes};
 ghost use Rattle.mcrl2_text.specs.Bytes.{TakesPrefix};
 ghost use Rattle.mcrl2_text.specs.Faults.{Rose};
+ghost use Rattle.lin_driver.specs.Accepted.{CanBeLinearised, IsOfTheText};
 ghost use Rattle.lin_driver.specs.Refusals.{IsRefusedWith};
-ghost use Rattle.mcrl2lin.specs.Commands.{asked_by, question};
-ghost use Rattle.mcrl2lin.specs.Ends.{EndsWell, EndsWithLine, IsAnswer, IsTaken};
+ghost use Rattle.mcrl2lin.specs.Commands.{asked_by, question, ReadsAFile};
+ghost use Rattle.mcrl2lin.specs.Ends.{EndsWell, EndsWithLine, IsAnswer, IsAnswered, IsTaken, MayStayOpen};
 ghost use Rattle.mcrl2lin.specs.Stops.{HasCause, IsFaultFor, status_of_stop};
 
+use crate::answers::Answer;
 use crate::command::{Task, command_of};
+use crate::generating::counts;
+use crate::status::Status;
+use crate::steps::steps;
 use crate::stop::Stop;
+use crate::text_in_hand::text_for;
+use crate::walking::walk;
 use data_theory::Names;
 use lin_driver::{Elimination, LinFault, check_text, eliminated_text, linear_text};
-use mcrl2_text::{MAX_TEXT_LEN, Shelf, Sink, load, write_all};
+use mcrl2_text::{MAX_TEXT_LEN, Shelf, Sink, write_all};
 use std::alloc::Global;
-
-/// How the program ended. The exit status is the number of the variant, from 0.
-#[derive(Clone, Copy, Debug, PartialEq, Eq)]
-pub enum Status {
-    /// The task is done.
-    Done,
-    /// The text is refused.
-    Refused,
-    /// The words give no command.
-    Words,
-    /// The shelf failed.
-    ReadFault,
-    /// The output failed.
-    WriteFault,
-    /// No memory was left.
-    NoMemory,
-    /// The task is done, and left something undecided.
-    Undecided,
-    /// The answer is no.
-    No,
-}
 
 /// Does what the words ask for: writes to `out` the linear process of the specification that the shelf has under the
 /// given name, or `ok` where the task is to check it, or to `err` a line that says why not.
@@ -49,25 +35,26 @@ pub fn run<H: Shelf, O: Sink, E: Sink>(
     ensures no_command { asked_by (map string_bytes words.now.items) ≡ None → (result ≡ Status.Words) ⊎ (result ≡ Status.NoMemory) }
     ensures read_fault { result ≡ Status.ReadFault → Rose (H.faults shelf.old) (H.faults shelf.new) }
     ensures write_fault { result ≡ Status.WriteFault → Rose (O.faults out.old) (O.faults out.new) }
-    ensures never { (result ≢ Status.Undecided) × (result ≢ Status.No) }
+    ensures undecided { result ≡ Status.Undecided → IfSome (asked_by (map string_bytes words.now.items)) (λ a. MayStayOpen a.task) }
+    ensures never { result ≢ Status.No }
 
     // What the output gets: the whole answer, a prefix of it after a fault of its own, or nothing.
-    ensures done { result ≡ Status.Done → IfSome (question (H.text_of shelf.old) (map string_bytes words.now.items))
-        (λ q. (length q.text ≤ MAX_TEXT_LEN) × (answer : List ℕ) × IsAnswer q.task q.text answer
+    ensures done { IsAnswered result → IfSome (question (H.text_of shelf.old) (map string_bytes words.now.items))
+        (λ q. (length q.text ≤ MAX_TEXT_LEN) × (answer : List ℕ) × IsAnswer q.task q.text result answer
         × IfSome (O.taken out.old) (λ before. O.taken out.new ≡ Some (before ++ answer))) }
     ensures cut_off { result ≡ Status.WriteFault → IfSome (question (H.text_of shelf.old) (map string_bytes words.now.items))
-        (λ q. (length q.text ≤ MAX_TEXT_LEN) × (answer : List ℕ) × IsAnswer q.task q.text answer
+        (λ q. (length q.text ≤ MAX_TEXT_LEN) × (status : Status) × (answer : List ℕ) × IsAnswer q.task q.text status answer
         × IfSome (O.taken out.old) (λ before. TakesPrefix before (O.taken out.new) answer)) }
-    ensures out_kept { result ≢ Status.Done → result ≢ Status.WriteFault → out.new ≡ out.old }
+    ensures out_kept { ¬ (IsAnswered result) → result ≢ Status.WriteFault → out.new ≡ out.old }
 
     // What the error output gets: nothing, or the line of the status with its cause.
-    ensures err_kept { result ≡ Status.Done → err.new ≡ err.old }
+    ensures err_kept { IsAnswered result → err.new ≡ err.old }
     ensures err { EndsWithLine result (question (H.text_of shelf.old) (map string_bytes words.now.items))
         (E.taken err.old) (E.taken err.new) (E.faults err.old) (E.faults err.new) }
 
-    ensures shelf_kept { asked_by (map string_bytes words.now.items) ≡ None → shelf.new ≡ shelf.old }
+    ensures shelf_kept { ¬ (ReadsAFile (asked_by (map string_bytes words.now.items))) → shelf.new ≡ shelf.old }
 
-    // For each text that the task takes it is done: what is written stands for the text, and that of an elimination has its effect.
+    // For each text that the task takes it is done: what is written stands for the text, that of an elimination has its effect, and that of `steps` and `walk` speaks of its steps.
     ensures headline { IfSome (question (H.text_of shelf.old) (map string_bytes words.now.items)) (λ q. IsTaken q.task q.text
         → length q.text ≤ MAX_TEXT_LEN → ¬ (Rose (H.faults shelf.old) (H.faults shelf.new)) → ¬ (Rose (O.faults out.old) (O.faults out.new))
         → EndsWell result q (O.taken out.old) (O.taken out.new)) }
@@ -78,9 +65,9 @@ pub fn run<H: Shelf, O: Sink, E: Sink>(
         → EndsWell result q (O.taken out.old) (O.taken out.new)) }
 {
     match answer(alloc, words, shelf) {
-        Ok(bytes) => {
-            if write_all(out, &bytes).is_ok() {
-                return Status::Done;
+        Ok(answer) => {
+            if write_all(out, &answer.text).is_ok() {
+                return answer.status;
             }
             let _ = write_all(err, b"write fault\n");
             Status::WriteFault
@@ -93,48 +80,76 @@ pub fn run<H: Shelf, O: Sink, E: Sink>(
 }
 
 /// The answer that the words ask for, whole.
-fn answer<H: Shelf>(alloc: Global, words: &[String], shelf: &mut H) -> Result<Vec<u8>, Stop>
+fn answer<H: Shelf>(alloc: Global, words: &[String], shelf: &mut H) -> Result<Answer, Stop>
     ensures words { IsErrOf result Stop.Words → asked_by (map string_bytes words.now) ≡ None }
     ensures no_command { asked_by (map string_bytes words.now) ≡ None → IsErrOf result Stop.Words ⊎ IsErrOf result Stop.NoMemory }
     ensures read_fault { IsErrOf result Stop.ReadFault → Rose (H.faults shelf.old) (H.faults shelf.new) }
     ensures refused { IfErr result (λ stop. HasCause stop (question (H.text_of shelf.old) (map string_bytes words.now))) }
-    ensures answered { IfOk result (λ bytes. IfSome (question (H.text_of shelf.old) (map string_bytes words.now))
-        (λ q. (length q.text ≤ MAX_TEXT_LEN) × IsAnswer q.task q.text bytes.items)) }
-    ensures shelf_kept { asked_by (map string_bytes words.now) ≡ None → shelf.new ≡ shelf.old }
+    ensures answered { IfOk result (λ answer. IsAnswered answer.status × IfSome (question (H.text_of shelf.old) (map string_bytes words.now))
+        (λ q. (length q.text ≤ MAX_TEXT_LEN) × IsAnswer q.task q.text answer.status answer.text.items)) }
+    ensures stays_open { IfOk result (λ answer. (answer.status ≢ Status.No) × (answer.status ≡ Status.Undecided → IfSome (asked_by (map string_bytes words.now)) (λ a. MayStayOpen a.task))) }
+    ensures shelf_kept { ¬ (ReadsAFile (asked_by (map string_bytes words.now))) → shelf.new ≡ shelf.old }
 {
     let command = command_of(alloc, words)?.ok_or(Stop::Words)?;
-    let text = load(alloc, shelf, command.file)?;
+    let text = text_for(alloc, command, shelf)?;
     let mut names = Names::new(alloc);
     match answer_to(alloc, command.task, &text, &mut names) {
-        Ok(bytes) => Ok(bytes),
+        Ok(answer) => Ok(answer),
         Err(fault) => Err(Stop::for_fault(alloc, &names, &fault)),
     }
 }
 
 /// The answer of a task on a text.
-fn answer_to(alloc: Global, task: Task, text: &[u8], names: &mut Names) -> Result<Vec<u8>, LinFault>
-    ensures answered { IfOk result (λ bytes. IsAnswer task text.now bytes.items) }
+fn answer_to(alloc: Global, task: Task, text: &[u8], names: &mut Names) -> Result<Answer, LinFault>
+    ensures answered { IfOk result (λ answer. IsAnswer task text.now answer.status answer.text.items) }
     ensures of_the_task { IfErr result (λ fault. fault ≢ LinFault.NoMemory → IsFaultFor task fault) }
     ensures refused { IfErr result (λ fault. fault ≢ LinFault.NoMemory → IsRefusedWith text.now names.new fault) }
 {
     match task {
-        Task::Check => {
-            check_text(alloc, text, names)?;
-            match Vec::from_slice(alloc, b"ok\n") {
-                Ok(line) => Ok(line),
-                Err(_) => Err(LinFault::NoMemory),
-            }
-        }
-        Task::Linearise(method) => linear_text(alloc, text, names, method),
-        Task::Constelm { method, fuel } => {
-            eliminated_text(alloc, text, names, method, Elimination::Constants(fuel))
-        }
-        Task::Parelm(method) => {
-            eliminated_text(alloc, text, names, method, Elimination::Parameters)
-        }
-        Task::Sumelm { method, fuel } => {
-            eliminated_text(alloc, text, names, method, Elimination::Sums(fuel))
-        }
+        Task::Check => Ok(Answer::done(checked(alloc, text, names)?)),
+        Task::Linearise(method) => Ok(Answer::done(linear_text(alloc, text, names, method)?)),
+        Task::Constelm { method, fuel } => Ok(Answer::done(eliminated_text(
+            alloc,
+            text,
+            names,
+            method,
+            Elimination::Constants(fuel),
+        )?)),
+        Task::Parelm(method) => Ok(Answer::done(eliminated_text(
+            alloc,
+            text,
+            names,
+            method,
+            Elimination::Parameters,
+        )?)),
+        Task::Sumelm { method, fuel } => Ok(Answer::done(eliminated_text(
+            alloc,
+            text,
+            names,
+            method,
+            Elimination::Sums(fuel),
+        )?)),
+        Task::Steps {
+            method,
+            fuel,
+            bound,
+        } => steps(alloc, text, names, method, fuel, bound),
+        Task::Walk { method, plan } => walk(alloc, text, names, method, plan),
+        Task::Generate(_) => Ok(Answer::done(counts(alloc, text, names)?)),
+    }
+}
+
+/// The line that says that a text can be linearised.
+fn checked(alloc: Global, text: &[u8], names: &mut Names) -> Result<Vec<u8>, LinFault>
+    ensures accepted { OnOk result (CanBeLinearised text.now) }
+    ensures says { IfOk result (λ line. line.items ≡ codes "ok\n") }
+    ensures of_the_text { IfErr result (λ fault. fault ≢ LinFault.NoMemory → IsOfTheText fault) }
+    ensures refused { IfErr result (λ fault. fault ≢ LinFault.NoMemory → IsRefusedWith text.now names.new fault) }
+{
+    check_text(alloc, text, names)?;
+    match Vec::from_slice(alloc, b"ok\n") {
+        Ok(line) => Ok(line),
+        Err(_) => Err(LinFault::NoMemory),
     }
 }
 

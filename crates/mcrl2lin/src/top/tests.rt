@@ -259,6 +259,11 @@ mcrl2lin linearise -- f g
 mcrl2lin Linearise f
 mcrl2lin f linearise
 mcrl2lin generate 41
+mcrl2lin generate 7
+mcrl2lin generate 1
+mcrl2lin generate 06
+mcrl2lin generate six
+mcrl2lin generate 6 --seed one
 mcrl2lin linearise f --method
 mcrl2lin linearise f --method Stack
 mcrl2lin linearise f --method=
@@ -286,7 +291,12 @@ mcrl2lin linearise f --seed one
 mcrl2lin linearise f --seed 1 --seed 1
 mcrl2lin linearise f --depth 1000001
 mcrl2lin linearise f --depth 1_000
-mcrl2lin linearise f --depth 1 --depth 1";
+mcrl2lin linearise f --depth 1 --depth 1
+mcrl2lin steps f --fuel 01
+mcrl2lin steps f --fuel 5 --fuel 6
+mcrl2lin step f
+mcrl2lin walk
+mcrl2lin walk f --depth -1";
 
 /// Words behind the program's name that linearise the file `f`, a line each.
 const COMMANDS: &str = "\
@@ -316,58 +326,209 @@ linearise f --method=stack
 linearise - --method=stack
 --method=stack -- linearise -f";
 
-/// What an elimination writes.
-struct Left {
+/// What a task writes for a text, and the status that it ends with.
+struct Written {
     words: &'static str,
     text: &'static [u8],
+    status: Status,
     out: &'static [u8],
 }
 
-const ELIMINATIONS: [Left; 9] = [
-    Left {
-        words: "constelm f",
-        text: b"act a; proc P(x: Nat, y: Nat) = a . P(x = y, y = x); init P(1, 1);",
-        out: b"act a;\nproc P = a . P;\ninit P;\n",
-    },
-    Left {
+/// A linear process that is left by an elimination.
+const LEFT: Written = Written {
+    words: "constelm f",
+    text: b"act a; proc P(x: Nat, y: Nat) = a . P(x = y, y = x); init P(1, 1);",
+    status: Status::Done,
+    out: b"act a;\nproc P = a . P;\ninit P;\n",
+};
+
+const ELIMINATIONS: [Written; 9] = [
+    LEFT,
+    Written {
         words: "constelm f",
         text: b"act a; proc P(x: Nat, y: Nat) = a . P(x = y, y = x); init P(1, 2);",
         out: b"act a;\nproc P(x: Nat, y: Nat) = a . P(x = y, y = x);\ninit P(1, 2);\n",
+        ..LEFT
     },
-    Left {
+    Written {
         words: "constelm f",
         text: b"act a; proc P(x: Nat, y: Nat) = a . P(x = y); init P(1, 2);",
         out: b"act a;\nproc P(x: Nat) = a . P(x = 2);\ninit P(1);\n",
+        ..LEFT
     },
-    Left {
+    Written {
         words: "constelm f",
         text: b"act a: Nat; init (1 < 2) -> a(1 + 1);",
         out: b"act a: Nat;\nproc P = a(2);\ninit P;\n",
+        ..LEFT
     },
-    Left {
+    Written {
         words: "parelm f",
         text: b"act a: Nat; proc P(x: Nat, y: Nat) = a(x) . P(y = y + 1); init P(0, 0);",
         out: b"act a: Nat;\nproc P(x: Nat) = a(x) . P();\ninit P(0);\n",
+        ..LEFT
     },
-    Left {
+    Written {
         words: "sumelm f",
         text: b"act a: Nat; proc P(x: Nat) = sum n: Nat . (n == x + 1) -> a(n) . P(n); init P(0);",
         out: b"act a: Nat;\nproc P(x: Nat) = a(Pos2Nat(x + 1)) . P(x = Pos2Nat(x + 1));\ninit P(0);\n",
+        ..LEFT
     },
-    Left {
+    Written {
         words: "sumelm f",
         text: b"act a: Nat; proc P(x: Nat) = sum n: Nat . (n == n + 1) -> a(n) . P(n); init P(0);",
         out: b"act a: Nat;\nproc P(x: Nat) = sum n: Nat . (n == Pos2Nat(n + 1)) -> a(n) . P(x = n);\ninit P(0);\n",
+        ..LEFT
     },
-    Left {
+    Written {
         words: "sumelm f",
         text: b"act a: Nat; init (1 < 2) -> a(1 + 1);",
         out: b"act a: Nat;\nproc P = a(2);\ninit P;\n",
+        ..LEFT
     },
-    Left {
+    Written {
         words: "sumelm f --fuel 0",
         text: b"act a: Nat; init (1 < 2) -> a(1 + 1);",
         out: b"act a: Nat;\nproc P = (1 < 2) -> a(Pos2Nat(1 + 1));\ninit P;\n",
+        ..LEFT
+    },
+];
+
+/// A first step of a linear process.
+const SHOWN: Written = Written {
+    words: "steps f",
+    text: b"act a, b, c: Nat; init allow({c}, comm({a|b -> c}, a(1) || b(1)));",
+    status: Status::Done,
+    out: b"1 c(1)\nmoves 1, undecided 0, cut 0\n",
+};
+
+const STEPS: [Written; 10] = [
+    SHOWN,
+    Written {
+        text: b"act a, b, c: Nat; init allow({c}, comm({a|b -> c}, a(1) || b(2)));",
+        out: b"moves 0, undecided 0, cut 0\n",
+        ..SHOWN
+    },
+    Written {
+        text: b"act a, b, c: Nat; init comm({a|b -> c}, a(1) || b(2));",
+        out: b"1 a(1)\n2 b(2)\n3 a(1)|b(2)\nmoves 3, undecided 0, cut 0\n",
+        ..SHOWN
+    },
+    Written {
+        text: b"sort D; map k1, k2: D; act a, b, c: D; init allow({c, a|b}, comm({a|b -> c}, a(k1) || b(k2)));",
+        status: Status::Undecided,
+        out: b"undecided 1 stuck\nundecided 2 stuck\nmoves 0, undecided 2, cut 0\n",
+        ..SHOWN
+    },
+    Written {
+        text: b"act a; init (340282366920938463463374607431768211455 + 1 == 2) -> a;",
+        status: Status::Undecided,
+        out: b"undecided 1 stuck\nmoves 0, undecided 1, cut 0\n",
+        ..SHOWN
+    },
+    Written {
+        text: b"map f: Nat -> Bool; var x: Nat; eqn f(x) = f(x); act a; init f(0) -> a;",
+        status: Status::Undecided,
+        out: b"undecided 1 spent\nmoves 0, undecided 1, cut 0\n",
+        ..SHOWN
+    },
+    Written {
+        text: ALTERNATING,
+        out: b"1 r1(d1)\n2 r1(d2)\nmoves 2, undecided 0, cut 0\n",
+        ..SHOWN
+    },
+    Written {
+        words: "steps f --bound 2",
+        text: b"act a: Nat; proc X = sum n: Nat . (n < 3) -> a(n) . X; init X;",
+        out: b"1 a(0)\n2 a(1)\ncut 1\nmoves 2, undecided 0, cut 1\n",
+        ..SHOWN
+    },
+    Written {
+        text: b"act a: List(Nat); init a([]);",
+        out: b"1 a([])\nmoves 1, undecided 0, cut 0\n",
+        ..SHOWN
+    },
+    Written {
+        text: b"init delta;",
+        out: b"moves 0, undecided 0, cut 0\n",
+        ..SHOWN
+    },
+];
+
+/// The alternating bit protocol.
+const ALTERNATING: &[u8] = b"sort D = struct d1 | d2;
+     Error = struct e;
+act r1, s4: D;
+    s2, r2, c2: D # Bool;
+    s3, r3, c3: D # Bool;
+    s3, r3, c3: Error;
+    s5, r5, c5: Bool;
+    s6, r6, c6: Bool;
+    s6, r6, c6: Error;
+    i;
+proc S(b: Bool) = sum d: D. r1(d).T(d, b);
+     T(d: D, b: Bool) = s2(d, b).(r6(b).S(!b) + (r6(!b) + r6(e)).T(d, b));
+     R(b: Bool) = sum d: D. r3(d, b).s4(d).s5(b).R(!b)
+                + (sum d: D. r3(d, !b) + r3(e)).s5(!b).R(b);
+     K = sum d: D, b: Bool. r2(d, b).(i.s3(d, b) + i.s3(e)).K;
+     L = sum b: Bool. r5(b).(i.s6(b) + i.s6(e)).L;
+init hide({i}, allow({r1, s4, c2, c3, c5, c6, i},
+       comm({s2|r2 -> c2, s3|r3 -> c3, s5|r5 -> c5, s6|r6 -> c6},
+         S(true) || K || L || R(true))));
+";
+
+/// Three actions, over and over.
+const THREE_WAYS: &[u8] = b"act a, b, c; proc X = a . X + b . X + c . X; init X;";
+
+const WALKS: [Written; 8] = [
+    Written {
+        words: "walk f --depth 3",
+        text: TWO_STEPS,
+        out: b"a\nb\na\ntaken 3\n",
+        ..SHOWN
+    },
+    Written {
+        words: "walk f --depth 3 --seed 18446744073709551615",
+        text: TWO_STEPS,
+        out: b"a\nb\na\ntaken 3\n",
+        ..SHOWN
+    },
+    Written {
+        words: "walk f",
+        text: b"act a; init a;",
+        out: b"a\ntaken 1\n",
+        ..SHOWN
+    },
+    Written {
+        words: "walk f --depth 8",
+        text: THREE_WAYS,
+        out: b"c\na\na\na\na\nc\nc\nb\ntaken 8\n",
+        ..SHOWN
+    },
+    Written {
+        words: "walk f --depth 8 --seed 7",
+        text: THREE_WAYS,
+        out: b"c\nc\na\nc\nb\nc\nb\na\ntaken 8\n",
+        ..SHOWN
+    },
+    Written {
+        words: "walk f --depth 0",
+        text: b"act a; init a;",
+        out: b"taken 0\n",
+        ..SHOWN
+    },
+    Written {
+        words: "walk f",
+        text: b"map f: Nat -> Bool; act a, b; init a . f(0) -> b;",
+        status: Status::Undecided,
+        out: b"a\ntaken 1\n",
+        ..SHOWN
+    },
+    Written {
+        words: "walk f --depth 1",
+        text: b"map f: Nat -> Bool; act a, b; init a . f(0) -> b;",
+        out: b"a\ntaken 1\n",
+        ..SHOWN
     },
 ];
 
@@ -440,29 +601,35 @@ fn words_without_a_command_get_the_usage_line(rt: HostRuntime) -> Result<(), Fai
     Ok(())
 }
 
-fn writes(
-    rt: &impl Abort,
-    alloc: Global,
-    words: &str,
-    text: &[u8],
-    want: &[u8],
-) -> Result<(), Fail> {
-    let given = words_of(alloc, &["mcrl2lin"], words)?;
-    let mut shelf = SteadyShelf::new(texts(alloc, text)?);
+fn writes(rt: &impl Abort, alloc: Global, row: &Written) -> Result<(), Fail> {
+    let given = words_of(alloc, &["mcrl2lin"], row.words)?;
+    let mut shelf = SteadyShelf::new(texts(alloc, row.text)?);
     let mut out = MemSink::new(alloc, 400, Vec::new(alloc), 400)?;
     let status = run(alloc, &given, &mut shelf, &mut out, &mut SteadySink::new());
-    assert_eq!(rt; status, Status::Done, "{words}");
-    assert_eq!(rt; out.bytes(), want, "{words}");
+    assert_eq!(rt; status, row.status, "{}", row.words);
+    assert_eq!(rt; out.bytes(), row.out, "{}", row.words);
     Ok(())
 }
 
 #[test]
 fn words_give_the_command_that_they_spell(rt: HostRuntime) -> Result<(), Fail> {
     for words in COMMANDS.lines() {
-        writes(&rt, rt.alloc(), words, TWO_STEPS, PRINTED)?;
+        let row = Written {
+            words,
+            text: TWO_STEPS,
+            status: Status::Done,
+            out: PRINTED,
+        };
+        writes(&rt, rt.alloc(), &row)?;
     }
     for words in STACK_COMMANDS.lines() {
-        writes(&rt, rt.alloc(), words, b"act a; init a;", STACKED)?;
+        let row = Written {
+            words,
+            text: b"act a; init a;",
+            status: Status::Done,
+            out: STACKED,
+        };
+        writes(&rt, rt.alloc(), &row)?;
     }
     Ok(())
 }
@@ -470,7 +637,23 @@ fn words_give_the_command_that_they_spell(rt: HostRuntime) -> Result<(), Fail> {
 #[test]
 fn eliminations_write_what_they_leave(rt: HostRuntime) -> Result<(), Fail> {
     for row in &ELIMINATIONS {
-        writes(&rt, rt.alloc(), row.words, row.text, row.out)?;
+        writes(&rt, rt.alloc(), row)?;
+    }
+    Ok(())
+}
+
+#[test]
+fn first_steps_are_shown(rt: HostRuntime) -> Result<(), Fail> {
+    for row in &STEPS {
+        writes(&rt, rt.alloc(), row)?;
+    }
+    Ok(())
+}
+
+#[test]
+fn walks_are_shown(rt: HostRuntime) -> Result<(), Fail> {
+    for row in &WALKS {
+        writes(&rt, rt.alloc(), row)?;
     }
     Ok(())
 }
