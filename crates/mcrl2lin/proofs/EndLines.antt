@@ -116,7 +116,7 @@ good_where_needed (Generate size) text told needs good = absurd needs
 good_where_needed (Replay method fuel bound) text told needs good = good
 
 never_too_long : (q : Question) → length q.text ≤ MAX_TEXT_LEN → HasGoodTrace q.task q.text q.trace → IsTooLong q → ⊥
-never_too_long q short good long = elim long [ | inl l ↦ omega (arith, short, l) | inr t ↦ good_is_short q.text q.trace (good_where_needed q.task q.text q.trace t.0.needs good) t.1 ]
+never_too_long q short good long = elim long [ inl l ↦ omega (arith, short, l) | inr t ↦ good_is_short q.text q.trace (good_where_needed q.task q.text q.trace t.0.needs good) t.1 ]
 
 never_a_bad_trace : (q : Question) (line : List ℕ) → HasGoodTrace q.task q.text q.trace → IsTraceRefusal (Some q) line → ⊥
 never_a_bad_trace q line good r = good_is_not_bad q.text q.trace r.number (good_where_needed q.task q.text q.trace r.due.0.needs good) r.due.1
@@ -132,7 +132,7 @@ module _ (asked : Option Question) (a b c d : ℕ) (before after : Option (List 
       by_question Words (Some q) none r h = λ is good short quiet. let no : Some q ≡ None = none refl in cc
       by_question ReadFault (Some q) none r h = λ is good short quiet. quiet (r refl)
       by_question TooLong (Some q) none r h = λ is good short quiet. absurd (never_too_long q short good h)
-      by_question (Refused line) (Some q) none r h = λ is good short quiet. absurd (elim h [ | inl t ↦ never q is t.texts t.fault t.due.1 t.due.2 | inr t ↦ never_a_bad_trace q line.items good t ])
+      by_question (Refused line) (Some q) none r h = λ is good short quiet. absurd (elim h [ inl t ↦ never q is t.texts t.fault t.due.1 t.due.2 | inr t ↦ never_a_bad_trace q line.items good t ])
       by_question NoMemory (Some q) none r h = λ is good short quiet. tt
 
   pub taken_stops_well : (stop : Stop) → (stop ≡ Words → asked ≡ None) → (stop ≡ ReadFault → Rose a b) → HasCause stop asked

@@ -130,4 +130,4 @@ trace_told before after a name same named = ap (λ (f : List ℕ → Option (Lis
 
 -- a count that rose in a later call rose
 pub rose_before : (a b c : ℕ) → a ≤ b → Rose b c → Rose a c
-rose_before a b c l r = elim r [ | inl up ↦ inl (omega (arith, l, up)) | inr full ↦ inr full ]
+rose_before a b c l r = elim r [ inl up ↦ inl (omega (arith, l, up)) | inr full ↦ inr full ]

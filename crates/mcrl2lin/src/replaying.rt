@@ -68,8 +68,7 @@ fn shown_verdict(
 {
     let rules = NumberRules::new(exact);
     let mut rewriter = Rewriter::new(alloc, sig, pool, theory, rules)?;
-    let verdict =
-        trace_replay::replay(alloc, lin, sig, pool, &mut rewriter, trace, fuel, bound)?;
+    let verdict = trace_replay::replay(alloc, lin, sig, pool, &mut rewriter, trace, fuel, bound)?;
     let text = verdict_line(alloc, verdict)?;
     Ok(Answer {
         text,

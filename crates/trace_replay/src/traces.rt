@@ -85,7 +85,7 @@ fn replay_lines<F: Fn(NumOp, Num, Num) -> Option<Num>>(
 /// Whether a linear process has the steps of a trace. The labels of all lines are read first. From the initial state on, each label leads to all
 /// states to which a summand can do it: it is paired with the label by names and sorts in each way, for each combination of the first `bound`
 /// values of its sums, and its condition and the equalities of the paired arguments are decided, each with its own fuel. Nothing is added to the
-/// signature, and the pool keeps every old entry.
+/// signature, and the pool keeps every old entry; nothing is asked of its other terms.
 ///
 /// # Errors
 ///
