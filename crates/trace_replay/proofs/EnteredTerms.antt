@@ -1,6 +1,6 @@
 -- Terms that are entered into another pool, and lines over them.
-use Rattle.std.specs.Prelude.{◌≡◌, ◌<◌, ◌≤◌, ◌+◌, ◌++◌, ℕ, List, [], ◌∷◌, map, length, take, get_or}
-use Rattle.std.proofs.Common.{refl, sym, subst, ap, ap₂, ◌∙◌, arith}
+use Rattle.std.specs.Prelude.{◌≡◌, ◌<◌, ◌+◌, ◌++◌, ℕ, List, [], ◌∷◌, map, length, take, get_or, Result, Ok, Err, IfOk}
+use Rattle.std.proofs.Common.{refl, sym, subst, ap, ap₂, ◌∙◌}
 use Rattle.std.specs.List.{All}
 use Rattle.std.proofs.lemmas.List.{length-map, map-append, get_or-take, take_more}
 use Rattle.std.proofs.lemmas.List.Elements.{All-nil, All-cons, All-head, All-tail, All-map, All-push, All-get_or, All-weaker}
@@ -24,6 +24,15 @@ use Rattle.trace_replay.specs.Replays.{Entry}
 use Rattle.trace_replay.specs.Verdicts.{LineIs, LinesAre}
 use Rattle.trace_replay.specs.Ways.{ActionIs, LabelIs}
 
+-- ---- results and elements of lists
+pub then_ok : {A E : Type 0} (r : Result A E) (P Q : A → Type 0) → ((a : A) → P a → Q a) → IfOk r P → IfOk r Q
+then_ok (Ok a) P Q follows holds = follows a holds
+then_ok (Err e) P Q follows holds = holds
+
+pub mapped_at : {A B : Type 0} (P : B → Type 0) (f : A → B) (xs : List A) (i : ℕ) (x : A) → i < length xs → x ≡ get_or xs i x → All P (map f xs) → P (f x)
+mapped_at P f xs i x l is h = subst P (read_mapped f xs i (f x) x l ∙ ap f (sym is)) (All-get_or P (map f xs) i (f x) (subst (λ (n : ℕ). i < n) (sym (length-map xs f)) l) h)
+
+-- ---- many terms
 pub nothing_entered : (us : List Tree) → AreEntered [] us []
 nothing_entered us = record { within = All-nil (IsIn us); trees = refl }
 
