@@ -330,6 +330,7 @@ linearise - --method=stack
 --method=stack -- linearise -f";
 
 /// What a task writes for a text, and the status that it ends with.
+#[derive(Drop)]
 struct Written {
     words: &'static str,
     text: &'static [u8],
