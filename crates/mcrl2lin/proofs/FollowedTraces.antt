@@ -3,7 +3,7 @@ use Rattle.std.proofs.Common.{◌≡◌, ℕ, List, [], ◌∷◌, refl, ap, sub
 use Rattle.std.specs.Prelude.{Contains}
 use Rattle.std.specs.List.{AllByRecursion}
 use Rattle.data_theory.specs.EqualityLaws.{Grows, AreAmong}
-use Rattle.data_theory.specs.Terms.{Term}
+use Rattle.data_theory.specs.Terms.{Term, put}
 use Rattle.data_theory.specs.Equations.{trueᵗ}
 use Rattle.data_theory.specs.Environments.{term_in}
 use Rattle.data_theory.proofs.GrowthLemmas.{growth_keeps_derivations, growth_keeps_sorts}
@@ -64,7 +64,7 @@ module _ (th later : Theory) (grows : Grows th.declared later.declared) (among :
       environment = f.environment;
       reads = f.reads;
       bound = λ x i. growth_keeps_sorts th.declared later.declared grows [] (term_in f.environment x.var) x.sort (f.bound x i);
-      does = record { holds = growth_keeps_derivations th.declared later.declared grows th.equations later.equations among _ trueᵗ f.does.holds; label = f.does.label; onward = f.does.onward };
+      does = record { holds = growth_keeps_derivations th.declared later.declared grows th.equations later.equations among (put (term_in f.environment) f.summand.condition) trueᵗ f.does.holds; label = f.does.label; onward = f.does.onward };
     }
 
     -- a run with these labels
