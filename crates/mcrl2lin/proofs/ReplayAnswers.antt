@@ -1,5 +1,5 @@
 -- What replaying a trace answers, and why it stops.
-use Rattle.std.proofs.Common.{◌≡◌, ◌≢◌, ◌≤◌, ◌<◌, ◌⊎◌, ℕ, List, Option, None, Some, Result, Ok, Err, IfSome, IfOk, IfErr, OnOk, inl, inr, length, refl, sym, subst, ap, ◌∙◌, arith}
+use Rattle.std.proofs.Common.{◌≡◌, ◌≢◌, ◌≤◌, ◌<◌, ◌⊎◌, ℕ, List, Option, None, Some, Result, Ok, Err, IfSome, IfOk, IfErr, IsErrAnd, OnOk, inl, inr, length, refl, sym, subst, ap, ◌∙◌, arith}
 use Rattle.std.specs.Prelude.{IsErrOf, option_and_then}
 use Rattle.mcrl2_text.specs.Faults.{Rose}
 use Rattle.mcrl2_text.specs.declared.loading.LoadFault.{LoadFault}
@@ -59,8 +59,13 @@ stop_of_loading text told load.ReadFault long = tt
 stop_of_loading text told load.TooLong long = long refl
 stop_of_loading text told load.NoMemory long = tt
 
-pub loading_stops : (text : List ℕ) (told : Option (List ℕ)) (fault : LoadFault) (stop : Stop) → (fault ≡ load.TooLong → IfSome told (λ t. MAX_TEXT_LEN < length t)) → stop ≡ stop_of_load fault → IsTraceStop text told stop
+loading_stops : (text : List ℕ) (told : Option (List ℕ)) (fault : LoadFault) (stop : Stop) → (fault ≡ load.TooLong → IfSome told (λ t. MAX_TEXT_LEN < length t)) → stop ≡ stop_of_load fault → IsTraceStop text told stop
 loading_stops text told fault stop long is = subst (IsTraceStop text told) (sym is) (stop_of_loading text told fault long)
+
+pub not_loaded : {T : Type 0} (IsMade : List ℕ → Type 0) (told : Option (List ℕ)) (r : Result T Stop) (fault : LoadFault) → (fault ≡ load.TooLong → IfSome told (λ t. MAX_TEXT_LEN < length t)) → IsErrAnd r (λ given. given ≡ stop_of_load fault)
+    → IfErr r (λ stop. (text : List ℕ) → IsMade text → IsTraceStop text told stop)
+not_loaded IsMade told (Ok x) fault long is = absurd is
+not_loaded IsMade told (Err stop) fault long is = λ text made. loading_stops text told fault stop long is
 
 -- ---- causes
 module _ (text : List ℕ) (told : Option (List ℕ)) (method : Method) (fuel bound : ℕ) where

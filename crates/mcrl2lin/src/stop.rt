@@ -1,5 +1,5 @@
 //! Why the program writes no answer, and how it says so.
-ghost use Rattle.std.specs.Prelude.{◌≡◌, List, Option, ℕ};
+ghost use Rattle.std.specs.Prelude.{◌≡◌, ◌≢◌, List, Option, ℕ};
 ghost use Rattle.mcrl2lin.specs.Lines.{AreNamed, line_of, names_of_fault};
 ghost use Rattle.mcrl2lin.specs.BadTraces.{IsBadAsTold};
 ghost use Rattle.mcrl2lin.specs.Stops.{IsStopFor, IsTraceStop, stop_of_load};
@@ -65,7 +65,8 @@ impl Stop {
 
     /// The stop for a trace with that fault.
     pub fn for_trace(alloc: Global, fault: ReplayFault) -> Stop
-        ensures { (text : List ℕ) (told : Option (List ℕ)) → ((number : ℕ) → fault ≡ BadTrace number → IsBadAsTold text told number) → IsTraceStop text told result }
+        ensures cause { (text : List ℕ) (told : Option (List ℕ)) → ((number : ℕ) → fault ≡ BadTrace number → IsBadAsTold text told number) → IsTraceStop text told result }
+        ensures no_read_fault { result ≢ stop.ReadFault }
     {
         let ReplayFault::BadTrace(number) = fault else {
             return Stop::NoMemory;
