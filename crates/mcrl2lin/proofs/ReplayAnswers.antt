@@ -24,7 +24,7 @@ use Rattle.lin_driver.specs.declared.fault.LinFault.{LinFault}
 use Rattle.lin_driver.specs.declared.fault.LinFault.TheVariants as lin
 use Rattle.lin_driver.specs.declared.methods.Method.{Method}
 use Rattle.mcrl2lin.specs.BadTraces.{IsBadAsTold}
-use Rattle.mcrl2lin.specs.Commands.{Asked, asked_by, Question, question, text_asked, trace_asked}
+use Rattle.mcrl2lin.specs.Commands.{Asked, asked_by, Question, question, text_asked, trace_asked, ReadsAFile, ReadsFor}
 use Rattle.mcrl2lin.specs.Ends.{IsAnswer, IsAnswered, MayStayOpen, MaySayNo}
 use Rattle.mcrl2lin.specs.ShownVerdicts.{IsReplayedAsTold, ShowsVerdict}
 use Rattle.mcrl2lin.specs.Stops.{ComesToTheTrace, HasCause, IsStopFor, IsTraceStop, stop_of_load}
@@ -124,6 +124,10 @@ module _ (text_of : List ℕ → Option (List ℕ)) (words : List (List ℕ)) (a
       cause_asked text_of words a bytes stop asked told
       (subst (λ (t : Task). HasCause stop (Some (record { task = t; text = bytes; trace = trace_asked text_of a }))) (sym is)
       (subst (λ (o : Option (List ℕ)). HasCause stop (Some (record { task = Replay method fuel bound; text = bytes; trace = o }))) same causes.1))
+
+-- a file is read for it
+pub replay_reads : (words : List (List ℕ)) (a : Asked) (method : Method) (fuel bound : ℕ) → asked_by words ≡ Some a → a.task ≡ Replay method fuel bound → ReadsAFile (asked_by words)
+replay_reads words a method fuel bound asked is = subst ReadsAFile (sym asked) (subst ReadsFor (sym is) tt)
 
 -- it never stops for its words
 pub no_words : (q : Question) (r : Result Answer Stop) → IfErr r (λ stop. (stop ≢ Words) × HasCause stop (Some q)) → IsErrOf r Words → ⊥

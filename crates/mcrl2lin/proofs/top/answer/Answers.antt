@@ -2,7 +2,7 @@ use Rattle.std.proofs.Common.{rules, ◌≡◌, ◌∙◌, List, ℕ, Option, No
 use Rattle.std.specs.Prelude.{option_map}
 use Rattle.mcrl2lin.specs.Commands.{Asked, asked_by, NeedsTrace, trace_asked}
 use Rattle.mcrl2lin.proofs.AnswerStatuses.{answers_question, has_its_status, no_when_asked, open_when_asked, with_any_trace}
-use Rattle.mcrl2lin.proofs.ReplayAnswers.{no_words, replay_answers, replay_refused, replay_says_no, replay_stays_open, rose_before, trace_told}
+use Rattle.mcrl2lin.proofs.ReplayAnswers.{no_words, replay_answers, replay_reads, replay_refused, replay_says_no, replay_stays_open, rose_before, trace_told}
 use Rattle.mcrl2lin.proofs.Told.{has_cause}
 use Rattle.mcrl2lin.proofs.FaultNames.{are_named}
 use Rattle.mcrl2lin.proofs.top.answer.Goals as goal
@@ -18,6 +18,13 @@ returns-in-Replay-clause-words g c = λ is. absurd (no_words _ c.replay.result c
 
 pub returns-in-Replay-clause-read_fault : goal.returns-in-Replay-clause-read_fault
 returns-in-Replay-clause-read_fault g c = λ is. rose_before (g.H.Shelf.faults c.args.shelf.now) (g.H.Shelf.faults c.text_for.new.shelf) (g.H.Shelf.faults c.replay.new.shelf) c.text_for.ensures.faults (c.replay.ensures.read_fault is)
+
+pub returns-in-Replay-clause-shelf_kept : goal.returns-in-Replay-clause-shelf_kept
+returns-in-Replay-clause-shelf_kept g c =
+    let command = c.in_ok-command.command in
+    let a : Asked = record { task = command.task; file = command.file.now; trace = option_map (λ s. s.now) command.trace } in
+    let asked : asked_by (map string_bytes c.args.words.now) ≡ Some a = search rules in
+    λ never. absurd (never (replay_reads (map string_bytes c.args.words.now) a c.in-Replay.method c.in-Replay.fuel c.in-Replay.bound asked c.in-Replay.is))
 
 pub returns-in-Replay-clause-refused : goal.returns-in-Replay-clause-refused
 returns-in-Replay-clause-refused g c =
