@@ -21,7 +21,7 @@ use Rattle.trace_replay.specs.Verdicts.{IsVerdictOn}
 use Rattle.lin_driver.specs.Linearised.{IsLinearised}
 use Rattle.mcrl2lin.specs.FirstSteps.{HasNoSums, IsTheoryFor}
 use Rattle.mcrl2lin.specs.declared.status.Status.{Status}
-use Rattle.mcrl2lin.specs.declared.status.Status.TheVariants as status
+use Rattle.mcrl2lin.specs.declared.status.Status.TheVariants as statuses
 
 -- ---- verdicts as they are shown
 abbrev pub verdict_line : Verdict → List ℕ
@@ -30,9 +30,9 @@ verdict_line (Rejected number) = codes "rejected " ++ decimal number ++ codes "\
 verdict_line (Undecided number) = codes "undecided " ++ decimal number ++ codes "\n"
 
 abbrev pub status_of_verdict : Verdict → Status
-status_of_verdict Accepted = status.Done
-status_of_verdict (Rejected number) = status.No
-status_of_verdict (Undecided number) = status.Undecided
+status_of_verdict Accepted = statuses.Done
+status_of_verdict (Rejected number) = statuses.No
+status_of_verdict (Undecided number) = statuses.Undecided
 
 -- The bytes show the verdict of the linear process on the trace. `No` is the status exactly where it is rejected, and `Undecided` where it is undecided.
 pub record ShowsVerdict (g : Sig) (own : List Equation) (fuel bound : ℕ) (ts : List Tree) (l : PlainLinear) (trace : List ℕ) (status : Status) (shown : List ℕ) : Type 0 where
