@@ -76,7 +76,7 @@ module _ (text : List ℕ) (told : Option (List ℕ)) (method : Method) (fuel bo
   trace_cause short accepted Words is = absurd is
   trace_cause short accepted ReadFault is = (λ e. cc, tt)
   trace_cause short accepted TooLong is = (λ e. cc, inr (record { needs = tt; short = short; linearised = accepted }, is))
-  trace_cause short accepted (Refused line) is = (λ e. cc, inr (record { number = is.0; says = is.1.0; due = (record { needs = tt; short = short; linearised = accepted }, is.1.1) }))
+  trace_cause short accepted (Refused line) is = (λ e. cc, inr (record { number = is.0; says = is.1; due = (record { needs = tt; short = short; linearised = accepted }, is.2) }))
   trace_cause short accepted NoMemory is = (λ e. cc, tt)
 
   pub file_stops : (r : Result Answer Stop) → length text ≤ MAX_TEXT_LEN → CanBeLinearised text → IfErr r (λ stop. IsTraceStop text told stop) → IfErr r (λ stop. (stop ≢ Words) × HasCause stop (Some q))

@@ -83,15 +83,15 @@ module _ (g : Sig) (own : List Equation) (fuel bound : ℕ) (ts : List Tree) (l 
       → HasNoRunUpTo number s ts l p es
   rejected_is_not_followed es closed number replays consistent =
       let r = rejected_traces_are_no_runs s ts l es number (replayable es closed) consistent replays in
-      let front = replayable r.0 (first_entries number (λ (e : Entry). IsClosedLabel (data_meant g) e.label) r.1.0 closed) in
+      let front = replayable r.0 (first_entries number (λ (e : Entry). IsClosedLabel (data_meant g) e.label) r.1 closed) in
       let good_here = good (theory_in s) own_theory_goes_on consistent in
       record {
         front = r.0;
-        up_to = r.1.0;
-        by_values = r.1.1;
+        up_to = r.1;
+        by_values = r.2;
         without_sums = λ none h.
             let f : FollowsFrom (theory_in s) (goes_on (linear_state (entries_of g ts) l)) r.0 = followed (theory_in s) (Pairs (theory_in s) k) good_here.follows.forth h.run h.agree (both_go_on good_here.starts) in
-            r.1.1 (runs_without_sums_are_by_values s ts l r.0 front (no_sums none) (record { labels = f.labels; outcome = f.outcome; run = f.run; agree = f.agree }));
+            r.2 (runs_without_sums_are_by_values s ts l r.0 front (no_sums none) (record { labels = f.labels; outcome = f.outcome; run = f.run; agree = f.agree }));
       }
 
 -- ---- of what was made of a text

@@ -15,7 +15,7 @@ loop-place-init c = record {
 }
 
 pub enter_one-requires-clause-inside : goal.enter_one-requires-clause-inside
-enter_one-requires-clause-inside c = omega (arith, c.loop-place-test.true, c.len.ensures.count)
+enter_one-requires-clause-inside c = omega (arith, c.loop-place-test.true, c.len-place-end.ensures.count)
 
 pub enter_one-requires-clause-many : goal.enter_one-requires-clause-many
 enter_one-requires-clause-many c = ap length c.as_slice.ensures.value ∙ c.loop-place.invariant.many
@@ -42,5 +42,5 @@ loop-place-preserved c =
 
 pub returns-clause-entered : goal.returns-clause-entered
 returns-clause-entered c =
-    let all : length c.args.from.now.trees ≡ c.len.result = sym c.len.ensures.count in
+    let all : length c.args.from.now.trees ≡ c.len-place-end.result = sym c.len-place-end.ensures.count in
     subst (λ (z : List Tree). AreEntered z c.loop-place.to.trees c.loop-place.ids.items) (take_all c.loop-place.place c.args.from.now.trees (omega (arith, all, c.loop-place-test.false))) c.loop-place.invariant.entered

@@ -16,7 +16,7 @@ pub entered_lines-requires : goal.entered_lines-requires
 entered_lines-requires c =
     let r = c.requires in
     subst (λ (z : List TermId). All (LineHasPlaces z) (map plain_line c.args.lines.now)) (sym c.as_slice.ensures.value)
-    (lines_places r.0 c.args.from.now.trees c.enter_all.new.to.trees c.in_ok-ids.ids.items c.in_ok-ids.ensures.entered (map plain_line c.args.lines.now) r.1.0 r.1.1)
+    (lines_places r.0 c.args.from.now.trees c.enter_all.new.to.trees c.in_ok-ids.ids.items c.in_ok-ids.ensures.entered (map plain_line c.args.lines.now) r.1 r.2)
 
 pub returns-clause-lines : goal.returns-clause-lines
 returns-clause-lines c =
