@@ -21,7 +21,7 @@ use Rattle.lps_core.proofs.Staying.{read_mapped}
 use Rattle.trace_replay.specs.Entering.{entered_action, entered_line, number_in, ActionHasPlaces, AreEntered, HavePlaces, LineHasPlaces}
 use Rattle.trace_replay.specs.ReadTraces.{PlainLine}
 use Rattle.trace_replay.specs.Replays.{Entry}
-use Rattle.trace_replay.specs.Verdicts.{LineIs, LinesAre}
+use Rattle.trace_replay.specs.Verdicts.{LinesAre}
 use Rattle.trace_replay.specs.Ways.{ActionIs, LabelIs}
 
 -- ---- results and elements of lists

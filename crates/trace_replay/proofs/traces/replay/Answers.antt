@@ -1,4 +1,4 @@
-use Rattle.std.proofs.Common.{◌≡◌, ◌∙◌, List, map, sym, subst}
+use Rattle.std.proofs.Common.{List, map, sym, subst}
 use Rattle.data_rewriter.proofs.Simple.{a_rewriter_stays}
 use Rattle.process_terms.specs.SignatureEntries.{entries_of}
 use Rattle.lps_core.specs.PlainLinears.{plain_linear, linear_of}
@@ -8,7 +8,7 @@ use Rattle.trace_replay.specs.declared.reading.Line.{Line}
 use Rattle.trace_replay.specs.DecidedConditions.{setting}
 use Rattle.trace_replay.specs.ReadingFaults.{IsTraceFault}
 use Rattle.trace_replay.specs.ReadTraces.{plain_line}
-use Rattle.trace_replay.specs.ReplayLaws.{meant, start}
+use Rattle.trace_replay.specs.ReplayLaws.{meant}
 use Rattle.trace_replay.specs.States.{meant_states, plain_states}
 use Rattle.trace_replay.specs.Verdicts.{LinesAre}
 use Rattle.trace_replay.proofs.ReadLemmas.{passed_on}
