@@ -27,7 +27,7 @@ pub on_columns : {g h : Sig} {ks : List (NameId × SortId)} {cs : List VarId} �
 on_columns {g = g} no_column = on_itself g
 on_columns {g = g} (one_more_column {h = h} {i = i} a k) = on_then g h i (on_columns a) (on_column k)
 
-on_control : {g h : Sig} {n : ℕ} {c : Option VarId} → IsControl g n h c → GrowsOn g h
+pub on_control : {g h : Sig} {n : ℕ} {c : Option VarId} → IsControl g n h c → GrowsOn g h
 on_control {g = g} no_control = on_itself g
 on_control {g = g} (a_control {h = h} {name = name} l f) =
     let x : Variable = record { name = name; sort = pos_sort } in
@@ -37,7 +37,7 @@ on_first : {place : List VarId} {args : List TermId} {g h : Sig} {p q : PoolCont
 on_first {g = g} (an_argument e) = on_itself g
 on_first (a_closed_term e k) = on_declared k.declared
 
-on_firsts : {place : List VarId} {args : List TermId} {g : Sig} {p : PoolContents} {cs : List VarId} {h : Sig} {q : PoolContents} {ts : List TermId} → AreFirstTerms place args g p cs h q ts → GrowsOn g h
+pub on_firsts : {place : List VarId} {args : List TermId} {g : Sig} {p : PoolContents} {cs : List VarId} {h : Sig} {q : PoolContents} {ts : List TermId} → AreFirstTerms place args g p cs h q ts → GrowsOn g h
 on_firsts {g = g} no_first_term = on_itself g
 on_firsts {g = g} (one_more_first_term {h = h} {i = i} a k) = on_then g h i (on_firsts a) (on_first k)
 

@@ -12,6 +12,7 @@ use Rattle.lps_core.specs.PlainLinears.{plain_linear}
 use Rattle.sort_table.specs.BareDeclarations.{bare_sections}
 use Rattle.sort_checker.specs.FullVocabularies.{FullVocabulary}
 use Rattle.lin_driver.specs.Accepted.{IsGuardedSystem, CanBeLinearised}
+use Rattle.lin_driver.specs.CanonicalNames.{HasCanonicalNames}
 use Rattle.lin_driver.specs.Linearised.{IsLinearised, IsMadeFor, IsMadeOf}
 use Rattle.lin_driver.specs.Refusals.{IsParsedAs}
 use Rattle.lin_driver.specs.declared.fault.LinFault.{LinFault}
@@ -56,3 +57,15 @@ made_of_text (Err e) text spec parsed same made = tt
 pub linearised_text : (r : Result Linearised LinFault) (text : List ℕ) → IfOk r (MadeOf text) → IfOk r (λ m. IsLinearised text (spec_of m.spec) m.sig m.pool.trees (plain_linear m.lin))
 linearised_text (Ok m) text made = made_stands_for text (spec_of m.spec) m.sig m.pool.trees (map plain_equation m.theory.equations.items) m.name (plain_linear m.lin) made
 linearised_text (Err e) text made = tt
+
+-- its names
+pub named_text : (r : Result Linearised LinFault) → IfOk r MadeFor → IfOk r (λ m. HasCanonicalNames (spec_of m.spec) m.sig m.name (plain_linear m.lin))
+named_text (Ok m) made = record {
+  signature = made.signature;
+  declares = made.declares;
+  taken = made.taken;
+  name = made.name;
+  parameters = made.leads.params;
+  sums = made.leads.names;
+}
+named_text (Err e) made = tt
