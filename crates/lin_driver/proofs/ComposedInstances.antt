@@ -1,16 +1,16 @@
 -- What is an instance of a term with closed terms in it is an instance of the term itself.
-use Rattle.std.proofs.Common.{◌≡◌, ◌⊎◌, inl, inr, ⊎_elim, cond, ℕ, List, [], ◌∷◌, ◌++◌, map, length, refl, sym, ap, ap₂, ◌∙◌, subst, arith}
+use Rattle.std.proofs.Common.{◌≡◌, ◌⊎◌, inl, inr, ⊎_elim, cond, ℕ, List, [], ◌∷◌, ◌++◌, map, length, sym, ap, ◌∙◌, subst, arith}
 use Rattle.std.specs.Prelude.{Contains}
 use Rattle.std.proofs.lemmas.Bool.Decides.{eqb_tells}
 use Rattle.std.proofs.lemmas.List.{length-map}
 use Rattle.std.proofs.lemmas.List.Elements.{Contains-append_left, Contains-append_right}
 use Rattle.data_theory.specs.Terms.{Sort, positive, natural, integer, Symbol, upcast, minus, Term, Terms, variable, numeral, unknown, application, none, more, apply, put, put_all}
-use Rattle.data_theory.specs.Declarations.{Data, HasSort, HaveSorts}
+use Rattle.data_theory.specs.Declarations.{Data, HaveSorts}
 use Rattle.data_theory.specs.Environments.{Environment, term_in, bound, bound_variables, terms_of, IsOver, AreOver}
 use Rattle.data_theory.proofs.EnvironmentLemmas.{contains_first, contains_later, contains_nothing, front_is_read, front_is_skipped, unbound_stay, bound_together, bound_are_the_parameters, putting_in_twice, closed_terms_stay, closed_terms_fit}
 use Rattle.process_terms.specs.Processes.{Bound}
 use Rattle.bisim_laws.specs.LinearProcesses.{variables, sorts, AreDeclared}
-use Rattle.lps_core.specs.MadeTerms.{StackSort, Origin, AreMade, IsInstance, an_instance}
+use Rattle.lps_core.specs.MadeTerms.{Origin, AreMade, IsInstance, an_instance}
 use Rattle.lps_core.proofs.Environments.{later_in, variables_append}
 use Rattle.lps_core.proofs.MeantTrees.{put_pointwise}
 use Rattle.lps_core.proofs.SortedTerms.{columns_sorted, columns_long, declared_both}

@@ -27,7 +27,7 @@ pub on_columns : {g h : Sig} {ks : List (NameId × SortId)} {cs : List VarId} �
 on_columns {g = g} no_column = on_itself g
 on_columns {g = g} (one_more_column {h = h} {i = i} a k) = on_then g h i (on_columns a) (on_column k)
 
-pub on_control : {g h : Sig} {n : ℕ} {c : Option VarId} → IsControl g n h c → GrowsOn g h
+on_control : {g h : Sig} {n : ℕ} {c : Option VarId} → IsControl g n h c → GrowsOn g h
 on_control {g = g} no_control = on_itself g
 on_control {g = g} (a_control {h = h} {name = name} l f) =
     let x : Variable = record { name = name; sort = pos_sort } in

@@ -4,13 +4,13 @@ use Rattle.std.specs.Prelude.{Contains, flat_map, slice_get, not}
 use Rattle.std.specs.List.{All, AllByRecursion, zip}
 use Rattle.std.proofs.lemmas.Bool.Decides.{eqb_tells}
 use Rattle.std.proofs.lemmas.List.{length-map}
-use Rattle.std.proofs.lemmas.List.Elements.{All-nil, All-cons, All-head, All-tail, All-contains, All-filter, Contains-append_cases, Contains-append_left, Contains-append_right}
+use Rattle.std.proofs.lemmas.List.Elements.{All-nil, All-cons, All-head, All-tail, All-filter, Contains-append_cases, Contains-append_left, Contains-append_right}
 use Rattle.data_theory.specs.declared.ids.VarId.{VarId}
 use Rattle.data_theory.specs.declared.ids.TermId.{TermId}
 use Rattle.data_theory.specs.Terms.{Sort, Term, put}
-use Rattle.data_theory.specs.Declarations.{Data, Declares, HasSort, HaveSorts}
+use Rattle.data_theory.specs.Declarations.{Declares, HasSort, HaveSorts}
 use Rattle.data_theory.specs.EqualityLaws.{Grows}
-use Rattle.data_theory.specs.Environments.{Environment, term_in, bound, bound_variables, terms_of, IsOver}
+use Rattle.data_theory.specs.Environments.{Environment, term_in, bound, terms_of, IsOver}
 use Rattle.data_theory.specs.Signature.{Sig}
 use Rattle.data_theory.specs.WholeSignatures.{IsSignature}
 use Rattle.data_theory.specs.IdData.{data_meant}
@@ -20,12 +20,12 @@ use Rattle.term_pool.specs.Bindings.{listed, listed_terms}
 use Rattle.term_pool.specs.HeadTrees.{IsIn, AreIn}
 use Rattle.process_terms.specs.Labels.{Action, Label, put_label}
 use Rattle.process_terms.specs.Meanings.{Entries, bound_at, term_at, label_of, around_of, body_of, bodies_of, component_body}
-use Rattle.process_terms.specs.PlainProcesses.{PlainAction, PlainAround, PlainProcess, PlainProcesses, allow, block, hide, rename, comm, delta, act, call, choice, seq, cond, sum, merge, around, PlainDefinition, PlainComponent, call_of, term_of}
-use Rattle.process_terms.specs.Processes.{Bound, Body, written_delta, written_act, written_choice, written_seq, written_cond, written_sum, written_call, written_merge, written_around, sums_around}
+use Rattle.process_terms.specs.PlainProcesses.{PlainAround, PlainProcess, PlainProcesses, allow, block, hide, rename, comm, call, PlainDefinition, PlainComponent}
+use Rattle.process_terms.specs.Processes.{Bound, Body, written_delta, written_choice, written_seq, written_call, sums_around}
 use Rattle.process_terms.specs.SignatureEntries.{entries_of}
 use Rattle.bisim_laws.specs.LinearProcesses.{variables, sorts, AreDeclared}
 use Rattle.bisim_laws.proofs.Firing.{contains_first, contains_later, contains_cases, contains_none}
-use Rattle.lps_core.specs.Fitting.{IsVariable, sort_of_variable, AreTermsOf}
+use Rattle.lps_core.specs.Fitting.{IsVariable, sort_of_variable}
 use Rattle.lps_core.specs.MadeTerms.{Written, both_written, is_comm, written_in, Origin, AreMade, none_made, more_made, IsMade, of_a_call, an_instance}
 use Rattle.lps_core.specs.TreeSummands.{numbers_of, meant_action}
 use Rattle.lps_core.proofs.Environments.{later_in}
@@ -36,11 +36,11 @@ use Rattle.lps_core.proofs.MeantTrees.{label_means, label_read}
 use Rattle.lps_core.proofs.SortedTerms.{HaveTerms, one_sort, closed_instance, sorts_long}
 use Rattle.lps_core.proofs.Staying.{terms_sorted, sorts_of_variables, variables_declared}
 use Rattle.proc_unfold.specs.FittingModels.{TermsFit, ProcessFits, ProcessesFit, DefinitionFits}
-use Rattle.proc_unfold.specs.Networks.{PlainNetwork, PlainNetworks, leaf, side_by_side, under, AllComponents, AllComponentsOfEach}
+use Rattle.proc_unfold.specs.Networks.{PlainNetwork, PlainNetworks, AllComponents, AllComponentsOfEach}
 use Rattle.proc_unfold.specs.Opening.{Opens, term_kept, call_kept, call_opened, beside, one_choice, one_step, no_sum, within, AllOpen, none_open, more_open}
-use Rattle.proc_unfold.specs.PutTerms.{is_among, without, ArePut, IsLabelPut, IsPutIn, put_delta, put_act, put_call, put_choice, put_seq, put_cond, put_sum, put_merge, put_around, ArePutIn, none_put, more_put}
+use Rattle.proc_unfold.specs.PutTerms.{is_among, without, ArePut, IsPutIn, put_delta, put_act, put_call, put_choice, put_seq, put_cond, put_sum, put_merge, put_around, ArePutIn, none_put, more_put}
 use Rattle.proc_unfold.proofs.PutBodies.{env_of, listed_without, listed_means, term_means, terms_mean}
-use Rattle.stack_encoder.proofs.WiderOrigins.{IsInstanceOfOne, AreInstancesOf, some_are_instances}
+use Rattle.stack_encoder.proofs.WiderOrigins.{AreInstancesOf, some_are_instances}
 use Rattle.regular_encoder.proofs.FirstTerms.{some_is}
 use Rattle.lin_driver.specs.PlainlyMade.{IsCommWritten, AreCommsWritten, AreCommsWrittenBeside}
 use Rattle.lin_driver.proofs.BodyLists.{chain_holds, chain_parts, merge_holds, merge_parts}

@@ -1,6 +1,6 @@
 -- The product in code of two linear processes that are plainly conditioned is plainly conditioned.
 use Rattle.std.proofs.Common.{◌≡◌, ℕ, Bool, true, List, [], ◌∷◌, ◌++◌, map, refl, sym, ◌∙◌, subst, ⊎_elim, Option, Some, None}
-use Rattle.std.specs.Prelude.{Contains, IfSome, option_map, option_to_list}
+use Rattle.std.specs.Prelude.{Contains, IfSome, option_to_list}
 use Rattle.std.specs.List.{All}
 use Rattle.std.proofs.lemmas.List.Elements.{All-nil, All-cons, All-head, All-tail, All-weaker, All-append, All-contains, Contains-append_cases, Contains-append_left, Contains-append_right}
 use Rattle.data_theory.specs.declared.ids.VarId.{VarId}

@@ -14,7 +14,7 @@ use Rattle.lps_core.specs.Fitting.{Fits}
 use Rattle.lps_core.specs.MadeTerms.{Written, Origin, origin_of, HasActionArguments, SummandIsPlain}
 use Rattle.lps_core.specs.PlainLinears.{PlainSummand, PlainLinear, summand_of}
 use Rattle.lps_core.proofs.Members.{contains_map, map_contains, contains_in, in_contains, in_each}
-use Rattle.action_filters.specs.Filters.{by_label, labelled, with_labels, naming, renamed_action, renamed_label}
+use Rattle.action_filters.specs.Filters.{by_label, labelled, with_labels, renamed_action, renamed_label}
 use Rattle.action_filters.specs.LabelFilters.{Naming, are_allowed, allowed_label, are_blocked, unblocked_label, shown, shown_label}
 use Rattle.action_filters.specs.NameTests.{is_among}
 use Rattle.lin_driver.specs.PlainlyMade.{IsPlainFor}

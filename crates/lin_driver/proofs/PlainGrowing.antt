@@ -1,6 +1,6 @@
 -- Plainly conditioned linear processes stay so as signature and pool grow, from an earlier signature on, and where more is written.
-use Rattle.std.proofs.Common.{◌≡◌, ◌≤◌, List, [], map, length, length-append, sym, ap, ◌∙◌, subst, arith}
-use Rattle.std.specs.List.{All, Contains}
+use Rattle.std.proofs.Common.{◌≡◌, List, map, length, length-append, sym, ap, ◌∙◌, subst, arith}
+use Rattle.std.specs.List.{All}
 use Rattle.std.proofs.lemmas.List.Elements.{All-contains, All-weaker}
 use Rattle.data_theory.specs.declared.ids.VarId.{VarId}
 use Rattle.data_theory.specs.Declarations.{Data}

@@ -28,7 +28,7 @@ use Rattle.regular_encoder.proofs.PlainGrowth.{plain_forms_stay_plain}
 use Rattle.stack_encoder.specs.AddedStacks.{IsAddedStack, IsPlainOnStack}
 use Rattle.lin_driver.specs.LinearLeaves.{IsReady, IsLeafOf}
 use Rattle.lin_driver.specs.PlainlyMade.{IsAddedParameter, a_control_number, IsPlainFor, EncodesPlainly, ArePlainLeaves}
-use Rattle.lin_driver.proofs.ConstantGrowth.{on_columns, on_control, on_firsts}
+use Rattle.lin_driver.proofs.ConstantGrowth.{on_columns, on_firsts}
 use Rattle.lin_driver.proofs.GrownModels.{table_stays, component_stays}
 use Rattle.lin_driver.proofs.MadeLeaves.{zip_push}
 use Rattle.lin_driver.proofs.PlainGrowing.{plain_on, plain_since}

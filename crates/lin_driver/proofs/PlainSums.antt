@@ -1,5 +1,5 @@
 -- As sums are named, a linear process stays plainly conditioned.
-use Rattle.std.proofs.Common.{◌≡◌, suc, cond, List, [], ◌∷◌, ◌++◌, map, length, refl, sym, ap, ◌∙◌, subst, ⊎_elim, Option, Some, None}
+use Rattle.std.proofs.Common.{◌≡◌, suc, cond, List, ◌++◌, map, length, refl, sym, ap, ◌∙◌, subst, ⊎_elim, Option, Some, None}
 use Rattle.std.specs.Prelude.{Contains}
 use Rattle.std.proofs.lemmas.Bool.Decides.{eqb_tells}
 use Rattle.std.proofs.lemmas.List.Elements.{All-weaker, Contains-append_cases, Contains-append_left, Contains-append_right}

@@ -9,7 +9,7 @@ use Rattle.process_terms.specs.Processes.{Bound}
 use Rattle.bisim_laws.specs.LinearProcesses.{is_true}
 use Rattle.bisim_laws.proofs.Firing.{contains_first, contains_later, contains_cases}
 use Rattle.lps_core.specs.Conditions.{parts, without_true, conjoined}
-use Rattle.lps_core.specs.MadeTerms.{Origin, IsMade, AreMade, none_made, more_made, IsPlainPart, true_part, HasPlainParts}
+use Rattle.lps_core.specs.MadeTerms.{Origin, AreMade, none_made, more_made, IsPlainPart, true_part, HasPlainParts}
 use Rattle.greibach.proofs.PlainParts.{parts_are_plain}
 
 -- ---- lists

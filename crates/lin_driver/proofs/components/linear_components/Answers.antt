@@ -7,12 +7,12 @@ use Rattle.lps_core.proofs.PoolTrees.{extends_itself, extends_on}
 use Rattle.process_terms.specs.PlainProcesses.{PlainComponent, plain_component, plain_model}
 use Rattle.process_terms.specs.SignatureEntries.{BothGrow}
 use Rattle.lps_printer.proofs.GrowingByAdditions.{additions_grow}
+use Rattle.lin_driver.specs.AddedSorts.{NeedsNoStack}
 use Rattle.lin_driver.specs.Faults.{IsModelFaultBy}
 use Rattle.lin_driver.specs.LinearLeaves.{AreLeavesMade, IsLeafOf, IsLeavesFaultOf}
-use Rattle.lin_driver.proofs.MadeLeaves.{leaf_grows, none_made, one_more_made, leaves_fault, passed_on, one_of_slice, slice_more}
-use Rattle.lin_driver.specs.AddedSorts.{NeedsNoStack}
 use Rattle.lin_driver.specs.PlainlyMade.{ArePlainLeaves}
 use Rattle.lin_driver.proofs.AddedSorts.{front_of, last_of}
+use Rattle.lin_driver.proofs.MadeLeaves.{leaf_grows, none_made, one_more_made, leaves_fault, passed_on, one_of_slice, slice_more}
 use Rattle.lin_driver.proofs.PlainLeaves.{one_more_plain}
 use Rattle.lin_driver.proofs.components.linear_components.Goals as goal
 

@@ -3,8 +3,8 @@ use Rattle.std.specs.List.{All}
 use Rattle.term_pool.specs.Pools.{Extends}
 use Rattle.process_terms.specs.PlainProcesses.{plain_component, plain_model}
 use Rattle.lps_core.specs.PlainLinears.{plain_linear}
-use Rattle.lin_driver.specs.LinearLeaves.{AreLeavesMade}
 use Rattle.lin_driver.specs.AddedSorts.{NeedsNoStack}
+use Rattle.lin_driver.specs.LinearLeaves.{AreLeavesMade}
 use Rattle.lin_driver.specs.PlainlyMade.{ArePlainLeaves}
 use Rattle.lin_driver.proofs.components.linear_components.Given as goal
 

@@ -6,8 +6,8 @@ use Rattle.process_terms.specs.PlainProcesses.{plain_component, plain_model}
 use Rattle.lps_core.specs.PlainLinears.{plain_linear}
 use Rattle.greibach.specs.PlainForms.{plain_form}
 use Rattle.regular_encoder.proofs.InhabitedColumns.{still_inhabited}
-use Rattle.lin_driver.proofs.MadeLeaves.{leaf_made, leaf_fault, fault_by}
 use Rattle.lin_driver.proofs.AddedSorts.{leaf_adds_no_sort}
+use Rattle.lin_driver.proofs.MadeLeaves.{leaf_made, leaf_fault, fault_by}
 use Rattle.lin_driver.proofs.PlainLeaves.{leaf_plain}
 use Rattle.lin_driver.proofs.components.linear_of_component.Goals as goal
 

@@ -1,7 +1,7 @@
 use Rattle.std.proofs.Common.{◌≡◌, ◌+◌, ◌*◌, map}
 use Rattle.lps_core.specs.PlainLinears.{plain_linear}
-use Rattle.lin_driver.proofs.ComposedNetworks.{IsJoining, beside_all, nodes_of, nodes_of_all}
 use Rattle.lin_driver.specs.PlainlyMade.{ComposesPlainly}
+use Rattle.lin_driver.proofs.ComposedNetworks.{IsJoining, beside_all, nodes_of, nodes_of_all}
 use Rattle.lin_driver.proofs.composing.+compose.Given as goal
 
 abbrev pub decreases-compose : goal.decreases-compose
