@@ -20,7 +20,7 @@ use Rattle.term_pool.specs.Bindings.{listed, listed_terms}
 use Rattle.term_pool.specs.HeadTrees.{IsIn, AreIn}
 use Rattle.process_terms.specs.Labels.{Action, Label, put_label}
 use Rattle.process_terms.specs.Meanings.{Entries, bound_at, term_at, label_of, around_of, body_of, bodies_of, component_body}
-use Rattle.process_terms.specs.PlainProcesses.{PlainAround, PlainProcess, PlainProcesses, allow, block, hide, rename, comm, call, PlainDefinition, PlainComponent}
+use Rattle.process_terms.specs.PlainProcesses.{PlainAround, PlainProcess, PlainProcesses, allow, block, hide, rename, comm, PlainDefinition, PlainComponent}
 use Rattle.process_terms.specs.Processes.{Bound, Body, written_delta, written_choice, written_seq, written_call, sums_around}
 use Rattle.process_terms.specs.SignatureEntries.{entries_of}
 use Rattle.bisim_laws.specs.LinearProcesses.{variables, sorts, AreDeclared}
