@@ -38,6 +38,10 @@ pub on_ok : {T E : Type 0} (r : Result T E) (P Q : Type 0) → (P → Q) → OnO
 on_ok (Ok x) P Q follows holds = follows holds
 on_ok (Err e) P Q follows holds = tt
 
+pub on_ok_anyway : {T E : Type 0} (r : Result T E) (P : Type 0) → P → OnOk r P
+on_ok_anyway (Ok x) P holds = holds
+on_ok_anyway (Err e) P holds = tt
+
 -- ---- what was made
 abbrev pub MadeFor : Linearised → Type 0
 MadeFor m = IsMadeFor (spec_of m.spec) m.sig m.pool.trees (map plain_equation m.theory.equations.items) m.name (plain_linear m.lin)

@@ -6,9 +6,11 @@ use Rattle.mcrl2_syntax.specs.Declarations.{spec_of}
 use Rattle.process_terms.specs.PlainProcesses.{plain_equation}
 use Rattle.lps_core.specs.PlainLinears.{plain_linear}
 use Rattle.lps_printer.specs.PrintedLinears.{IsPrinted}
+use Rattle.lin_driver.specs.Accepted.{CanBeLinearised}
 use Rattle.lin_driver.specs.Headline.{StandsFor}
 use Rattle.lin_driver.specs.WrittenTexts.{IsWrittenFor}
 use Rattle.lin_driver.proofs.MadeTexts.{printed_for_stands_for}
+use Rattle.lin_driver.proofs.ReadTexts.{on_ok_anyway}
 use Rattle.lin_driver.proofs.Refused.{if_ok, no_fault_refused, no_fault_by}
 use Rattle.lin_driver.proofs.linear_texts.linear_text.Goals as goal
 
@@ -17,6 +19,9 @@ print_out-requires-clause-fits c = c.in_ok-made.ensures.linearised.fits
 
 pub print_out-requires-clause-name : goal.print_out-requires-clause-name
 print_out-requires-clause-name c = let n = c.in_ok-made.ensures.made.made.name in slice_get_within c.in_ok-made.made.sig.texts c.in_ok-made.made.name.0 n.text n.named
+
+pub returns-clause-accepted : goal.returns-clause-accepted
+returns-clause-accepted c = on_ok_anyway c.print_out.result (CanBeLinearised c.args.text.now) c.in_ok-made.ensures.accepted
 
 pub returns-clause-stands_for : goal.returns-clause-stands_for
 returns-clause-stands_for c =
