@@ -37,7 +37,7 @@ on_first : {place : List VarId} {args : List TermId} {g h : Sig} {p q : PoolCont
 on_first {g = g} (an_argument e) = on_itself g
 on_first (a_closed_term e k) = on_declared k.declared
 
-on_firsts : {place : List VarId} {args : List TermId} {g : Sig} {p : PoolContents} {cs : List VarId} {h : Sig} {q : PoolContents} {ts : List TermId} → AreFirstTerms place args g p cs h q ts → GrowsOn g h
+pub on_firsts : {place : List VarId} {args : List TermId} {g : Sig} {p : PoolContents} {cs : List VarId} {h : Sig} {q : PoolContents} {ts : List TermId} → AreFirstTerms place args g p cs h q ts → GrowsOn g h
 on_firsts {g = g} no_first_term = on_itself g
 on_firsts {g = g} (one_more_first_term {h = h} {i = i} a k) = on_then g h i (on_firsts a) (on_first k)
 

@@ -51,4 +51,17 @@ mod FewerVariables
 pub mod RewritableEquations
 mod EliminatedTexts
 mod LeftInCode
+mod PlainlyConjoined
+mod PlainGrowing
+mod PlainFilters
+mod PlainCommunications
+mod PlainProducts
+mod PlainBeside
+mod PlainSums
+mod PlainLeaves
+mod PlainNetworks
+mod ComposedInstances
+mod OpenedWritten
+mod PlainModels
+mod AddedSorts
 mod WrittenPieces

@@ -99,7 +99,7 @@ leaf_made method g d h p q r m c f l ready leaf w kept form_fits form good sh in
 pub none_made : (method : Method) (g : Sig) (p : PoolContents) (m : PlainModel) → IsReady g p m → AreLeavesMade method g p g p m [] []
 none_made method g p m ready = record { grows = nothing_added; ready = ready; tails = λ regular. All-nil (HasTailForm m); linears = tt }
 
-zip_push : {A B : Type 0} (R : A → B → Type 0) (xs : List A) (ys : List B) (x : A) (y : B) → AllZip R xs ys → R x y → AllZip R (xs ++ x ∷ []) (ys ++ y ∷ [])
+pub zip_push : {A B : Type 0} (R : A → B → Type 0) (xs : List A) (ys : List B) (x : A) (y : B) → AllZip R xs ys → R x y → AllZip R (xs ++ x ∷ []) (ys ++ y ∷ [])
 zip_push R [] [] x y k r = (r, tt)
 zip_push R [] (z ∷ ys) x y k r = absurd k
 zip_push R (z ∷ xs) [] x y k r = absurd k

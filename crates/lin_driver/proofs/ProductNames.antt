@@ -79,7 +79,7 @@ module _ (g h : Sig) (us : List Tree) (l r k : PlainLinear) (made : IsProduct g 
       ∙ ap₂ (λ (xs ys : List VarId). xs ++ ys) (renewed_back e made.olds made.news r.params) (flag_back made.right_flag)
 
   -- those of the left side with its flag, and the new ones of the right side with its flag
-  params_are : k.params ≡ left_params ++ right_params
+  pub params_are : k.params ≡ left_params ++ right_params
   params_are =
       sym (ids_back e k.params)
       ∙ ap (λ (z : Linear). ids_of z.params) made.linear
@@ -94,16 +94,16 @@ module _ (g h : Sig) (ts us : List Tree) (l r k : PlainLinear) (s : IsSignature 
   abbrev g2 : Sig
   g2 = made.with_new
 
-  one : FlagStands g g1 (can_end l) made.left_flag
+  pub one : FlagStands g g1 (can_end l) made.left_flag
   one = flag_stands g g1 (can_end l) made.left_flag s made.left
 
   fr1 : Fits g1 ts r
   fr1 = what_fits_fits_still g g1 ts ts r s.table s.complete one.on.stands.table (record { signature = one.on.grown; pool = extends_itself ts }) fr
 
-  given : HasGivenWay g1 g2 l r made.olds made.news
+  pub given : HasGivenWay g1 g2 l r made.olds made.news
   given = has_given_way g1 g2 l r made.olds made.news one.on.stands fr1.params fr1.taken (all_sums_are_variables g1 ts r fr1) (all_each (HasTakenName g1) r.summands fr1.sums_taken) made.gives_way
 
-  two : FlagStands g2 h (can_end r) made.right_flag
+  pub two : FlagStands g2 h (can_end r) made.right_flag
   two = flag_stands g2 h (can_end r) made.right_flag given.new.on.stands made.right
 
   sums_grow : GrowsByNames made.gives_way.between g2
@@ -113,7 +113,7 @@ module _ (g h : Sig) (ts us : List Tree) (l r k : PlainLinear) (s : IsSignature 
       (all_stand (IsNameOf g1 l.params) (HasVariable l) g1 g1 [] [] r.params way.between way.old_params way.new_params (none_new g1 one.on.stands) fr1.params fr1.taken way.params)
       (all_sums_are_variables g1 ts r fr1) (all_each (HasTakenName g1) r.summands fr1.sums_taken) way.sums
 
-  to2 : GrowsByNames g g2
+  pub to2 : GrowsByNames g g2
   to2 = names_then g g1 g2 one.on given.new.on
 
   to_h : GrowsByNames g h

@@ -12,6 +12,7 @@ use Rattle.lps_core.specs.PlainLinears.{plain_linear}
 use Rattle.sort_table.specs.BareDeclarations.{bare_sections}
 use Rattle.sort_checker.specs.FullVocabularies.{FullVocabulary}
 use Rattle.lin_driver.specs.Accepted.{IsGuardedSystem, CanBeLinearised}
+use Rattle.lin_driver.specs.CanonicalNames.{HasCanonicalNames}
 use Rattle.lin_driver.specs.Linearised.{IsLinearised, IsMadeFor, IsMadeOf}
 use Rattle.lin_driver.specs.Refusals.{IsParsedAs}
 use Rattle.lin_driver.specs.declared.fault.LinFault.{LinFault}
@@ -37,6 +38,10 @@ pub on_ok : {T E : Type 0} (r : Result T E) (P Q : Type 0) → (P → Q) → OnO
 on_ok (Ok x) P Q follows holds = follows holds
 on_ok (Err e) P Q follows holds = tt
 
+pub on_ok_anyway : {T E : Type 0} (r : Result T E) (P : Type 0) → P → OnOk r P
+on_ok_anyway (Ok x) P holds = holds
+on_ok_anyway (Err e) P holds = tt
+
 -- ---- what was made
 abbrev pub MadeFor : Linearised → Type 0
 MadeFor m = IsMadeFor (spec_of m.spec) m.sig m.pool.trees (map plain_equation m.theory.equations.items) m.name (plain_linear m.lin)
@@ -56,3 +61,15 @@ made_of_text (Err e) text spec parsed same made = tt
 pub linearised_text : (r : Result Linearised LinFault) (text : List ℕ) → IfOk r (MadeOf text) → IfOk r (λ m. IsLinearised text (spec_of m.spec) m.sig m.pool.trees (plain_linear m.lin))
 linearised_text (Ok m) text made = made_stands_for text (spec_of m.spec) m.sig m.pool.trees (map plain_equation m.theory.equations.items) m.name (plain_linear m.lin) made
 linearised_text (Err e) text made = tt
+
+-- its names
+pub named_text : (r : Result Linearised LinFault) → IfOk r MadeFor → IfOk r (λ m. HasCanonicalNames (spec_of m.spec) m.sig m.name (plain_linear m.lin))
+named_text (Ok m) made = record {
+  signature = made.signature;
+  declares = made.declares;
+  taken = made.taken;
+  name = made.name;
+  parameters = made.leads.params;
+  sums = made.leads.names;
+}
+named_text (Err e) made = tt

@@ -22,4 +22,8 @@ pub mod Numberings
 pub mod MethodForms
 pub mod Eliminations
 pub mod Eliminated
+pub mod PlainlyMade
+pub mod AddedSorts
+pub mod CanonicalNames
+pub mod WrittenTexts
 pub mod BufferLines

@@ -5,9 +5,13 @@ ghost use Rattle.std.specs.List.{All};
 ghost use Rattle.data_theory.specs.IdTerms.{IsGrown};
 ghost use Rattle.term_pool.specs.Pools.{Extends};
 ghost use Rattle.process_terms.specs.PlainProcesses.{plain_component, plain_model};
+ghost use Rattle.process_terms.specs.SignatureEntries.{entries_of};
 ghost use Rattle.lps_core.specs.PlainLinears.{plain_linear};
+ghost use Rattle.greibach.specs.PlainComponents.{written_from};
+ghost use Rattle.lin_driver.specs.AddedSorts.{NeedsNoStack};
 ghost use Rattle.lin_driver.specs.Faults.{IsModelFaultBy};
 ghost use Rattle.lin_driver.specs.LinearLeaves.{AreLeavesMade, IsLeafFaultOf, IsLeafMade, IsLeafOf, IsLeavesFaultOf, IsReady};
+ghost use Rattle.lin_driver.specs.PlainlyMade.{ArePlainLeaves, IsPlainFor};
 
 use crate::fault::ModelFault;
 use crate::form_encoding::encode_form;
@@ -39,6 +43,8 @@ fn linear_of_component(
     requires leaf { IsLeafOf sig.old pool.old.trees (plain_model guarded.now.model.now) (plain_component component.now) }
     ensures grown { IsGrown sig.old sig.new }
     ensures kept { Extends pool.old.trees pool.new.trees }
+    ensures plain { IfOk result (λ made. IsPlainFor sig.old sig.new pool.new (written_from (entries_of sig.old pool.old.trees) (plain_model guarded.now.model.now) (plain_component component.now)) (plain_linear made)) }
+    ensures sorts { IfOk result (λ _. NeedsNoStack method (plain_model guarded.now.model.now) (plain_component component.now) → sig.new.sorts ≡ sig.old.sorts) }
     ensures made { IfOk result (λ made. IsLeafMade method sig.old pool.old sig.new pool.new (plain_model guarded.now.model.now) (plain_component component.now) (plain_linear made)) }
     ensures refused { IfErr result (IsLeafFaultOf (plain_model guarded.now.model.now) (plain_component component.now) number) }
     ensures by { IfErr result (IsModelFaultBy method) }
@@ -76,6 +82,8 @@ pub(crate) fn linear_components(
     requires leaves { All (IsLeafOf sig.old pool.old.trees (plain_model guarded.now.model.now)) (map plain_component components.now) }
     ensures grown { IsGrown sig.old sig.new }
     ensures kept { Extends pool.old.trees pool.new.trees }
+    ensures plain { IfOk result (λ made. ArePlainLeaves sig.old pool.old sig.new pool.new (plain_model guarded.now.model.now) (map plain_component components.now) (map plain_linear made.items)) }
+    ensures sorts { IfOk result (λ _. All (NeedsNoStack method (plain_model guarded.now.model.now)) (map plain_component components.now) → sig.new.sorts ≡ sig.old.sorts) }
     ensures made { IfOk result (λ made. AreLeavesMade method sig.old pool.old sig.new pool.new (plain_model guarded.now.model.now) (map plain_component components.now) (map plain_linear made.items)) }
     ensures refused { IfErr result (IsLeavesFaultOf (plain_model guarded.now.model.now) (map plain_component components.now)) }
     ensures by { IfErr result (IsModelFaultBy method) }

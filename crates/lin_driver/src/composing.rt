@@ -9,6 +9,7 @@ ghost use Rattle.action_filters.specs.Filters.{IsGoodAround};
 ghost use Rattle.proc_unfold.specs.Networks.{networks_of, plain_network, plain_operator, side_by_side};
 ghost use Rattle.lin_driver.specs.FittingOperators.{OperatorFits};
 ghost use Rattle.lin_driver.specs.Parts.{Composes, HasItsParts};
+ghost use Rattle.lin_driver.specs.PlainlyMade.{ComposesPlainly, StaysPlainAround};
 
 use action_filters::{allow, block, hide, rename};
 use communication::communicate;
@@ -36,7 +37,9 @@ fn around(
     ensures params { IfOk result (λ made. (plain_linear made).params ≡ (plain_linear linear.now).params) }
     ensures fits { IfOk result (λ made. Fits sig.now pool.new.trees (plain_linear made)) }
     ensures bisimilar { IfOk result (λ made. IsGoodAround sig.now pool.new.trees (plain_operator operator.now) (plain_linear linear.now) (plain_linear made)) }
+    ensures plain { IfOk result (λ made. StaysPlainAround sig.now pool.old pool.new (plain_operator operator.now) (plain_linear linear.now) (plain_linear made)) }
 {
+    signature_stands(sig);
     match operator {
         NetOp::Allow(sets) => allow(alloc, linear, sets.as_slice(), sig),
         NetOp::Block(names) => block(alloc, linear, names.as_slice(), sig),
@@ -75,6 +78,7 @@ pub(crate) fn compose(
     ensures kept { Extends pool.old.trees pool.new.trees }
     ensures constants { pool.new.constants ≡ pool.old.constants }
     ensures composed { IfOk result (λ made. Composes sig.old pool.old.trees (plain_network network.now) (map plain_linear parts.old.items) sig.new pool.new.trees (map plain_linear parts.new.items) (plain_linear made)) }
+    ensures plain { IfOk result (λ made. ComposesPlainly sig.old pool.old (plain_network network.now) (map plain_linear parts.old.items) sig.new pool.new (map plain_linear parts.new.items) (plain_linear made)) }
 {
     signature_stands(sig);
     match network {
@@ -101,6 +105,7 @@ fn compose_beside(
     ensures kept { Extends pool.old.trees pool.new.trees }
     ensures constants { pool.new.constants ≡ pool.old.constants }
     ensures composed { IfOk result (λ made. Composes sig.old pool.old.trees (side_by_side (networks_of (map plain_network networks.now))) (map plain_linear parts.old.items) sig.new pool.new.trees (map plain_linear parts.new.items) (plain_linear made)) }
+    ensures plain { IfOk result (λ made. ComposesPlainly sig.old pool.old (side_by_side (networks_of (map plain_network networks.now))) (map plain_linear parts.old.items) sig.new pool.new (map plain_linear parts.new.items) (plain_linear made)) }
 {
     signature_stands(sig);
     if networks.is_empty() {

@@ -16,6 +16,7 @@ ghost use Rattle.regular_encoder.specs.EncodedForms.{IsEncodedForm};
 ghost use Rattle.regular_encoder.specs.Refusals.{IsEncodeFaultOf};
 ghost use Rattle.stack_encoder.specs.StackedForms.{IsStackedForm};
 ghost use Rattle.lin_driver.specs.MethodForms.{IsEncodedBy, IsMethodFaultOf, IsTailFor, LeadsFromForm, UsesStack};
+ghost use Rattle.lin_driver.specs.PlainlyMade.{EncodesPlainly};
 
 use crate::methods::Method;
 use data_theory::{NoMemory, Signature};
@@ -56,6 +57,7 @@ fn encode_with_columns(
     ensures constants { AreConstants sig.new pool.new.constants }
     ensures encoded { IfOk result (λ made. IsEncodedForm sig.old pool.old sig.new pool.new (plain_form form.now) (plain_linear made)) }
     ensures leads { IfOk result (λ made. LeadsFromForm sig.old sig.new pool.new.trees (plain_form form.now) (plain_linear made)) }
+    ensures plain { IfOk result (λ made. EncodesPlainly sig.old sig.new pool.new (plain_form form.now) (plain_linear made)) }
     ensures tail { OnOk result (HasTails (plain_form form.now)) }
     ensures refused { IfErr result (IsEncodeFaultOf (plain_form form.now)) }
 {
@@ -82,6 +84,7 @@ fn encode_with_stack(
     ensures constants { AreConstants sig.new pool.new.constants }
     ensures encoded { IfOk result (λ made. IsStackedForm sig.old pool.old sig.new pool.new (plain_form form.now) (plain_linear made)) }
     ensures leads { IfOk result (λ made. LeadsFromForm sig.old sig.new pool.new.trees (plain_form form.now) (plain_linear made)) }
+    ensures plain { IfOk result (λ made. EncodesPlainly sig.old sig.new pool.new (plain_form form.now) (plain_linear made)) }
 {
     signature_stands(sig);
     let made = stack_encoder::encode(alloc, form, sig, pool)?;
@@ -89,7 +92,7 @@ fn encode_with_stack(
 }
 
 /// The linear process of a form by a method: with a stack, or with columns for the equations' parameters. `Auto` takes a stack exactly where the
-/// form isn't tail.
+/// form isn't tail. It is plainly conditioned for what the form is.
 ///
 /// After an error the pool and the signature may have got some of this. What was there stays, then too.
 ///
@@ -115,6 +118,7 @@ pub fn encode_form(
     ensures constants { AreConstants sig.new pool.new.constants }
     ensures encoded { IfOk result (λ made. IsEncodedBy method sig.old pool.old sig.new pool.new (plain_form form.now) (plain_linear made)) }
     ensures leads { IfOk result (λ made. LeadsFromForm sig.old sig.new pool.new.trees (plain_form form.now) (plain_linear made)) }
+    ensures plain { IfOk result (λ made. EncodesPlainly sig.old sig.new pool.new (plain_form form.now) (plain_linear made)) }
     ensures tail { OnOk result (IsTailFor method (plain_form form.now)) }
     ensures refused { IfErr result (IsMethodFaultOf method (plain_form form.now)) }
 {

@@ -11,6 +11,7 @@ ghost use Rattle.lin_driver.specs.Accepted.{CanBeLinearised};
 ghost use Rattle.lin_driver.specs.Faults.{IsFaultBy};
 ghost use Rattle.lin_driver.specs.Headline.{StandsFor};
 ghost use Rattle.lin_driver.specs.Refusals.{IsRefusedWith};
+ghost use Rattle.lin_driver.specs.WrittenTexts.{IsWrittenFor};
 
 use crate::fault::LinFault;
 use crate::linearising::{Linearised, linearise};
@@ -46,7 +47,8 @@ fn print_out(alloc: Global, made: &mut Linearised) -> Result<Vec<u8>, LinFault>
 /// The text of the linear process of a text by a method.
 ///
 /// It stands for the given text: it has the same data and at most structs and constants behind them, and where these are consistent, both processes
-/// are bisimilar by a named link (Groote and Mousavi, strong bisimilarity).
+/// are bisimilar by a named link (Groote and Mousavi, strong bisimilarity). It is the printed text of a linear process that is plainly conditioned
+/// for what the text's specification writes, and no sort is added where no component needs a stack.
 ///
 /// # Errors
 ///
@@ -59,6 +61,7 @@ pub fn linear_text(
 ) -> Result<Vec<u8>, LinFault>
     ensures accepted { OnOk result (CanBeLinearised text.now) }
     ensures stands_for { IfOk result (λ printed. StandsFor text.now printed.items) }
+    ensures written { IfOk result (λ printed. IsWrittenFor method text.now printed.items) }
     ensures refused { IfErr result (λ fault. fault ≢ LinFault.NoMemory → IsRefusedWith text.now names.new fault) }
     ensures by { IfErr result (IsFaultBy method) }
 {

@@ -11,8 +11,11 @@ ghost use Rattle.sort_table.specs.Built.{IsBuilt};
 ghost use Rattle.sort_checker.specs.FullVocabularies.{FullVocabulary};
 ghost use Rattle.sort_checker.specs.TextModels.{HasOneStart};
 ghost use Rattle.lin_driver.specs.Accepted.{CanBeLinearised, IsGuardedSystem};
+ghost use Rattle.lin_driver.specs.AddedSorts.{AddsNoSort};
+ghost use Rattle.lin_driver.specs.CanonicalNames.{HasCanonicalNames};
 ghost use Rattle.lin_driver.specs.Faults.{IsFaultBy};
 ghost use Rattle.lin_driver.specs.Linearised.{HasComponents, IsLinearised, IsMadeFor, IsMadeOf};
+ghost use Rattle.lin_driver.specs.PlainlyMade.{IsPlainlyMadeFor};
 ghost use Rattle.lin_driver.specs.Refusals.{IsRefusedWith, IsSpecFault};
 
 use crate::fault::LinFault;
@@ -80,6 +83,8 @@ fn linear_of_spec(
     requires no_constants { pool.old.constants ≡ [] }
     ensures accepted { OnOk result ((v : FullVocabulary) × IsGuardedSystem (bare_sections (spec_of spec.now)) v) }
     ensures made { IfOk result (λ made. IsMadeFor (spec_of spec.now) sig.new pool.new.trees (map plain_equation made.0.equations.items) made.1 (plain_linear made.2)) }
+    ensures plain { IfOk result (λ made. IsPlainlyMadeFor (spec_of spec.now) sig.new pool.new (plain_linear made.2)) }
+    ensures sorts { IfOk result (λ _. AddsNoSort method (spec_of spec.now) sig.new) }
     ensures components { IfOk result (λ made. HasComponents (spec_of spec.now) made.3) }
     ensures refused { IfErr result (λ fault. fault ≢ LinFault.NoMemory → IsSpecFault (spec_of spec.now) sig.new.texts fault) }
     ensures by { IfErr result (IsFaultBy method) }
@@ -109,6 +114,8 @@ fn linear_of_built(
     ensures accepted { OnOk result ((v : FullVocabulary) × IsGuardedSystem (bare_sections (spec_of spec)) v) }
     ensures spec { IfOk result (λ made. spec_of made.spec ≡ spec_of spec) }
     ensures made { IfOk result (λ made. IsMadeFor (spec_of made.spec) made.sig made.pool.trees (map plain_equation made.theory.equations.items) made.name (plain_linear made.lin)) }
+    ensures plain { IfOk result (λ made. IsPlainlyMadeFor (spec_of made.spec) made.sig made.pool (plain_linear made.lin)) }
+    ensures sorts { IfOk result (λ made. AddsNoSort method (spec_of made.spec) made.sig) }
     ensures components { IfOk result (λ made. HasComponents (spec_of made.spec) made.components) }
     ensures refused { IfErr result (λ fault. fault ≢ LinFault.NoMemory → IsSpecFault (spec_of spec) names.new fault) }
     ensures by { IfErr result (IsFaultBy method) }
@@ -136,7 +143,9 @@ fn linear_of_built(
 /// The linear process of a text by a method, with all that it was made of.
 ///
 /// The process that the text specifies is bisimilar to the linear one, over every theory whose data go on from the signature and are
-/// consistent. Constants for sorts without constructors and structs of stacks may have been declared, and nothing else is new to the data.
+/// consistent. Constants for sorts without constructors and structs of stacks may have been declared, and nothing else is new to the data; no
+/// struct is, where no component needs a stack. The linear process is plainly conditioned for what the text's specification writes. It gets the
+/// first of the names `P`, `P_1`, .. that is free; its parameters and the sums of a summand have names of their own, and none is a function's.
 /// The text is one that [`check_text`](crate::check_text) accepts.
 ///
 /// # Errors
@@ -155,6 +164,9 @@ pub fn linearise(
     ensures accepted { OnOk result (CanBeLinearised text.now) }
     ensures made { IfOk result (λ made. IsMadeOf text.now (spec_of made.spec) made.sig made.pool.trees (map plain_equation made.theory.equations.items) made.name (plain_linear made.lin)) }
     ensures linearised { IfOk result (λ made. IsLinearised text.now (spec_of made.spec) made.sig made.pool.trees (plain_linear made.lin)) }
+    ensures plain { IfOk result (λ made. IsPlainlyMadeFor (spec_of made.spec) made.sig made.pool (plain_linear made.lin)) }
+    ensures sorts { IfOk result (λ made. AddsNoSort method (spec_of made.spec) made.sig) }
+    ensures names { IfOk result (λ made. HasCanonicalNames (spec_of made.spec) made.sig made.name (plain_linear made.lin)) }
     ensures components { IfOk result (λ made. HasComponents (spec_of made.spec) made.components) }
     ensures refused { IfErr result (λ fault. fault ≢ LinFault.NoMemory → IsRefusedWith text.now names.new fault) }
     ensures by { IfErr result (IsFaultBy method) }

@@ -1,6 +1,7 @@
 //! The linear process of a specification.
 
 ghost use Rattle.std.specs.Prelude.{◌≡◌, IfErr, IfOk, OnOk, length};
+ghost use Rattle.std.specs.List.{All};
 ghost use Rattle.data_theory.specs.IdTerms.{IsGrown};
 ghost use Rattle.term_pool.specs.Pools.{Extends};
 ghost use Rattle.process_terms.specs.PlainProcesses.{plain_model};
@@ -11,11 +12,14 @@ ghost use Rattle.lps_core.specs.Naming.{GrowsByNames};
 ghost use Rattle.lps_core.specs.PlainLinears.{plain_linear};
 ghost use Rattle.proc_unfold.specs.Networks.{network_process, plain_network};
 ghost use Rattle.proc_unfold.specs.Parallelism.{StandsOutsideRecursion};
+ghost use Rattle.proc_unfold.specs.Unfolded.{IsOpened};
 ghost use Rattle.greibach.specs.Surroundings.{HasUsableNames};
+ghost use Rattle.lin_driver.specs.AddedSorts.{IsWithoutStacks, NeedsNoStack};
 ghost use Rattle.lin_driver.specs.Faults.{IsModelFaultBy};
 ghost use Rattle.lin_driver.specs.Leaves.{leaves, HasLeaves};
 ghost use Rattle.lin_driver.specs.LinearLeaves.{IsLeavesFaultOf};
 ghost use Rattle.lin_driver.specs.ModelLinears.{CanBeLinear, CanBeLinearFrom, IsModelFaultOf, IsProcessName, LeadsToLinear};
+ghost use Rattle.lin_driver.specs.PlainlyMade.{IsPlainFor, written_in_model};
 ghost use Rattle.lin_driver.specs.TakenNames.{HaveIdentifiers};
 
 use crate::components::linear_components;
@@ -59,10 +63,13 @@ fn linear_of_network(
     sig: &mut Signature,
     pool: &mut Pool,
 ) -> Result<(Linear, usize), ModelFault>
-    requires { CanBeLinearFrom sig.old pool.old (plain_model guarded.now.model.now) (plain_network network.now) }
+    requires can { CanBeLinearFrom sig.old pool.old (plain_model guarded.now.model.now) (plain_network network.now) }
+    requires opened { IsOpened (plain_model guarded.now.model.now) pool.old.trees (plain_network network.now) }
     ensures grown { IsGrown sig.old sig.new }
     ensures kept { Extends pool.old.trees pool.new.trees }
     ensures linear { IfOk result (λ made. LeadsToLinear sig.old (network_process (entries_of sig.old pool.old.trees) (plain_model guarded.now.model.now) (plain_network network.now)) sig.new pool.new.trees (plain_linear made.0)) }
+    ensures plain { IfOk result (λ made. IsPlainFor sig.old sig.new pool.new (written_in_model (entries_of sig.old pool.old.trees) (plain_model guarded.now.model.now)) (plain_linear made.0)) }
+    ensures sorts { IfOk result (λ _. All (NeedsNoStack method (plain_model guarded.now.model.now)) (leaves (plain_network network.now)) → sig.new.sorts ≡ sig.old.sorts) }
     ensures components { IfOk result (λ made. made.1 ≡ length (leaves (plain_network network.now))) }
     ensures refused { IfErr result (IsLeavesFaultOf (plain_model guarded.now.model.now) (leaves (plain_network network.now))) }
     ensures by { IfErr result (IsModelFaultBy method) }
@@ -78,7 +85,8 @@ fn linear_of_network(
 /// The linear process of a specification by a method, with the name of its process and the number of the components of its network.
 ///
 /// The process gets its name first. Then the components are made linear from the left, then come the products and the operators from the
-/// inside, and the sums get their names last.
+/// inside, and the sums get their names last. The result is plainly conditioned for what the specification writes, and no sort is added
+/// where no component needs a stack.
 ///
 /// # Errors
 ///
@@ -96,6 +104,8 @@ pub fn linear_of(
     ensures grown { IsGrown sig.old sig.new }
     ensures kept { Extends pool.old.trees pool.new.trees }
     ensures linear { IfOk result (λ made. LeadsToLinear sig.old (process_of (entries_of sig.new pool.new.trees) (plain_model model.now)) sig.new pool.new.trees (plain_linear made.1)) }
+    ensures plain { IfOk result (λ made. IsPlainFor sig.old sig.new pool.new (written_in_model (entries_of sig.new pool.new.trees) (plain_model model.now)) (plain_linear made.1)) }
+    ensures sorts { IfOk result (λ _. IsWithoutStacks method (plain_model model.now) → sig.new.sorts ≡ sig.old.sorts) }
     ensures name { IfOk result (λ made. IsProcessName sig.old sig.new made.0) }
     ensures components { IfOk result (λ made. HasLeaves (plain_model model.now) made.2) }
     ensures outside { IfOk result (λ _. StandsOutsideRecursion (plain_model model.now)) }

@@ -6,6 +6,7 @@ use Rattle.lin_driver.specs.Accepted.{CanBeLinearised}
 use Rattle.lin_driver.specs.Eliminated.{IsEliminated}
 use Rattle.lin_driver.specs.Headline.{StandsFor}
 use Rattle.lin_driver.specs.Refusals.{IsRefusedWith}
+use Rattle.lin_driver.specs.WrittenTexts.{IsWrittenFor}
 use Rattle.lin_driver.specs.declared.eliminations.Elimination.TheVariants.{Constants, Parameters, Sums}
 use Rattle.lin_driver.specs.declared.fault.LinFault.TheVariants.{NotTail}
 use Rattle.lin_driver.specs.declared.methods.Method.{Method}
@@ -22,12 +23,12 @@ use Rattle.mcrl2lin.specs.declared.stop.Stop.TheVariants as stop
 use Rattle.mcrl2lin.specs.declared.status.Status.{Status}
 use Rattle.mcrl2lin.specs.declared.status.Status.TheVariants.{Done, Refused, Words, ReadFault, WriteFault, NoMemory, Undecided, No}
 
--- The answer of a task, where the text can be linearised, and its status: `ok`, or a text that stands for it, which for an elimination is that of what is
--- left of a linear process for the text; or what such a process can do first, or a walk of it, and whether a summand is left undecided; or how large
--- it is; or its verdict on the trace, whose text is told or not.
+-- The answer of a task, where the text can be linearised, and its status: `ok`, or a text that stands for it, which is that of a plainly conditioned linear
+-- process made of the text, or for an elimination that of what is left of a linear process for the text; or what such a process can do first, or a walk of
+-- it, and whether a summand is left undecided; or how large it is; or its verdict on the trace, whose text is told or not.
 abbrev pub IsAnswer : Task → List ℕ → Option (List ℕ) → Status → List ℕ → Type 0
 IsAnswer Check text trace status answer = CanBeLinearised text × (status ≡ Done) × (answer ≡ codes "ok\n")
-IsAnswer (Linearise method) text trace status answer = CanBeLinearised text × (status ≡ Done) × StandsFor text answer
+IsAnswer (Linearise method) text trace status answer = CanBeLinearised text × (status ≡ Done) × StandsFor text answer × IsWrittenFor method text answer
 IsAnswer (Constelm method fuel) text trace status answer = CanBeLinearised text × (status ≡ Done) × StandsFor text answer × IsEliminated (Constants fuel) text answer
 IsAnswer (Parelm method) text trace status answer = CanBeLinearised text × (status ≡ Done) × StandsFor text answer × IsEliminated Parameters text answer
 IsAnswer (Sumelm method fuel) text trace status answer = CanBeLinearised text × (status ≡ Done) × StandsFor text answer × IsEliminated (Sums fuel) text answer

@@ -1,4 +1,5 @@
-use Rattle.std.proofs.Common.{List, [], ◌∷◌, ◌++◌, map, take, sym, subst}
+use Rattle.std.proofs.Common.{List, [], ◌∷◌, ◌++◌, map, take, refl, sym, ◌∙◌, subst}
+use Rattle.std.specs.List.{All}
 use Rattle.data_theory.proofs.IdGrowthLemmas.{growth_after_growth_is_growth}
 use Rattle.lps_core.specs.declared.linears.Linear.{Linear}
 use Rattle.lps_core.specs.PlainLinears.{PlainLinear, plain_linear}
@@ -6,9 +7,13 @@ use Rattle.lps_core.proofs.PoolTrees.{extends_itself, extends_on}
 use Rattle.process_terms.specs.PlainProcesses.{PlainComponent, plain_component, plain_model}
 use Rattle.process_terms.specs.SignatureEntries.{BothGrow}
 use Rattle.lps_printer.proofs.GrowingByAdditions.{additions_grow}
+use Rattle.lin_driver.specs.AddedSorts.{NeedsNoStack}
 use Rattle.lin_driver.specs.Faults.{IsModelFaultBy}
 use Rattle.lin_driver.specs.LinearLeaves.{AreLeavesMade, IsLeafOf, IsLeavesFaultOf}
+use Rattle.lin_driver.specs.PlainlyMade.{ArePlainLeaves}
+use Rattle.lin_driver.proofs.AddedSorts.{front_of, last_of}
 use Rattle.lin_driver.proofs.MadeLeaves.{leaf_grows, none_made, one_more_made, leaves_fault, passed_on, one_of_slice, slice_more}
+use Rattle.lin_driver.proofs.PlainLeaves.{one_more_plain}
 use Rattle.lin_driver.proofs.components.linear_components.Goals as goal
 
 pub loop-place-init : goal.loop-place-init
@@ -18,6 +23,8 @@ loop-place-init c =
     let m = plain_model c.args.guarded.now.model.now in (
       subst (λ (ls : List Linear). AreLeavesMade c.args.method g p g p m [] (map plain_linear ls)) (sym c.new-made.ensures.items) (none_made c.args.method g p m c.requires.ready),
       extends_itself p.trees,
+      subst (λ (ls : List Linear). ArePlainLeaves g p g p m [] (map plain_linear ls)) (sym c.new-made.ensures.items) tt,
+      λ none. refl,
     )
 
 pub linear_of_component-requires-clause-leaf : goal.linear_of_component-requires-clause-leaf
@@ -67,8 +74,15 @@ loop-place-preserved c =
     let ls = map plain_linear c.loop-place.made.items in
     let l = plain_linear c.in_ok-linear.linear in
     let leaf = one_of_slice (IsLeafOf g p.trees m) xs k x c.loop-place-test.true c.index-components-place.is c.requires.leaves in
-    let made = one_more_made c.args.method g h i p q r m cs ls (plain_component x) l c.requires.ready leaf c.loop-place.invariant.1 c.linear_of_component.ensures.kept c.loop-place.invariant.0 c.in_ok-linear.ensures.made in (
+    let made = one_more_made c.args.method g h i p q r m cs ls (plain_component x) l c.requires.ready leaf c.loop-place.invariant.1 c.linear_of_component.ensures.kept c.loop-place.invariant.0 c.in_ok-linear.ensures.made in
+    let more = slice_more xs k x c.loop-place-test.true c.index-components-place.is in
+    let plain = one_more_plain g h i p q r m cs ls (plain_component x) l c.requires.ready c.loop-place.invariant.0.ready leaf c.in_ok-linear.ensures.made.ready.stands (additions_grow g c.requires.ready.stands c.loop-place.invariant.0.grows) c.linear_of_component.ensures.grown c.loop-place.invariant.1 c.linear_of_component.ensures.kept c.loop-place.invariant.2 c.in_ok-linear.ensures.plain in (
       subst (λ (cs : List PlainComponent). AreLeavesMade c.args.method g p i r m cs (map plain_linear c.put_last.new.made.items)) (sym (slice_more xs k x c.loop-place-test.true c.index-components-place.is))
           (subst (λ (ls : List PlainLinear). AreLeavesMade c.args.method g p i r m (cs ++ plain_component x ∷ []) ls) (sym c.in_ok-put_last.ensures) made),
       extends_on p.trees q.trees r.trees c.loop-place.invariant.1 c.linear_of_component.ensures.kept,
+      subst (λ (cs : List PlainComponent). ArePlainLeaves g p i r m cs (map plain_linear c.put_last.new.made.items)) (sym more) (subst (λ (ls : List PlainLinear). ArePlainLeaves g p i r m (cs ++ plain_component x ∷ []) ls) (sym c.in_ok-put_last.ensures) plain),
+      λ none. (
+          let all = subst (λ (cs : List PlainComponent). All (NeedsNoStack c.args.method m) cs) more none in
+          c.in_ok-linear.ensures.sorts (last_of (NeedsNoStack c.args.method m) cs (plain_component x) all) ∙ c.loop-place.invariant.3 (front_of (NeedsNoStack c.args.method m) cs (plain_component x ∷ []) all)
+          ),
     )

@@ -6,7 +6,9 @@ use Rattle.process_terms.specs.PlainProcesses.{plain_component, plain_model}
 use Rattle.lps_core.specs.PlainLinears.{plain_linear}
 use Rattle.greibach.specs.PlainForms.{plain_form}
 use Rattle.regular_encoder.proofs.InhabitedColumns.{still_inhabited}
+use Rattle.lin_driver.proofs.AddedSorts.{leaf_adds_no_sort}
 use Rattle.lin_driver.proofs.MadeLeaves.{leaf_made, leaf_fault, fault_by}
+use Rattle.lin_driver.proofs.PlainLeaves.{leaf_plain}
 use Rattle.lin_driver.proofs.components.linear_of_component.Goals as goal
 
 pub encode_form-requires-clause-inhabited : goal.encode_form-requires-clause-inhabited
@@ -37,3 +39,13 @@ returns-clause-refused c =
 
 pub returns-clause-by : goal.returns-clause-by
 returns-clause-by c = fault_by c.args.method (plain_form c.in_ok-form.form) c.args.number c.in-Err.fault _ c.in-Err.ensures.refused c.of_component.ensures
+
+pub returns-in-Ok-clause-plain : goal.returns-in-Ok-clause-plain
+returns-in-Ok-clause-plain c =
+    leaf_plain c.args.sig.now c.normal_form.new.sig c.encode_form.new.sig c.args.pool.now c.normal_form.new.pool c.encode_form.new.pool (plain_model c.args.guarded.now.model.now) (plain_component c.args.component.now) (plain_form c.in_ok-form.form) (plain_linear c.in-Ok.linear)
+    c.requires.ready c.requires.leaf c.normal_form.ensures.grown c.normal_form.ensures.kept c.in_ok-form.ensures.fits c.in_ok-form.ensures.plain c.in-Ok.ensures.stands c.encode_form.ensures.grown c.encode_form.ensures.kept c.in-Ok.ensures.plain
+
+pub returns-in-Ok-clause-sorts : goal.returns-in-Ok-clause-sorts
+returns-in-Ok-clause-sorts c =
+    leaf_adds_no_sort c.args.method c.args.sig.now c.normal_form.new.sig c.encode_form.new.sig c.normal_form.new.pool c.encode_form.new.pool (plain_model c.args.guarded.now.model.now) (plain_component c.args.component.now) (plain_form c.in_ok-form.form) (plain_linear c.in-Ok.linear)
+    c.normal_form.ensures.grown.sorts c.in_ok-form.ensures.unfolds c.in-Ok.ensures.encoded

@@ -5,8 +5,10 @@ use Rattle.lps_core.proofs.NamedSums.{names_none, names_then}
 use Rattle.action_filters.specs.Filters.{IsGoodAround}
 use Rattle.proc_unfold.specs.Networks.{plain_network, plain_operator}
 use Rattle.lin_driver.specs.Parts.{Composes}
+use Rattle.lin_driver.specs.PlainlyMade.{ComposesPlainly, StaysPlainAround}
 use Rattle.lin_driver.proofs.TakenNames.{if_ok}
 use Rattle.lin_driver.proofs.ComposedNetworks.{operator_parts, part_fits, operator_fits_then, operator_composes, beside_parts, beside_composes, beside_all, none_composes, first_has, joins_first, next_has, joined_fits, next_one_fits, joins_next, joins_all, if_ok_all, no_part, some_part, parts_smaller, inner_smaller, part_no_larger}
+use Rattle.lin_driver.proofs.PlainNetworks.{taken_plainly, operator_plainly, beside_plainly, first_plainly, next_plainly}
 use Rattle.lin_driver.proofs.composing.+compose.Goals as goal
 
 pub compose-compose_beside-requires : goal.compose-compose_beside-requires
@@ -80,6 +82,7 @@ compose_beside-loop-place-init t c =
       joins_first c.args.sig.now c.compose.new.sig c.args.pool.now.trees c.compose.new.pool.trees c.args.networks.now c.index-networks-0.result (map plain_linear c.args.parts.now.items) (map plain_linear c.compose.new.parts.items) (plain_linear c.in_ok-joined.joined)
           c.signature_stands.ensures some c.index-networks-0.is c.compose.ensures.grown c.compose.ensures.kept c.in_ok-joined.ensures.composed,
       c.compose.ensures.constants,
+      first_plainly c.args.sig.now c.compose.new.sig c.args.pool.now c.compose.new.pool c.args.networks.now c.index-networks-0.result (map plain_linear c.args.parts.now.items) (map plain_linear c.compose.new.parts.items) (plain_linear c.in_ok-joined.joined) some c.index-networks-0.is c.in_ok-joined.ensures.plain,
     )
 
 pub compose_beside-compose-requires-in-loop-place : goal.compose_beside-compose-requires-in-loop-place
@@ -110,6 +113,9 @@ compose_beside-loop-place-preserved t c = (
       c.index-networks-place.is c.loop-place.invariant.0 c.compose-in-loop-place.ensures.grown c.compose-in-loop-place.ensures.kept c.in_ok-linear.ensures.composed c.product.ensures.grown c.product.ensures.kept c.in_ok-joined-2.ensures.fits c.in_ok-joined-2.ensures.made
       c.in_ok-joined-2.ensures.bisimilar,
   c.product.ensures.constants ∙ c.compose-in-loop-place.ensures.constants ∙ c.loop-place.invariant.1,
+  next_plainly c.args.sig.now c.loop-place.sig c.compose-in-loop-place.new.sig c.product.new.sig c.args.pool.now c.loop-place.pool c.compose-in-loop-place.new.pool c.product.new.pool c.args.networks.now c.loop-place.place c.index-networks-place.result (map plain_linear c.args.parts.now.items)
+      (map plain_linear c.loop-place.parts.items) (map plain_linear c.compose-in-loop-place.new.parts.items) (plain_linear c.loop-place.joined) (plain_linear c.in_ok-linear.linear) (plain_linear c.in_ok-joined-2.joined) c.loop-place-test.true c.index-networks-place.is c.loop-place.invariant.0.grown
+      c.loop-place.invariant.2 c.compose-in-loop-place.ensures.grown c.compose-in-loop-place.ensures.kept c.in_ok-linear.ensures.plain c.product.ensures.grown c.product.ensures.kept c.in_ok-joined-2.ensures.fits c.in_ok-joined-2.ensures.made,
 )
 
 pub compose_beside-returns-clause-composed : goal.compose_beside-returns-clause-composed
@@ -117,3 +123,37 @@ compose_beside-returns-clause-composed t c =
     let done = c.loop-place-test.false in
     let all : length c.args.networks.now ≤ c.loop-place.place = omega (arith, done) in
     joins_all c.args.sig.now c.args.pool.now.trees c.args.networks.now (map plain_linear c.args.parts.now.items) c.loop-place.place c.loop-place.sig c.loop-place.pool.trees (map plain_linear c.loop-place.parts.items) (plain_linear c.loop-place.joined) all c.loop-place.invariant.0
+
+-- ---- plain conditions
+pub compose-returns-in-Leaf-clause-plain : goal.compose-returns-in-Leaf-clause-plain
+compose-returns-in-Leaf-clause-plain t c = taken_plainly c.args.sig.now c.args.pool.now (plain_network c.args.network.now) (map plain_linear c.args.parts.now.items) (map plain_linear c.take_first.new.parts.items) (plain_linear c.take_first.result) c.take_first.ensures
+
+pub compose-returns-in-Merge-clause-plain : goal.compose-returns-in-Merge-clause-plain
+compose-returns-in-Merge-clause-plain t c =
+    let g = c.args.sig.now in
+    let h = c.compose_beside.new.sig in
+    let p = c.args.pool.now in
+    let q = c.compose_beside.new.pool in
+    let queue = map plain_linear c.args.parts.now.items in
+    let left = map plain_linear c.compose_beside.new.parts.items in
+    if_ok c.compose_beside.result (λ made. ComposesPlainly g p (beside_all c.deref.result.now) queue h q left (plain_linear made)) (λ made. ComposesPlainly g p (plain_network c.args.network.now) queue h q left (plain_linear made))
+    (λ made f. beside_plainly g h p q c.args.network.now c.in-Merge.networks c.deref.result.now queue left (plain_linear made) c.in-Merge.is c.deref.ensures.value f) c.compose_beside.ensures.plain
+
+pub compose-returns-in_ok-linear-in-Op-clause-plain : goal.compose-returns-in_ok-linear-in-Op-clause-plain
+compose-returns-in_ok-linear-in-Op-clause-plain t c =
+    let g = c.args.sig.now in
+    let h = c.compose.new.sig in
+    let p = c.args.pool.now in
+    let q = c.compose.new.pool in
+    let r = c.around.new.pool in
+    let queue = map plain_linear c.args.parts.now.items in
+    let left = map plain_linear c.compose.new.parts.items in
+    let l = plain_linear c.in_ok-linear-in-Op.linear in
+    if_ok c.around.result (λ made. StaysPlainAround h q r (plain_operator c.in-Op.operator) l (plain_linear made)) (λ made. ComposesPlainly g p (plain_network c.args.network.now) queue h r left (plain_linear made))
+    (λ made stays. operator_plainly g h p q r c.args.network.now c.in-Op.operator c.in-Op.part c.deref-in-Op.result.now queue left l (plain_linear made) c.in-Op.is c.deref-in-Op.ensures c.compose.ensures.grown.stands c.around.ensures.kept c.in_ok-linear-in-Op.ensures.plain stays) c.around.ensures.plain
+
+pub compose_beside-returns-then-is_empty-clause-plain : goal.compose_beside-returns-then-is_empty-clause-plain
+compose_beside-returns-then-is_empty-clause-plain t c = taken_plainly c.args.sig.now c.args.pool.now (beside_all c.args.networks.now) (map plain_linear c.args.parts.now.items) (map plain_linear c.take_first.new.parts.items) (plain_linear c.take_first.result) c.take_first.ensures
+
+pub compose_beside-returns-clause-plain : goal.compose_beside-returns-clause-plain
+compose_beside-returns-clause-plain t c = c.loop-place.invariant.2

@@ -1,6 +1,7 @@
 use Rattle.std.proofs.Common.{◌≡◌, ◌+◌, ◌*◌, map}
 use Rattle.lps_core.specs.PlainLinears.{plain_linear}
-use Rattle.lin_driver.proofs.ComposedNetworks.{IsJoining, nodes_of, nodes_of_all}
+use Rattle.lin_driver.specs.PlainlyMade.{ComposesPlainly}
+use Rattle.lin_driver.proofs.ComposedNetworks.{IsJoining, beside_all, nodes_of, nodes_of_all}
 use Rattle.lin_driver.proofs.composing.+compose.Given as goal
 
 abbrev pub decreases-compose : goal.decreases-compose
@@ -12,3 +13,4 @@ decreases-compose_beside l = 2 * nodes_of_all l.networks.now + 1
 abbrev pub invariant-compose_beside-loop-place : goal.invariant-compose_beside-loop-place
 invariant-compose_beside-loop-place l =
     IsJoining l.fn.sig l.fn.pool.trees l.networks (map plain_linear l.fn.parts.items) l.place l.sig l.pool.trees (map plain_linear l.parts.items) (plain_linear l.joined) × (l.pool.constants ≡ l.fn.pool.constants)
+    × ComposesPlainly l.fn.sig l.fn.pool (beside_all l.networks) (map plain_linear l.fn.parts.items) l.sig l.pool (map plain_linear l.parts.items) (plain_linear l.joined)

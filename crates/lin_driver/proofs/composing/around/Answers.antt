@@ -1,10 +1,14 @@
 use Rattle.std.proofs.Common.{◌∙◌, sym, ap, subst}
-use Rattle.process_terms.specs.PlainProcesses.{items_of_each, allow, block, hide, rename}
+use Rattle.process_terms.specs.PlainProcesses.{items_of_each, plain_rules, allow, block, hide, rename}
+use Rattle.process_terms.specs.SignatureEntries.{entries_of}
 use Rattle.lps_core.specs.PlainLinears.{plain_linear}
-use Rattle.action_filters.specs.Filters.{RenamesOnce, HaveTargets}
+use Rattle.action_filters.specs.Filters.{naming, renamed_label, RenamesOnce, HaveTargets}
+use Rattle.action_filters.specs.LabelFilters.{allowed_label, unblocked_label, shown_label}
 use Rattle.proc_unfold.specs.Networks.{plain_operator}
 use Rattle.lin_driver.specs.FittingOperators.{OperatorFits}
 use Rattle.lin_driver.proofs.ComposedNetworks.{same_around}
+use Rattle.lin_driver.proofs.PlainFilters.{allowed_keeps, unblocked_keeps, shown_keeps, renamed_keeps}
+use Rattle.lin_driver.proofs.PlainNetworks.{filtered_around, communicated_around}
 use Rattle.lin_driver.proofs.composing.around.Goals as goal
 
 pub rename-requires-clause-once : goal.rename-requires-clause-once
@@ -36,3 +40,33 @@ pub returns-in-Rename-clause-bisimilar : goal.returns-in-Rename-clause-bisimilar
 returns-in-Rename-clause-bisimilar c =
     same_around c.rename.result c.args.sig.now _ (plain_operator c.args.operator.now) (rename c.as_slice-in-Rename.result.now) (plain_linear c.args.linear.now)
     (ap rename c.as_slice-in-Rename.ensures.value ∙ sym (ap plain_operator c.in-Rename.is)) c.requires.fits c.rename.ensures.bisimilar
+
+-- ---- plain conditions
+pub returns-in-Allow-clause-plain : goal.returns-in-Allow-clause-plain
+returns-in-Allow-clause-plain c =
+    let g = c.args.sig.now in
+    let sets = items_of_each c.as_slice.result.now in
+    filtered_around c.allow.result g c.args.pool.now (plain_operator c.args.operator.now) (plain_linear c.args.linear.now) (allowed_label (naming g) sets) (allowed_keeps (entries_of g c.args.pool.now.trees) (naming g) sets) c.requires.fits c.allow.ensures.summands c.allow.ensures.fits
+
+pub returns-in-Block-clause-plain : goal.returns-in-Block-clause-plain
+returns-in-Block-clause-plain c =
+    let g = c.args.sig.now in
+    let names = c.as_slice-in-Block.result.now in
+    filtered_around c.block.result g c.args.pool.now (plain_operator c.args.operator.now) (plain_linear c.args.linear.now) (unblocked_label (naming g) names) (unblocked_keeps (entries_of g c.args.pool.now.trees) (naming g) names) c.requires.fits c.block.ensures.summands c.block.ensures.fits
+
+pub returns-in-Hide-clause-plain : goal.returns-in-Hide-clause-plain
+returns-in-Hide-clause-plain c =
+    let g = c.args.sig.now in
+    let names = c.as_slice-in-Hide.result.now in
+    filtered_around c.hide.result g c.args.pool.now (plain_operator c.args.operator.now) (plain_linear c.args.linear.now) (shown_label (naming g) names) (shown_keeps (entries_of g c.args.pool.now.trees) (naming g) names) c.requires.fits c.hide.ensures.summands c.hide.ensures.fits
+
+pub returns-in-Rename-clause-plain : goal.returns-in-Rename-clause-plain
+returns-in-Rename-clause-plain c =
+    let g = c.args.sig.now in
+    let pairs = c.as_slice-in-Rename.result.now in
+    filtered_around c.rename.result g c.args.pool.now (plain_operator c.args.operator.now) (plain_linear c.args.linear.now) (renamed_label g pairs) (renamed_keeps (entries_of g c.args.pool.now.trees) g pairs) c.requires.fits c.rename.ensures.summands c.rename.ensures.fits
+
+pub returns-in-Comm-clause-plain : goal.returns-in-Comm-clause-plain
+returns-in-Comm-clause-plain c =
+    communicated_around c.communicate.result c.args.sig.now c.args.pool.now c.communicate.new.pool (plain_operator c.args.operator.now) (plain_rules c.in-Comm.rules) (plain_linear c.args.linear.now) (ap plain_operator c.in-Comm.is) c.signature_stands.ensures c.communicate.ensures.kept c.requires.fits
+    c.communicate.ensures.params c.communicate.ensures.init c.communicate.ensures.summands c.communicate.ensures.fits

@@ -2,14 +2,19 @@ use Rattle.std.proofs.Common.{map}
 use Rattle.mcrl2_syntax.specs.Declarations.{spec_of}
 use Rattle.process_terms.specs.PlainProcesses.{plain_equation}
 use Rattle.lps_core.specs.PlainLinears.{plain_linear}
+use Rattle.lin_driver.specs.Accepted.{CanBeLinearised}
 use Rattle.lin_driver.specs.Eliminated.{IsEliminated, IsPrintedLeft}
 use Rattle.lin_driver.specs.Headline.{StandsFor}
 use Rattle.lin_driver.proofs.EliminatedTexts.{printed_left_stands_for, printed_left_is_eliminated}
+use Rattle.lin_driver.proofs.ReadTexts.{on_ok_anyway}
 use Rattle.lin_driver.proofs.Refused.{if_ok, no_fault_refused, no_fault_by}
 use Rattle.lin_driver.proofs.eliminated_texts.eliminated_text.Goals as goal
 
 pub print_left-requires : goal.print_left-requires
 print_left-requires c = (c.args.text.now, c.in_ok-made.ensures.made)
+
+pub returns-clause-accepted : goal.returns-clause-accepted
+returns-clause-accepted c = on_ok_anyway c.print_left.result (CanBeLinearised c.args.text.now) c.in_ok-made.ensures.accepted
 
 pub returns-clause-stands_for : goal.returns-clause-stands_for
 returns-clause-stands_for c =

@@ -62,3 +62,29 @@ returns-in-Err-clause-by c = model_fault_by c.args.method c.in-Err.fault c.of_mo
 
 pub returns-in-Ok-clause-components : goal.returns-in-Ok-clause-components
 returns-in-Ok-clause-components c = record { signature = c.elaborate.new.sig; pool = c.elaborate.new.pool; model = plain_model c.in_ok-model.model; is_model = c.in_ok-model.ensures.means; leaves = c.in-Ok.ensures.components }
+
+pub returns-in-Ok-clause-plain : goal.returns-in-Ok-clause-plain
+returns-in-Ok-clause-plain c =
+    let spec = spec_of c.args.spec.now in
+    let g = c.args.sig.now in
+    let h = c.elaborate.new.sig in
+    let can = model_can_be_linear spec g h c.args.pool.now c.elaborate.new.pool (plain_model c.in_ok-model.model) c.requires.words c.requires.stands c.requires.built c.requires.no_constants c.elaborate.ensures.kept c.in_ok-model.ensures.means in
+    record {
+      signature = h;
+      stands = can.stands;
+      declares = built_signatures_are_of_their_texts spec g h c.requires.stands c.requires.built c.elaborate.ensures.kept.added;
+      pool = c.elaborate.new.pool;
+      model = plain_model c.in_ok-model.model;
+      is_model = c.in_ok-model.ensures.means;
+      plain = c.in-Ok.ensures.plain;
+    }
+
+pub returns-in-Ok-clause-sorts : goal.returns-in-Ok-clause-sorts
+returns-in-Ok-clause-sorts c = record {
+  signature = c.elaborate.new.sig;
+  declares = built_signatures_are_of_their_texts (spec_of c.args.spec.now) c.args.sig.now c.elaborate.new.sig c.requires.stands c.requires.built c.elaborate.ensures.kept.added;
+  pool = c.elaborate.new.pool;
+  model = plain_model c.in_ok-model.model;
+  is_model = c.in_ok-model.ensures.means;
+  sorts = c.in-Ok.ensures.sorts;
+}

@@ -1,20 +1,26 @@
-use Rattle.std.proofs.Common.{sym, subst}
+use Rattle.std.proofs.Common.{sym, subst, ◌∙◌}
+use Rattle.std.specs.List.{All}
 use Rattle.term_pool.proofs.DeclaredConstants.{grown_itself}
 use Rattle.process_terms.specs.PlainProcesses.{plain_model}
 use Rattle.process_terms.specs.SignatureEntries.{entries_of, BothGrow}
 use Rattle.lps_core.specs.PlainLinears.{plain_linear}
 use Rattle.lps_core.proofs.PoolTrees.{extends_itself}
 use Rattle.proc_unfold.specs.Networks.{network_process, plain_network}
+use Rattle.proc_unfold.specs.Unfolded.{IsOpened}
 use Rattle.proc_unfold.proofs.WellFormed.{well_formed_calls}
 use Rattle.greibach.proofs.GrownFits.{both_by_names}
+use Rattle.lin_driver.specs.AddedSorts.{NeedsNoStack}
 use Rattle.lin_driver.specs.Faults.{IsModelFaultBy}
 use Rattle.lin_driver.specs.Leaves.{leaves}
 use Rattle.lin_driver.specs.LinearLeaves.{IsLeavesFaultOf}
 use Rattle.lin_driver.specs.ModelLinears.{CanBeLinearFrom, LeadsToLinear}
+use Rattle.lin_driver.specs.PlainlyMade.{IsPlainFor, written_in_model}
 use Rattle.lin_driver.proofs.GrownModels.{model_grows}
 use Rattle.lin_driver.proofs.MadeLeaves.{passed_on}
 use Rattle.lin_driver.proofs.ModelLinears.{network_can_be_linear, from_the_network, leaves_refused}
 use Rattle.lin_driver.proofs.ProcessNames.{name_stays}
+use Rattle.lin_driver.proofs.PlainGrowing.{plain_since}
+use Rattle.lin_driver.proofs.PlainModels.{model_writes}
 use Rattle.lin_driver.proofs.model_linearising.linear_of.Goals as goal
 
 pub returns-in_err-network-clause-grown : goal.returns-in_err-network-clause-grown
@@ -26,8 +32,8 @@ check-requires c = well_formed_calls c.args.pool.now.trees (plain_model c.args.m
 pub returns-in_err-guarded-clause-grown : goal.returns-in_err-guarded-clause-grown
 returns-in_err-guarded-clause-grown c = grown_itself c.args.sig.now
 
-pub linear_of_network-requires : goal.linear_of_network-requires
-linear_of_network-requires c =
+pub linear_of_network-requires-clause-can : goal.linear_of_network-requires-clause-can
+linear_of_network-requires-clause-can c =
     subst (λ m. CanBeLinearFrom c.name_process.new.sig c.unfold.new.pool (plain_model m) (plain_network c.in_ok-network.network)) (sym c.in_ok-guarded.ensures.model)
     (network_can_be_linear c.args.sig.now c.name_process.new.sig c.args.pool.now c.unfold.new.pool (plain_model c.args.model.now) (plain_network c.in_ok-network.network) c.requires c.name_process.ensures.grown c.in_ok-name.ensures.names
     c.unfold.ensures.kept c.unfold.ensures.constants c.in_ok-network.ensures.opened c.in_ok-network.ensures.components)
@@ -61,3 +67,28 @@ returns-in_err-linear-clause-refused c =
 
 pub returns-in_err-linear-clause-by : goal.returns-in_err-linear-clause-by
 returns-in_err-linear-clause-by c = passed_on (IsModelFaultBy c.args.method) c.from_residual-in_err-linear.result c.in_err-linear.field-0.0 c.in_err-linear.ensures.by c.from_residual-in_err-linear.ensures.1
+
+pub linear_of_network-requires-clause-opened : goal.linear_of_network-requires-clause-opened
+linear_of_network-requires-clause-opened c = subst (λ m. IsOpened (plain_model m) c.unfold.new.pool.trees (plain_network c.in_ok-network.network)) (sym c.in_ok-guarded.ensures.model) c.in_ok-network.ensures.opened
+
+-- ---- plain conditions
+pub returns-clause-plain : goal.returns-clause-plain
+returns-clause-plain c =
+    let g = c.args.sig.now in
+    let b = c.name_process.new.sig in
+    let h = c.linear_of_network.new.sig in
+    let p = c.unfold.new.pool in
+    let q = c.linear_of_network.new.pool in
+    let m = plain_model c.args.model.now in
+    let l = plain_linear c.in_ok-linear.linear in
+    let w = c.name_process.ensures.grown in
+    let grow : BothGrow b h p.trees q.trees = record { signature = c.linear_of_network.ensures.grown; pool = c.linear_of_network.ensures.kept } in
+    let fits = model_grows g b c.args.pool.now.trees p.trees c.requires.stands (both_by_names g b c.args.pool.now.trees p.trees w c.unfold.ensures.kept) m c.requires.fits in
+    let own = subst (λ z. IsPlainFor b h q (written_in_model (entries_of b p.trees) (plain_model z)) l) c.in_ok-guarded.ensures.model c.in_ok-linear.ensures.plain in
+    subst (λ z. IsPlainFor g h q z l) (sym (model_writes b h p q m w.stands grow fits)) (plain_since g b h q (written_in_model (entries_of b p.trees) m) l c.requires.stands w.stands w.grown own)
+
+pub returns-clause-sorts : goal.returns-clause-sorts
+returns-clause-sorts c = λ none.
+    let ts = c.unfold.new.pool.trees in
+    let n = plain_network c.in_ok-network.network in
+    c.in_ok-linear.ensures.sorts (subst (λ z. All (NeedsNoStack c.args.method (plain_model z)) (leaves n)) (sym c.in_ok-guarded.ensures.model) (none ts n c.in_ok-network.ensures.opened)) ∙ c.name_process.ensures.grown.sorts

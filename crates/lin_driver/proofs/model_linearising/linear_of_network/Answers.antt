@@ -3,13 +3,18 @@ use Rattle.std.specs.List.{All}
 use Rattle.data_theory.proofs.IdGrowthLemmas.{growth_after_growth_is_growth}
 use Rattle.term_pool.proofs.DeclaredConstants.{grown_itself}
 use Rattle.process_terms.specs.PlainProcesses.{plain_component, plain_model}
+use Rattle.process_terms.specs.SignatureEntries.{entries_of, BothGrow}
 use Rattle.lps_core.specs.PlainLinears.{plain_linear}
 use Rattle.proc_unfold.specs.Networks.{plain_network}
+use Rattle.lin_driver.specs.AddedSorts.{NeedsNoStack}
 use Rattle.lin_driver.specs.Faults.{IsModelFaultBy}
 use Rattle.lin_driver.specs.Leaves.{leaves}
 use Rattle.lin_driver.specs.LinearLeaves.{IsLeafOf, AreLeavesMade, IsLeavesFaultOf}
+use Rattle.lin_driver.specs.PlainlyMade.{ArePlainLeaves, written_in_model}
 use Rattle.lin_driver.proofs.MadeLeaves.{passed_on}
 use Rattle.lin_driver.proofs.ModelLinears.{network_can_be_composed, network_leads}
+use Rattle.lin_driver.proofs.PlainModels.{leaves_are_plain, comms_are_written}
+use Rattle.lin_driver.proofs.PlainSums.{naming_is_plain}
 use Rattle.lin_driver.proofs.model_linearising.linear_of_network.Goals as goal
 
 pub returns-in_err-components-clause-grown : goal.returns-in_err-components-clause-grown
@@ -17,7 +22,7 @@ returns-in_err-components-clause-grown c = grown_itself c.args.sig.now
 
 pub linear_components-requires-clause-leaves : goal.linear_components-requires-clause-leaves
 linear_components-requires-clause-leaves c =
-    subst (All (IsLeafOf c.args.sig.now c.args.pool.now.trees (plain_model c.args.guarded.now.model.now))) (sym (ap (map plain_component) c.as_slice.ensures.value ∙ c.in_ok-components.ensures)) c.requires.leaves_fit
+    subst (All (IsLeafOf c.args.sig.now c.args.pool.now.trees (plain_model c.args.guarded.now.model.now))) (sym (ap (map plain_component) c.as_slice.ensures.value ∙ c.in_ok-components.ensures)) c.requires.can.leaves_fit
 
 pub returns-in_err-parts-clause-refused : goal.returns-in_err-parts-clause-refused
 returns-in_err-parts-clause-refused c =
@@ -36,7 +41,7 @@ compose-requires c =
     let q = c.linear_components.new.pool in
     let ls = map plain_linear c.in_ok-parts.parts.items in
     let made = subst (λ cs. AreLeavesMade c.args.method g c.args.pool.now d q m cs ls) (ap (map plain_component) c.as_slice.ensures.value ∙ c.in_ok-components.ensures) c.in_ok-parts.ensures.made in
-    (record { signature = g; trees = c.args.pool.now.trees; model = m }, [], network_can_be_composed c.args.method g d c.args.pool.now q m n ls c.requires made)
+    (record { signature = g; trees = c.args.pool.now.trees; model = m }, [], network_can_be_composed c.args.method g d c.args.pool.now q m n ls c.requires.can made)
 
 pub returns-in_err-composed-clause-grown : goal.returns-in_err-composed-clause-grown
 returns-in_err-composed-clause-grown c = growth_after_growth_is_growth c.args.sig.now c.linear_components.new.sig c.compose.new.sig c.linear_components.ensures.grown c.compose.ensures.grown.grown
@@ -60,7 +65,7 @@ name_sums-requires c =
     let q = c.linear_components.new.pool in
     let ls = map plain_linear c.in_ok-parts.parts.items in
     let made = subst (λ cs. AreLeavesMade c.args.method g c.args.pool.now d q m cs ls) (ap (map plain_component) c.as_slice.ensures.value ∙ c.in_ok-components.ensures) c.in_ok-parts.ensures.made in
-    (c.in_ok-composed.ensures.composed (record { signature = g; trees = c.args.pool.now.trees; model = m }) [] (network_can_be_composed c.args.method g d c.args.pool.now q m n ls c.requires made)).linear.fits
+    (c.in_ok-composed.ensures.composed (record { signature = g; trees = c.args.pool.now.trees; model = m }) [] (network_can_be_composed c.args.method g d c.args.pool.now q m n ls c.requires.can made)).linear.fits
 
 pub returns-clause-linear : goal.returns-clause-linear
 returns-clause-linear c =
@@ -72,6 +77,29 @@ returns-clause-linear c =
     let q = c.linear_components.new.pool in
     let ls = map plain_linear c.in_ok-parts.parts.items in
     let made = subst (λ cs. AreLeavesMade c.args.method g p d q m cs ls) (ap (map plain_component) c.as_slice.ensures.value ∙ c.in_ok-components.ensures) c.in_ok-parts.ensures.made in
-    let composed = c.in_ok-composed.ensures.composed (record { signature = g; trees = p.trees; model = m }) [] (network_can_be_composed c.args.method g d p q m n ls c.requires made) in
+    let composed = c.in_ok-composed.ensures.composed (record { signature = g; trees = p.trees; model = m }) [] (network_can_be_composed c.args.method g d p q m n ls c.requires.can made) in
     network_leads c.args.method g d c.compose.new.sig c.name_sums.new.sig p q c.compose.new.pool.trees c.name_sums.new.pool.trees m n ls (map plain_linear c.compose.new.parts.items) (plain_linear c.in_ok-composed.composed) (plain_linear c.in_ok-named.named)
     made c.compose.ensures.grown c.name_sums.ensures.grown c.name_sums.ensures.kept composed c.in_ok-named.ensures.named c.in_ok-named.ensures.fits c.in_ok-named.ensures.names c.in_ok-named.ensures.bisimilar
+
+-- ---- plain conditions
+pub returns-clause-plain : goal.returns-clause-plain
+returns-clause-plain c =
+    let g = c.args.sig.now in
+    let m = plain_model c.args.guarded.now.model.now in
+    let n = plain_network c.args.network.now in
+    let p = c.args.pool.now in
+    let d = c.linear_components.new.sig in
+    let q = c.linear_components.new.pool in
+    let ls = map plain_linear c.in_ok-parts.parts.items in
+    let w = written_in_model (entries_of g p.trees) m in
+    let ready = c.requires.can.ready in
+    let grow : BothGrow g d p.trees q.trees = record { signature = c.linear_components.ensures.grown; pool = c.linear_components.ensures.kept } in
+    let stands = c.in_ok-parts.ensures.made.ready.stands in
+    let leaves_plain = subst (λ cs. ArePlainLeaves g p d q m cs ls) (ap (map plain_component) c.as_slice.ensures.value ∙ c.in_ok-components.ensures) c.in_ok-parts.ensures.plain in
+    let all = leaves_are_plain g d p q ready.stands stands grow m n ready.fits c.requires.opened ls leaves_plain in
+    let composed = c.in_ok-composed.ensures.plain g w c.linear_components.ensures.grown (comms_are_written g d p q ready.stands stands grow m n ready.fits c.requires.opened) all in
+    naming_is_plain g c.compose.new.sig c.name_sums.new.sig c.compose.new.pool c.name_sums.new.pool w (plain_linear c.in_ok-composed.composed) (plain_linear c.in_ok-named.named) c.compose.ensures.grown.stands c.name_sums.ensures.grown c.name_sums.ensures.kept c.in_ok-named.ensures.named c.in_ok-named.ensures.fits composed.0
+
+pub returns-clause-sorts : goal.returns-clause-sorts
+returns-clause-sorts c = λ none.
+    c.name_sums.ensures.grown.sorts ∙ c.compose.ensures.grown.sorts ∙ c.in_ok-parts.ensures.sorts (subst (All (NeedsNoStack c.args.method (plain_model c.args.guarded.now.model.now))) (sym (ap (map plain_component) c.as_slice.ensures.value ∙ c.in_ok-components.ensures)) none)

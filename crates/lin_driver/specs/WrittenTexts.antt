@@ -1,0 +1,32 @@
+-- Which text is written for a text.
+use Rattle.std.specs.Prelude.{ℕ, List}
+use Rattle.data_theory.specs.declared.ids.NameId.{NameId}
+use Rattle.data_theory.specs.Signature.{Sig}
+use Rattle.data_theory.specs.WholeSignatures.{IsSignature}
+use Rattle.mcrl2_syntax.specs.Declarations.{PlainSpec}
+use Rattle.term_pool.specs.Pools.{PoolContents}
+use Rattle.process_terms.specs.PlainProcesses.{PlainEquation}
+use Rattle.lps_core.specs.PlainLinears.{PlainLinear}
+use Rattle.lps_printer.specs.PrintedLinears.{IsPrinted}
+use Rattle.lin_driver.specs.AddedSorts.{AddsNoSort}
+use Rattle.lin_driver.specs.CanonicalNames.{HasCanonicalNames}
+use Rattle.lin_driver.specs.Linearised.{IsMadeOf}
+use Rattle.lin_driver.specs.PlainlyMade.{IsPlainlyMadeFor}
+use Rattle.lin_driver.specs.declared.methods.Method.{Method}
+
+-- A linear process was made of the text. It is plainly conditioned for what the specification of the text writes, where no component needs a
+-- stack, no sort was added for it, and its names are canonical. The bytes are its printed text.
+pub record IsWrittenFor (method : Method) (text printed : List ℕ) : Type 0 where
+  pub spec : PlainSpec
+  pub signature : Sig
+  pub pool : PoolContents
+  pub equations : List PlainEquation
+  pub name : NameId
+  pub linear : PlainLinear
+  pub made : IsMadeOf text spec signature pool.trees equations name linear
+  pub plain : IsPlainlyMadeFor spec signature pool linear
+  pub sorts : AddsNoSort method spec signature
+  pub names : HasCanonicalNames spec signature name linear
+  pub printed_signature : Sig
+  pub stands : IsSignature printed_signature
+  pub is_printed : IsPrinted spec signature printed_signature pool.trees name linear printed
