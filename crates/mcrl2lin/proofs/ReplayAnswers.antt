@@ -67,6 +67,27 @@ pub not_loaded : {T : Type 0} (IsMade : List ℕ → Type 0) (told : Option (Lis
 not_loaded IsMade told (Ok x) fault long is = absurd is
 not_loaded IsMade told (Err stop) fault long is = λ text made. loading_stops text told fault stop long is
 
+-- it stops by a read fault where loading did
+read_fault_alone : (fault : LoadFault) → stop_of_load fault ≡ ReadFault → fault ≡ load.ReadFault
+read_fault_alone load.ReadFault is = refl
+read_fault_alone load.TooLong is = let never : ⊥ = cc in absurd never
+read_fault_alone load.NoMemory is = let never : ⊥ = cc in absurd never
+
+pub read_fault_of_loading : {T : Type 0} (r : Result T Stop) (fault : LoadFault) → IsErrAnd r (λ given. given ≡ stop_of_load fault) → IsErrOf r ReadFault → fault ≡ load.ReadFault
+read_fault_of_loading (Ok x) fault same is = absurd same
+read_fault_of_loading (Err given) fault same is = let e : given ≡ ReadFault = cc in read_fault_alone fault (sym same ∙ e)
+
+-- what is so for each text of which it was made is so for one
+pub stopped_for : {T : Type 0} (IsMade : List ℕ → Type 0) (told : Option (List ℕ)) (r : Result T Stop) (text : List ℕ) → IsMade text → IfErr r (λ stop. (text : List ℕ) → IsMade text → IsTraceStop text told stop)
+    → IfErr r (λ stop. IsTraceStop text told stop)
+stopped_for IsMade told (Ok x) text made is = tt
+stopped_for IsMade told (Err stop) text made is = is text made
+
+pub replayed_for : (IsMade : List ℕ → Type 0) (told : Option (List ℕ)) (fuel bound : ℕ) (r : Result Answer Stop) (text : List ℕ) → IsMade text
+    → IfOk r (λ answer. (text : List ℕ) → IsMade text → IsReplayedAsTold fuel bound text told answer.status answer.text.items) → IfOk r (λ answer. IsReplayedAsTold fuel bound text told answer.status answer.text.items)
+replayed_for IsMade told fuel bound (Ok answer) text made is = is text made
+replayed_for IsMade told fuel bound (Err stop) text made is = tt
+
 -- ---- causes
 module _ (text : List ℕ) (told : Option (List ℕ)) (method : Method) (fuel bound : ℕ) where
   abbrev q : Question

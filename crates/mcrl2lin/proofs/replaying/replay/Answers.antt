@@ -1,5 +1,10 @@
+use Rattle.std.proofs.Common.{ℕ, List, map}
+use Rattle.mcrl2_syntax.specs.Declarations.{spec_of}
+use Rattle.process_terms.specs.PlainProcesses.{plain_equation}
+use Rattle.lps_core.specs.PlainLinears.{plain_linear}
+use Rattle.lin_driver.specs.Linearised.{IsMadeOf}
 use Rattle.mcrl2lin.proofs.FaultNames.{are_named}
-use Rattle.mcrl2lin.proofs.ReplayAnswers.{file_stops, text_stops}
+use Rattle.mcrl2lin.proofs.ReplayAnswers.{file_stops, replayed_for, stopped_for, text_stops}
 use Rattle.mcrl2lin.proofs.replaying.replay.Goals as goal
 
 pub verdict_on_file-requires : goal.verdict_on_file-requires
@@ -8,9 +13,18 @@ verdict_on_file-requires g c = (c.args.text.now, c.in-Ok.ensures.made)
 pub for_fault-requires : goal.for_fault-requires
 for_fault-requires g c = are_named c.args.text.now c.linearise.new.names c.in-Err.fault c.in-Err.ensures.refused
 
+pub returns-in-Ok-clause-replayed : goal.returns-in-Ok-clause-replayed
+returns-in-Ok-clause-replayed g c =
+    let made = c.in-Ok.made in
+    replayed_for (λ (text : List ℕ). IsMadeOf text (spec_of made.spec) made.sig made.pool.trees (map plain_equation made.theory.equations.items) made.name (plain_linear made.lin)) (g.H.Shelf.text_of c.args.shelf.now c.args.name.now) c.args.fuel c.args.bound
+    c.verdict_on_file.result c.args.text.now c.in-Ok.ensures.made c.verdict_on_file.ensures.replayed
+
 pub returns-in-Ok-clause-cause : goal.returns-in-Ok-clause-cause
 returns-in-Ok-clause-cause g c =
-    file_stops c.args.text.now (g.H.Shelf.text_of c.args.shelf.now c.args.name.now) c.args.method c.args.fuel c.args.bound c.verdict_on_file.result c.requires c.in-Ok.ensures.accepted c.in-Ok.ensures.made c.verdict_on_file.ensures.stopped
+    let made = c.in-Ok.made in
+    file_stops c.args.text.now (g.H.Shelf.text_of c.args.shelf.now c.args.name.now) c.args.method c.args.fuel c.args.bound c.verdict_on_file.result c.requires c.in-Ok.ensures.accepted
+    (stopped_for (λ (text : List ℕ). IsMadeOf text (spec_of made.spec) made.sig made.pool.trees (map plain_equation made.theory.equations.items) made.name (plain_linear made.lin)) (g.H.Shelf.text_of c.args.shelf.now c.args.name.now)
+    c.verdict_on_file.result c.args.text.now c.in-Ok.ensures.made c.verdict_on_file.ensures.stopped)
 
 pub returns-clause-cause : goal.returns-clause-cause
 returns-clause-cause g c =
