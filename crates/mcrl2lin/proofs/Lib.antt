@@ -12,5 +12,8 @@ pub mod SessionFacts
 pub mod WalkSteps
 pub mod ShownSteps
 pub mod ShownTexts
+pub mod FollowedTraces
+pub mod ReplayedTexts
+pub mod ReplayAnswers
 pub mod LineLengths
 pub mod FirstMoves

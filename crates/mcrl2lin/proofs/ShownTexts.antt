@@ -34,7 +34,7 @@ module _ (text : List ℕ) (spec : PlainSpec) (g : Sig) (ts : List Tree) (equati
   from = made_stands_for text spec g ts equations x l made
 
   -- the equations in code are those of the text
-  own_are : from.theory.equations ≡ equations_at g ts equations
+  pub own_are : from.theory.equations ≡ equations_at g ts equations
   own_are = made_has_equations text spec g ts equations x l made ∙ sym (equations_are spec g ts equations x l made.made (specs_are_of_words text spec made.tokens made.cut made.spelled))
 
   pub made_steps : (fuel bound : ℕ) (status : Status) (shown : List ℕ) → ShowsOptions g (equations_at g ts equations) fuel bound ts l status shown → AreShownSteps fuel bound text status shown

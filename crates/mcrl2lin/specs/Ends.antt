@@ -1,7 +1,6 @@
 -- How a run ends, and the line that says so.
-use Rattle.std.specs.Prelude.{⊤, ℕ, List, Option, Some, ◌++◌, [], ◌≡◌, ◌<◌, ◌⊎◌, codes, length, IfSome}
+use Rattle.std.specs.Prelude.{⊤, ℕ, List, Option, Some, ◌++◌, [], ◌≡◌, ◌⊎◌, codes, IfSome}
 use Rattle.mcrl2_text.specs.Bytes.{TakesPrefix}
-use Rattle.mcrl2_text.specs.declared.loading.TheConstants.{MAX_TEXT_LEN}
 use Rattle.mcrl2_text.specs.Faults.{Rose}
 use Rattle.lin_driver.specs.Accepted.{CanBeLinearised}
 use Rattle.lin_driver.specs.Eliminated.{IsEliminated}
@@ -16,25 +15,27 @@ use Rattle.mcrl2lin.specs.Commands.{Question}
 use Rattle.mcrl2lin.specs.Counts.{AreCounts}
 use Rattle.mcrl2lin.specs.Lines.{line_of, write_fault_line}
 use Rattle.mcrl2lin.specs.ShownTexts.{AreShownSteps, IsShownWalk}
-use Rattle.mcrl2lin.specs.Stops.{IsRefusal}
+use Rattle.mcrl2lin.specs.ShownVerdicts.{IsReplayedAsTold}
+use Rattle.mcrl2lin.specs.Stops.{IsRefusal, IsTooLong, IsTraceRefusal}
 use Rattle.mcrl2lin.specs.declared.command.Task.{Task}
-use Rattle.mcrl2lin.specs.declared.command.Task.TheVariants.{Check, Linearise, Constelm, Parelm, Sumelm, Steps, Walk, Generate}
+use Rattle.mcrl2lin.specs.declared.command.Task.TheVariants.{Check, Linearise, Constelm, Parelm, Sumelm, Steps, Walk, Generate, Replay}
 use Rattle.mcrl2lin.specs.declared.stop.Stop.TheVariants as stop
 use Rattle.mcrl2lin.specs.declared.status.Status.{Status}
 use Rattle.mcrl2lin.specs.declared.status.Status.TheVariants.{Done, Refused, Words, ReadFault, WriteFault, NoMemory, Undecided, No}
 
 -- The answer of a task, where the text can be linearised, and its status: `ok`, or a text that stands for it, which is that of a plainly conditioned linear
 -- process made of the text, or for an elimination that of what is left of a linear process for the text; or what such a process can do first, or a walk of
--- it, and whether a summand is left undecided; or how large it is.
-abbrev pub IsAnswer : Task → List ℕ → Status → List ℕ → Type 0
-IsAnswer Check text status answer = CanBeLinearised text × (status ≡ Done) × (answer ≡ codes "ok\n")
-IsAnswer (Linearise method) text status answer = CanBeLinearised text × (status ≡ Done) × StandsFor text answer × IsWrittenFor method text answer
-IsAnswer (Constelm method fuel) text status answer = CanBeLinearised text × (status ≡ Done) × StandsFor text answer × IsEliminated (Constants fuel) text answer
-IsAnswer (Parelm method) text status answer = CanBeLinearised text × (status ≡ Done) × StandsFor text answer × IsEliminated Parameters text answer
-IsAnswer (Sumelm method fuel) text status answer = CanBeLinearised text × (status ≡ Done) × StandsFor text answer × IsEliminated (Sums fuel) text answer
-IsAnswer (Steps method fuel bound) text status answer = CanBeLinearised text × AreShownSteps fuel bound text status answer
-IsAnswer (Walk method plan) text status answer = CanBeLinearised text × IsShownWalk plan text status answer
-IsAnswer (Generate size) text status answer = CanBeLinearised text × (status ≡ Done) × AreCounts text answer
+-- it, and whether a summand is left undecided; or how large it is; or its verdict on the trace, whose text is told or not.
+abbrev pub IsAnswer : Task → List ℕ → Option (List ℕ) → Status → List ℕ → Type 0
+IsAnswer Check text trace status answer = CanBeLinearised text × (status ≡ Done) × (answer ≡ codes "ok\n")
+IsAnswer (Linearise method) text trace status answer = CanBeLinearised text × (status ≡ Done) × StandsFor text answer × IsWrittenFor method text answer
+IsAnswer (Constelm method fuel) text trace status answer = CanBeLinearised text × (status ≡ Done) × StandsFor text answer × IsEliminated (Constants fuel) text answer
+IsAnswer (Parelm method) text trace status answer = CanBeLinearised text × (status ≡ Done) × StandsFor text answer × IsEliminated Parameters text answer
+IsAnswer (Sumelm method fuel) text trace status answer = CanBeLinearised text × (status ≡ Done) × StandsFor text answer × IsEliminated (Sums fuel) text answer
+IsAnswer (Steps method fuel bound) text trace status answer = CanBeLinearised text × AreShownSteps fuel bound text status answer
+IsAnswer (Walk method plan) text trace status answer = CanBeLinearised text × IsShownWalk plan text status answer
+IsAnswer (Generate size) text trace status answer = CanBeLinearised text × (status ≡ Done) × AreCounts text answer
+IsAnswer (Replay method fuel bound) text trace status answer = CanBeLinearised text × IsReplayedAsTold fuel bound text trace status answer
 
 -- the tasks that may leave something undecided
 abbrev pub MayStayOpen : Task → Type 0
@@ -46,6 +47,19 @@ MayStayOpen (Sumelm method fuel) = ⊥
 MayStayOpen (Steps method fuel bound) = ⊤
 MayStayOpen (Walk method plan) = ⊤
 MayStayOpen (Generate size) = ⊥
+MayStayOpen (Replay method fuel bound) = ⊤
+
+-- the one whose answer may be no
+abbrev pub MaySayNo : Task → Type 0
+MaySayNo Check = ⊥
+MaySayNo (Linearise method) = ⊥
+MaySayNo (Constelm method fuel) = ⊥
+MaySayNo (Parelm method) = ⊥
+MaySayNo (Sumelm method fuel) = ⊥
+MaySayNo (Steps method fuel bound) = ⊥
+MaySayNo (Walk method plan) = ⊥
+MaySayNo (Generate size) = ⊥
+MaySayNo (Replay method fuel bound) = ⊤
 
 -- the statuses of an answer
 abbrev pub IsAnswered : Status → Type 0
@@ -73,11 +87,12 @@ IsTaken (Sumelm method fuel) text = IsTakenBy method text
 IsTaken (Steps method fuel bound) text = IsTakenBy method text
 IsTaken (Walk method plan) text = IsTakenBy method text
 IsTaken (Generate size) text = CanBeLinearised text
+IsTaken (Replay method fuel bound) text = IsTakenBy method text
 
--- the line of a status, with its cause in the text where that is told
+-- the line of a status, with its cause in the text or in the trace where these are told
 abbrev pub IsLineOf : Status → Option Question → List ℕ → Type 0
 IsLineOf Done asked line = line ≡ []
-IsLineOf Refused asked line = ((line ≡ line_of stop.TooLong) × IfSome asked (λ q. MAX_TEXT_LEN < length q.text)) ⊎ IsRefusal asked line
+IsLineOf Refused asked line = ((line ≡ line_of stop.TooLong) × IfSome asked IsTooLong) ⊎ (IsRefusal asked line ⊎ IsTraceRefusal asked line)
 IsLineOf Words asked line = line ≡ line_of stop.Words
 IsLineOf ReadFault asked line = line ≡ line_of stop.ReadFault
 IsLineOf WriteFault asked line = line ≡ write_fault_line
@@ -94,7 +109,7 @@ pub record EndsWithLine (status : Status) (asked : Option Question) (before afte
 
 -- the bytes that the output took are the answer, with this status
 abbrev pub TookAnswer : Status → Question → Option (List ℕ) → Option (List ℕ) → Type 0
-TookAnswer status q before after = IfSome before (λ bytes. (answer : List ℕ) × (after ≡ Some (bytes ++ answer)) × IsAnswer q.task q.text status answer)
+TookAnswer status q before after = IfSome before (λ bytes. (answer : List ℕ) × (after ≡ Some (bytes ++ answer)) × IsAnswer q.task q.text q.trace status answer)
 
 -- the task was done, and the output took its answer with the status that it has; or memory ran out
 abbrev pub EndsWell : Status → Question → Option (List ℕ) → Option (List ℕ) → Type 0

@@ -8,5 +8,7 @@ pub mod Shown
 pub mod FirstSteps
 pub mod Walks
 pub mod ShownTexts
+pub mod ShownVerdicts
+pub mod BadTraces
 pub mod Counts
 pub mod Ends

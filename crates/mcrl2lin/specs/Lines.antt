@@ -94,6 +94,10 @@ refusal_line texts (lin.Guard fault) = guard_line texts fault
 refusal_line texts (lin.NotTail component summand) = codes "refused 21 NotTail" ++ spaced (decimal component) ++ spaced (decimal summand) ++ codes "\n"
 refusal_line texts lin.NoMemory = no_memory_line
 
+-- the line that refuses a trace whose line with this number is no label
+abbrev pub bad_trace_line : ℕ → List ℕ
+bad_trace_line number = numbered (codes "refused 22 BadTrace ") number
+
 -- these names have a text
 abbrev pub AreNamed : List (List ℕ) → List NameId → Type 0
 AreNamed texts = AllByRecursion (λ (n : NameId). n.0 < length texts)

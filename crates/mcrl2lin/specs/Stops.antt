@@ -1,18 +1,19 @@
 -- What stops the program, and the status that it ends with.
-use Rattle.std.specs.Prelude.{⊤, ◌≡◌, ◌≢◌, ◌≤◌, ◌<◌, ℕ, List, Option, IfSome, length}
+use Rattle.std.specs.Prelude.{⊤, ◌≡◌, ◌≢◌, ◌≤◌, ◌<◌, ◌⊎◌, ℕ, List, Option, IfSome, length}
 use Rattle.mcrl2_text.specs.declared.loading.LoadFault.{LoadFault}
 use Rattle.mcrl2_text.specs.declared.loading.LoadFault.TheVariants as load
 use Rattle.mcrl2_text.specs.declared.loading.TheConstants.{MAX_TEXT_LEN}
-use Rattle.lin_driver.specs.Accepted.{IsOfTheText}
+use Rattle.lin_driver.specs.Accepted.{CanBeLinearised, IsOfTheText}
 use Rattle.lin_driver.specs.Faults.{IsFaultBy}
 use Rattle.lin_driver.specs.Refusals.{IsRefusedWith}
 use Rattle.lin_driver.specs.declared.fault.LinFault.{LinFault}
 use Rattle.lin_driver.specs.declared.fault.LinFault.TheVariants as lin
 use Rattle.lin_driver.specs.declared.methods.Method.TheVariants.{Auto}
-use Rattle.mcrl2lin.specs.Commands.{Question}
-use Rattle.mcrl2lin.specs.Lines.{refusal_line}
+use Rattle.mcrl2lin.specs.BadTraces.{IsBadAsTold, IsLongAsTold}
+use Rattle.mcrl2lin.specs.Commands.{NeedsTrace, Question}
+use Rattle.mcrl2lin.specs.Lines.{bad_trace_line, refusal_line}
 use Rattle.mcrl2lin.specs.declared.command.Task.{Task}
-use Rattle.mcrl2lin.specs.declared.command.Task.TheVariants.{Check, Linearise, Constelm, Parelm, Sumelm, Steps, Walk, Generate}
+use Rattle.mcrl2lin.specs.declared.command.Task.TheVariants.{Check, Linearise, Constelm, Parelm, Sumelm, Steps, Walk, Generate, Replay}
 use Rattle.mcrl2lin.specs.declared.stop.Stop.{Stop}
 use Rattle.mcrl2lin.specs.declared.stop.Stop.TheVariants.{Words, ReadFault, TooLong, Refused, NoMemory}
 use Rattle.mcrl2lin.specs.declared.status.Status.{Status}
@@ -49,6 +50,7 @@ IsFaultFor (Sumelm method fuel) fault = IsFaultBy method fault
 IsFaultFor (Steps method fuel bound) fault = IsFaultBy method fault
 IsFaultFor (Walk method plan) fault = IsFaultBy method fault
 IsFaultFor (Generate size) fault = IsFaultBy Auto fault
+IsFaultFor (Replay method fuel bound) fault = IsFaultBy method fault
 
 -- the line refuses the text, where that is told, for a fault that it has
 pub record IsRefusal (asked : Option Question) (line : List ℕ) : Type 0 where
@@ -57,12 +59,38 @@ pub record IsRefusal (asked : Option Question) (line : List ℕ) : Type 0 where
   pub says : line ≡ refusal_line texts fault
   pub due : IfSome asked (λ q. (length q.text ≤ MAX_TEXT_LEN) × IsFaultFor q.task fault × IsRefusedWith q.text texts fault)
 
--- a stop that refuses has its cause in the text, where that is told
+-- ---- a trace
+-- the task needs a trace, and is done with the text up to there
+pub record ComesToTheTrace (q : Question) : Type 0 where
+  pub needs : NeedsTrace q.task
+  pub short : length q.text ≤ MAX_TEXT_LEN
+  pub linearised : CanBeLinearised q.text
+
+-- the text is too long, or behind it the trace
+abbrev pub IsTooLong : Question → Type 0
+IsTooLong q = (MAX_TEXT_LEN < length q.text) ⊎ (ComesToTheTrace q × IsLongAsTold q.trace)
+
+-- the line refuses the trace, where the text is told, for the first bad line that it has
+pub record IsTraceRefusal (asked : Option Question) (line : List ℕ) : Type 0 where
+  pub number : ℕ
+  pub says : line ≡ bad_trace_line number
+  pub due : IfSome asked (λ q. ComesToTheTrace q × IsBadAsTold q.text q.trace number)
+
+-- Why a trace has no verdict, after the text was made linear. Only a line that is no label refuses it.
+abbrev pub IsTraceStop : List ℕ → Option (List ℕ) → Stop → Type 0
+IsTraceStop text told Words = ⊥
+IsTraceStop text told ReadFault = ⊤
+IsTraceStop text told TooLong = IsLongAsTold told
+IsTraceStop text told (Refused line) = (number : ℕ) × (line.items ≡ bad_trace_line number) × IsBadAsTold text told number
+IsTraceStop text told NoMemory = ⊤
+
+-- ---- causes
+-- a stop that refuses has its cause in the text or in the trace, where the text is told
 abbrev pub HasCause : Stop → Option Question → Type 0
 HasCause Words asked = ⊤
 HasCause ReadFault asked = ⊤
-HasCause TooLong asked = IfSome asked (λ q. MAX_TEXT_LEN < length q.text)
-HasCause (Refused line) asked = IsRefusal asked line.items
+HasCause TooLong asked = IfSome asked IsTooLong
+HasCause (Refused line) asked = IsRefusal asked line.items ⊎ IsTraceRefusal asked line.items
 HasCause NoMemory asked = ⊤
 
 abbrev pub status_of_stop : Stop → Status

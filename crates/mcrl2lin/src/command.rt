@@ -1,7 +1,7 @@
 //! What the words of the command line ask for.
-ghost use Rattle.std.specs.Prelude.{◌≡◌, ◌≤◌, IfOk, IfSome, map, option_map, string_bytes};
+ghost use Rattle.std.specs.Prelude.{◌≡◌, ◌≤◌, IfOk, IfSome, IsSome, IsTrue, map, option_map, string_bytes};
 ghost use Rattle.clap.specs.Words.{found_of, rows_of};
-ghost use Rattle.mcrl2lin.specs.Commands.{asked, asked_by, asked_in, asked_with, plan_of, size_named, task_named, IsSized};
+ghost use Rattle.mcrl2lin.specs.Commands.{asked, asked_by, asked_in, asked_with, has_its_trace, plan_of, size_named, task_named, IsSized, NeedsTrace};
 
 use crate::command_line::{program, value_of};
 use crate::options::{Options, number, options_of};
@@ -53,15 +53,26 @@ pub enum Task {
     },
     /// Write how large the linear process of a line of so many buffers is.
     Generate(u64),
+    /// Write whether its linear process has the steps of a trace.
+    Replay {
+        /// How the components are encoded.
+        method: Method,
+        /// The uses of equations that a rewriting has.
+        fuel: u64,
+        /// The values that are tried of a sum.
+        bound: u64,
+    },
 }
 
-/// A task, and the file that it is to be done with.
+/// A task, and the files that it is to be done with.
 #[derive(Clone, Copy, Debug)]
 pub struct Command<'a> {
     /// The task.
     pub task: Task,
     /// The name of the file.
     pub file: &'a str,
+    /// The name of the trace's file, where one is named. [`Task::Replay`] has one.
+    pub trace: Option<&'a str>,
 }
 
 /// The command that the words give, where they give one: where `clap` takes them, and each of their values is one.
@@ -72,6 +83,7 @@ pub struct Command<'a> {
 pub fn command_of<'a>(alloc: Global, words: &'a [String]) -> Result<Option<Command<'a>>, NoMemory>
     ensures asked { IfOk result (λ command. option_map asked command ≡ asked_by (map string_bytes words.entry.now)) }
     ensures sized { IfOk result (λ command. IfSome command (λ c. IsSized c.task)) }
+    ensures traced { IfOk result (λ command. IfSome command (λ c. NeedsTrace c.task → IsSome c.trace)) }
 {
     let Ok(program) = program(alloc) else {
         return Err(NoMemory);
@@ -87,28 +99,46 @@ pub fn command_of<'a>(alloc: Global, words: &'a [String]) -> Result<Option<Comma
 fn command_in<'a>(matches: &ArgMatches<'a>) -> Option<Command<'a>>
     ensures asked { option_map asked result ≡ asked_in (rows_of (found_of matches.now)) }
     ensures sized { IfSome result (λ c. IsSized c.task) }
+    ensures traced { IfSome result (λ c. NeedsTrace c.task → IsSome c.trace) }
 {
     command_with(
         value_of(matches, "task"),
         value_of(matches, "file"),
+        value_of(matches, "trace"),
         options_of(matches),
     )
 }
 
-/// The command of a task's name, a file and the options.
+/// The command of a task's name, a file, a trace and the options.
 fn command_with<'a>(
     word: Option<&str>,
     file: Option<&'a str>,
+    trace: Option<&'a str>,
     options: Option<Options>,
 ) -> Option<Command<'a>>
-    ensures asked { option_map asked result ≡ asked_with (option_map (λ s. s.now) word.entry) (option_map (λ s. s.now) file.entry) options }
+    ensures asked { option_map asked result ≡ asked_with (option_map (λ s. s.now) word.entry) (option_map (λ s. s.now) file.entry) (option_map (λ s. s.now) trace.entry) options }
     ensures sized { IfSome result (λ c. IsSized c.task) }
+    ensures traced { IfSome result (λ c. NeedsTrace c.task → IsSome c.trace) }
 {
     let (Some(word), Some(file), Some(options)) = (word, file, options) else {
         return None;
     };
     let task = task_of(word, file, options)?;
-    Some(Command { task, file })
+    if !has_its_trace(task, trace) {
+        return None;
+    }
+    Some(Command { task, file, trace })
+}
+
+/// Whether a trace is named, where the task needs one.
+fn has_its_trace(task: Task, trace: Option<&str>) -> bool
+    ensures says { result ≡ has_its_trace task (option_map (λ s. s.now) trace.entry) }
+    ensures there { IsTrue result → NeedsTrace task → IsSome trace.entry }
+{
+    match task {
+        Task::Replay { .. } => trace.is_some(),
+        _ => true,
+    }
 }
 
 /// The task of this name, with what it takes of the file and of the options.
@@ -138,6 +168,11 @@ fn task_of(word: &str, file: &str, options: Options) -> Option<Task>
             plan: plan_of(options),
         }),
         "generate" => Some(Task::Generate(size_of(file)?)),
+        "replay" => Some(Task::Replay {
+            method,
+            fuel,
+            bound,
+        }),
         _ => None,
     }
 }

@@ -11,6 +11,7 @@ mod option_texts;
 mod options;
 mod real;
 mod refusal;
+mod replaying;
 mod status;
 mod steps;
 mod stop;

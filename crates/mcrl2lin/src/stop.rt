@@ -1,14 +1,17 @@
-//! Why the program writes no linear process, and how it says so.
-ghost use Rattle.std.specs.Prelude.{◌≡◌};
+//! Why the program writes no answer, and how it says so.
+ghost use Rattle.std.specs.Prelude.{◌≡◌, ◌≢◌, List, Option, ℕ};
 ghost use Rattle.mcrl2lin.specs.Lines.{AreNamed, line_of, names_of_fault};
-ghost use Rattle.mcrl2lin.specs.Stops.{IsStopFor, stop_of_load};
+ghost use Rattle.mcrl2lin.specs.BadTraces.{IsBadAsTold};
+ghost use Rattle.mcrl2lin.specs.Stops.{IsStopFor, IsTraceStop, stop_of_load};
+ghost use Rattle.trace_replay.specs.declared.replaying.ReplayFault.TheVariants.{BadTrace};
 ghost use Rattle.mcrl2lin.specs.declared.stop.Stop.TheVariants as stop;
 
-use crate::refusal::refusal;
+use crate::refusal::{bad_trace, refusal};
 use data_theory::{Names, NoMemory};
 use lin_driver::LinFault;
 use mcrl2_text::LoadFault;
 use std::alloc::Global;
+use trace_replay::ReplayFault;
 
 /// Why there is nothing to write.
 #[derive(Drop)]
@@ -17,9 +20,9 @@ pub enum Stop {
     Words,
     /// The shelf failed.
     ReadFault,
-    /// The text is too long.
+    /// The text is too long, or the trace.
     TooLong,
-    /// The text is refused, with this line.
+    /// The text is refused, or the trace, with this line.
     Refused(Vec<u8>),
     /// No memory was left.
     NoMemory,
@@ -55,6 +58,20 @@ impl Stop {
             return Stop::NoMemory;
         }
         match refusal(alloc, names, fault) {
+            Ok(line) => Stop::Refused(line),
+            Err(_) => Stop::NoMemory,
+        }
+    }
+
+    /// The stop for a trace with that fault.
+    pub fn for_trace(alloc: Global, fault: ReplayFault) -> Stop
+        ensures cause { (text : List ℕ) (told : Option (List ℕ)) → ((number : ℕ) → fault ≡ BadTrace number → IsBadAsTold text told number) → IsTraceStop text told result }
+        ensures no_read_fault { result ≢ stop.ReadFault }
+    {
+        let ReplayFault::BadTrace(number) = fault else {
+            return Stop::NoMemory;
+        };
+        match bad_trace(alloc, number) {
             Ok(line) => Stop::Refused(line),
             Err(_) => Stop::NoMemory,
         }

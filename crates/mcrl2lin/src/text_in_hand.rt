@@ -22,6 +22,8 @@ pub fn text_for<H: Shelf>(
     ensures read_fault { IsErrOf result Stop.ReadFault → Rose (H.faults shelf.old) (H.faults shelf.new) }
     ensures too_long { IsErrOf result Stop.TooLong → IfSome (text_asked (H.text_of shelf.old) (asked command.entry)) (λ text. MAX_TEXT_LEN < length text) }
     ensures no_other { IfErr result IsOfLoading }
+    ensures texts { H.text_of shelf.new ≡ H.text_of shelf.old }
+    ensures faults { H.faults shelf.old ≤ H.faults shelf.new }
     ensures unread { ¬ (ReadsFor command.entry.task) → shelf.new ≡ shelf.old }
 {
     if let Task::Generate(size) = command.task {

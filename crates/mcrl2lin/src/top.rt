@@ -4,13 +4,15 @@ ghost use Rattle.mcrl2_text.specs.Bytes.{TakesPrefix};
 ghost use Rattle.mcrl2_text.specs.Faults.{Rose};
 ghost use Rattle.lin_driver.specs.Accepted.{CanBeLinearised, IsOfTheText};
 ghost use Rattle.lin_driver.specs.Refusals.{IsRefusedWith};
-ghost use Rattle.mcrl2lin.specs.Commands.{asked_by, question, ReadsAFile};
-ghost use Rattle.mcrl2lin.specs.Ends.{EndsWell, EndsWithLine, IsAnswer, IsAnswered, IsTaken, MayStayOpen};
+ghost use Rattle.mcrl2lin.specs.BadTraces.{HasGoodTrace};
+ghost use Rattle.mcrl2lin.specs.Commands.{asked_by, question, NeedsTrace, ReadsAFile};
+ghost use Rattle.mcrl2lin.specs.Ends.{EndsWell, EndsWithLine, IsAnswer, IsAnswered, IsTaken, MayStayOpen, MaySayNo};
 ghost use Rattle.mcrl2lin.specs.Stops.{HasCause, IsFaultFor, status_of_stop};
 
 use crate::answers::Answer;
 use crate::command::{Task, command_of};
 use crate::generating::counts;
+use crate::replaying::replay;
 use crate::status::Status;
 use crate::steps::steps;
 use crate::stop::Stop;
@@ -36,14 +38,14 @@ pub fn run<H: Shelf, O: Sink, E: Sink>(
     ensures read_fault { result ≡ Status.ReadFault → Rose (H.faults shelf.old) (H.faults shelf.new) }
     ensures write_fault { result ≡ Status.WriteFault → Rose (O.faults out.old) (O.faults out.new) }
     ensures undecided { result ≡ Status.Undecided → IfSome (asked_by (map string_bytes words.now.items)) (λ a. MayStayOpen a.task) }
-    ensures never { result ≢ Status.No }
+    ensures no { result ≡ Status.No → IfSome (asked_by (map string_bytes words.now.items)) (λ a. MaySayNo a.task) }
 
     // What the output gets: the whole answer, a prefix of it after a fault of its own, or nothing.
     ensures done { IsAnswered result → IfSome (question (H.text_of shelf.old) (map string_bytes words.now.items))
-        (λ q. (length q.text ≤ MAX_TEXT_LEN) × (answer : List ℕ) × IsAnswer q.task q.text result answer
+        (λ q. (length q.text ≤ MAX_TEXT_LEN) × (answer : List ℕ) × IsAnswer q.task q.text q.trace result answer
         × IfSome (O.taken out.old) (λ before. O.taken out.new ≡ Some (before ++ answer))) }
     ensures cut_off { result ≡ Status.WriteFault → IfSome (question (H.text_of shelf.old) (map string_bytes words.now.items))
-        (λ q. (length q.text ≤ MAX_TEXT_LEN) × (status : Status) × (answer : List ℕ) × IsAnswer q.task q.text status answer
+        (λ q. (length q.text ≤ MAX_TEXT_LEN) × (status : Status) × (answer : List ℕ) × IsAnswer q.task q.text q.trace status answer
         × IfSome (O.taken out.old) (λ before. TakesPrefix before (O.taken out.new) answer)) }
     ensures out_kept { ¬ (IsAnswered result) → result ≢ Status.WriteFault → out.new ≡ out.old }
 
@@ -54,13 +56,14 @@ pub fn run<H: Shelf, O: Sink, E: Sink>(
 
     ensures shelf_kept { ¬ (ReadsAFile (asked_by (map string_bytes words.now.items))) → shelf.new ≡ shelf.old }
 
-    // For each text that the task takes it is done: what is written stands for the text, that of an elimination has its effect, and that of `steps` and `walk` speaks of its steps.
-    ensures headline { IfSome (question (H.text_of shelf.old) (map string_bytes words.now.items)) (λ q. IsTaken q.task q.text
+    // For each text that the task takes it is done: what is written stands for the text, that of an elimination has its effect, and that of `steps`, `walk` and `replay` speaks of
+    // its steps. A trace has to be good.
+    ensures headline { IfSome (question (H.text_of shelf.old) (map string_bytes words.now.items)) (λ q. IsTaken q.task q.text → HasGoodTrace q.task q.text q.trace
         → length q.text ≤ MAX_TEXT_LEN → ¬ (Rose (H.faults shelf.old) (H.faults shelf.new)) → ¬ (Rose (O.faults out.old) (O.faults out.new))
         → EndsWell result q (O.taken out.old) (O.taken out.new)) }
 
     // And so it is for each text without a fault.
-    ensures complete { IfSome (question (H.text_of shelf.old) (map string_bytes words.now.items)) (λ q. ((texts : List (List ℕ)) (fault : LinFault) → ¬ (IsRefusedWith q.text texts fault))
+    ensures complete { IfSome (question (H.text_of shelf.old) (map string_bytes words.now.items)) (λ q. ((texts : List (List ℕ)) (fault : LinFault) → ¬ (IsRefusedWith q.text texts fault)) → HasGoodTrace q.task q.text q.trace
         → length q.text ≤ MAX_TEXT_LEN → ¬ (Rose (H.faults shelf.old) (H.faults shelf.new)) → ¬ (Rose (O.faults out.old) (O.faults out.new))
         → EndsWell result q (O.taken out.old) (O.taken out.new)) }
 {
@@ -86,12 +89,22 @@ fn answer<H: Shelf>(alloc: Global, words: &[String], shelf: &mut H) -> Result<An
     ensures read_fault { IsErrOf result Stop.ReadFault → Rose (H.faults shelf.old) (H.faults shelf.new) }
     ensures refused { IfErr result (λ stop. HasCause stop (question (H.text_of shelf.old) (map string_bytes words.now))) }
     ensures answered { IfOk result (λ answer. IsAnswered answer.status × IfSome (question (H.text_of shelf.old) (map string_bytes words.now))
-        (λ q. (length q.text ≤ MAX_TEXT_LEN) × IsAnswer q.task q.text answer.status answer.text.items)) }
-    ensures stays_open { IfOk result (λ answer. (answer.status ≢ Status.No) × (answer.status ≡ Status.Undecided → IfSome (asked_by (map string_bytes words.now)) (λ a. MayStayOpen a.task))) }
+        (λ q. (length q.text ≤ MAX_TEXT_LEN) × IsAnswer q.task q.text q.trace answer.status answer.text.items)) }
+    ensures stays_open { IfOk result (λ answer. answer.status ≡ Status.Undecided → IfSome (asked_by (map string_bytes words.now)) (λ a. MayStayOpen a.task)) }
+    ensures says_no { IfOk result (λ answer. answer.status ≡ Status.No → IfSome (asked_by (map string_bytes words.now)) (λ a. MaySayNo a.task)) }
     ensures shelf_kept { ¬ (ReadsAFile (asked_by (map string_bytes words.now))) → shelf.new ≡ shelf.old }
 {
     let command = command_of(alloc, words)?.ok_or(Stop::Words)?;
     let text = text_for(alloc, command, shelf)?;
+    if let Task::Replay {
+        method,
+        fuel,
+        bound,
+    } = command.task
+    {
+        let trace = command.trace.unwrap();
+        return replay(alloc, &text, shelf, trace, method, fuel, bound);
+    }
     let mut names = Names::new(alloc);
     match answer_to(alloc, command.task, &text, &mut names) {
         Ok(answer) => Ok(answer),
@@ -99,9 +112,10 @@ fn answer<H: Shelf>(alloc: Global, words: &[String], shelf: &mut H) -> Result<An
     }
 }
 
-/// The answer of a task on a text.
+/// The answer of a task that needs no trace on a text.
 fn answer_to(alloc: Global, task: Task, text: &[u8], names: &mut Names) -> Result<Answer, LinFault>
-    ensures answered { IfOk result (λ answer. IsAnswer task text.now answer.status answer.text.items) }
+    requires { ¬ (NeedsTrace task) }
+    ensures answered { IfOk result (λ answer. IsAnswer task text.now None answer.status answer.text.items) }
     ensures of_the_task { IfErr result (λ fault. fault ≢ LinFault.NoMemory → IsFaultFor task fault) }
     ensures refused { IfErr result (λ fault. fault ≢ LinFault.NoMemory → IsRefusedWith text.now names.new fault) }
 {
@@ -136,6 +150,7 @@ fn answer_to(alloc: Global, task: Task, text: &[u8], names: &mut Names) -> Resul
         } => steps(alloc, text, names, method, fuel, bound),
         Task::Walk { method, plan } => walk(alloc, text, names, method, plan),
         Task::Generate(_) => Ok(Answer::done(counts(alloc, text, names)?)),
+        Task::Replay { .. } => unreachable!(),
     }
 }
 

@@ -3,6 +3,7 @@ pub mod BegunWays
 pub mod BlankLemmas
 pub mod ConditionLemmas
 pub mod DecidedTerms
+pub mod EnteredTerms
 pub mod EqualityTerms
 pub mod Keepings
 pub mod LabelLeads

@@ -2,6 +2,7 @@ pub mod Attempts
 pub mod BlankLines
 pub mod DecidedConditions
 pub mod Decidings
+pub mod Entering
 pub mod Keeping
 pub mod Lines
 pub mod Listings

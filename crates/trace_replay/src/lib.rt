@@ -6,6 +6,7 @@
 
 mod blank;
 mod deciding;
+mod entering;
 pub mod laws;
 mod leading;
 mod lines;

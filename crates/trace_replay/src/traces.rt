@@ -1,8 +1,6 @@
 //! Replaying a trace.
 
 ghost use Rattle.std.specs.Prelude.{◌≡◌, ◌≢◌, [], ◌∷◌, List, Some, cond, false, map, IfErr, IfOk};
-ghost use Rattle.std.specs.List.{All};
-ghost use Rattle.data_theory.specs.IdTerms.{IsTreeWithin};
 ghost use Rattle.data_theory.specs.Provable.{Equation};
 ghost use Rattle.number_rules.specs.Rule.{IsExact, rule_of};
 ghost use Rattle.term_pool.specs.Pools.{Extends};
@@ -19,8 +17,9 @@ ghost use Rattle.trace_replay.specs.Replays.{Entry, Replays};
 ghost use Rattle.trace_replay.specs.States.{meant_states, plain_states, StatesStand};
 ghost use Rattle.trace_replay.specs.Verdicts.{IsVerdictOn, LinesAre};
 
+use crate::entering::trace_lines;
 use crate::leading::{either, lead};
-use crate::reading::{Line, read_trace};
+use crate::reading::Line;
 use crate::replaying::{ReplayFault, Verdict};
 use crate::states::{States, one_state};
 use data_rewriter::Rewriter;
@@ -86,7 +85,7 @@ fn replay_lines<F: Fn(NumOp, Num, Num) -> Option<Num>>(
 /// Whether a linear process has the steps of a trace. The labels of all lines are read first. From the initial state on, each label leads to all
 /// states to which a summand can do it: it is paired with the label by names and sorts in each way, for each combination of the first `bound`
 /// values of its sums, and its condition and the equalities of the paired arguments are decided, each with its own fuel. Nothing is added to the
-/// signature, and the pool keeps every old entry.
+/// signature, and the pool keeps every old entry; nothing is asked of its other terms.
 ///
 /// # Errors
 ///
@@ -105,7 +104,6 @@ pub fn replay<F: Fn(NumOp, Num, Num) -> Option<Num>>(
     requires known { (own : List Equation) × FitsPool rewriter.old sig.now own pool.old.trees }
     requires rules { IsExact (F.pre (rule_of (number_rules rewriter.old))) (F.post (rule_of (number_rules rewriter.old))) }
     requires lin { Fits sig.now pool.old.trees (plain_linear lin.now) }
-    requires trees { All (IsTreeWithin sig.now) pool.old.trees }
     ensures kept { Extends pool.old.trees pool.new.trees }
     ensures rules { number_rules rewriter.new ≡ number_rules rewriter.old }
     ensures fits { (own : List Equation) → FitsPool rewriter.old sig.now own pool.old.trees → FitsPool rewriter.new sig.now own pool.new.trees }
@@ -113,7 +111,7 @@ pub fn replay<F: Fn(NumOp, Num, Num) -> Option<Num>>(
     ensures bad_trace { IfErr result (IsTraceFault sig.now trace.now) }
 {
     signature_stands(sig);
-    let lines = read_trace(alloc, sig, pool, trace)?;
+    let lines = trace_lines(alloc, sig, pool, trace)?;
     let mut states = one_state(alloc, lin.init.as_slice())?;
     let verdict = replay_lines(
         alloc,

@@ -296,7 +296,10 @@ mcrl2lin steps f --fuel 01
 mcrl2lin steps f --fuel 5 --fuel 6
 mcrl2lin step f
 mcrl2lin walk
-mcrl2lin walk f --depth -1";
+mcrl2lin walk f --depth -1
+mcrl2lin replay f
+mcrl2lin replay f --fuel 1
+mcrl2lin replay --trace t";
 
 /// Words behind the program's name that linearise the file `f`, a line each.
 const COMMANDS: &str = "\
@@ -327,6 +330,7 @@ linearise - --method=stack
 --method=stack -- linearise -f";
 
 /// What a task writes for a text, and the status that it ends with.
+#[derive(Drop)]
 struct Written {
     words: &'static str,
     text: &'static [u8],
@@ -532,6 +536,145 @@ const WALKS: [Written; 8] = [
     },
 ];
 
+/// What replaying the trace `t` on the text `f` writes, on a shelf some of whose calls fail.
+struct Replayed {
+    words: &'static str,
+    text: &'static [u8],
+    trace: &'static [u8],
+    open_fails: &'static [u64],
+    status: Status,
+    out: &'static [u8],
+    err: &'static [u8],
+}
+
+/// A trace of a process with a stack.
+const REPLAYED: Replayed = Replayed {
+    words: "replay f --trace t",
+    text: b"act a, b, c; proc X = a . X . b + c; init X;",
+    trace: b"a\na\nc\nb\nb\n",
+    open_fails: &[],
+    status: Status::Done,
+    out: b"accepted\n",
+    err: b"",
+};
+
+/// A choice between two steps behind the same first one.
+const CHOICE: &[u8] = b"act a, b, c; init a . c + a . b;";
+
+/// Numbers that are counted up and then down.
+const COUNTED: &[u8] =
+    b"act a, b: Nat; proc X(n: Nat) = (n < 2) -> a(n) . X(n + 1) . b(n) <> b(n); init X(0);";
+
+/// A sum of which two values or sixteen are tried.
+const BOUNDED: &[u8] = b"act a: Nat; proc X = sum n: Nat . (n < 3) -> a(n) . X; init X;";
+
+const REPLAYS: [Replayed; 17] = [
+    REPLAYED,
+    Replayed {
+        trace: b"a\na\nc\nb\nb\nb",
+        status: Status::No,
+        out: b"rejected 6\n",
+        ..REPLAYED
+    },
+    Replayed {
+        trace: b"a(\na",
+        status: Status::Refused,
+        out: b"",
+        err: b"refused 22 BadTrace 1\n",
+        ..REPLAYED
+    },
+    Replayed {
+        trace: b"a\n\n% nothing\nd\na(",
+        status: Status::Refused,
+        out: b"",
+        err: b"refused 22 BadTrace 4\n",
+        ..REPLAYED
+    },
+    Replayed {
+        words: "replay f --trace t --method regular",
+        trace: b"a(",
+        status: Status::Refused,
+        out: b"",
+        err: b"refused 21 NotTail 1 1\n",
+        ..REPLAYED
+    },
+    Replayed {
+        text: CHOICE,
+        trace: b"a\nb\n",
+        ..REPLAYED
+    },
+    Replayed {
+        text: CHOICE,
+        trace: b"a\r\n\r\n  % again\r\na",
+        status: Status::No,
+        out: b"rejected 4\n",
+        ..REPLAYED
+    },
+    Replayed {
+        text: COUNTED,
+        trace: b"a(0)\na(1)\nb(2)\nb(1)\nb(0)",
+        ..REPLAYED
+    },
+    Replayed {
+        text: COUNTED,
+        trace: b"a(0)\na(1)\nb(2)\nb(0)\nb(0)",
+        status: Status::No,
+        out: b"rejected 4\n",
+        ..REPLAYED
+    },
+    Replayed {
+        words: "replay --trace=t f --bound 2",
+        text: BOUNDED,
+        trace: b"a(1)\na(2)",
+        status: Status::Undecided,
+        out: b"undecided 2\n",
+        ..REPLAYED
+    },
+    Replayed {
+        text: BOUNDED,
+        trace: b"a(1)\na(2)",
+        ..REPLAYED
+    },
+    Replayed {
+        text: b"map f: Nat -> Bool; act a, b; init a . f(0) -> b;",
+        trace: b"a\nb\nb",
+        status: Status::Undecided,
+        out: b"undecided 2\n",
+        ..REPLAYED
+    },
+    Replayed {
+        text: b"act a, b; init a || b;",
+        trace: b"b|a",
+        ..REPLAYED
+    },
+    Replayed {
+        trace: b"",
+        ..REPLAYED
+    },
+    Replayed {
+        open_fails: &[2],
+        status: Status::ReadFault,
+        out: b"",
+        err: b"read fault\n",
+        ..REPLAYED
+    },
+    Replayed {
+        words: "replay f --trace u",
+        status: Status::ReadFault,
+        out: b"",
+        err: b"read fault\n",
+        ..REPLAYED
+    },
+    Replayed {
+        words: "replay f --trace u",
+        text: b"act a; proc X = X + a; init X;",
+        status: Status::Refused,
+        out: b"",
+        err: b"refused 20 Unguarded X\n",
+        ..REPLAYED
+    },
+];
+
 fn strings(alloc: Global, words: &[&str]) -> Result<Vec<String>, Fail> {
     let mut strings = Vec::new(alloc);
     for word in words {
@@ -555,6 +698,18 @@ fn texts(alloc: Global, text: &[u8]) -> Result<Vec<MemText>, Fail> {
         texts.push(MemText {
             name: String::from_str(alloc, name)?,
             text: text.to_vec(alloc)?,
+        })?;
+    }
+    Ok(texts)
+}
+
+/// The text `f` and the trace `t`.
+fn text_and_trace(alloc: Global, text: &[u8], trace: &[u8]) -> Result<Vec<MemText>, Fail> {
+    let mut texts = Vec::new(alloc);
+    for (name, bytes) in [("f", text), ("t", trace)] {
+        texts.push(MemText {
+            name: String::from_str(alloc, name)?,
+            text: bytes.to_vec(alloc)?,
         })?;
     }
     Ok(texts)
@@ -655,6 +810,40 @@ fn walks_are_shown(rt: HostRuntime) -> Result<(), Fail> {
     for row in &WALKS {
         writes(&rt, rt.alloc(), row)?;
     }
+    Ok(())
+}
+
+fn replays(rt: &impl Abort, alloc: Global, row: &Replayed) -> Result<(), Fail> {
+    let words = words_of(alloc, &["mcrl2lin"], row.words)?;
+    let texts = text_and_trace(alloc, row.text, row.trace)?;
+    let mut shelf = MemShelf::new(texts, row.open_fails.to_vec(alloc)?, Vec::new(alloc), 5);
+    let mut out = MemSink::new(alloc, 400, Vec::new(alloc), 5)?;
+    let mut err = MemSink::new(alloc, 200, Vec::new(alloc), 5)?;
+    let status = run(alloc, &words, &mut shelf, &mut out, &mut err);
+    assert_eq!(rt; status, row.status, "{}", row.words);
+    assert_eq!(rt; out.bytes(), row.out, "{}", row.words);
+    assert_eq!(rt; err.bytes(), row.err, "{}", row.words);
+    Ok(())
+}
+
+#[test]
+fn traces_are_replayed(rt: HostRuntime) -> Result<(), Fail> {
+    for row in &REPLAYS {
+        replays(&rt, rt.alloc(), row)?;
+    }
+    Ok(())
+}
+
+#[test]
+fn a_trace_past_the_limit_is_too_long(rt: HostRuntime) -> Result<(), Fail> {
+    let alloc = rt.alloc();
+    let words = strings(alloc, &["mcrl2lin", "replay", "f", "--trace", "t"])?;
+    let trace = vec![in alloc; b' '; MAX_TEXT_LEN + 1]?;
+    let mut shelf = SteadyShelf::new(text_and_trace(alloc, b"act a; init a;", &trace)?);
+    let mut err = MemSink::new(alloc, 200, Vec::new(alloc), 200)?;
+    let status = run(alloc, &words, &mut shelf, &mut SteadySink::new(), &mut err);
+    assert_eq!(rt; status, Status::Refused);
+    assert_eq!(rt; err.bytes(), b"refused 0 TooLong\n".as_slice());
     Ok(())
 }
 

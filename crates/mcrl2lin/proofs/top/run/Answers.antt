@@ -46,14 +46,14 @@ returns-in-Err-clause-err_kept g c = λ is. absurd (stops_unanswered c.in-Err.st
 pub returns-in-Err-clause-undecided : goal.returns-in-Err-clause-undecided
 returns-in-Err-clause-undecided g c = λ is. absurd (stops_unanswered c.in-Err.stop (subst IsAnswered (sym (sym c.status_of.ensures ∙ is)) tt))
 
-pub returns-in-Err-clause-never : goal.returns-in-Err-clause-never
-returns-in-Err-clause-never g c = λ is. stops_unanswered c.in-Err.stop (subst IsAnswered (sym (sym c.status_of.ensures ∙ is)) tt)
+pub returns-in-Err-clause-no : goal.returns-in-Err-clause-no
+returns-in-Err-clause-no g c = λ is. absurd (stops_unanswered c.in-Err.stop (subst IsAnswered (sym (sym c.status_of.ensures ∙ is)) tt))
 
 pub returns-then-is_ok-clause-undecided : goal.returns-then-is_ok-clause-undecided
-returns-then-is_ok-clause-undecided g c = c.in-Ok.ensures.stays_open.1
+returns-then-is_ok-clause-undecided g c = c.in-Ok.ensures.stays_open
 
-pub returns-then-is_ok-clause-never : goal.returns-then-is_ok-clause-never
-returns-then-is_ok-clause-never g c = c.in-Ok.ensures.stays_open.0
+pub returns-then-is_ok-clause-no : goal.returns-then-is_ok-clause-no
+returns-then-is_ok-clause-no g c = c.in-Ok.ensures.says_no
 
 pub returns-then-is_ok-clause-words : goal.returns-then-is_ok-clause-words
 returns-then-is_ok-clause-words g c = λ is. absurd (other_status c.in-Ok.answer.status status.Words c.in-Ok.ensures.answered.0 (λ a. a) is)
