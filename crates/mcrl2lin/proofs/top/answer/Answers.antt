@@ -7,8 +7,8 @@ use Rattle.mcrl2lin.proofs.Told.{has_cause}
 use Rattle.mcrl2lin.proofs.FaultNames.{are_named}
 use Rattle.mcrl2lin.proofs.top.answer.Goals as goal
 
-pub unwrap-requires : goal.unwrap-requires
-unwrap-requires g c = c.in_ok-command.ensures.traced (subst NeedsTrace (sym c.in-Replay.is) tt)
+pub unwrap-trace-requires : goal.unwrap-trace-requires
+unwrap-trace-requires g c = c.in_ok-command.ensures.traced (subst NeedsTrace (sym c.in-Replay.is) tt)
 
 pub replay-requires : goal.replay-requires
 replay-requires g c = search rules
@@ -68,7 +68,8 @@ returns-in-Ok-clause-answered g c =
     let a : Asked = record { task = command.task; file = command.file.now; trace = option_map (λ s. s.now) command.trace } in
     let asked : asked_by (map string_bytes c.args.words.now) ≡ Some a = search rules in
     let text_of = g.H.Shelf.text_of c.args.shelf.now in
-    let is = with_any_trace a.task c.answer_to.requires c.in_ok-text.text.items (trace_asked text_of a) c.in-Ok.answer.status c.in-Ok.answer.text.items (search rules) in (
+    let none : ¬ (NeedsTrace a.task) = search rules in
+    let is = with_any_trace a.task none c.in_ok-text.text.items (trace_asked text_of a) c.in-Ok.answer.status c.in-Ok.answer.text.items (search rules) in (
       (has_its_status a.task c.in_ok-text.text.items (trace_asked text_of a) c.in-Ok.answer.status c.in-Ok.answer.text.items is).answered,
       answers_question text_of (map string_bytes c.args.words.now) a c.in_ok-text.text.items c.in-Ok.answer.status c.in-Ok.answer.text.items asked (search rules) (search rules) is,
     )
@@ -96,4 +97,4 @@ returns-clause-refused g c =
     c.in-Err.ensures.of_the_task (search (rules, c.in-Err.ensures.refused)) c.for_fault.ensures
 
 pub for_fault-requires : goal.for_fault-requires
-for_fault-requires g c = are_named c.deref.result.now c.answer_to.new.names c.in-Err.fault c.in-Err.ensures.refused
+for_fault-requires g c = are_named c.deref-2.result.now c.answer_to.new.names c.in-Err.fault c.in-Err.ensures.refused

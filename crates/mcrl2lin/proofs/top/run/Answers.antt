@@ -50,10 +50,10 @@ pub returns-in-Err-clause-no : goal.returns-in-Err-clause-no
 returns-in-Err-clause-no g c = λ is. absurd (stops_unanswered c.in-Err.stop (subst IsAnswered (sym (sym c.status_of.ensures ∙ is)) tt))
 
 pub returns-then-is_ok-clause-undecided : goal.returns-then-is_ok-clause-undecided
-returns-then-is_ok-clause-undecided g c = c.in-Ok.ensures.stays_open
+returns-then-is_ok-clause-undecided g c = rw c.deref.ensures.value at c.in-Ok.ensures.stays_open
 
 pub returns-then-is_ok-clause-no : goal.returns-then-is_ok-clause-no
-returns-then-is_ok-clause-no g c = c.in-Ok.ensures.says_no
+returns-then-is_ok-clause-no g c = rw c.deref.ensures.value at c.in-Ok.ensures.says_no
 
 pub returns-then-is_ok-clause-words : goal.returns-then-is_ok-clause-words
 returns-then-is_ok-clause-words g c = λ is. absurd (other_status c.in-Ok.answer.status status.Words c.in-Ok.ensures.answered.0 (λ a. a) is)
@@ -79,25 +79,25 @@ returns-then-is_ok-clause-done g c = λ is.
     let asked = question (g.H.Shelf.text_of c.args.shelf.now) (map string_bytes c.args.words.now.items) in
     let whole : IfSome (g.O.Sink.taken c.args.out.now) (λ before. g.O.Sink.taken c.write_all.new.sink ≡ Some (before ++ c.in-Ok.answer.text.items)) = search rules in
     whole_answer asked (g.H.Shelf.faults c.args.shelf.now) (g.H.Shelf.faults c.answer.new.shelf) (g.O.Sink.faults c.args.out.now) (g.O.Sink.faults c.write_all.new.sink) (g.O.Sink.taken c.args.out.now) (g.O.Sink.taken c.write_all.new.sink)
-    c.in-Ok.answer.status c.in-Ok.answer.text.items c.in-Ok.ensures.answered.1 whole
+    c.in-Ok.answer.status c.in-Ok.answer.text.items (rw c.deref.ensures.value at c.in-Ok.ensures.answered.1) whole
 
 pub returns-then-is_ok-clause-complete : goal.returns-then-is_ok-clause-complete
 returns-then-is_ok-clause-complete g c =
     let asked = question (g.H.Shelf.text_of c.args.shelf.now) (map string_bytes c.args.words.now.items) in
     let whole : IfSome (g.O.Sink.taken c.args.out.now) (λ before. g.O.Sink.taken c.write_all.new.sink ≡ Some (before ++ c.in-Ok.answer.text.items)) = search rules in
     linearised_ends_well asked (g.H.Shelf.faults c.args.shelf.now) (g.H.Shelf.faults c.answer.new.shelf) (g.O.Sink.faults c.args.out.now) (g.O.Sink.faults c.write_all.new.sink) (g.O.Sink.taken c.args.out.now) (g.O.Sink.taken c.write_all.new.sink)
-    c.in-Ok.answer.status c.in-Ok.answer.text.items c.in-Ok.ensures.answered.0 c.in-Ok.ensures.answered.1 whole
+    c.in-Ok.answer.status c.in-Ok.answer.text.items c.in-Ok.ensures.answered.0 (rw c.deref.ensures.value at c.in-Ok.ensures.answered.1) whole
 
 pub returns-then-is_ok-clause-headline : goal.returns-then-is_ok-clause-headline
 returns-then-is_ok-clause-headline g c =
     let asked = question (g.H.Shelf.text_of c.args.shelf.now) (map string_bytes c.args.words.now.items) in
     let whole : IfSome (g.O.Sink.taken c.args.out.now) (λ before. g.O.Sink.taken c.write_all.new.sink ≡ Some (before ++ c.in-Ok.answer.text.items)) = search rules in
     taken_ends_well asked (g.H.Shelf.faults c.args.shelf.now) (g.H.Shelf.faults c.answer.new.shelf) (g.O.Sink.faults c.args.out.now) (g.O.Sink.faults c.write_all.new.sink) (g.O.Sink.taken c.args.out.now) (g.O.Sink.taken c.write_all.new.sink)
-    c.in-Ok.answer.status c.in-Ok.answer.text.items c.in-Ok.ensures.answered.0 c.in-Ok.ensures.answered.1 whole
+    c.in-Ok.answer.status c.in-Ok.answer.text.items c.in-Ok.ensures.answered.0 (rw c.deref.ensures.value at c.in-Ok.ensures.answered.1) whole
 
-pub returns-clause-cut_off : goal.returns-clause-cut_off
-returns-clause-cut_off g c = λ is.
+pub returns-else-is_ok-clause-cut_off : goal.returns-else-is_ok-clause-cut_off
+returns-else-is_ok-clause-cut_off g c = λ is.
     let asked = question (g.H.Shelf.text_of c.args.shelf.now) (map string_bytes c.args.words.now.items) in
     let part : IfSome (g.O.Sink.taken c.args.out.now) (λ before. TakesPrefix before (g.O.Sink.taken c.write_all.new.sink) c.in-Ok.answer.text.items) = search rules in
     part_of_answer asked (g.H.Shelf.faults c.args.shelf.now) (g.H.Shelf.faults c.answer.new.shelf) (g.O.Sink.faults c.args.out.now) (g.O.Sink.faults c.write_all.new.sink) (g.O.Sink.taken c.args.out.now) (g.O.Sink.taken c.write_all.new.sink)
-    c.in-Ok.answer.status c.in-Ok.answer.text.items c.in-Ok.ensures.answered.1 part
+    c.in-Ok.answer.status c.in-Ok.answer.text.items (rw c.deref.ensures.value at c.in-Ok.ensures.answered.1) part
