@@ -39,6 +39,11 @@ use Rattle.mcrl2lin.proofs.AnswerStatuses.{answers_question, has_its_status, no_
 use Rattle.mcrl2lin.proofs.ReplayedTexts.{made_replay}
 use Rattle.mcrl2lin.proofs.Told.{cause_asked}
 
+-- what holds anyway holds where a result is one
+pub on_ok_anyway : {T E : Type 0} (r : Result T E) (P : Type 0) → P → OnOk r P
+on_ok_anyway (Ok x) P holds = holds
+on_ok_anyway (Err e) P holds = tt
+
 -- ---- the trace that was read
 module _ (text : List ℕ) (spec : PlainSpec) (g : Sig) (ts : List Tree) (equations : List PlainEquation) (x : NameId) (l : PlainLinear) (made : IsMadeOf text spec g ts equations x l) where
   pub replayed_as_told : AreWellFormed g (equations_at g ts equations) → (told : Option (List ℕ)) (trace : List ℕ) → IfSome told (λ t. trace ≡ t) → length trace ≤ MAX_TEXT_LEN → (fuel bound : ℕ) (status : Status) (shown : List ℕ)

@@ -2,9 +2,10 @@ use Rattle.std.proofs.Common.{ℕ, List, map}
 use Rattle.mcrl2_syntax.specs.Declarations.{spec_of}
 use Rattle.process_terms.specs.PlainProcesses.{plain_equation}
 use Rattle.lps_core.specs.PlainLinears.{plain_linear}
+use Rattle.lin_driver.specs.Accepted.{CanBeLinearised}
 use Rattle.lin_driver.specs.Linearised.{IsMadeOf}
 use Rattle.mcrl2lin.proofs.FaultNames.{are_named}
-use Rattle.mcrl2lin.proofs.ReplayAnswers.{file_stops, replayed_for, stopped_for, text_stops}
+use Rattle.mcrl2lin.proofs.ReplayAnswers.{file_stops, on_ok_anyway, replayed_for, stopped_for, text_stops}
 use Rattle.mcrl2lin.proofs.replaying.replay.Goals as goal
 
 pub verdict_on_file-requires : goal.verdict_on_file-requires
@@ -12,6 +13,9 @@ verdict_on_file-requires g c = (c.args.text.now, c.in-Ok.ensures.made)
 
 pub for_fault-requires : goal.for_fault-requires
 for_fault-requires g c = are_named c.args.text.now c.linearise.new.names c.in-Err.fault c.in-Err.ensures.refused
+
+pub returns-in-Ok-clause-accepted : goal.returns-in-Ok-clause-accepted
+returns-in-Ok-clause-accepted g c = on_ok_anyway c.verdict_on_file.result (CanBeLinearised c.args.text.now) c.in-Ok.ensures.accepted
 
 pub returns-in-Ok-clause-replayed : goal.returns-in-Ok-clause-replayed
 returns-in-Ok-clause-replayed g c =
