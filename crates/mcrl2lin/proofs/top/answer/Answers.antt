@@ -1,6 +1,7 @@
 use Rattle.std.proofs.Common.{rules, ◌≡◌, ◌∙◌, List, ℕ, Option, None, Some, map, string_bytes, ap, sym, subst}
-use Rattle.std.specs.Prelude.{option_map}
+use Rattle.std.specs.Prelude.{option_map, IfSome, IsSome}
 use Rattle.mcrl2lin.specs.Commands.{Asked, asked_by, NeedsTrace, trace_asked}
+use Rattle.mcrl2lin.specs.declared.command.Command.{Command}
 use Rattle.mcrl2lin.proofs.AnswerStatuses.{answers_question, has_its_status, no_when_asked, open_when_asked, with_any_trace}
 use Rattle.mcrl2lin.proofs.ReplayAnswers.{no_words, replay_answers, replay_reads, replay_refused, replay_says_no, replay_stays_open, rose_before, trace_told}
 use Rattle.mcrl2lin.proofs.Told.{has_cause}
@@ -8,7 +9,8 @@ use Rattle.mcrl2lin.proofs.FaultNames.{are_named}
 use Rattle.mcrl2lin.proofs.top.answer.Goals as goal
 
 pub unwrap-trace-requires : goal.unwrap-trace-requires
-unwrap-trace-requires g c = c.in_ok-command.ensures.traced (subst NeedsTrace (sym c.in-Replay.is) tt)
+unwrap-trace-requires g c =
+    subst (λ (o : Option Command). IfSome o (λ (x : Command). NeedsTrace x.task → IsSome x.trace)) c.in_ok-command.ensures.ok_part c.in_ok-command_of.ensures.traced (subst NeedsTrace (sym c.in-Replay.is) tt)
 
 pub replay-requires : goal.replay-requires
 replay-requires g c = search rules
