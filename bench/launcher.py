@@ -29,6 +29,7 @@ LISTED = "# The crates.\nmcrl2lin: high, itoa\nhigh staticlib: low # and no more
 PROGRAM = """#!/bin/bash
 case "$1 ${2-}" in
 'linearise '*) cat -- "$2" 2> /dev/null || { echo 'read fault' >&2; exit 3; } ;;
+'replay '*) cat -- "$2" "${4:-${3#*=}}" 2> /dev/null || { echo 'read fault' >&2; exit 3; } ;;
 'stack '*) ulimit -S -s; ulimit -H -s ;;
 'refuse '*) head -n 1 -- "$2" >&2; exit 1 ;;
 'ask '*) read -r line; echo "got $line"; echo heard >&2; exit "$2" ;;
@@ -467,6 +468,12 @@ def unreadable(place):
     empty.touch()
     ran = place.run("linearise", str(empty))
     same((ran.returncode, ran.stderr), (0, ""))
+    # The trace, where FILE can be read.
+    for file, trace, said in ((empty, "nothing", "nothing"), ("none", "nothing", "none"), (empty, empty, None)):
+        for words in (["--trace", str(trace)], [f"--trace={trace}"]):
+            ran = place.run("replay", str(file), *words)
+            lines = ["read fault", f"mcrl2lin: can't read {said}"] if said else []
+            same((words, ran.returncode, ran.stderr.splitlines()), (words, 3 if said else 0, lines))
 
 
 def refused(place):
