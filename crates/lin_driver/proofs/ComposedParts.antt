@@ -14,13 +14,12 @@ use Rattle.bisim_laws.specs.Links.{Beside, Under}
 use Rattle.bisim_laws.proofs.ComposedLinks.{beside_good, under_good}
 use Rattle.lps_core.specs.Fitting.{Fits}
 use Rattle.lps_core.specs.GoingOn.{IsGoodOver}
-use Rattle.lps_core.specs.Naming.{GrowsByNames}
+use Rattle.lps_core.specs.Naming.{GrowsByNames, ParamsHaveOwnNames}
 use Rattle.lps_core.specs.PlainLinears.{PlainLinear, linear_of, linear_state}
 use Rattle.lps_core.proofs.PoolTrees.{extends_itself}
 use Rattle.summand_expander.specs.WholeProducts.{IsProduct, IsGoodProduct}
 use Rattle.action_filters.specs.Filters.{IsGoodAround}
 use Rattle.greibach.proofs.GrownFits.{both_by_names, pool_alone}
-use Rattle.regular_encoder.specs.FormColumns.{ParamsHaveOwnNames}
 use Rattle.proc_unfold.specs.Networks.{PlainNetwork, PlainNetworks, side_by_side, under, no_networks, more_networks, network_body, network_bodies}
 use Rattle.lin_driver.specs.FittingOperators.{OperatorFits, NetworksFit}
 use Rattle.lin_driver.specs.Leaves.{leaves, more_leaves}

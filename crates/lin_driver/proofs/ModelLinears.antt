@@ -19,7 +19,7 @@ use Rattle.bisim_laws.proofs.Firing.{contains_none}
 use Rattle.lps_core.specs.Fitting.{Fits}
 use Rattle.lps_core.specs.GoingOn.{IsGoodOver}
 use Rattle.lps_core.specs.Moving.{all_kept}
-use Rattle.lps_core.specs.Naming.{NamingIsGood, GrowsByNames, SumsAreNamed, HaveOwnNames}
+use Rattle.lps_core.specs.Naming.{NamingIsGood, GrowsByNames, SumsAreNamed, HaveOwnNames, ParamsHaveOwnNames}
 use Rattle.lps_core.specs.PlainLinears.{PlainLinear, linear_of, linear_state}
 use Rattle.lps_core.proofs.NamedSums.{names_then}
 use Rattle.lps_core.proofs.PoolTrees.{extends_itself}
@@ -36,7 +36,6 @@ use Rattle.greibach.specs.Scopes.{BindsAnew, HaveOwnVariables}
 use Rattle.greibach.specs.Surroundings.{HasUsableNames}
 use Rattle.greibach.proofs.GrownFits.{both_by_names}
 use Rattle.greibach.proofs.WhateverStands.{sequential_bodies, bound_once}
-use Rattle.regular_encoder.specs.FormColumns.{ParamsHaveOwnNames}
 use Rattle.regular_encoder.proofs.InhabitedColumns.{still_inhabited}
 use Rattle.lps_printer.proofs.GrowingByAdditions.{additions_follow, additions_grow, same_actions}
 use Rattle.lin_driver.specs.Faults.{fault_of_guard, fault_of_net}

@@ -20,7 +20,7 @@ use Rattle.data_theory.proofs.NameLemmas.{place_is}
 use Rattle.term_pool.specs.Pools.{PoolContents}
 use Rattle.term_pool.proofs.DeclaredConstants.{fresh_grows, still_read}
 use Rattle.lps_core.specs.Fitting.{IsVariable}
-use Rattle.lps_core.specs.Naming.{name_of, list_names, table_names, function_names}
+use Rattle.lps_core.specs.Naming.{name_of, list_names, table_names, function_names, ParamsHaveOwnNames}
 use Rattle.lps_core.specs.PlainLinears.{PlainLinear}
 use Rattle.lps_core.proofs.FunctionNames.{functions_taken, list_names_stay}
 use Rattle.lps_core.proofs.Members.{contains_map, map_contains}
@@ -29,7 +29,7 @@ use Rattle.lps_core.proofs.NamingLoops.{fresh_names}
 use Rattle.sort_table.specs.SignatureVocabularies.{text_under}
 use Rattle.greibach.specs.FittingForms.{FormFits, EquationFits}
 use Rattle.greibach.specs.PlainForms.{PlainEquation, PlainForm}
-use Rattle.regular_encoder.specs.FormColumns.{IsKindIn, column_kinds, ParamsHaveOwnNames}
+use Rattle.regular_encoder.specs.FormColumns.{IsKindIn, column_kinds}
 use Rattle.regular_encoder.proofs.LayingOut.{kinds_in}
 use Rattle.stack_encoder.specs.AddedSort.{AreFreshNames, no_name, one_more_name, DeclaresStack}
 use Rattle.stack_encoder.specs.StackColumns.{AreClosedTerms, no_closed_term, one_more_closed_term}

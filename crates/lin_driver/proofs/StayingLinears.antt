@@ -14,7 +14,7 @@ use Rattle.process_terms.specs.SignatureEntries.{entries_of, BothGrow}
 use Rattle.bisim_laws.specs.LinearProcesses.{state_of}
 use Rattle.lps_core.specs.Fitting.{Fits, IsVariable, HasTakenName}
 use Rattle.lps_core.specs.GoingOn.{IsGoodOver}
-use Rattle.lps_core.specs.Naming.{name_of, function_names, GrowsByNames}
+use Rattle.lps_core.specs.Naming.{name_of, function_names, GrowsByNames, ParamsHaveOwnNames}
 use Rattle.lps_core.specs.PlainLinears.{PlainLinear, linear_state}
 use Rattle.lps_core.proofs.FunctionNames.{function_names_stay}
 use Rattle.lps_core.proofs.GrowingData.{good_stay_good}
@@ -22,7 +22,6 @@ use Rattle.lps_core.proofs.Members.{all_from}
 use Rattle.lps_core.proofs.NamedSums.{name_kept, names_kept, taken_name}
 use Rattle.lps_core.proofs.Staying.{what_fits_stays}
 use Rattle.lps_core.proofs.StayingFits.{what_fits_fits_still}
-use Rattle.regular_encoder.specs.FormColumns.{ParamsHaveOwnNames}
 use Rattle.lps_printer.specs.GrowingByAdditions.{GrowsByAdditions}
 use Rattle.lps_printer.proofs.GrowingByAdditions.{still_stands, constants_are_additions}
 use Rattle.lps_printer.proofs.GrowingByConstants.{on_names}

@@ -6,9 +6,8 @@ use Rattle.mcrl2_syntax.specs.Declarations.{PlainSpec}
 use Rattle.sort_table.specs.Expressions.{Name}
 use Rattle.sort_table.specs.Identifiers.{copied_identifiers}
 use Rattle.sort_checker.specs.TextModels.{IsSignatureOf}
-use Rattle.lps_core.specs.Naming.{HaveOwnNames}
+use Rattle.lps_core.specs.Naming.{HaveOwnNames, ParamsHaveOwnNames}
 use Rattle.lps_core.specs.PlainLinears.{PlainLinear}
-use Rattle.regular_encoder.specs.FormColumns.{ParamsHaveOwnNames}
 use Rattle.lin_driver.specs.ModelLinears.{IsProcessName}
 
 -- A signature had what the specification declares, and the identifiers that are copied were taken. The process has the first of the names `P`, `P_1`, ..

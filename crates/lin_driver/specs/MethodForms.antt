@@ -10,12 +10,12 @@ use Rattle.bisim_laws.specs.Links.{Link}
 use Rattle.lps_core.specs.Fitting.{Fits}
 use Rattle.lps_core.specs.GoingOn.{IsGoodOver}
 use Rattle.lps_core.specs.PlainLinears.{PlainLinear, linear_state}
+use Rattle.lps_core.specs.Naming.{ParamsHaveOwnNames}
 use Rattle.greibach.specs.Forms.{form_table}
 use Rattle.greibach.specs.PlainForms.{PlainForm, form_of}
 use Rattle.greibach.specs.Surroundings.{HasUsableNames}
 use Rattle.greibach.specs.Tails.{HasTails}
 use Rattle.regular_encoder.specs.EncodedForms.{IsEncodedForm}
-use Rattle.regular_encoder.specs.FormColumns.{ParamsHaveOwnNames}
 use Rattle.regular_encoder.specs.Refusals.{IsFirstWithTwoCalls}
 use Rattle.regular_encoder.specs.declared.faults.EncodeFault.{EncodeFault}
 use Rattle.regular_encoder.specs.declared.faults.EncodeFault.TheVariants.{NotTail, NoMemory}

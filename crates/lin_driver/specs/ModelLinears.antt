@@ -18,14 +18,13 @@ use Rattle.bisim_laws.specs.Links.{Link}
 use Rattle.guard_check.specs.Faults.{IsGuardFaultOf}
 use Rattle.lps_core.specs.Fitting.{Fits}
 use Rattle.lps_core.specs.GoingOn.{IsGoodOver}
-use Rattle.lps_core.specs.Naming.{HaveOwnNames}
+use Rattle.lps_core.specs.Naming.{HaveOwnNames, ParamsHaveOwnNames}
 use Rattle.lps_core.specs.PlainLinears.{PlainLinear, linear_state}
 use Rattle.proc_unfold.specs.FittingModels.{ModelFits}
 use Rattle.proc_unfold.specs.Networks.{PlainNetwork}
 use Rattle.proc_unfold.specs.Parallelism.{IsNetFaultOf}
 use Rattle.proc_unfold.specs.Unfolded.{IsOpened}
 use Rattle.greibach.specs.Scopes.{HaveOwnVariables}
-use Rattle.regular_encoder.specs.FormColumns.{ParamsHaveOwnNames}
 use Rattle.lps_printer.specs.GrowingByAdditions.{GrowsByAdditions}
 use Rattle.lin_driver.specs.FittingOperators.{OperatorsFit, NetworkFits}
 use Rattle.lin_driver.specs.Leaves.{leaves}

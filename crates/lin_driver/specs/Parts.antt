@@ -13,8 +13,8 @@ use Rattle.bisim_laws.specs.Links.{Link}
 use Rattle.lps_core.specs.Fitting.{Fits}
 use Rattle.lps_core.specs.GoingOn.{IsGoodOver}
 use Rattle.lps_core.specs.PlainLinears.{PlainLinear, linear_state}
+use Rattle.lps_core.specs.Naming.{ParamsHaveOwnNames}
 use Rattle.proc_unfold.specs.Networks.{PlainNetwork, network_body}
-use Rattle.regular_encoder.specs.FormColumns.{ParamsHaveOwnNames}
 use Rattle.lin_driver.specs.FittingOperators.{NetworkFits}
 use Rattle.lin_driver.specs.Leaves.{leaves}
 use Rattle.lin_driver.specs.TakenNames.{HaveIdentifiers}

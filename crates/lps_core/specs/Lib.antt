@@ -9,4 +9,5 @@ pub mod TreeSummands
 pub mod TreeConditions
 pub mod MeantConditions
 pub mod Naming
+pub mod CanonicalConditions
 pub mod MadeTerms

@@ -101,6 +101,11 @@ HasOwnNames g params s = All (λ x. ¬ (IsUsed g params (name_of g x))) s.sums �
 abbrev pub HaveOwnNames : Sig → PlainLinear → Type 0
 HaveOwnNames g l = All (HasOwnNames g l.params) l.summands
 
+-- the names of the parameters differ, and none is a function's
+pub record ParamsHaveOwnNames (g : Sig) (xs : List VarId) : Type 0 where
+  pub differ : AreDistinct (map (λ n. n.0) (names_of g xs))
+  pub unused : All (λ x. ¬ (Contains (function_names g) (name_of g x))) xs
+
 -- over every theory that goes on from the signature, nothing was dropped
 abbrev pub NamingIsGood : Sig → List Tree → PlainLinear → PlainLinear → Type 0
 NamingIsGood g ts l k =

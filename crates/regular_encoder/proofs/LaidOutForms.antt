@@ -26,7 +26,7 @@ use Rattle.process_terms.specs.SignatureEntries.{entries_of, BothGrow}
 use Rattle.bisim_laws.specs.LinearProcesses.{variables, reading, AreDeclared, HaveDataSorts}
 use Rattle.bisim_laws.specs.BaseStates.{control_of}
 use Rattle.lps_core.specs.Fitting.{IsVariable, sort_of_variable, HasTakenName}
-use Rattle.lps_core.specs.Naming.{name_of, function_names, GrowsByNames}
+use Rattle.lps_core.specs.Naming.{name_of, function_names, GrowsByNames, ParamsHaveOwnNames}
 use Rattle.lps_core.proofs.Members.{all_at, all_from}
 use Rattle.lps_core.proofs.PoolTrees.{extends_itself}
 use Rattle.lps_core.proofs.MeantParts.{positive_meant}
@@ -40,7 +40,7 @@ use Rattle.regular_encoder.specs.Encoding.{control_params, encoded_params, place
 use Rattle.regular_encoder.specs.TreeEncoding.{PlainLayout, place_at}
 use Rattle.regular_encoder.specs.MeantEncoding.{HasControl}
 use Rattle.regular_encoder.specs.Layouts.{IsPlaceOf, LaidOut, control_variable}
-use Rattle.regular_encoder.specs.FormColumns.{kind_of, all_params, column_kinds, IsColumnOf, HasItsColumns, layout_params, layout_meant, meant_firsts, ServesTheEncoding, ParamsHaveOwnNames, WhatIsLaidOutServes}
+use Rattle.regular_encoder.specs.FormColumns.{kind_of, all_params, column_kinds, IsColumnOf, HasItsColumns, layout_params, layout_meant, meant_firsts, ServesTheEncoding, WhatIsLaidOutServes}
 use Rattle.regular_encoder.proofs.NewColumns.{KindsStand, ColumnsStand, columns_stand, columns_stand_on, control_sorts, control_stands, none_alone}
 use Rattle.regular_encoder.proofs.FoundKinds.{all_with_kinds}
 use Rattle.regular_encoder.proofs.FirstTerms.{FirstStands, ArgumentStands, argument_stands, firsts_stand, closed_args, args_closed}

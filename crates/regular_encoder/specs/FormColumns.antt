@@ -9,7 +9,7 @@ use Rattle.data_theory.specs.declared.ids.TermId.{TermId}
 use Rattle.data_theory.specs.Table.{pos_sort}
 use Rattle.data_theory.specs.Terms.{Term}
 use Rattle.data_theory.specs.Declarations.{HaveSorts}
-use Rattle.data_theory.specs.Environments.{terms_of, AreDistinct}
+use Rattle.data_theory.specs.Environments.{terms_of}
 use Rattle.data_theory.specs.Signature.{Sig, with_variable}
 use Rattle.data_theory.specs.Fresh.{IsFreshIn}
 use Rattle.data_theory.specs.IdData.{data_meant}
@@ -23,7 +23,7 @@ use Rattle.bisim_laws.specs.LinearProcesses.{sorts, AreDeclared, HaveDataSorts}
 use Rattle.bisim_laws.specs.BaseStates.{Columns, control_of}
 use Rattle.lps_core.specs.Fitting.{AreTermsOf, IsVariable, sort_of_variable, HasTakenName}
 use Rattle.lps_core.specs.MadeTerms.{IsClosedTerm}
-use Rattle.lps_core.specs.Naming.{name_of, names_of, function_names}
+use Rattle.lps_core.specs.Naming.{name_of, ParamsHaveOwnNames}
 use Rattle.greibach.specs.FittingForms.{FormFits}
 use Rattle.greibach.specs.PlainForms.{PlainEquation, PlainForm, form_of}
 use Rattle.regular_encoder.specs.Encoding.{encoded_params, first_terms, IsLayout}
@@ -136,11 +136,6 @@ pub record ServesTheEncoding (h : Sig) (us : List Tree) (f : PlainForm) (l : Pla
   pub terms : AreTermsOf h us (map (sort_of_variable h) l.columns) firsts
   pub closed : HaveSorts (data_meant h) [] (terms_of (meant_firsts h us firsts)) (sorts (layout_meant h us l firsts).columns)
   pub starts : first_terms (layout_meant h us l firsts) (map (term_at (entries_of h us)) f.init) ≡ control_of (layout_meant h us l firsts).control 0 ++ meant_firsts h us firsts
-
--- the names of the parameters differ, and none is a function's
-pub record ParamsHaveOwnNames (h : Sig) (xs : List VarId) : Type 0 where
-  pub differ : AreDistinct (map (λ n. n.0) (names_of h xs))
-  pub unused : All (λ x. ¬ (Contains (function_names h) (name_of h x))) xs
 
 -- ---- the law
 abbrev pub WhatIsLaidOutServes : Type 0

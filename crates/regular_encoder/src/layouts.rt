@@ -11,10 +11,10 @@ ghost use Rattle.term_pool.specs.ConstructorValues.{HasValue};
 ghost use Rattle.term_pool.specs.Constants.{AreConstants, KeepsConstants};
 ghost use Rattle.term_pool.specs.Pools.{Extends};
 ghost use Rattle.lps_core.specs.Fitting.{sort_of_variable, IsVariable};
-ghost use Rattle.lps_core.specs.Naming.{name_of, GrowsByNames};
+ghost use Rattle.lps_core.specs.Naming.{name_of, GrowsByNames, ParamsHaveOwnNames};
 ghost use Rattle.greibach.specs.FittingForms.{FormFits};
 ghost use Rattle.greibach.specs.PlainForms.{plain_equation, plain_form, PlainEquation};
-ghost use Rattle.regular_encoder.specs.FormColumns.{all_params, kind_of, layout_params, places_in, with_kinds, AreColumns, AreFirstTerms, AreKindsAt, HasItsColumns, IsColumn, IsControl, IsFirstTerm, IsKindIn, IsOwnName, ParamsHaveOwnNames, ServesTheEncoding};
+ghost use Rattle.regular_encoder.specs.FormColumns.{all_params, kind_of, layout_params, places_in, with_kinds, AreColumns, AreFirstTerms, AreKindsAt, HasItsColumns, IsColumn, IsControl, IsFirstTerm, IsKindIn, IsOwnName, ServesTheEncoding};
 ghost use Rattle.regular_encoder.specs.Layouts.{LaidOut};
 ghost use Rattle.regular_encoder.specs.TreeEncoding.{plain_layout, plain_place};
 

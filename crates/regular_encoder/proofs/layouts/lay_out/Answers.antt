@@ -6,11 +6,12 @@ use Rattle.term_pool.proofs.DeclaredConstants.{grown_itself, constants_stay}
 use Rattle.term_pool.specs.ConstructorValues.{HasValue}
 use Rattle.lps_core.specs.Fitting.{IsVariable, sort_of_variable}
 use Rattle.lps_core.proofs.NamedSums.{names_then}
+use Rattle.lps_core.specs.Naming.{ParamsHaveOwnNames}
 use Rattle.greibach.specs.PlainForms.{plain_equation, plain_form}
 use Rattle.regular_encoder.specs.declared.layouts.Layout.{Layout}
 use Rattle.regular_encoder.specs.TreeEncoding.{plain_layout, plain_place}
 use Rattle.regular_encoder.specs.Layouts.{LaidOut}
-use Rattle.regular_encoder.specs.FormColumns.{layout_params, places_in, AreFirstTerms, HasItsColumns, ServesTheEncoding, ParamsHaveOwnNames}
+use Rattle.regular_encoder.specs.FormColumns.{layout_params, places_in, AreFirstTerms, HasItsColumns, ServesTheEncoding}
 use Rattle.regular_encoder.proofs.LayingOut.{read_first, kinds_in, keys_known, placed, columns_made, places_within, variables_in, inhabited_in, some_place, place_long}
 use Rattle.regular_encoder.proofs.LaidOutForms.{what_is_laid_out_serves}
 use Rattle.regular_encoder.proofs.InhabitedColumns.{firsts_sorts, still_inhabited}
