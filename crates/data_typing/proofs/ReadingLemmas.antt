@@ -206,12 +206,10 @@ read_by y m a b ks es s F r h e q = IfOk-weaker r (λ at. (ds : List Expression)
 pub no_parts : (y : FunId → Symbol) (m : Name → Meaning) (a : List Node) (ks : List ℕ) → ks ≡ [] → EachStands y m a ks []
 no_parts y m a ks e = subst (λ l. EachStands y m a l []) (sym e) tt
 
-pub join_of_none : {E : Type 0} (y : FunId → Symbol) (m : Name → Meaning) (f : Name) (a b : List Node) (ks : List ℕ) → ks ≡ [] → (js : List ℕ) → js ≡ [] → (r : Result ℕ E)
-    → IfOk r (λ at. (ds : List Expression) → EachStands y m a js ds → Stands y m b at (word f (expressions_of ds)))
+pub join_of_none : {E : Type 0} (y : FunId → Symbol) (m : Name → Meaning) (f : Name) (a b : List Node) (ks : List ℕ) → ks ≡ [] → (r : Result ℕ E) → IfOk r (λ at. Stands y m b at (word f expressions.none))
     → IfOk r (λ at. (es : List Expression) → EachStands y m a ks es → Stands y m b at (joined f es))
-join_of_none y m f a b ks e js q r h =
-    IfOk-weaker r (λ at. (ds : List Expression) → EachStands y m a js ds → Stands y m b at (word f (expressions_of ds))) (λ at. (es : List Expression) → EachStands y m a ks es → Stands y m b at (joined f es))
-    (λ at k es s. by_parts at es (subst (λ l. EachStands y m a l es) e s) (k [] (no_parts y m a js q))) h
+join_of_none y m f a b ks e r h =
+    IfOk-weaker r (λ at. Stands y m b at (word f expressions.none)) (λ at. (es : List Expression) → EachStands y m a ks es → Stands y m b at (joined f es)) (λ at k es s. by_parts at es (subst (λ l. EachStands y m a l es) e s) k) h
   where
     by_parts : (at : ℕ) (es : List Expression) → EachStands y m a [] es → Stands y m b at (word f expressions.none) → Stands y m b at (joined f es)
     by_parts at [] s t = t

@@ -1,5 +1,5 @@
 -- The expressions of trees in code.
-use Rattle.std.proofs.Common.{◌≡◌, map, sym, ap, ◌∙◌}
+use Rattle.std.proofs.Common.{◌≡◌, ◌⊎◌, inl, inr, map, sym, ap, ◌∙◌}
 use Rattle.std.specs.Prelude.{Vec, codes}
 use Rattle.std.specs.Global.{Global, Box}
 use Rattle.mcrl2_lexer.specs.Words.{decimal}
@@ -52,3 +52,8 @@ sum_is s t os = ap bare_data (ap plain_data (sym (variants.rolls-Sum s t os)) �
 
 pub product_is : (s : Span) (t : Box DataTree) (os : Vec (InfixSign × DataTree) Global) → bare (variants.Product s t os) ≡ to_the_left (bare t.value) (operands_of (plain_operands os.items))
 product_is s t os = ap bare_data (ap plain_data (sym (variants.rolls-Product s t os)) ∙ fold-roll-DataTree PlainData plain_data_step _)
+
+-- a chain of `+` and `-`, or one of `*`, `div` and `mod`
+pub chain_is : (t : DataTree) (first : Box DataTree) (os : Vec (InfixSign × DataTree) Global) → ((s : Span) × (t ≡ variants.Sum s first os)) ⊎ ((s : Span) × (t ≡ variants.Product s first os)) → bare t ≡ to_the_left (bare first.value) (operands_of (plain_operands os.items))
+chain_is t first os (inl (s, e)) = ap bare e ∙ sum_is s first os
+chain_is t first os (inr (s, e)) = ap bare e ∙ product_is s first os

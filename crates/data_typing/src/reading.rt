@@ -9,7 +9,7 @@ ghost use Rattle.data_theory.specs.IdTerms.{symbol_under};
 ghost use Rattle.mcrl2_lexer.specs.Tokens.{AreDigits};
 ghost use Rattle.mcrl2_lexer.specs.Words.{decimal};
 ghost use Rattle.mcrl2_syntax.specs.DataTrees.{plain_data, plain_operands, datas_of, operands_of};
-ghost use Rattle.sort_table.specs.Expressions.{Name, Expression, numeral, listed, word};
+ghost use Rattle.sort_table.specs.Expressions.{Name, Expression, none, numeral, listed, word};
 ghost use Rattle.sort_table.specs.BareData as bare;
 ghost use Rattle.data_typing.specs.Typings.{Meaning};
 ghost use Rattle.data_typing.specs.Nodes.{AreNodes, AreBelow};
@@ -25,7 +25,7 @@ use crate::scope::Scope;
 use crate::words::word_kind;
 use data_theory::{NoMemory, Signature};
 use mcrl2_lexer::numeral_value;
-use mcrl2_syntax::{DataTree, InfixSign, PrefixSign};
+use mcrl2_syntax::{DataTree, InfixSign, PrefixSign, Word};
 use std::alloc::Global;
 use std::str::from_utf8;
 
@@ -68,11 +68,11 @@ fn infix_text(sign: InfixSign) -> &'static str
 }
 
 /// A name as text.
-fn text_of(name: &[u8]) -> &str
-    requires { IsUtf8 name.now }
-    ensures { result.now ≡ name.now }
+fn text_of(name: &Word) -> &str
+    requires { IsUtf8 name.now.bytes.items }
+    ensures { result.now ≡ name.now.bytes.items }
 {
-    match from_utf8(name) {
+    match from_utf8(name.bytes.as_slice()) {
         Ok(text) => text,
         Err(_) => unreachable!(),
     }
@@ -102,6 +102,27 @@ fn add_word(
     let kind = word_kind(alloc, sig, flats, scope, text, alone)?;
     let at = add(nodes, Node { kind, arguments })?;
     Ok(at)
+}
+
+/// A word alone, behind the nodes.
+fn add_name(
+    alloc: Global,
+    sig: &Signature,
+    flats: &[FlatSort],
+    scope: &Scope,
+    nodes: &mut Vec<Node>,
+    text: &str,
+) -> Result<usize, NoMemory>
+    requires flats { AreFlat sig.now flats.now }
+    requires names { All (λ b. b.name.0 < length sig.now.texts) scope.now }
+    requires sorts { All (λ b. IsFlatWithin (sort_count sig.now) b.sort) scope.now }
+    requires nodes { AreNodes nodes.old.items }
+    ensures grown { OnOk result (GoOn nodes.old.items nodes.new.items) }
+    ensures sound { OnOk result (AreNodesWithin (sort_count sig.now) (length sig.now.functions) nodes.old.items → AreNodesWithin (sort_count sig.now) (length sig.now.functions) nodes.new.items) }
+    ensures within { IfOk result (λ at. at < length nodes.new.items) }
+    ensures stands { IfOk result (λ at. Stands (symbol_under sig.now) (meaning_in sig.now scope.now) nodes.new.items at (word text.now none)) }
+{
+    add_word(alloc, sig, flats, scope, nodes, text, Vec::new(alloc))
 }
 
 /// A list in brackets, behind the nodes.
@@ -160,7 +181,7 @@ fn join(
     ensures stands { IfOk result (λ at. (es : List Expression) → EachStands (symbol_under sig.now) (meaning_in sig.now scope.now) nodes.old.items operands.now es → Stands (symbol_under sig.now) (meaning_in sig.now scope.now) nodes.new.items at (joined text.now es)) }
 {
     if operands.is_empty() {
-        return add_word(alloc, sig, flats, scope, nodes, text, Vec::new(alloc));
+        return add_name(alloc, sig, flats, scope, nodes, text);
     }
     let last = operands.len() - 1;
     let mut at = operands[last];
@@ -191,28 +212,17 @@ pub fn read(
     ensures stands { IfOk result (λ at. Stands (symbol_under sig.now) (meaning_in sig.now scope.now) nodes.new.items at (bare.bare_data (plain_data tree.now))) }
 {
     match tree {
-        DataTree::Name(name) => {
-            let text = text_of(name.bytes.as_slice());
-            add_word(alloc, sig, flats, scope, nodes, text, Vec::new(alloc))
-        }
+        DataTree::Name(name) => add_name(alloc, sig, flats, scope, nodes, text_of(name)),
         DataTree::Numeral(digits) => add_numeral(alloc, nodes, digits.bytes.as_slice()),
-        DataTree::True(_) => add_word(alloc, sig, flats, scope, nodes, "true", Vec::new(alloc)),
-        DataTree::False(_) => add_word(alloc, sig, flats, scope, nodes, "false", Vec::new(alloc)),
+        DataTree::True(_) => add_name(alloc, sig, flats, scope, nodes, "true"),
+        DataTree::False(_) => add_name(alloc, sig, flats, scope, nodes, "false"),
         DataTree::List(_, elements) => {
             let parts = read_all(alloc, sig, flats, scope, nodes, elements.as_slice())?;
             add_list(nodes, parts)
         }
         DataTree::Apply(_, name, arguments) => {
             let parts = read_all(alloc, sig, flats, scope, nodes, arguments.as_slice())?;
-            add_word(
-                alloc,
-                sig,
-                flats,
-                scope,
-                nodes,
-                text_of(name.bytes.as_slice()),
-                parts,
-            )
+            add_word(alloc, sig, flats, scope, nodes, text_of(name), parts)
         }
         DataTree::Brackets(_, inner) => read(alloc, sig, flats, scope, nodes, inner),
         DataTree::Prefix(_, sign, inner) => {
@@ -226,21 +236,15 @@ pub fn read(
             let parts = Vec::from_array(alloc, [first, second])?;
             add_word(alloc, sig, flats, scope, nodes, infix_text(*sign), parts)
         }
-        DataTree::Sum(_, first, operands) => {
-            let at = read(alloc, sig, flats, scope, nodes, first)?;
-            read_chain(alloc, sig, flats, scope, nodes, at, operands.as_slice())
-        }
-        DataTree::Product(_, first, operands) => {
+        DataTree::Sum(_, first, operands) | DataTree::Product(_, first, operands) => {
             let at = read(alloc, sig, flats, scope, nodes, first)?;
             read_chain(alloc, sig, flats, scope, nodes, at, operands.as_slice())
         }
         DataTree::And(_, operands) => {
-            let parts = read_all(alloc, sig, flats, scope, nodes, operands.as_slice())?;
-            join(alloc, sig, flats, scope, nodes, "&&", parts.as_slice())
+            read_joined(alloc, sig, flats, scope, nodes, "&&", operands.as_slice())
         }
         DataTree::Or(_, operands) => {
-            let parts = read_all(alloc, sig, flats, scope, nodes, operands.as_slice())?;
-            join(alloc, sig, flats, scope, nodes, "||", parts.as_slice())
+            read_joined(alloc, sig, flats, scope, nodes, "||", operands.as_slice())
         }
     }
 }
@@ -270,6 +274,31 @@ fn read_all(
         parts.push(at)?;
     }
     Ok(parts)
+}
+
+/// Expressions with a word between them, from the right. It is inlined, so that a level takes no more of the stack.
+#[inline(always)]
+#[cycle(reading)]
+fn read_joined(
+    alloc: Global,
+    sig: &Signature,
+    flats: &[FlatSort],
+    scope: &Scope,
+    nodes: &mut Vec<Node>,
+    text: &str,
+    trees: &[DataTree],
+) -> Result<usize, NoMemory>
+    requires flats { AreFlat sig.now flats.now }
+    requires names { All (λ b. b.name.0 < length sig.now.texts) scope.now }
+    requires sorts { All (λ b. IsFlatWithin (sort_count sig.now) b.sort) scope.now }
+    requires nodes { AreNodes nodes.old.items }
+    requires trees { AreReadable (datas_of (map plain_data trees.now)) }
+    ensures grown { OnOk result (GoOn nodes.old.items nodes.new.items) }
+    ensures sound { OnOk result (AreNodesWithin (sort_count sig.now) (length sig.now.functions) nodes.old.items → AreNodesWithin (sort_count sig.now) (length sig.now.functions) nodes.new.items) }
+    ensures stands { IfOk result (λ at. Stands (symbol_under sig.now) (meaning_in sig.now scope.now) nodes.new.items at (joined text.now (bare_trees trees.now))) }
+{
+    let parts = read_all(alloc, sig, flats, scope, nodes, trees)?;
+    join(alloc, sig, flats, scope, nodes, text, parts.as_slice())
 }
 
 /// An expression that was read, with further ones behind signs, from the left.

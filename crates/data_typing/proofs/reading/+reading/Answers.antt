@@ -1,4 +1,4 @@
-use Rattle.std.proofs.Common.{List, [], ◌∷◌, length, sym, subst, ap, ◌∙◌, arith}
+use Rattle.std.proofs.Common.{List, [], ◌∷◌, length, refl, sym, subst, ap, ◌∙◌, arith}
 use Rattle.std.specs.Prelude.{codes}
 use Rattle.std.proofs.lemmas.Result.{IfOk-weaker}
 use Rattle.data_theory.specs.IdTerms.{symbol_under}
@@ -16,52 +16,21 @@ use Rattle.data_typing.specs.NodeTypings.{Stands, EachStands}
 use Rattle.data_typing.specs.CodeWords.{meaning_in}
 use Rattle.data_typing.specs.Readings.{bare_trees, expressions_of, joined}
 use Rattle.data_typing.proofs.ReadingLemmas.{most_at, readable_at, operand_at, stands_on, goes_on, all_more, chain_more, each_below, read_by, no_parts, datas_are, joined_are}
-use Rattle.data_typing.proofs.TreeEquations.{name_is, numeral_is, true_is, false_is, list_is, apply_is, and_is, or_is, prefix_is, infix_is, sum_is, product_is}
+use Rattle.data_typing.proofs.TreeEquations.{name_is, numeral_is, true_is, false_is, list_is, apply_is, and_is, or_is, prefix_is, infix_is, chain_is}
 use Rattle.data_typing.proofs.reading.+reading.Goals as goal
 
 pub read-add_list-requires-clause-below : goal.read-add_list-requires-clause-below
 read-add_list-requires-clause-below t c = each_below (symbol_under c.args.sig.now) (meaning_in c.args.sig.now c.args.scope.now) c.read_all.new.nodes.items c.in_ok-parts-in-List.parts.items (bare_trees c.as_slice-in-List.result.now) c.in_ok-parts-in-List.ensures.stand
 
-pub read-add_word-requires-in-Apply-clause-below : goal.read-add_word-requires-in-Apply-clause-below
-read-add_word-requires-in-Apply-clause-below t c = each_below (symbol_under c.args.sig.now) (meaning_in c.args.sig.now c.args.scope.now) c.read_all-in-Apply.new.nodes.items c.in_ok-parts-in-Apply.parts.items (bare_trees c.as_slice-in-Apply.result.now) c.in_ok-parts-in-Apply.ensures.stand
-
-pub read-join-requires-clause-below : goal.read-join-requires-clause-below
-read-join-requires-clause-below t c =
-    subst (AreBelow (length c.read_all-in-And.new.nodes.items)) (sym c.as_slice-in-And-2.ensures.value)
-    (each_below (symbol_under c.args.sig.now) (meaning_in c.args.sig.now c.args.scope.now) c.read_all-in-And.new.nodes.items c.in_ok-parts-in-And.parts.items (bare_trees c.as_slice-in-And.result.now) c.in_ok-parts-in-And.ensures.stand)
-
-pub read-join-requires-in-Or-clause-below : goal.read-join-requires-in-Or-clause-below
-read-join-requires-in-Or-clause-below t c =
-    subst (AreBelow (length c.read_all-in-Or.new.nodes.items)) (sym c.as_slice-in-Or-2.ensures.value)
-    (each_below (symbol_under c.args.sig.now) (meaning_in c.args.sig.now c.args.scope.now) c.read_all-in-Or.new.nodes.items c.in_ok-parts-in-Or.parts.items (bare_trees c.as_slice-in-Or.result.now) c.in_ok-parts-in-Or.ensures.stand)
-
-pub read-returns-in-Name-clause-stands : goal.read-returns-in-Name-clause-stands
-read-returns-in-Name-clause-stands t c =
-    read_by (symbol_under c.args.sig.now) (meaning_in c.args.sig.now c.args.scope.now) c.args.nodes.now.items c.add_word.new.nodes.items c.new.result.items []
-    (no_parts (symbol_under c.args.sig.now) (meaning_in c.args.sig.now c.args.scope.now) c.args.nodes.now.items c.new.result.items c.new.ensures.items)
-    (λ ds. word c.text_of-text.result.now (expressions_of ds)) c.add_word.result c.add_word.ensures.stands (bare_data (plain_data c.args.tree.now))
-    (ap (λ n. word n none) (c.text_of-text.ensures ∙ c.as_slice.ensures.value) ∙ sym (ap (λ (u : DataTree). bare_data (plain_data u)) c.in-Name.is ∙ name_is c.in-Name.name))
+pub read-add_word-requires-clause-below : goal.read-add_word-requires-clause-below
+read-add_word-requires-clause-below t c = each_below (symbol_under c.args.sig.now) (meaning_in c.args.sig.now c.args.scope.now) c.read_all-in-Apply.new.nodes.items c.in_ok-parts-in-Apply.parts.items (bare_trees c.as_slice-in-Apply.result.now) c.in_ok-parts-in-Apply.ensures.stand
 
 pub read-returns-in-Numeral-clause-stands : goal.read-returns-in-Numeral-clause-stands
 read-returns-in-Numeral-clause-stands t c =
     IfOk-weaker c.add_numeral.result _ _
     (λ at k. subst (Stands (symbol_under c.args.sig.now) (meaning_in c.args.sig.now c.args.scope.now) c.add_numeral.new.nodes.items at)
-    (ap (λ ds. numeral (decimal ds)) c.as_slice-in-Numeral.ensures.value ∙ sym (ap (λ (u : DataTree). bare_data (plain_data u)) c.in-Numeral.is ∙ numeral_is c.in-Numeral.digits))
+    (ap (λ ds. numeral (decimal ds)) c.as_slice.ensures.value ∙ sym (ap (λ (u : DataTree). bare_data (plain_data u)) c.in-Numeral.is ∙ numeral_is c.in-Numeral.digits))
     (k (symbol_under c.args.sig.now) (meaning_in c.args.sig.now c.args.scope.now))) c.add_numeral.ensures.stands
-
-pub read-returns-in-True-clause-stands : goal.read-returns-in-True-clause-stands
-read-returns-in-True-clause-stands t c =
-    read_by (symbol_under c.args.sig.now) (meaning_in c.args.sig.now c.args.scope.now) c.args.nodes.now.items c.add_word-in-True.new.nodes.items c.new-in-True.result.items []
-    (no_parts (symbol_under c.args.sig.now) (meaning_in c.args.sig.now c.args.scope.now) c.args.nodes.now.items c.new-in-True.result.items c.new-in-True.ensures.items)
-    (λ ds. word (codes "true") (expressions_of ds)) c.add_word-in-True.result c.add_word-in-True.ensures.stands (bare_data (plain_data c.args.tree.now))
-    (sym (ap (λ (u : DataTree). bare_data (plain_data u)) c.in-True.is ∙ true_is c.in-True.field-0))
-
-pub read-returns-in-False-clause-stands : goal.read-returns-in-False-clause-stands
-read-returns-in-False-clause-stands t c =
-    read_by (symbol_under c.args.sig.now) (meaning_in c.args.sig.now c.args.scope.now) c.args.nodes.now.items c.add_word-in-False.new.nodes.items c.new-in-False.result.items []
-    (no_parts (symbol_under c.args.sig.now) (meaning_in c.args.sig.now c.args.scope.now) c.args.nodes.now.items c.new-in-False.result.items c.new-in-False.ensures.items)
-    (λ ds. word (codes "false") (expressions_of ds)) c.add_word-in-False.result c.add_word-in-False.ensures.stands (bare_data (plain_data c.args.tree.now))
-    (sym (ap (λ (u : DataTree). bare_data (plain_data u)) c.in-False.is ∙ false_is c.in-False.field-0))
 
 pub read-returns-in_ok-parts-in-List-clause-stands : goal.read-returns-in_ok-parts-in-List-clause-stands
 read-returns-in_ok-parts-in-List-clause-stands t c =
@@ -69,21 +38,6 @@ read-returns-in_ok-parts-in-List-clause-stands t c =
     (λ at k. subst (Stands (symbol_under c.args.sig.now) (meaning_in c.args.sig.now c.args.scope.now) c.add_list.new.nodes.items at)
     (ap (λ (ts : List DataTree). listed (expressions_of (bare_trees ts))) c.as_slice-in-List.ensures.value ∙ ap listed (sym (datas_are c.in-List.elements.items)) ∙ sym (ap (λ (u : DataTree). bare_data (plain_data u)) c.in-List.is ∙ list_is c.in-List.field-0 c.in-List.elements))
     (k (symbol_under c.args.sig.now) (meaning_in c.args.sig.now c.args.scope.now) (bare_trees c.as_slice-in-List.result.now) c.in_ok-parts-in-List.ensures.stand)) c.add_list.ensures.stands
-
-pub read-returns-in_ok-parts-in-Apply-clause-stands : goal.read-returns-in_ok-parts-in-Apply-clause-stands
-read-returns-in_ok-parts-in-Apply-clause-stands t c =
-    read_by (symbol_under c.args.sig.now) (meaning_in c.args.sig.now c.args.scope.now) c.read_all-in-Apply.new.nodes.items c.add_word-in-Apply.new.nodes.items c.in_ok-parts-in-Apply.parts.items (bare_trees c.as_slice-in-Apply.result.now) c.in_ok-parts-in-Apply.ensures.stand
-    (λ ds. word c.text_of.result.now (expressions_of ds)) c.add_word-in-Apply.result c.add_word-in-Apply.ensures.stands (bare_data (plain_data c.args.tree.now))
-    (ap (λ n. word n (expressions_of (bare_trees c.as_slice-in-Apply.result.now))) (c.text_of.ensures ∙ c.as_slice-in-Apply-2.ensures.value)
-    ∙ ap (λ (ts : List DataTree). word c.in-Apply.name.bytes.items (expressions_of (bare_trees ts))) c.as_slice-in-Apply.ensures.value
-    ∙ ap (word c.in-Apply.name.bytes.items) (sym (datas_are c.in-Apply.arguments.items)) ∙ sym (ap (λ (u : DataTree). bare_data (plain_data u)) c.in-Apply.is ∙ apply_is c.in-Apply.field-0 c.in-Apply.name c.in-Apply.arguments))
-
-pub read-returns-in_ok-parts-in-And-clause-stands : goal.read-returns-in_ok-parts-in-And-clause-stands
-read-returns-in_ok-parts-in-And-clause-stands t c =
-    read_by (symbol_under c.args.sig.now) (meaning_in c.args.sig.now c.args.scope.now) c.read_all-in-And.new.nodes.items c.join.new.nodes.items c.as_slice-in-And-2.result.now (bare_trees c.as_slice-in-And.result.now)
-    (subst (λ ks. EachStands (symbol_under c.args.sig.now) (meaning_in c.args.sig.now c.args.scope.now) c.read_all-in-And.new.nodes.items ks (bare_trees c.as_slice-in-And.result.now)) (sym c.as_slice-in-And-2.ensures.value) c.in_ok-parts-in-And.ensures.stand)
-    (joined (codes "&&")) c.join.result c.join.ensures.stands (bare_data (plain_data c.args.tree.now))
-    (ap (λ (ts : List DataTree). joined (codes "&&") (bare_trees ts)) c.as_slice-in-And.ensures.value ∙ sym (joined_are (codes "&&") c.in-And.operands.items) ∙ sym (ap (λ (u : DataTree). bare_data (plain_data u)) c.in-And.is ∙ and_is c.in-And.field-0 c.in-And.operands))
 
 pub read-returns-in_ok-parts-in-Prefix-clause-stands : goal.read-returns-in_ok-parts-in-Prefix-clause-stands
 read-returns-in_ok-parts-in-Prefix-clause-stands t c =
@@ -103,31 +57,6 @@ read-returns-in_ok-parts-in-Infix-clause-stands t c =
     ∙ ap (λ (u : DataTree). two (infix_text c.in-Infix.sign) (bare_data (plain_data u)) (bare_data (plain_data c.deref-in-Infix-2.result.now))) c.deref-in-Infix.ensures
     ∙ ap (λ (u : DataTree). two (infix_text c.in-Infix.sign) (bare_data (plain_data c.in-Infix.left.value)) (bare_data (plain_data u))) c.deref-in-Infix-2.ensures
     ∙ sym (ap (λ (u : DataTree). bare_data (plain_data u)) c.in-Infix.is ∙ infix_is c.in-Infix.field-0 c.in-Infix.sign c.in-Infix.left c.in-Infix.right))
-
-pub read-returns-in_ok-at-in-Sum-clause-stands : goal.read-returns-in_ok-at-in-Sum-clause-stands
-read-returns-in_ok-at-in-Sum-clause-stands t c =
-    IfOk-weaker c.read_chain.result _ _
-    (λ at k. subst (Stands (symbol_under c.args.sig.now) (meaning_in c.args.sig.now c.args.scope.now) c.read_chain.new.nodes.items at)
-    (ap (λ (os : List (InfixSign × DataTree)). to_the_left (bare_data (plain_data c.deref-in-Sum.result.now)) (operands_of (plain_operands os))) c.as_slice-in-Sum.ensures.value
-    ∙ ap (λ (u : DataTree). to_the_left (bare_data (plain_data u)) (operands_of (plain_operands c.in-Sum.operands.items))) c.deref-in-Sum.ensures
-    ∙ sym (ap (λ (u : DataTree). bare_data (plain_data u)) c.in-Sum.is ∙ sum_is c.in-Sum.field-0 c.in-Sum.first c.in-Sum.operands))
-    (k (bare_data (plain_data c.deref-in-Sum.result.now)) c.in_ok-at-in-Sum.ensures.stands)) c.read_chain.ensures.stands
-
-pub read-returns-in_ok-at-in-Product-clause-stands : goal.read-returns-in_ok-at-in-Product-clause-stands
-read-returns-in_ok-at-in-Product-clause-stands t c =
-    IfOk-weaker c.read_chain-in-Product.result _ _
-    (λ at k. subst (Stands (symbol_under c.args.sig.now) (meaning_in c.args.sig.now c.args.scope.now) c.read_chain-in-Product.new.nodes.items at)
-    (ap (λ (os : List (InfixSign × DataTree)). to_the_left (bare_data (plain_data c.deref-in-Product.result.now)) (operands_of (plain_operands os))) c.as_slice-in-Product.ensures.value
-    ∙ ap (λ (u : DataTree). to_the_left (bare_data (plain_data u)) (operands_of (plain_operands c.in-Product.operands.items))) c.deref-in-Product.ensures
-    ∙ sym (ap (λ (u : DataTree). bare_data (plain_data u)) c.in-Product.is ∙ product_is c.in-Product.field-0 c.in-Product.first c.in-Product.operands))
-    (k (bare_data (plain_data c.deref-in-Product.result.now)) c.in_ok-at-in-Product.ensures.stands)) c.read_chain-in-Product.ensures.stands
-
-pub read-returns-in_ok-parts-in-Or-clause-stands : goal.read-returns-in_ok-parts-in-Or-clause-stands
-read-returns-in_ok-parts-in-Or-clause-stands t c =
-    read_by (symbol_under c.args.sig.now) (meaning_in c.args.sig.now c.args.scope.now) c.read_all-in-Or.new.nodes.items c.join-in-Or.new.nodes.items c.as_slice-in-Or-2.result.now (bare_trees c.as_slice-in-Or.result.now)
-    (subst (λ ks. EachStands (symbol_under c.args.sig.now) (meaning_in c.args.sig.now c.args.scope.now) c.read_all-in-Or.new.nodes.items ks (bare_trees c.as_slice-in-Or.result.now)) (sym c.as_slice-in-Or-2.ensures.value) c.in_ok-parts-in-Or.ensures.stand)
-    (joined (codes "||")) c.join-in-Or.result c.join-in-Or.ensures.stands (bare_data (plain_data c.args.tree.now))
-    (ap (λ (ts : List DataTree). joined (codes "||") (bare_trees ts)) c.as_slice-in-Or.ensures.value ∙ sym (joined_are (codes "||") c.in-Or.operands.items) ∙ sym (ap (λ (u : DataTree). bare_data (plain_data u)) c.in-Or.is ∙ or_is c.in-Or.field-0 c.in-Or.operands))
 
 pub read_all-loop-tree-preserved : goal.read_all-loop-tree-preserved
 read_all-loop-tree-preserved t c = record {
@@ -169,3 +98,57 @@ read_all-returns-clause-sound t c = c.loop-tree.invariant.sound
 
 pub read_chain-returns-clause-sound : goal.read_chain-returns-clause-sound
 read_chain-returns-clause-sound t c = c.loop-operand.invariant.sound
+
+pub read-returns-in-Name-clause-stands : goal.read-returns-in-Name-clause-stands
+read-returns-in-Name-clause-stands t c =
+    IfOk-weaker c.add_name.result _ _
+    (λ at k. subst (Stands (symbol_under c.args.sig.now) (meaning_in c.args.sig.now c.args.scope.now) c.add_name.new.nodes.items at) (ap (λ n. word n none) c.text_of.ensures ∙ sym (ap (λ (u : DataTree). bare_data (plain_data u)) c.in-Name.is ∙ name_is c.in-Name.name)) k) c.add_name.ensures.stands
+
+pub read-returns-in-True-clause-stands : goal.read-returns-in-True-clause-stands
+read-returns-in-True-clause-stands t c =
+    IfOk-weaker c.add_name-in-True.result _ _
+    (λ at k. subst (Stands (symbol_under c.args.sig.now) (meaning_in c.args.sig.now c.args.scope.now) c.add_name-in-True.new.nodes.items at) (sym (ap (λ (u : DataTree). bare_data (plain_data u)) c.in-True.is ∙ true_is c.in-True.field-0)) k) c.add_name-in-True.ensures.stands
+
+pub read-returns-in-False-clause-stands : goal.read-returns-in-False-clause-stands
+read-returns-in-False-clause-stands t c =
+    IfOk-weaker c.add_name-in-False.result _ _
+    (λ at k. subst (Stands (symbol_under c.args.sig.now) (meaning_in c.args.sig.now c.args.scope.now) c.add_name-in-False.new.nodes.items at) (sym (ap (λ (u : DataTree). bare_data (plain_data u)) c.in-False.is ∙ false_is c.in-False.field-0)) k) c.add_name-in-False.ensures.stands
+
+pub read-returns-in_ok-parts-in-Apply-clause-stands : goal.read-returns-in_ok-parts-in-Apply-clause-stands
+read-returns-in_ok-parts-in-Apply-clause-stands t c =
+    read_by (symbol_under c.args.sig.now) (meaning_in c.args.sig.now c.args.scope.now) c.read_all-in-Apply.new.nodes.items c.add_word.new.nodes.items c.in_ok-parts-in-Apply.parts.items (bare_trees c.as_slice-in-Apply.result.now) c.in_ok-parts-in-Apply.ensures.stand
+    (λ ds. word c.text_of-in-Apply.result.now (expressions_of ds)) c.add_word.result c.add_word.ensures.stands (bare_data (plain_data c.args.tree.now))
+    (ap (λ n. word n (expressions_of (bare_trees c.as_slice-in-Apply.result.now))) c.text_of-in-Apply.ensures
+    ∙ ap (λ (ts : List DataTree). word c.in-Apply.name.bytes.items (expressions_of (bare_trees ts))) c.as_slice-in-Apply.ensures.value
+    ∙ ap (word c.in-Apply.name.bytes.items) (sym (datas_are c.in-Apply.arguments.items)) ∙ sym (ap (λ (u : DataTree). bare_data (plain_data u)) c.in-Apply.is ∙ apply_is c.in-Apply.field-0 c.in-Apply.name c.in-Apply.arguments))
+
+pub read-returns-in_ok-at-in-Sum-clause-stands : goal.read-returns-in_ok-at-in-Sum-clause-stands
+read-returns-in_ok-at-in-Sum-clause-stands t c =
+    IfOk-weaker c.read_chain.result _ _
+    (λ at k. subst (Stands (symbol_under c.args.sig.now) (meaning_in c.args.sig.now c.args.scope.now) c.read_chain.new.nodes.items at)
+    (ap (λ (os : List (InfixSign × DataTree)). to_the_left (bare_data (plain_data c.deref-in-Sum.result.now)) (operands_of (plain_operands os))) c.as_slice-in-Sum.ensures.value
+    ∙ ap (λ (u : DataTree). to_the_left (bare_data (plain_data u)) (operands_of (plain_operands c.in-Sum.operands.items))) c.deref-in-Sum.ensures
+    ∙ sym (chain_is c.args.tree.now c.in-Sum.first c.in-Sum.operands c.in-Sum.is))
+    (k (bare_data (plain_data c.deref-in-Sum.result.now)) c.in_ok-at-in-Sum.ensures.stands)) c.read_chain.ensures.stands
+
+pub read-returns-in-And-clause-stands : goal.read-returns-in-And-clause-stands
+read-returns-in-And-clause-stands t c =
+    IfOk-weaker c.read_joined.result _ _
+    (λ at k. subst (Stands (symbol_under c.args.sig.now) (meaning_in c.args.sig.now c.args.scope.now) c.read_joined.new.nodes.items at)
+    (ap (λ (ts : List DataTree). joined (codes "&&") (bare_trees ts)) c.as_slice-in-And.ensures.value ∙ sym (joined_are (codes "&&") c.in-And.operands.items) ∙ sym (ap (λ (u : DataTree). bare_data (plain_data u)) c.in-And.is ∙ and_is c.in-And.field-0 c.in-And.operands)) k) c.read_joined.ensures.stands
+
+pub read-returns-in-Or-clause-stands : goal.read-returns-in-Or-clause-stands
+read-returns-in-Or-clause-stands t c =
+    IfOk-weaker c.read_joined-in-Or.result _ _
+    (λ at k. subst (Stands (symbol_under c.args.sig.now) (meaning_in c.args.sig.now c.args.scope.now) c.read_joined-in-Or.new.nodes.items at)
+    (ap (λ (ts : List DataTree). joined (codes "||") (bare_trees ts)) c.as_slice-in-Or.ensures.value ∙ sym (joined_are (codes "||") c.in-Or.operands.items) ∙ sym (ap (λ (u : DataTree). bare_data (plain_data u)) c.in-Or.is ∙ or_is c.in-Or.field-0 c.in-Or.operands)) k) c.read_joined-in-Or.ensures.stands
+
+pub read_joined-join-requires-clause-below : goal.read_joined-join-requires-clause-below
+read_joined-join-requires-clause-below t c =
+    subst (AreBelow (length c.read_all.new.nodes.items)) (sym c.as_slice.ensures.value) (each_below (symbol_under c.args.sig.now) (meaning_in c.args.sig.now c.args.scope.now) c.read_all.new.nodes.items c.in_ok-parts.parts.items (bare_trees c.args.trees.now) c.in_ok-parts.ensures.stand)
+
+pub read_joined-returns-clause-stands : goal.read_joined-returns-clause-stands
+read_joined-returns-clause-stands t c =
+    read_by (symbol_under c.args.sig.now) (meaning_in c.args.sig.now c.args.scope.now) c.read_all.new.nodes.items c.join.new.nodes.items c.as_slice.result.now (bare_trees c.args.trees.now)
+    (subst (λ ks. EachStands (symbol_under c.args.sig.now) (meaning_in c.args.sig.now c.args.scope.now) c.read_all.new.nodes.items ks (bare_trees c.args.trees.now)) (sym c.as_slice.ensures.value) c.in_ok-parts.ensures.stand) (joined c.args.text.now) c.join.result c.join.ensures.stands
+    (joined c.args.text.now (bare_trees c.args.trees.now)) refl

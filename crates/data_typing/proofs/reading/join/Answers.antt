@@ -7,8 +7,7 @@ use Rattle.data_typing.proofs.reading.join.Goals as goal
 
 pub returns-then-is_empty-clause-stands : goal.returns-then-is_empty-clause-stands
 returns-then-is_empty-clause-stands c =
-    join_of_none (symbol_under c.args.sig.now) (meaning_in c.args.sig.now c.args.scope.now) c.args.text.now c.args.nodes.now.items c.add_word.new.nodes.items c.args.operands.now
-    (none_there c.args.operands.now c.is_empty.result c.is_empty.ensures c.if-is_empty.true) c.new.result.items c.new.ensures.items c.add_word.result c.add_word.ensures.stands
+    join_of_none (symbol_under c.args.sig.now) (meaning_in c.args.sig.now c.args.scope.now) c.args.text.now c.args.nodes.now.items c.add_name.new.nodes.items c.args.operands.now (none_there c.args.operands.now c.is_empty.result c.is_empty.ensures c.if-is_empty.true) c.add_name.result c.add_name.ensures.stands
 
 pub loop-step-init : goal.loop-step-init
 loop-step-init c =
@@ -24,10 +23,10 @@ pub loop-step-preserved : goal.loop-step-preserved
 loop-step-preserved c =
     let some : 1 ≤ length c.args.operands.now = some_there c.args.operands.now c.is_empty.result c.is_empty.ensures c.if-is_empty.false in
     record {
-      grown = goes_on c.args.nodes.now.items c.loop-step.nodes.items c.add_word-in-loop-step.new.nodes.items c.loop-step.invariant.grown c.in_ok-at.ensures.grown;
+      grown = goes_on c.args.nodes.now.items c.loop-step.nodes.items c.add_word.new.nodes.items c.loop-step.invariant.grown c.in_ok-at.ensures.grown;
       sound = λ h. c.in_ok-at.ensures.sound (c.loop-step.invariant.sound h);
       stands = λ es s.
-          join_goes_on (symbol_under c.args.sig.now) (meaning_in c.args.sig.now c.args.scope.now) c.args.text.now c.args.nodes.now.items c.loop-step.nodes.items c.add_word-in-loop-step.new.nodes.items c.args.operands.now es s c.loop-step.invariant.grown
+          join_goes_on (symbol_under c.args.sig.now) (meaning_in c.args.sig.now c.args.scope.now) c.args.text.now c.args.nodes.now.items c.loop-step.nodes.items c.add_word.new.nodes.items c.args.operands.now es s c.loop-step.invariant.grown
           (length c.args.operands.now - 1 - 1 - c.loop-step.step) (length c.args.operands.now - 1 - c.loop-step.step) (length c.args.operands.now - 1 - (c.loop-step.step + 1)) c.loop-step.at c.in_ok-at.at
           (omega arith) (omega (arith, some, c.loop-step-test.true)) (omega (arith, some, c.loop-step-test.true)) (c.loop-step.invariant.stands es s) c.in_ok-parts.parts.items c.in_ok-parts.ensures.items c.in_ok-at.ensures.stands;
       within = c.in_ok-at.ensures.within;
