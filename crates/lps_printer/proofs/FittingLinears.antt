@@ -74,7 +74,7 @@ each_of : {A : Type 0} (P : A → Type 0) (xs : List A) → ((x : A) → Contain
 each_of P [] h = tt
 each_of P (x ∷ xs) h = (h x (contains_head x xs), each_of P xs (λ y c. h y (contains_tail x y xs c)))
 
-each_mapped : {A B : Type 0} (P : B → Type 0) (f : A → B) (xs : List A) → ((x : A) → Contains xs x → P (f x)) → AllByRecursion P (map f xs)
+pub each_mapped : {A B : Type 0} (P : B → Type 0) (f : A → B) (xs : List A) → ((x : A) → Contains xs x → P (f x)) → AllByRecursion P (map f xs)
 each_mapped P f [] h = tt
 each_mapped P f (x ∷ xs) h = (h x (contains_head x xs), each_mapped P f xs (λ y c. h y (contains_tail x y xs c)))
 
@@ -122,7 +122,7 @@ module _ (P : Sort → Type 0) (o : ℕ → Bool) where
 
 -- ---- names that were unused are unused still
 module _ (g h : Sig) (sg : IsSignature g) (sh : IsSignature h) (w : GrowsByConstants g h) where
-  unused_still : (n : NameId) → Contains g.taken n → (Contains (function_names g) n → ⊥) → Contains (function_names h) n → ⊥
+  pub unused_still : (n : NameId) → Contains g.taken n → (Contains (function_names g) n → ⊥) → Contains (function_names h) n → ⊥
   unused_still n t own c =
       ⊎_elim (λ k. own (Contains-append_left (list_names g.texts) (table_names g) n (subst (λ ns. Contains ns n) (list_names_stay g h sg w.grown) k))) in_table (Contains-append_cases (list_names h.texts) (table_names h) n c)
     where

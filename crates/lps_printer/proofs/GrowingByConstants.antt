@@ -57,7 +57,7 @@ two_by R S (x ∷ xs) w h = (
   two_by R S xs (λ y z i j. w y z (contains_later x y xs i) (contains_later x z xs j)) h.1,
 )
 
-two_both : {A : Type 0} (R : A → A → Type 0) (xs ys : List A) → EachTwo R xs → EachTwo R ys → ((x y : A) → Contains xs x → Contains ys y → R x y) → EachTwo R (xs ++ ys)
+pub two_both : {A : Type 0} (R : A → A → Type 0) (xs ys : List A) → EachTwo R xs → EachTwo R ys → ((x y : A) → Contains xs x → Contains ys y → R x y) → EachTwo R (xs ++ ys)
 two_both R [] ys h k w = k
 two_both R (x ∷ xs) ys h k w = (
   all_both (R x) xs ys h.0 (each_of (R x) ys (λ y j. w x y (contains_first x xs) j)),

@@ -98,6 +98,7 @@ pub mod WritableLinears
 pub mod SameNeeds
 pub mod DeclaredActions
 pub mod FittingLinears
+pub mod CanonicalTexts
 pub mod GrownIdentifiers
 pub mod EnteredSignatures
 pub mod GrownSorts

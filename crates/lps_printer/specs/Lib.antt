@@ -53,3 +53,4 @@ pub mod PrintedTheories
 pub mod PrintedDeclarations
 pub mod FittingLinears
 pub mod GrownIdentifiers
+pub mod CanonicalTexts

@@ -1,5 +1,6 @@
 //! Laws of printed text. The functions do nothing: each contract is a law.
 
+ghost use Rattle.lps_printer.specs.CanonicalTexts.{PrintedTextsAreCanonical};
 ghost use Rattle.lps_printer.specs.CopiedParts.{WhatIsCopiedHasAllParts};
 ghost use Rattle.lps_printer.specs.CopiedTokens.{CopiesLex};
 ghost use Rattle.lps_printer.specs.CopyLaws.{CopiesSpellTheSame, DeclarationCopiesSpellTheSame};
@@ -206,4 +207,9 @@ pub fn names_stay_identifiers()
     ensures stay { NamesStayIdentifiers }
     ensures declared { DeclaredStayIdentifiers }
     ensures sorts { WrittenSortsRead }
+{}
+
+/// What is printed for a linear process whose variables have their own names, and whose conditions say nothing needless, is a canonical text.
+pub fn printed_texts_are_canonical()
+    ensures { PrintedTextsAreCanonical }
 {}

@@ -6,9 +6,12 @@ ghost use Rattle.data_theory.specs.declared.ids.FunId.{FunId};
 ghost use Rattle.data_theory.specs.IdTerms.{IsGrown};
 ghost use Rattle.data_theory.specs.Structs.{numbers_from};
 ghost use Rattle.mcrl2_syntax.specs.Declarations.{spec_of};
+ghost use Rattle.lps_core.specs.CanonicalConditions.{HaveNoNeedlessTrue};
 ghost use Rattle.lps_core.specs.Fitting.{Fits};
+ghost use Rattle.lps_core.specs.Naming.{HaveOwnNames, ParamsHaveOwnNames};
 ghost use Rattle.lps_core.specs.PlainLinears.{plain_linear};
 ghost use Rattle.sort_table.specs.SignatureVocabularies.{text_under};
+ghost use Rattle.lps_printer.specs.CanonicalTexts.{IsCanonicalText};
 ghost use Rattle.lps_printer.specs.PrintedLinears.{HasText, IsPrinted};
 
 use crate::added::push_added;
@@ -71,7 +74,8 @@ fn text_with<'a>(
 }
 
 /// The text of a linear process: the declarations of the specification but those of processes, what was added to the data, and
-/// the process under this name. A constant is added for each sort whose empty list stands in an open place.
+/// the process under this name. A constant is added for each sort whose empty list stands in an open place. Where the variables have their
+/// own names and the conditions say nothing needless, the text is canonical.
 ///
 /// # Errors
 ///
@@ -88,6 +92,7 @@ pub fn print(
     requires name { name.0 < length sig.old.texts }
     ensures grown { IsGrown sig.old sig.new }
     ensures written { IfOk result (λ text. IsPrinted (spec_of spec.now) sig.old sig.new pool.now.trees name (plain_linear lin.now) text.items) }
+    ensures canonical { IfOk result (λ text. ParamsHaveOwnNames sig.old (plain_linear lin.now).params → HaveOwnNames sig.old (plain_linear lin.now) → HaveNoNeedlessTrue sig.old pool.now.trees (plain_linear lin.now) → IsCanonicalText (spec_of spec.now) sig.new (text_under sig.new name) text.items) }
 {
     let _ = sig.names();
     let first = sig.fun_count();

@@ -6,13 +6,17 @@ use Rattle.std.proofs.lemmas.Result.{IfOk-weaker}
 use Rattle.data_theory.specs.declared.ids.FunId.{FunId}
 use Rattle.mcrl2_syntax.specs.Declarations.{spec_of}
 use Rattle.term_pool.proofs.DeclaredConstants.{grown_itself}
+use Rattle.lps_core.specs.CanonicalConditions.{HaveNoNeedlessTrue}
+use Rattle.lps_core.specs.Naming.{HaveOwnNames, ParamsHaveOwnNames}
 use Rattle.lps_core.specs.PlainLinears.{plain_linear}
 use Rattle.lps_core.proofs.GrownSignatures.{texts_longer}
 use Rattle.lps_core.proofs.StayingFits.{what_fits_fits_still}
 use Rattle.sort_table.specs.SignatureVocabularies.{text_under}
 use Rattle.lps_printer.specs.AddedConstants.{result_in}
+use Rattle.lps_printer.specs.CanonicalTexts.{IsCanonicalText}
 use Rattle.lps_printer.specs.NeededConstants.{IsNil}
 use Rattle.lps_printer.specs.PrintedLinears.{HasText, IsPrinted}
+use Rattle.lps_printer.proofs.CanonicalTexts.{printed_texts_are_canonical}
 use Rattle.lps_printer.proofs.ConstantWording.{constants_grow}
 use Rattle.lps_printer.proofs.PrintedConstants.{many_new, table_below, added_below, printed_by_keys}
 use Rattle.lps_printer.proofs.whole_texts.print.Goals as goal
@@ -61,3 +65,14 @@ returns-clause-written c =
     IfOk-weaker c.text_with.result (λ text. HasText (spec_of c.args.spec.now) h c.args.pool.now.trees c.as_slice-2.result.now (text_under h c.args.name) l c.as_slice-3.result.now text.items) (λ text. IsPrinted (spec_of c.args.spec.now) g h c.args.pool.now.trees c.args.name l text.items)
     (λ text has. printed_by_keys g h c.names.ensures.stands c.in_ok-found.found.keys c.as_slice.result.now c.as_slice.ensures.keys c.in_ok-constants.ensures.added (spec_of c.args.spec.now) c.args.pool.now.trees c.args.name l text.items c.as_slice-2.result.now c.fun_count-first.result c.fun_count.result c.as_slice-3.result.now c.names-2.ensures.stands c.in_ok-found.ensures.nils c.in_ok-found.ensures.needed
     (c.as_slice-2.ensures.value ∙ c.in_ok-constants.ensures.table) c.fun_count-first.ensures c.fun_count.ensures (c.as_slice-3.ensures.value ∙ c.in_ok-added.ensures) has) c.text_with.ensures
+
+pub returns-clause-canonical : goal.returns-clause-canonical
+returns-clause-canonical c =
+    let g = c.args.sig.now in
+    let h = c.add_constants.new.sig in
+    let ts = c.args.pool.now.trees in
+    let l = plain_linear c.args.lin.now in
+    let spec = spec_of c.args.spec.now in
+    IfOk-weaker c.text_with.result (λ text. IsPrinted spec g h ts c.args.name l text.items)
+    (λ text. ParamsHaveOwnNames g l.params → HaveOwnNames g l → HaveNoNeedlessTrue g ts l → IsCanonicalText spec h (text_under h c.args.name) text.items)
+    (λ text is params sums needless. printed_texts_are_canonical spec g h ts c.args.name l text.items c.names.ensures.stands c.names-2.ensures.stands c.requires.fits params sums needless is) (returns-clause-written c)
