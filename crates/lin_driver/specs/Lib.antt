@@ -25,5 +25,6 @@ pub mod Eliminated
 pub mod PlainlyMade
 pub mod AddedSorts
 pub mod CanonicalNames
+pub mod NeededParts
 pub mod WrittenTexts
 pub mod BufferLines

@@ -88,3 +88,12 @@ ghost use Rattle.lin_driver.specs.Accepted.{FaultyTextsCannotBeLinearised};
 pub fn faulty_texts_cannot_be_linearised()
     ensures { FaultyTextsCannotBeLinearised }
 {}
+
+ghost use Rattle.lin_driver.specs.NeededParts.{TidiedConditionsAreEqual, TidiedConditionsHaveNoNeedlessTrue, TidiedPartsStandInTheCondition};
+
+/// Conditions without needless parts `true`.
+pub fn conditions_are_tidied()
+    ensures no_needless { TidiedConditionsHaveNoNeedlessTrue }
+    ensures parts { TidiedPartsStandInTheCondition }
+    ensures equal { TidiedConditionsAreEqual }
+{}

@@ -19,6 +19,7 @@ ghost use Rattle.lin_driver.specs.Faults.{IsModelFaultBy};
 ghost use Rattle.lin_driver.specs.Leaves.{leaves, HasLeaves};
 ghost use Rattle.lin_driver.specs.LinearLeaves.{IsLeavesFaultOf};
 ghost use Rattle.lin_driver.specs.ModelLinears.{CanBeLinear, CanBeLinearFrom, IsModelFaultOf, IsProcessName, LeadsToLinear};
+ghost use Rattle.lps_core.specs.CanonicalConditions.{HaveNoNeedlessTrue};
 ghost use Rattle.lin_driver.specs.PlainlyMade.{IsPlainFor, written_in_model};
 ghost use Rattle.lin_driver.specs.TakenNames.{HaveIdentifiers};
 
@@ -27,6 +28,7 @@ use crate::composing::compose;
 use crate::fault::ModelFault;
 use crate::leaves::leaves_of;
 use crate::methods::Method;
+use crate::tidying::tidy_conditions;
 use crate::variable_names::take_variable_names;
 use data_theory::{NameId, NoMemory, Signature};
 use guard_check::{Guarded, check};
@@ -69,6 +71,7 @@ fn linear_of_network(
     ensures kept { Extends pool.old.trees pool.new.trees }
     ensures linear { IfOk result (λ made. LeadsToLinear sig.old (network_process (entries_of sig.old pool.old.trees) (plain_model guarded.now.model.now) (plain_network network.now)) sig.new pool.new.trees (plain_linear made.0)) }
     ensures plain { IfOk result (λ made. IsPlainFor sig.old sig.new pool.new (written_in_model (entries_of sig.old pool.old.trees) (plain_model guarded.now.model.now)) (plain_linear made.0)) }
+    ensures conditions { IfOk result (λ made. HaveNoNeedlessTrue sig.new pool.new.trees (plain_linear made.0)) }
     ensures sorts { IfOk result (λ _. All (NeedsNoStack method (plain_model guarded.now.model.now)) (leaves (plain_network network.now)) → sig.new.sorts ≡ sig.old.sorts) }
     ensures components { IfOk result (λ made. made.1 ≡ length (leaves (plain_network network.now))) }
     ensures refused { IfErr result (IsLeavesFaultOf (plain_model guarded.now.model.now) (leaves (plain_network network.now))) }
@@ -79,14 +82,16 @@ fn linear_of_network(
     let mut parts = linear_components(alloc, guarded, components.as_slice(), method, sig, pool)?;
     let composed = compose(alloc, network, &mut parts, sig, pool)?;
     let named = name_sums(alloc, composed, sig, pool)?;
-    Ok((named, components.len()))
+    let tidy = tidy_conditions(alloc, named, pool)?;
+    Ok((tidy, components.len()))
 }
 
 /// The linear process of a specification by a method, with the name of its process and the number of the components of its network.
 ///
 /// The process gets its name first. Then the components are made linear from the left, then come the products and the operators from the
-/// inside, and the sums get their names last. The result is plainly conditioned for what the specification writes, and no sort is added
-/// where no component needs a stack.
+/// inside, and the sums get their names. Last the needless parts `true` of conditions go. The result is plainly conditioned for what the
+/// specification writes, none of its conditions of two or more parts has the part `true`, and no sort is added where no component needs a
+/// stack.
 ///
 /// # Errors
 ///
@@ -105,6 +110,7 @@ pub fn linear_of(
     ensures kept { Extends pool.old.trees pool.new.trees }
     ensures linear { IfOk result (λ made. LeadsToLinear sig.old (process_of (entries_of sig.new pool.new.trees) (plain_model model.now)) sig.new pool.new.trees (plain_linear made.1)) }
     ensures plain { IfOk result (λ made. IsPlainFor sig.old sig.new pool.new (written_in_model (entries_of sig.new pool.new.trees) (plain_model model.now)) (plain_linear made.1)) }
+    ensures conditions { IfOk result (λ made. HaveNoNeedlessTrue sig.new pool.new.trees (plain_linear made.1)) }
     ensures sorts { IfOk result (λ _. IsWithoutStacks method (plain_model model.now) → sig.new.sorts ≡ sig.old.sorts) }
     ensures name { IfOk result (λ made. IsProcessName sig.old sig.new made.0) }
     ensures components { IfOk result (λ made. HasLeaves (plain_model model.now) made.2) }

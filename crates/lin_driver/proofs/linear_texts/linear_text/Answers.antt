@@ -48,6 +48,7 @@ returns-clause-written c =
       plain = c.in_ok-made.ensures.plain;
       sorts = c.in_ok-made.ensures.sorts;
       names = c.in_ok-made.ensures.names;
+      conditions = c.in_ok-made.ensures.conditions;
       printed_signature = w.0;
       stands = w.1;
       is_printed = w.2;
