@@ -71,3 +71,9 @@ mod OpenedWritten
 mod PlainModels
 mod AddedSorts
 mod WrittenPieces
+mod SettledNetworks
+mod KeptConditions
+mod KeptVariables
+mod KeptScopes
+mod KeptSteps
+mod KeptTexts

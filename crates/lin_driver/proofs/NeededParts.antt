@@ -1,5 +1,5 @@
 -- What is left of a condition as needless parts `true` go.
-use Rattle.std.proofs.Common.{◌≡◌, ℕ, Bool, true, false, if◌then◌else◌, List, [], ◌∷◌, refl, sym, subst, arith, ap, ⊎_elim}
+use Rattle.std.proofs.Common.{◌≡◌, ◌≤◌, ℕ, Bool, true, false, if◌then◌else◌, List, [], ◌∷◌, length, refl, sym, subst, arith, ap, ◌∙◌, ⊎_elim}
 use Rattle.std.specs.Prelude.{Contains}
 use Rattle.std.specs.List.{AllByRecursion}
 use Rattle.data_theory.specs.Terms.{Sort, boolean, Term, conjunction, application, none, more, put}
@@ -9,12 +9,12 @@ use Rattle.data_theory.specs.Equations.{trueᵗ, ◌∧ᵗ◌, true_and, and_tru
 use Rattle.data_theory.specs.Provable.{Equation, ProvablyEqual, reflexive, transitive, congruent, built_in, no_places, place}
 use Rattle.process_terms.specs.Communication.{conjunction_of}
 use Rattle.bisim_laws.specs.LinearProcesses.{is_true}
-use Rattle.bisim_laws.proofs.Firing.{contains_none, contains_cases}
+use Rattle.bisim_laws.proofs.Firing.{contains_none, contains_first, contains_later, contains_cases}
 use Rattle.lps_core.specs.Conditions.{parts}
 use Rattle.lps_core.specs.MadeTerms.{StandsIn, the_whole, on_the_left, on_the_right}
 use Rattle.lps_core.proofs.Chains.{true_alone, GoesThroughAnd}
 use Rattle.lps_core.specs.CanonicalConditions.{HasNoNeedlessTrue}
-use Rattle.lin_driver.specs.NeededParts.{in_front, needed_parts, tidied, TidiedConditionsHaveNoNeedlessTrue, TidiedPartsStandInTheCondition, TidiedConditionsAreEqual}
+use Rattle.lin_driver.specs.NeededParts.{in_front, needed_parts, tidied, TidiedConditionsHaveNoNeedlessTrue, TidiedPartsStandInTheCondition, TidyConditionsStay, TidiedConditionsAreEqual}
 
 -- ---- what goes down to both sides of `&&`
 module _ (P : Term → Type 0) (down : (x y : Term) → P (x ∧ᵗ y) → P x × P y) where
@@ -168,3 +168,40 @@ module _ (d : Term) where
 
 pub tidied_stand : TidiedPartsStandInTheCondition
 tidied_stand c p i = chain_stands c (needed_parts c) (true_stands c c the_whole) (needed_are (StandsIn c) (λ x y s. (on_the_left s, on_the_right s)) c the_whole) (needed_end c) p i
+
+-- ---- what has no needless `true` stays
+not_true_first : (c : Term) (cs : List Term) → (Contains (c ∷ cs) trueᵗ → ⊥) → is_true c ≡ false
+not_true_first c cs n = by_test (is_true c) refl
+  where
+    by_test : (b : Bool) → is_true c ≡ b → b ≡ false
+    by_test true q = absurd (n (subst (λ z. Contains (c ∷ cs) z) (true_alone c q) (contains_first c cs)))
+    by_test false q = refl
+
+front_of_parts : (x : Term) (own : List Term) (y : Term) → is_true x ≡ false → in_front x own (parts y) ≡ x ∷ parts y
+front_of_parts x own (application conjunction (more u (more v none))) q = ap (λ b. if b then u ∷ parts v else x ∷ u ∷ parts v) q
+front_of_parts x own y q = ap (λ b. if b then y ∷ [] else x ∷ y ∷ []) q
+
+all_needed : (c : Term) → (Contains (parts c) trueᵗ → ⊥) → needed_parts c ≡ parts c
+all_needed (application conjunction (more x (more y none))) n =
+    ap (in_front x (needed_parts x)) (all_needed y (λ i. n (contains_later x trueᵗ (parts y) i))) ∙ front_of_parts x (needed_parts x) y (not_true_first x (parts y) n)
+all_needed c n = ap (λ b. if b then [] else c ∷ []) (not_true_first c [] n)
+
+chain_in_front : (x y : Term) → conjunction_of (x ∷ parts y) ≡ x ∧ᵗ conjunction_of (parts y)
+chain_in_front x (application conjunction (more u (more v none))) = refl
+chain_in_front x y = refl
+
+chain_of_parts : (c : Term) → conjunction_of (parts c) ≡ c
+chain_of_parts (application conjunction (more x (more y none))) = chain_in_front x y ∙ ap (λ z. x ∧ᵗ z) (chain_of_parts y)
+chain_of_parts c = refl
+
+some_part : (c : Term) → 1 ≤ length (parts c)
+some_part (application conjunction (more x (more y none))) = omega arith
+some_part c = omega arith
+
+pub tidy_stays : TidyConditionsStay
+tidy_stays (application conjunction (more x (more y none))) h = let some = some_part y in ap conjunction_of (all_needed (x ∧ᵗ y) (h (omega (arith, some)))) ∙ chain_of_parts (x ∧ᵗ y)
+tidy_stays c h = alone (is_true c) refl
+  where
+    alone : (b : Bool) → is_true c ≡ b → conjunction_of (if b then [] else c ∷ []) ≡ c
+    alone true q = sym (true_alone c q)
+    alone false q = refl

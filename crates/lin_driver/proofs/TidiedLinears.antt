@@ -20,7 +20,6 @@ use Rattle.data_rewriter.specs.Standing.{IsTerm}
 use Rattle.process_terms.specs.PlainProcesses.{PlainAction}
 use Rattle.process_terms.specs.Meanings.{bound_at, term_at, label_of}
 use Rattle.process_terms.specs.SignatureEntries.{entries_of}
-use Rattle.bisim_laws.specs.LinearProcesses.{Summand, Linear}
 use Rattle.bisim_laws.specs.Links.{Dropped}
 use Rattle.bisim_laws.proofs.Firing.{contains_none}
 use Rattle.lps_core.specs.Fitting.{Fits}
@@ -35,16 +34,9 @@ use Rattle.lps_constelm.specs.Runs.{AreTerms, IsActionWithin, IsSummandWithin, T
 use Rattle.lps_constelm.proofs.MeantRounds.{linear_within, variables_are_sorts, becomes_meant, becomes_fits}
 use Rattle.lps_constelm.proofs.Rounds.{eliminated_good}
 use Rattle.lps_core.specs.CanonicalConditions.{HasNoNeedlessTrue, HaveNoNeedlessTrue}
-use Rattle.lin_driver.specs.NeededParts.{tidied, tidied_tree, IsTidied, TidiesConditions}
+use Rattle.lin_driver.specs.NeededParts.{tidied, tidied_summand, tidied_linear, tidied_tree, IsTidied, TidiesConditions}
 use Rattle.lin_driver.proofs.NeededParts.{tidied_over, tidied_sorted, tidied_equal, tidied_has_none}
 use Rattle.lin_driver.proofs.TidiedTrees.{tidied_means, tidied_within}
-
--- ---- what a linear process with tidied conditions is
-abbrev pub tidied_summand : Summand → Summand
-tidied_summand s = record { sums = s.sums; condition = tidied s.condition; label = s.label; next = s.next }
-
-abbrev pub tidied_linear : Linear → Linear
-tidied_linear l = record { params = l.params; summands = map tidied_summand l.summands }
 
 module _ (g : Sig) (stands : IsSignature g) (ts us : List Tree) (kept : Extends ts us) where
   -- nothing is asked of what is simple

@@ -27,11 +27,11 @@ use Rattle.lps_core.specs.PlainLinears.{PlainSummand, PlainLinear, linear_of, in
 use Rattle.lps_core.proofs.Members.{contains_map}
 use Rattle.greibach.proofs.PlainParts.{parts_are_plain}
 use Rattle.lin_driver.specs.ModelLinears.{LeadsToLinear}
-use Rattle.lin_driver.specs.NeededParts.{in_front, needed_parts, tidied, IsTidied, TidiesConditions}
+use Rattle.lin_driver.specs.NeededParts.{in_front, needed_parts, tidied, tidied_summand, tidied_linear, IsTidied, TidiesConditions}
 use Rattle.lin_driver.specs.PlainlyMade.{IsPlainFor}
 use Rattle.lin_driver.proofs.PlainGrowing.{plain_on}
 use Rattle.lin_driver.proofs.PlainlyConjoined.{chain_is_plain}
-use Rattle.lin_driver.proofs.TidiedLinears.{tidied_summand, tidied_linear, tidied_fits, tidied_good, tidied_linear_means}
+use Rattle.lin_driver.proofs.TidiedLinears.{tidied_fits, tidied_good, tidied_linear_means}
 
 -- ---- plain conditions
 module _ (o : Origin) (added ps xs : List Bound) where

@@ -26,5 +26,7 @@ pub mod PlainlyMade
 pub mod AddedSorts
 pub mod CanonicalNames
 pub mod NeededParts
+pub mod SettledNetworks
+pub mod KeptTexts
 pub mod WrittenTexts
 pub mod BufferLines

@@ -1,5 +1,5 @@
 -- Conditions without needless parts `true`.
-use Rattle.std.specs.Prelude.{◌≡◌, ◌==◌, Bool, false, List, [], ◌∷◌, cond, if◌then◌else◌, Contains}
+use Rattle.std.specs.Prelude.{◌≡◌, ◌==◌, Bool, false, List, [], ◌∷◌, map, cond, if◌then◌else◌, Contains}
 use Rattle.std.specs.List.{AllZip}
 use Rattle.data_theory.specs.Terms.{Term, boolean, conjunction, application, none, more, put}
 use Rattle.data_theory.specs.Declarations.{HasSort}
@@ -9,7 +9,7 @@ use Rattle.data_theory.specs.IdTrees.{Tree}
 use Rattle.term_pool.specs.HeadTrees.{tree_at, IsIn}
 use Rattle.process_terms.specs.Communication.{conjunction_of}
 use Rattle.process_terms.specs.Theories.{Theory, Equal}
-use Rattle.bisim_laws.specs.LinearProcesses.{is_true}
+use Rattle.bisim_laws.specs.LinearProcesses.{Summand, Linear, is_true}
 use Rattle.lps_core.specs.CanonicalConditions.{HasNoNeedlessTrue}
 use Rattle.lps_core.specs.Conditions.{parts}
 use Rattle.lps_core.specs.MadeTerms.{StandsIn}
@@ -31,6 +31,13 @@ needed_parts c = if is_true c then [] else c ∷ []
 -- the chain of these, or `true`
 abbrev pub tidied : Term → Term
 tidied c = conjunction_of (needed_parts c)
+
+-- a linear process with what is left of its conditions
+abbrev pub tidied_summand : Summand → Summand
+tidied_summand s = record { sums = s.sums; condition = tidied s.condition; label = s.label; next = s.next }
+
+abbrev pub tidied_linear : Linear → Linear
+tidied_linear l = record { params = l.params; summands = map tidied_summand l.summands }
 
 -- ---- over the trees of a pool
 -- whether a tree is a `&&`
@@ -70,6 +77,10 @@ TidiedConditionsHaveNoNeedlessTrue = (c : Term) → HasNoNeedlessTrue (tidied c)
 -- each part of what is left stands in the condition
 abbrev pub TidiedPartsStandInTheCondition : Type 0
 TidiedPartsStandInTheCondition = (c p : Term) → Contains (parts (tidied c)) p → StandsIn c p
+
+-- what has none stays as it is
+abbrev pub TidyConditionsStay : Type 0
+TidyConditionsStay = (c : Term) → HasNoNeedlessTrue c → tidied c ≡ c
 
 -- and what is left is provably equal to it, once terms are put in that close it
 abbrev pub TidiedConditionsAreEqual : Type 0

@@ -14,6 +14,7 @@ ghost use Rattle.lin_driver.specs.Accepted.{CanBeLinearised, IsGuardedSystem};
 ghost use Rattle.lin_driver.specs.AddedSorts.{AddsNoSort};
 ghost use Rattle.lin_driver.specs.CanonicalNames.{HasCanonicalNames};
 ghost use Rattle.lin_driver.specs.Faults.{IsFaultBy};
+ghost use Rattle.lin_driver.specs.KeptTexts.{KeepsItsText};
 ghost use Rattle.lin_driver.specs.Linearised.{HasComponents, IsLinearised, IsMadeFor, IsMadeOf};
 ghost use Rattle.lps_core.specs.CanonicalConditions.{HaveNoNeedlessTrue};
 ghost use Rattle.lin_driver.specs.PlainlyMade.{IsPlainlyMadeFor};
@@ -87,6 +88,7 @@ fn linear_of_spec(
     ensures plain { IfOk result (λ made. IsPlainlyMadeFor (spec_of spec.now) sig.new pool.new (plain_linear made.2)) }
     ensures conditions { IfOk result (λ made. HaveNoNeedlessTrue sig.new pool.new.trees (plain_linear made.2)) }
     ensures sorts { IfOk result (λ _. AddsNoSort method (spec_of spec.now) sig.new) }
+    ensures keeps { IfOk result (λ made. KeepsItsText method (spec_of spec.now) sig.new pool.new (plain_linear made.2)) }
     ensures components { IfOk result (λ made. HasComponents (spec_of spec.now) made.3) }
     ensures refused { IfErr result (λ fault. fault ≢ LinFault.NoMemory → IsSpecFault (spec_of spec.now) sig.new.texts fault) }
     ensures by { IfErr result (IsFaultBy method) }
@@ -119,6 +121,7 @@ fn linear_of_built(
     ensures plain { IfOk result (λ made. IsPlainlyMadeFor (spec_of made.spec) made.sig made.pool (plain_linear made.lin)) }
     ensures conditions { IfOk result (λ made. HaveNoNeedlessTrue made.sig made.pool.trees (plain_linear made.lin)) }
     ensures sorts { IfOk result (λ made. AddsNoSort method (spec_of made.spec) made.sig) }
+    ensures keeps { IfOk result (λ made. KeepsItsText method (spec_of made.spec) made.sig made.pool (plain_linear made.lin)) }
     ensures components { IfOk result (λ made. HasComponents (spec_of made.spec) made.components) }
     ensures refused { IfErr result (λ fault. fault ≢ LinFault.NoMemory → IsSpecFault (spec_of spec) names.new fault) }
     ensures by { IfErr result (IsFaultBy method) }
@@ -152,6 +155,9 @@ fn linear_of_built(
 /// No condition of two or more parts has the part `true`.
 /// The text is one that [`check_text`](crate::check_text) accepts.
 ///
+/// Of a linear text the linear process keeps the parameters, the initial terms and the summands in their order, unless the method is `Stack`: only the
+/// names and numbers of variables change, and parts `true` of conditions are left out.
+///
 /// # Errors
 ///
 /// The first of these: `Lex` where the text has no tokens that are accepted; `Parse` where one of its declarations nests too deeply or
@@ -172,6 +178,7 @@ pub fn linearise(
     ensures conditions { IfOk result (λ made. HaveNoNeedlessTrue made.sig made.pool.trees (plain_linear made.lin)) }
     ensures sorts { IfOk result (λ made. AddsNoSort method (spec_of made.spec) made.sig) }
     ensures names { IfOk result (λ made. HasCanonicalNames (spec_of made.spec) made.sig made.name (plain_linear made.lin)) }
+    ensures keeps { IfOk result (λ made. KeepsItsText method (spec_of made.spec) made.sig made.pool (plain_linear made.lin)) }
     ensures components { IfOk result (λ made. HasComponents (spec_of made.spec) made.components) }
     ensures refused { IfErr result (λ fault. fault ≢ LinFault.NoMemory → IsRefusedWith text.now names.new fault) }
     ensures by { IfErr result (IsFaultBy method) }

@@ -49,6 +49,7 @@ returns-clause-written c =
       sorts = c.in_ok-made.ensures.sorts;
       names = c.in_ok-made.ensures.names;
       conditions = c.in_ok-made.ensures.conditions;
+      keeps = c.in_ok-made.ensures.keeps;
       printed_signature = w.0;
       stands = w.1;
       is_printed = w.2;

@@ -1,5 +1,5 @@
 use Rattle.std.proofs.Common.{[], map, sym, ap, subst, ◌∙◌}
-use Rattle.std.specs.List.{All}
+use Rattle.std.specs.List.{All, AllZip}
 use Rattle.data_theory.proofs.IdGrowthLemmas.{growth_after_growth_is_growth}
 use Rattle.term_pool.proofs.DeclaredConstants.{grown_itself}
 use Rattle.process_terms.specs.PlainProcesses.{plain_component, plain_model}
@@ -8,10 +8,12 @@ use Rattle.lps_core.specs.PlainLinears.{plain_linear}
 use Rattle.proc_unfold.specs.Networks.{network_process, plain_network}
 use Rattle.lin_driver.specs.AddedSorts.{NeedsNoStack}
 use Rattle.lin_driver.specs.Faults.{IsModelFaultBy}
+use Rattle.lin_driver.specs.KeptTexts.{KeepsComponent}
 use Rattle.lin_driver.specs.Leaves.{leaves}
 use Rattle.lin_driver.specs.LinearLeaves.{IsLeafOf, AreLeavesMade, IsLeavesFaultOf}
 use Rattle.lin_driver.specs.ModelLinears.{LeadsToLinear}
 use Rattle.lin_driver.specs.PlainlyMade.{ArePlainLeaves, written_in_model}
+use Rattle.lin_driver.proofs.KeptTexts.{network_kept}
 use Rattle.lin_driver.proofs.MadeLeaves.{passed_on}
 use Rattle.lin_driver.proofs.ModelLinears.{network_can_be_composed, network_leads}
 use Rattle.lin_driver.proofs.PlainModels.{leaves_are_plain, comms_are_written}
@@ -121,3 +123,19 @@ returns-clause-plain c =
 pub returns-clause-sorts : goal.returns-clause-sorts
 returns-clause-sorts c = λ none.
     c.name_sums.ensures.grown.sorts ∙ c.compose.ensures.grown.sorts ∙ c.in_ok-parts.ensures.sorts (subst (All (NeedsNoStack c.args.method (plain_model c.args.guarded.now.model.now))) (sym (ap (map plain_component) c.as_slice.ensures.value ∙ c.in_ok-components.ensures)) none)
+
+-- ---- what a linear text writes
+pub returns-clause-keeps : goal.returns-clause-keeps
+returns-clause-keeps c =
+    let g = c.args.sig.now in
+    let m = plain_model c.args.guarded.now.model.now in
+    let n = plain_network c.args.network.now in
+    let p = c.args.pool.now in
+    let d = c.linear_components.new.sig in
+    let q = c.linear_components.new.pool in
+    let ls = map plain_linear c.in_ok-parts.parts.items in
+    let are = ap (map plain_component) c.as_slice.ensures.value ∙ c.in_ok-components.ensures in
+    let made = subst (λ cs. AreLeavesMade c.args.method g p d q m cs ls) are c.in_ok-parts.ensures.made in
+    let keeps = subst (λ cs. AllZip (KeepsComponent c.args.method (entries_of d q.trees) m) cs ls) are c.in_ok-parts.ensures.keeps in
+    network_kept c.args.method g d c.compose.new.sig c.name_sums.new.sig p q c.compose.new.pool c.name_sums.new.pool.trees c.tidy_conditions.new.pool.trees m n ls (map plain_linear c.compose.new.parts.items) (plain_linear c.in_ok-composed.composed) (plain_linear c.in_ok-named.named) (plain_linear c.in_ok-tidy.tidy)
+    c.requires.can.ready c.requires.can.leaves_fit made keeps c.in_ok-composed.ensures.first c.linear_components.ensures.grown c.linear_components.ensures.kept c.compose.ensures.grown c.compose.ensures.kept c.name_sums.ensures.grown c.name_sums.ensures.kept c.in_ok-named.ensures.named c.in_ok-named.ensures.fits c.tidy_conditions.ensures.kept c.in_ok-tidy.ensures.tidied
