@@ -10,10 +10,10 @@ use Rattle.data_theory.specs.Provable.{Equation, ProvablyEqual, reflexive, trans
 use Rattle.process_terms.specs.Communication.{conjunction_of}
 use Rattle.bisim_laws.specs.LinearProcesses.{is_true}
 use Rattle.bisim_laws.proofs.Firing.{contains_none, contains_first, contains_later, contains_cases}
+use Rattle.lps_core.specs.CanonicalConditions.{HasNoNeedlessTrue}
 use Rattle.lps_core.specs.Conditions.{parts}
 use Rattle.lps_core.specs.MadeTerms.{StandsIn, the_whole, on_the_left, on_the_right}
 use Rattle.lps_core.proofs.Chains.{true_alone, GoesThroughAnd}
-use Rattle.lps_core.specs.CanonicalConditions.{HasNoNeedlessTrue}
 use Rattle.lin_driver.specs.NeededParts.{in_front, needed_parts, tidied, TidiedConditionsHaveNoNeedlessTrue, TidiedPartsStandInTheCondition, TidyConditionsStay, TidiedConditionsAreEqual}
 
 -- ---- what goes down to both sides of `&&`

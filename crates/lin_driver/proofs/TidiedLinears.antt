@@ -22,6 +22,7 @@ use Rattle.process_terms.specs.Meanings.{bound_at, term_at, label_of}
 use Rattle.process_terms.specs.SignatureEntries.{entries_of}
 use Rattle.bisim_laws.specs.Links.{Dropped}
 use Rattle.bisim_laws.proofs.Firing.{contains_none}
+use Rattle.lps_core.specs.CanonicalConditions.{HasNoNeedlessTrue, HaveNoNeedlessTrue}
 use Rattle.lps_core.specs.Fitting.{Fits}
 use Rattle.lps_core.specs.GoingOn.{IsGoodOver}
 use Rattle.lps_core.specs.Moving.{all_kept}
@@ -33,7 +34,6 @@ use Rattle.lps_constelm.specs.Eliminating.{simplified}
 use Rattle.lps_constelm.specs.Runs.{AreTerms, IsActionWithin, IsSummandWithin, TermBecomes, ActionBecomes, NextBecomes, both_end, both_go_on, SummandBecomes, LinearBecomes}
 use Rattle.lps_constelm.proofs.MeantRounds.{linear_within, variables_are_sorts, becomes_meant, becomes_fits}
 use Rattle.lps_constelm.proofs.Rounds.{eliminated_good}
-use Rattle.lps_core.specs.CanonicalConditions.{HasNoNeedlessTrue, HaveNoNeedlessTrue}
 use Rattle.lin_driver.specs.NeededParts.{tidied, tidied_summand, tidied_linear, tidied_tree, IsTidied, TidiesConditions}
 use Rattle.lin_driver.proofs.NeededParts.{tidied_over, tidied_sorted, tidied_equal, tidied_has_none}
 use Rattle.lin_driver.proofs.TidiedTrees.{tidied_means, tidied_within}

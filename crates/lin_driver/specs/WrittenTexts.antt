@@ -6,13 +6,13 @@ use Rattle.data_theory.specs.WholeSignatures.{IsSignature}
 use Rattle.mcrl2_syntax.specs.Declarations.{PlainSpec}
 use Rattle.term_pool.specs.Pools.{PoolContents}
 use Rattle.process_terms.specs.PlainProcesses.{PlainEquation}
+use Rattle.lps_core.specs.CanonicalConditions.{HaveNoNeedlessTrue}
 use Rattle.lps_core.specs.PlainLinears.{PlainLinear}
 use Rattle.lps_printer.specs.PrintedLinears.{IsPrinted}
 use Rattle.lin_driver.specs.AddedSorts.{AddsNoSort}
 use Rattle.lin_driver.specs.CanonicalNames.{HasCanonicalNames}
 use Rattle.lin_driver.specs.KeptTexts.{KeepsItsText}
 use Rattle.lin_driver.specs.Linearised.{IsMadeOf}
-use Rattle.lps_core.specs.CanonicalConditions.{HaveNoNeedlessTrue}
 use Rattle.lin_driver.specs.PlainlyMade.{IsPlainlyMadeFor}
 use Rattle.lin_driver.specs.declared.methods.Method.{Method}
 

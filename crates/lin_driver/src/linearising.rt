@@ -5,6 +5,7 @@ ghost use Rattle.data_theory.specs.WholeSignatures.{IsSignature};
 ghost use Rattle.mcrl2_syntax.specs.Declarations.{spec_of};
 ghost use Rattle.mcrl2_syntax.specs.TreeWords.{IsSpecOfWords};
 ghost use Rattle.process_terms.specs.PlainProcesses.{plain_equation, plain_model};
+ghost use Rattle.lps_core.specs.CanonicalConditions.{HaveNoNeedlessTrue};
 ghost use Rattle.lps_core.specs.PlainLinears.{plain_linear};
 ghost use Rattle.sort_table.specs.BareDeclarations.{bare_sections};
 ghost use Rattle.sort_table.specs.Built.{IsBuilt};
@@ -16,7 +17,6 @@ ghost use Rattle.lin_driver.specs.CanonicalNames.{HasCanonicalNames};
 ghost use Rattle.lin_driver.specs.Faults.{IsFaultBy};
 ghost use Rattle.lin_driver.specs.KeptTexts.{KeepsItsText};
 ghost use Rattle.lin_driver.specs.Linearised.{HasComponents, IsLinearised, IsMadeFor, IsMadeOf};
-ghost use Rattle.lps_core.specs.CanonicalConditions.{HaveNoNeedlessTrue};
 ghost use Rattle.lin_driver.specs.PlainlyMade.{IsPlainlyMadeFor};
 ghost use Rattle.lin_driver.specs.Refusals.{IsRefusedWith, IsSpecFault};
 

@@ -10,6 +10,7 @@ ghost use Rattle.process_terms.specs.PlainProcesses.{plain_component, plain_mode
 ghost use Rattle.process_terms.specs.Meanings.{process_of};
 ghost use Rattle.process_terms.specs.SignatureEntries.{entries_of};
 ghost use Rattle.guard_check.specs.Guards.{IsGuardedModel};
+ghost use Rattle.lps_core.specs.CanonicalConditions.{HaveNoNeedlessTrue};
 ghost use Rattle.lps_core.specs.Naming.{GrowsByNames};
 ghost use Rattle.lps_core.specs.PlainLinears.{plain_linear};
 ghost use Rattle.proc_unfold.specs.FittingModels.{IsWellFormed, ModelFits};
@@ -23,7 +24,6 @@ ghost use Rattle.lin_driver.specs.KeptTexts.{KeepsModel, KeepsNetwork};
 ghost use Rattle.lin_driver.specs.Leaves.{leaves, HasLeaves};
 ghost use Rattle.lin_driver.specs.LinearLeaves.{IsLeavesFaultOf};
 ghost use Rattle.lin_driver.specs.ModelLinears.{CanBeLinear, CanBeLinearFrom, IsModelFaultOf, IsProcessName, LeadsToLinear};
-ghost use Rattle.lps_core.specs.CanonicalConditions.{HaveNoNeedlessTrue};
 ghost use Rattle.lin_driver.specs.PlainlyMade.{IsPlainFor, written_in_model};
 ghost use Rattle.lin_driver.specs.SettledNetworks.{settled, settled_component, KeepsTheCall};
 ghost use Rattle.lin_driver.specs.TakenNames.{HaveIdentifiers};
