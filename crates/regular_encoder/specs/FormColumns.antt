@@ -23,7 +23,7 @@ use Rattle.bisim_laws.specs.LinearProcesses.{sorts, AreDeclared, HaveDataSorts}
 use Rattle.bisim_laws.specs.BaseStates.{Columns, control_of}
 use Rattle.lps_core.specs.Fitting.{AreTermsOf, IsVariable, sort_of_variable, HasTakenName}
 use Rattle.lps_core.specs.MadeTerms.{IsClosedTerm}
-use Rattle.lps_core.specs.Naming.{name_of, function_names, ParamsHaveOwnNames}
+use Rattle.lps_core.specs.Naming.{name_of, names_of, function_names, ParamsHaveOwnNames}
 use Rattle.greibach.specs.FittingForms.{FormFits}
 use Rattle.greibach.specs.PlainForms.{PlainEquation, PlainForm, form_of}
 use Rattle.regular_encoder.specs.Encoding.{encoded_params, first_terms, IsLayout}
