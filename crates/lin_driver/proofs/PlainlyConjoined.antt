@@ -31,7 +31,7 @@ module _ (o : Origin) (added ps xs : List Bound) where
   fewer_are_plain [] h = tt
   fewer_are_plain (c ∷ cs) h = elim (is_true c) as (λ b. AllByRecursion (IsPlainPart o added ps xs) (if b then without_true cs else c ∷ without_true cs)) [ true ↦ fewer_are_plain cs h.1 | false ↦ (h.0, fewer_are_plain cs h.1) ]
 
-  chain_is_plain : (cs : List Term) → AllByRecursion (IsPlainPart o added ps xs) cs → HasPlainParts o added ps xs (conjunction_of cs)
+  pub chain_is_plain : (cs : List Term) → AllByRecursion (IsPlainPart o added ps xs) cs → HasPlainParts o added ps xs (conjunction_of cs)
   chain_is_plain [] h q j = parts_are_plain o added ps xs trueᵗ true_part q j
   chain_is_plain (c ∷ []) h q j = parts_are_plain o added ps xs c h.0 q j
   chain_is_plain (c ∷ d ∷ cs) h q j = ⊎_elim (λ same. subst (λ z. IsPlainPart o added ps xs z) same h.0) (λ k. chain_is_plain (d ∷ cs) h.1 q k) (contains_cases c q (parts (conjunction_of (d ∷ cs))) j)

@@ -25,5 +25,8 @@ pub mod Eliminated
 pub mod PlainlyMade
 pub mod AddedSorts
 pub mod CanonicalNames
+pub mod NeededParts
+pub mod SettledNetworks
+pub mod KeptTexts
 pub mod WrittenTexts
 pub mod BufferLines

@@ -1,7 +1,7 @@
 //! The linear processes of the components of a network.
 
 ghost use Rattle.std.specs.Prelude.{◌≡◌, ◌++◌, ◌∷◌, [], IfErr, IfOk, OnOk, map};
-ghost use Rattle.std.specs.List.{All};
+ghost use Rattle.std.specs.List.{All, AllZip};
 ghost use Rattle.data_theory.specs.IdTerms.{IsGrown};
 ghost use Rattle.term_pool.specs.Pools.{Extends};
 ghost use Rattle.process_terms.specs.PlainProcesses.{plain_component, plain_model};
@@ -10,6 +10,7 @@ ghost use Rattle.lps_core.specs.PlainLinears.{plain_linear};
 ghost use Rattle.greibach.specs.PlainComponents.{written_from};
 ghost use Rattle.lin_driver.specs.AddedSorts.{NeedsNoStack};
 ghost use Rattle.lin_driver.specs.Faults.{IsModelFaultBy};
+ghost use Rattle.lin_driver.specs.KeptTexts.{KeepsComponent};
 ghost use Rattle.lin_driver.specs.LinearLeaves.{AreLeavesMade, IsLeafFaultOf, IsLeafMade, IsLeafOf, IsLeavesFaultOf, IsReady};
 ghost use Rattle.lin_driver.specs.PlainlyMade.{ArePlainLeaves, IsPlainFor};
 
@@ -25,7 +26,8 @@ use std::alloc::Global;
 use std::collections::VecDeque;
 use term_pool::Pool;
 
-/// The linear process of a component with this number, by a method.
+/// The linear process of a component with this number, by a method. Where the component is a call of a definition in the shape of a linear
+/// process, and the method isn't `Stack`, it keeps that definition.
 ///
 /// # Errors
 ///
@@ -45,6 +47,7 @@ fn linear_of_component(
     ensures kept { Extends pool.old.trees pool.new.trees }
     ensures plain { IfOk result (λ made. IsPlainFor sig.old sig.new pool.new (written_from (entries_of sig.old pool.old.trees) (plain_model guarded.now.model.now) (plain_component component.now)) (plain_linear made)) }
     ensures sorts { IfOk result (λ _. NeedsNoStack method (plain_model guarded.now.model.now) (plain_component component.now) → sig.new.sorts ≡ sig.old.sorts) }
+    ensures keeps { IfOk result (λ made. KeepsComponent method (entries_of sig.new pool.new.trees) (plain_model guarded.now.model.now) (plain_component component.now) (plain_linear made)) }
     ensures made { IfOk result (λ made. IsLeafMade method sig.old pool.old sig.new pool.new (plain_model guarded.now.model.now) (plain_component component.now) (plain_linear made)) }
     ensures refused { IfErr result (IsLeafFaultOf (plain_model guarded.now.model.now) (plain_component component.now) number) }
     ensures by { IfErr result (IsModelFaultBy method) }
@@ -84,6 +87,7 @@ pub(crate) fn linear_components(
     ensures kept { Extends pool.old.trees pool.new.trees }
     ensures plain { IfOk result (λ made. ArePlainLeaves sig.old pool.old sig.new pool.new (plain_model guarded.now.model.now) (map plain_component components.now) (map plain_linear made.items)) }
     ensures sorts { IfOk result (λ _. All (NeedsNoStack method (plain_model guarded.now.model.now)) (map plain_component components.now) → sig.new.sorts ≡ sig.old.sorts) }
+    ensures keeps { IfOk result (λ made. AllZip (KeepsComponent method (entries_of sig.new pool.new.trees) (plain_model guarded.now.model.now)) (map plain_component components.now) (map plain_linear made.items)) }
     ensures made { IfOk result (λ made. AreLeavesMade method sig.old pool.old sig.new pool.new (plain_model guarded.now.model.now) (map plain_component components.now) (map plain_linear made.items)) }
     ensures refused { IfErr result (IsLeavesFaultOf (plain_model guarded.now.model.now) (map plain_component components.now)) }
     ensures by { IfErr result (IsModelFaultBy method) }

@@ -8,6 +8,7 @@ ghost use Rattle.lps_core.specs.PlainLinears.{plain_linear};
 ghost use Rattle.action_filters.specs.Filters.{IsGoodAround};
 ghost use Rattle.proc_unfold.specs.Networks.{networks_of, plain_network, plain_operator, side_by_side};
 ghost use Rattle.lin_driver.specs.FittingOperators.{OperatorFits};
+ghost use Rattle.lin_driver.specs.KeptTexts.{TakesTheFirst};
 ghost use Rattle.lin_driver.specs.Parts.{Composes, HasItsParts};
 ghost use Rattle.lin_driver.specs.PlainlyMade.{ComposesPlainly, StaysPlainAround};
 
@@ -78,6 +79,7 @@ pub(crate) fn compose(
     ensures kept { Extends pool.old.trees pool.new.trees }
     ensures constants { pool.new.constants ≡ pool.old.constants }
     ensures composed { IfOk result (λ made. Composes sig.old pool.old.trees (plain_network network.now) (map plain_linear parts.old.items) sig.new pool.new.trees (map plain_linear parts.new.items) (plain_linear made)) }
+    ensures first { IfOk result (λ made. TakesTheFirst (plain_network network.now) (map plain_linear parts.old.items) (map plain_linear parts.new.items) (plain_linear made)) }
     ensures plain { IfOk result (λ made. ComposesPlainly sig.old pool.old (plain_network network.now) (map plain_linear parts.old.items) sig.new pool.new (map plain_linear parts.new.items) (plain_linear made)) }
 {
     signature_stands(sig);

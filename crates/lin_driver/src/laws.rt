@@ -88,3 +88,13 @@ ghost use Rattle.lin_driver.specs.Accepted.{FaultyTextsCannotBeLinearised};
 pub fn faulty_texts_cannot_be_linearised()
     ensures { FaultyTextsCannotBeLinearised }
 {}
+
+ghost use Rattle.lin_driver.specs.NeededParts.{TidiedConditionsAreEqual, TidiedConditionsHaveNoNeedlessTrue, TidiedPartsStandInTheCondition, TidyConditionsStay};
+
+/// Conditions without needless parts `true`.
+pub fn conditions_are_tidied()
+    ensures no_needless { TidiedConditionsHaveNoNeedlessTrue }
+    ensures parts { TidiedPartsStandInTheCondition }
+    ensures stays { TidyConditionsStay }
+    ensures equal { TidiedConditionsAreEqual }
+{}

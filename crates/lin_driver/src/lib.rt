@@ -20,6 +20,7 @@ mod linearising;
 mod methods;
 mod model_linearising;
 mod reading;
+mod tidying;
 mod variable_names;
 
 pub use buffers::buffer_line;

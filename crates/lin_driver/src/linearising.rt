@@ -5,6 +5,7 @@ ghost use Rattle.data_theory.specs.WholeSignatures.{IsSignature};
 ghost use Rattle.mcrl2_syntax.specs.Declarations.{spec_of};
 ghost use Rattle.mcrl2_syntax.specs.TreeWords.{IsSpecOfWords};
 ghost use Rattle.process_terms.specs.PlainProcesses.{plain_equation, plain_model};
+ghost use Rattle.lps_core.specs.CanonicalConditions.{HaveNoNeedlessTrue};
 ghost use Rattle.lps_core.specs.PlainLinears.{plain_linear};
 ghost use Rattle.sort_table.specs.BareDeclarations.{bare_sections};
 ghost use Rattle.sort_table.specs.Built.{IsBuilt};
@@ -14,6 +15,7 @@ ghost use Rattle.lin_driver.specs.Accepted.{CanBeLinearised, IsGuardedSystem};
 ghost use Rattle.lin_driver.specs.AddedSorts.{AddsNoSort};
 ghost use Rattle.lin_driver.specs.CanonicalNames.{HasCanonicalNames};
 ghost use Rattle.lin_driver.specs.Faults.{IsFaultBy};
+ghost use Rattle.lin_driver.specs.KeptTexts.{KeepsItsText};
 ghost use Rattle.lin_driver.specs.Linearised.{HasComponents, IsLinearised, IsMadeFor, IsMadeOf};
 ghost use Rattle.lin_driver.specs.PlainlyMade.{IsPlainlyMadeFor};
 ghost use Rattle.lin_driver.specs.Refusals.{IsRefusedWith, IsSpecFault};
@@ -84,7 +86,9 @@ fn linear_of_spec(
     ensures accepted { OnOk result ((v : FullVocabulary) × IsGuardedSystem (bare_sections (spec_of spec.now)) v) }
     ensures made { IfOk result (λ made. IsMadeFor (spec_of spec.now) sig.new pool.new.trees (map plain_equation made.0.equations.items) made.1 (plain_linear made.2)) }
     ensures plain { IfOk result (λ made. IsPlainlyMadeFor (spec_of spec.now) sig.new pool.new (plain_linear made.2)) }
+    ensures conditions { IfOk result (λ made. HaveNoNeedlessTrue sig.new pool.new.trees (plain_linear made.2)) }
     ensures sorts { IfOk result (λ _. AddsNoSort method (spec_of spec.now) sig.new) }
+    ensures keeps { IfOk result (λ made. KeepsItsText method (spec_of spec.now) sig.new pool.new (plain_linear made.2)) }
     ensures components { IfOk result (λ made. HasComponents (spec_of spec.now) made.3) }
     ensures refused { IfErr result (λ fault. fault ≢ LinFault.NoMemory → IsSpecFault (spec_of spec.now) sig.new.texts fault) }
     ensures by { IfErr result (IsFaultBy method) }
@@ -115,7 +119,9 @@ fn linear_of_built(
     ensures spec { IfOk result (λ made. spec_of made.spec ≡ spec_of spec) }
     ensures made { IfOk result (λ made. IsMadeFor (spec_of made.spec) made.sig made.pool.trees (map plain_equation made.theory.equations.items) made.name (plain_linear made.lin)) }
     ensures plain { IfOk result (λ made. IsPlainlyMadeFor (spec_of made.spec) made.sig made.pool (plain_linear made.lin)) }
+    ensures conditions { IfOk result (λ made. HaveNoNeedlessTrue made.sig made.pool.trees (plain_linear made.lin)) }
     ensures sorts { IfOk result (λ made. AddsNoSort method (spec_of made.spec) made.sig) }
+    ensures keeps { IfOk result (λ made. KeepsItsText method (spec_of made.spec) made.sig made.pool (plain_linear made.lin)) }
     ensures components { IfOk result (λ made. HasComponents (spec_of made.spec) made.components) }
     ensures refused { IfErr result (λ fault. fault ≢ LinFault.NoMemory → IsSpecFault (spec_of spec) names.new fault) }
     ensures by { IfErr result (IsFaultBy method) }
@@ -146,7 +152,11 @@ fn linear_of_built(
 /// consistent. Constants for sorts without constructors and structs of stacks may have been declared, and nothing else is new to the data; no
 /// struct is, where no component needs a stack. The linear process is plainly conditioned for what the text's specification writes. It gets the
 /// first of the names `P`, `P_1`, .. that is free; its parameters and the sums of a summand have names of their own, and none is a function's.
+/// No condition of two or more parts has the part `true`.
 /// The text is one that [`check_text`](crate::check_text) accepts.
+///
+/// Of a linear text the linear process keeps the parameters, the initial terms and the summands in their order, unless the method is `Stack`: only the
+/// names and numbers of variables change, and parts `true` of conditions are left out.
 ///
 /// # Errors
 ///
@@ -165,8 +175,10 @@ pub fn linearise(
     ensures made { IfOk result (λ made. IsMadeOf text.now (spec_of made.spec) made.sig made.pool.trees (map plain_equation made.theory.equations.items) made.name (plain_linear made.lin)) }
     ensures linearised { IfOk result (λ made. IsLinearised text.now (spec_of made.spec) made.sig made.pool.trees (plain_linear made.lin)) }
     ensures plain { IfOk result (λ made. IsPlainlyMadeFor (spec_of made.spec) made.sig made.pool (plain_linear made.lin)) }
+    ensures conditions { IfOk result (λ made. HaveNoNeedlessTrue made.sig made.pool.trees (plain_linear made.lin)) }
     ensures sorts { IfOk result (λ made. AddsNoSort method (spec_of made.spec) made.sig) }
     ensures names { IfOk result (λ made. HasCanonicalNames (spec_of made.spec) made.sig made.name (plain_linear made.lin)) }
+    ensures keeps { IfOk result (λ made. KeepsItsText method (spec_of made.spec) made.sig made.pool (plain_linear made.lin)) }
     ensures components { IfOk result (λ made. HasComponents (spec_of made.spec) made.components) }
     ensures refused { IfErr result (λ fault. fault ≢ LinFault.NoMemory → IsRefusedWith text.now names.new fault) }
     ensures by { IfErr result (IsFaultBy method) }

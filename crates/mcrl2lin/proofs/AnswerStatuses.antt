@@ -4,7 +4,7 @@ use Rattle.mcrl2_text.specs.declared.loading.TheConstants.{MAX_TEXT_LEN}
 use Rattle.lps_simulator.specs.declared.options.Open.{Open}
 use Rattle.trace_replay.specs.declared.replaying.Verdict.{Verdict}
 use Rattle.trace_replay.specs.declared.replaying.Verdict.TheVariants as verdict
-use Rattle.mcrl2lin.specs.Commands.{Asked, asked_by, NeedsTrace, Question, question, text_asked, trace_asked}
+use Rattle.mcrl2lin.specs.Commands.{Asked, asked_by, NeedsTrace, question, text_asked, trace_asked}
 use Rattle.mcrl2lin.specs.Ends.{IsAnswer, IsAnswered, MayStayOpen, MaySayNo}
 use Rattle.mcrl2lin.specs.Shown.{status_with}
 use Rattle.mcrl2lin.specs.ShownVerdicts.{status_of_verdict}

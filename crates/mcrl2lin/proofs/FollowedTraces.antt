@@ -1,6 +1,5 @@
 -- Runs with the labels of a trace, of processes that a link pairs and over theories that go on.
-use Rattle.std.proofs.Common.{◌≡◌, ℕ, List, [], ◌∷◌, refl, ap, subst, ◌∙◌, Option, Some, None}
-use Rattle.std.specs.Prelude.{Contains}
+use Rattle.std.proofs.Common.{◌≡◌, ℕ, List, [], ◌∷◌, subst, Option, Some, None}
 use Rattle.std.specs.List.{AllByRecursion}
 use Rattle.data_theory.specs.EqualityLaws.{Grows, AreAmong}
 use Rattle.data_theory.specs.Terms.{Term, put}
@@ -9,11 +8,11 @@ use Rattle.data_theory.specs.Environments.{term_in}
 use Rattle.data_theory.proofs.GrowthLemmas.{growth_keeps_derivations, growth_keeps_sorts}
 use Rattle.process_terms.specs.Labels.{Action, Label, Agree, AgreeAction, equal_args, AgreeInOrder, both_silent, next_agree}
 use Rattle.process_terms.specs.Processes.{Process}
-use Rattle.process_terms.specs.Steps.{Outcome, goes_on, Step}
+use Rattle.process_terms.specs.Steps.{Outcome, Step}
 use Rattle.process_terms.specs.Theories.{Theory, Equals, no_terms, more_terms}
 use Rattle.process_terms.proofs.AgreeingLabels.{agree_sym, agree_trans}
-use Rattle.bisim_laws.specs.Bisimulations.{Answers, Lands, both_end, both_go_on}
-use Rattle.bisim_laws.specs.LinearProcesses.{Linear, state_of, outcome_of, IsLinear, Does, Fires}
+use Rattle.bisim_laws.specs.Bisimulations.{Answers, Lands, both_go_on}
+use Rattle.bisim_laws.specs.LinearProcesses.{Linear, state_of, outcome_of, IsLinear, Fires}
 use Rattle.bisim_laws.proofs.Firing.{fire, fired}
 use Rattle.trace_replay.specs.Replays.{Entry}
 use Rattle.trace_replay.specs.Runs.{Run, no_step, one_step, AgreeWith, no_labels, one_label, UpTo, that_line, line_before}

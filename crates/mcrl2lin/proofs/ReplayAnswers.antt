@@ -1,5 +1,5 @@
 -- What replaying a trace answers, and why it stops.
-use Rattle.std.proofs.Common.{◌≡◌, ◌≢◌, ◌≤◌, ◌<◌, ◌⊎◌, ℕ, List, Option, None, Some, Result, Ok, Err, IfSome, IfOk, IfErr, IsErrAnd, OnOk, inl, inr, length, refl, sym, subst, ap, ◌∙◌, arith}
+use Rattle.std.proofs.Common.{◌≡◌, ◌≢◌, ◌≤◌, ◌<◌, ℕ, List, Option, Some, Result, Ok, Err, IfSome, IfOk, IfErr, IsErrAnd, OnOk, inl, inr, length, refl, sym, subst, ap, ◌∙◌, arith}
 use Rattle.std.specs.Prelude.{IsErrOf, option_and_then}
 use Rattle.mcrl2_text.specs.Faults.{Rose}
 use Rattle.mcrl2_text.specs.declared.loading.LoadFault.{LoadFault}
@@ -27,7 +27,7 @@ use Rattle.mcrl2lin.specs.BadTraces.{IsBadAsTold}
 use Rattle.mcrl2lin.specs.Commands.{Asked, asked_by, Question, question, text_asked, trace_asked, ReadsAFile, ReadsFor}
 use Rattle.mcrl2lin.specs.Ends.{IsAnswer, IsAnswered, MayStayOpen, MaySayNo}
 use Rattle.mcrl2lin.specs.ShownVerdicts.{IsReplayedAsTold, ShowsVerdict}
-use Rattle.mcrl2lin.specs.Stops.{ComesToTheTrace, HasCause, IsStopFor, IsTraceStop, stop_of_load}
+use Rattle.mcrl2lin.specs.Stops.{HasCause, IsStopFor, IsTraceStop, stop_of_load}
 use Rattle.mcrl2lin.specs.declared.answers.Answer.{Answer}
 use Rattle.mcrl2lin.specs.declared.command.Task.{Task}
 use Rattle.mcrl2lin.specs.declared.command.Task.TheVariants.{Replay}

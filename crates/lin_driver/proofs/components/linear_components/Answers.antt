@@ -1,17 +1,19 @@
 use Rattle.std.proofs.Common.{List, [], ◌∷◌, ◌++◌, map, take, refl, sym, ◌∙◌, subst}
-use Rattle.std.specs.List.{All}
+use Rattle.std.specs.List.{All, AllZip}
 use Rattle.data_theory.proofs.IdGrowthLemmas.{growth_after_growth_is_growth}
 use Rattle.lps_core.specs.declared.linears.Linear.{Linear}
 use Rattle.lps_core.specs.PlainLinears.{PlainLinear, plain_linear}
 use Rattle.lps_core.proofs.PoolTrees.{extends_itself, extends_on}
 use Rattle.process_terms.specs.PlainProcesses.{PlainComponent, plain_component, plain_model}
-use Rattle.process_terms.specs.SignatureEntries.{BothGrow}
+use Rattle.process_terms.specs.SignatureEntries.{entries_of, BothGrow}
 use Rattle.lps_printer.proofs.GrowingByAdditions.{additions_grow}
 use Rattle.lin_driver.specs.AddedSorts.{NeedsNoStack}
 use Rattle.lin_driver.specs.Faults.{IsModelFaultBy}
+use Rattle.lin_driver.specs.KeptTexts.{KeepsComponent}
 use Rattle.lin_driver.specs.LinearLeaves.{AreLeavesMade, IsLeafOf, IsLeavesFaultOf}
 use Rattle.lin_driver.specs.PlainlyMade.{ArePlainLeaves}
 use Rattle.lin_driver.proofs.AddedSorts.{front_of, last_of}
+use Rattle.lin_driver.proofs.KeptTexts.{first_leaves, one_more_kept}
 use Rattle.lin_driver.proofs.MadeLeaves.{leaf_grows, none_made, one_more_made, leaves_fault, passed_on, one_of_slice, slice_more}
 use Rattle.lin_driver.proofs.PlainLeaves.{one_more_plain}
 use Rattle.lin_driver.proofs.components.linear_components.Goals as goal
@@ -25,6 +27,7 @@ loop-place-init c =
       extends_itself p.trees,
       subst (λ (ls : List Linear). ArePlainLeaves g p g p m [] (map plain_linear ls)) (sym c.new-made.ensures.items) tt,
       λ none. refl,
+      subst (λ (ls : List Linear). AllZip (KeepsComponent c.args.method (entries_of g p.trees) m) [] (map plain_linear ls)) (sym c.new-made.ensures.items) tt,
     )
 
 pub linear_of_component-requires-clause-leaf : goal.linear_of_component-requires-clause-leaf
@@ -76,6 +79,9 @@ loop-place-preserved c =
     let leaf = one_of_slice (IsLeafOf g p.trees m) xs k x c.loop-place-test.true c.index-components-place.is c.requires.leaves in
     let made = one_more_made c.args.method g h i p q r m cs ls (plain_component x) l c.requires.ready leaf c.loop-place.invariant.1 c.linear_of_component.ensures.kept c.loop-place.invariant.0 c.in_ok-linear.ensures.made in
     let more = slice_more xs k x c.loop-place-test.true c.index-components-place.is in
+    let Keeps = KeepsComponent c.args.method (entries_of i r.trees) m in
+    let keeps = one_more_kept c.args.method g h i p q r m cs ls (plain_component x) l c.requires.ready (first_leaves (IsLeafOf g p.trees m) xs k c.requires.leaves) c.loop-place.invariant.0 (additions_grow g c.requires.ready.stands c.loop-place.invariant.0.grows) c.linear_of_component.ensures.grown
+    c.loop-place.invariant.1 c.linear_of_component.ensures.kept c.loop-place.invariant.4 c.in_ok-linear.ensures.keeps in
     let plain = one_more_plain g h i p q r m cs ls (plain_component x) l c.requires.ready c.loop-place.invariant.0.ready leaf c.in_ok-linear.ensures.made.ready.stands (additions_grow g c.requires.ready.stands c.loop-place.invariant.0.grows) c.linear_of_component.ensures.grown c.loop-place.invariant.1 c.linear_of_component.ensures.kept c.loop-place.invariant.2 c.in_ok-linear.ensures.plain in (
       subst (λ (cs : List PlainComponent). AreLeavesMade c.args.method g p i r m cs (map plain_linear c.put_last.new.made.items)) (sym (slice_more xs k x c.loop-place-test.true c.index-components-place.is))
           (subst (λ (ls : List PlainLinear). AreLeavesMade c.args.method g p i r m (cs ++ plain_component x ∷ []) ls) (sym c.in_ok-put_last.ensures) made),
@@ -85,4 +91,5 @@ loop-place-preserved c =
           let all = subst (λ (cs : List PlainComponent). All (NeedsNoStack c.args.method m) cs) more none in
           c.in_ok-linear.ensures.sorts (last_of (NeedsNoStack c.args.method m) cs (plain_component x) all) ∙ c.loop-place.invariant.3 (front_of (NeedsNoStack c.args.method m) cs (plain_component x ∷ []) all)
           ),
+      subst (λ (cs : List PlainComponent). AllZip Keeps cs (map plain_linear c.put_last.new.made.items)) (sym more) (subst (λ (ls : List PlainLinear). AllZip Keeps (cs ++ plain_component x ∷ []) ls) (sym c.in_ok-put_last.ensures) keeps),
     )

@@ -9,6 +9,7 @@ use Rattle.regular_encoder.proofs.InhabitedColumns.{still_inhabited}
 use Rattle.lin_driver.proofs.AddedSorts.{leaf_adds_no_sort}
 use Rattle.lin_driver.proofs.MadeLeaves.{leaf_made, leaf_fault, fault_by}
 use Rattle.lin_driver.proofs.PlainLeaves.{leaf_plain}
+use Rattle.lin_driver.proofs.KeptTexts.{leaf_kept}
 use Rattle.lin_driver.proofs.components.linear_of_component.Goals as goal
 
 pub encode_form-requires-clause-inhabited : goal.encode_form-requires-clause-inhabited
@@ -49,3 +50,8 @@ pub returns-in-Ok-clause-sorts : goal.returns-in-Ok-clause-sorts
 returns-in-Ok-clause-sorts c =
     leaf_adds_no_sort c.args.method c.args.sig.now c.normal_form.new.sig c.encode_form.new.sig c.normal_form.new.pool c.encode_form.new.pool (plain_model c.args.guarded.now.model.now) (plain_component c.args.component.now) (plain_form c.in_ok-form.form) (plain_linear c.in-Ok.linear)
     c.normal_form.ensures.grown.sorts c.in_ok-form.ensures.unfolds c.in-Ok.ensures.encoded
+
+pub returns-in-Ok-clause-keeps : goal.returns-in-Ok-clause-keeps
+returns-in-Ok-clause-keeps c =
+    leaf_kept c.args.method c.args.sig.now c.normal_form.new.sig c.encode_form.new.sig c.args.pool.now c.normal_form.new.pool c.encode_form.new.pool (plain_model c.args.guarded.now.model.now) (plain_component c.args.component.now) (plain_form c.in_ok-form.form) (plain_linear c.in-Ok.linear)
+    c.requires.ready c.requires.leaf c.normal_form.ensures.grown c.normal_form.ensures.kept c.in_ok-form.ensures.fits c.in_ok-form.ensures.unfolds c.in_ok-form.ensures.linear c.in-Ok.ensures.stands c.encode_form.ensures.grown c.encode_form.ensures.kept c.in-Ok.ensures.encoded c.in-Ok.ensures.leads.fits

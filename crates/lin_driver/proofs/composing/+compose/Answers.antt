@@ -157,3 +157,6 @@ compose_beside-returns-then-is_empty-clause-plain t c = taken_plainly c.args.sig
 
 pub compose_beside-returns-clause-plain : goal.compose_beside-returns-clause-plain
 compose_beside-returns-clause-plain t c = c.loop-place.invariant.2
+
+pub compose-returns-in-Leaf-clause-first : goal.compose-returns-in-Leaf-clause-first
+compose-returns-in-Leaf-clause-first t c = λ k e. c.take_first.ensures

@@ -88,3 +88,15 @@ returns-in-Ok-clause-sorts c = record {
   is_model = c.in_ok-model.ensures.means;
   sorts = c.in-Ok.ensures.sorts;
 }
+
+pub returns-in-Ok-clause-keeps : goal.returns-in-Ok-clause-keeps
+returns-in-Ok-clause-keeps c = record {
+  signature = c.elaborate.new.sig;
+  stands = (model_can_be_linear (spec_of c.args.spec.now) c.args.sig.now c.elaborate.new.sig c.args.pool.now c.elaborate.new.pool (plain_model c.in_ok-model.model) c.requires.words c.requires.stands c.requires.built c.requires.no_constants c.elaborate.ensures.kept c.in_ok-model.ensures.means).stands;
+  declares = built_signatures_are_of_their_texts (spec_of c.args.spec.now) c.args.sig.now c.elaborate.new.sig c.requires.stands c.requires.built c.elaborate.ensures.kept.added;
+  pool = c.elaborate.new.pool;
+  model = plain_model c.in_ok-model.model;
+  is_model = c.in_ok-model.ensures.means;
+  grow = record { signature = c.linear_of.ensures.grown; pool = c.linear_of.ensures.kept };
+  keeps = c.in-Ok.ensures.keeps;
+}

@@ -1,4 +1,4 @@
-use Rattle.std.proofs.Common.{rules, ◌≡◌, ◌∙◌, List, ℕ, Option, None, Some, map, string_bytes, ap, sym, subst}
+use Rattle.std.proofs.Common.{rules, ◌≡◌, Option, None, Some, map, string_bytes, ap, sym, subst}
 use Rattle.std.specs.Prelude.{option_map, IfSome, IsSome}
 use Rattle.mcrl2lin.specs.Commands.{Asked, asked_by, NeedsTrace, trace_asked}
 use Rattle.mcrl2lin.specs.declared.command.Command.{Command}
