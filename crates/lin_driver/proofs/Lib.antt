@@ -65,3 +65,13 @@ mod OpenedWritten
 mod PlainModels
 mod AddedSorts
 mod WrittenPieces
+mod NewTerms
+mod NewDerivations
+mod NewSteps
+mod MatchedNumbers
+mod OneVocabulary
+mod NewTypings
+mod NewElaborations
+mod NewEquations
+mod SameSteps
+pub mod OneReading

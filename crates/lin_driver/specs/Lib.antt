@@ -27,3 +27,6 @@ pub mod AddedSorts
 pub mod CanonicalNames
 pub mod WrittenTexts
 pub mod BufferLines
+pub mod Renumberings
+pub mod SameProcesses
+pub mod OneReading
