@@ -77,3 +77,13 @@ mod KeptVariables
 mod KeptScopes
 mod KeptSteps
 mod KeptTexts
+mod NewTerms
+mod NewDerivations
+mod NewSteps
+mod MatchedNumbers
+mod OneVocabulary
+mod NewTypings
+mod NewElaborations
+mod NewEquations
+mod SameSteps
+pub mod OneReading

@@ -30,3 +30,6 @@ pub mod SettledNetworks
 pub mod KeptTexts
 pub mod WrittenTexts
 pub mod BufferLines
+pub mod Renumberings
+pub mod SameProcesses
+pub mod OneReading

@@ -8,6 +8,8 @@ use Rattle.term_pool.specs.Pools.{PoolContents}
 use Rattle.process_terms.specs.PlainProcesses.{PlainEquation}
 use Rattle.lps_core.specs.CanonicalConditions.{HaveNoNeedlessTrue}
 use Rattle.lps_core.specs.PlainLinears.{PlainLinear}
+use Rattle.sort_table.specs.SignatureVocabularies.{text_under}
+use Rattle.lps_printer.specs.CanonicalTexts.{IsCanonicalText}
 use Rattle.lps_printer.specs.PrintedLinears.{IsPrinted}
 use Rattle.lin_driver.specs.AddedSorts.{AddsNoSort}
 use Rattle.lin_driver.specs.CanonicalNames.{HasCanonicalNames}
@@ -18,7 +20,7 @@ use Rattle.lin_driver.specs.declared.methods.Method.{Method}
 
 -- A linear process was made of the text. It is plainly conditioned for what the specification of the text writes, where no component needs a
 -- stack, no sort was added for it, its names are canonical, none of its conditions of two or more parts has the part `true`, and a linear text is
--- kept. The bytes are its printed text.
+-- kept. The bytes are its printed text, which is canonical.
 pub record IsWrittenFor (method : Method) (text printed : List ℕ) : Type 0 where
   pub spec : PlainSpec
   pub signature : Sig
@@ -35,3 +37,4 @@ pub record IsWrittenFor (method : Method) (text printed : List ℕ) : Type 0 whe
   pub printed_signature : Sig
   pub stands : IsSignature printed_signature
   pub is_printed : IsPrinted spec signature printed_signature pool.trees name linear printed
+  pub canonical : IsCanonicalText spec printed_signature (text_under printed_signature name) printed

@@ -98,3 +98,20 @@ pub fn conditions_are_tidied()
     ensures stays { TidyConditionsStay }
     ensures equal { TidiedConditionsAreEqual }
 {}
+
+ghost use Rattle.lin_driver.specs.OneReading.{SystemsAreOne, TextsHaveOneReading, TheSameHaveTheSameSteps, VocabulariesAreOne};
+ghost use Rattle.lin_driver.specs.Renumberings.{StepsAreRenumbered, TypingsAreRenumbered};
+
+/// Under other numbers of the declared sorts and functions an expression means the same, and a process has the same steps.
+pub fn renumbering_changes_nothing()
+    ensures typings { TypingsAreRenumbered }
+    ensures steps { StepsAreRenumbered }
+{}
+
+/// Whatever the numbers of its sorts and functions and of bound variables, a text has one theory and one process, which has the same steps.
+pub fn texts_have_one_reading()
+    ensures vocabularies { VocabulariesAreOne }
+    ensures systems { SystemsAreOne }
+    ensures texts { TextsHaveOneReading }
+    ensures steps { TheSameHaveTheSameSteps }
+{}

@@ -6,6 +6,7 @@ use Rattle.mcrl2_syntax.specs.Declarations.{spec_of}
 use Rattle.process_terms.specs.PlainProcesses.{plain_equation}
 use Rattle.lps_core.specs.PlainLinears.{plain_linear}
 use Rattle.lps_printer.specs.PrintedLinears.{IsPrinted}
+use Rattle.lps_printer.proofs.CanonicalTexts.{printed_texts_are_canonical}
 use Rattle.lin_driver.specs.Accepted.{CanBeLinearised}
 use Rattle.lin_driver.specs.Headline.{StandsFor}
 use Rattle.lin_driver.specs.WrittenTexts.{IsWrittenFor}
@@ -53,6 +54,8 @@ returns-clause-written c =
       printed_signature = w.0;
       stands = w.1;
       is_printed = w.2;
+      canonical = printed_texts_are_canonical (spec_of made.spec) made.sig w.0 made.pool.trees made.name (plain_linear made.lin) printed c.in_ok-made.ensures.linearised.stands w.1 c.in_ok-made.ensures.linearised.fits
+          c.in_ok-made.ensures.names.parameters c.in_ok-made.ensures.names.sums c.in_ok-made.ensures.conditions w.2;
     })
     c.print_out.ensures.written
 
