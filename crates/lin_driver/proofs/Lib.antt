@@ -75,3 +75,4 @@ mod NewElaborations
 mod NewEquations
 mod SameSteps
 pub mod OneReading
+pub mod EachReading
