@@ -87,3 +87,4 @@ mod NewElaborations
 mod NewEquations
 mod SameSteps
 pub mod OneReading
+pub mod EachReading

@@ -100,7 +100,7 @@ body_back r (written_call x ts) = ap (written_call x) (list_back r ts)
 body_back r (written_merge p q) = ap₂ written_merge (body_back r p) (body_back r q)
 body_back r (written_around o p) = ap (written_around o) (body_back r p)
 
-table_back : (r : Renumbering) (d : Table) → new_table (back r) (new_table r d) ≡ d
+pub table_back : (r : Renumbering) (d : Table) → new_table (back r) (new_table r d) ≡ d
 table_back r [] = refl
 table_back r (f ∷ d) = λ i. record { params = f.params; body = body_back r f.body i } ∷ table_back r d i
 

@@ -33,3 +33,4 @@ pub mod BufferLines
 pub mod Renumberings
 pub mod SameProcesses
 pub mod OneReading
+pub mod EachReading

@@ -115,3 +115,10 @@ pub fn texts_have_one_reading()
     ensures texts { TextsHaveOneReading }
     ensures steps { TheSameHaveTheSameSteps }
 {}
+
+ghost use Rattle.lin_driver.specs.EachReading.{WhatStandsForATextDoesSoInEachReading};
+
+/// What stands for a text does so in each reading of both texts.
+pub fn what_stands_for_a_text_does_so_in_each_reading()
+    ensures { WhatStandsForATextDoesSoInEachReading }
+{}
