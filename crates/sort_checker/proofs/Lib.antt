@@ -82,6 +82,7 @@ pub mod ElaboratedForms
 pub mod ElaboratedInside
 pub mod ElaboratedInCode
 pub mod TreeSizes
+pub mod PartsOfTrees
 pub mod SmallNumerals
 pub mod OverSignatures
 pub mod SignatureSorts

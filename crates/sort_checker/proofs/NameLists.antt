@@ -118,6 +118,13 @@ any_append p (x ∷ xs) ys = ap (λ (b : Bool). p x || b) (any_append p xs ys) �
     or_assoc true b c = refl
     or_assoc false b c = refl
 
+pub added_then : (a b c : NameNumbers) (ms ns : List Name) → AddsNames a b ms → AddsNames b c ns → AddsNames a c (ms ++ ns)
+added_then a b c ms ns one two n = two n ∙ (ap (λ (k : Bool). k || stands_in n ns) (one n) ∙ (grouped (has_name a n) (stands_in n ms) (stands_in n ns) ∙ ap (λ (k : Bool). has_name a n || k) (sym (any_append (λ y. bytes_eq y n) ms ns))))
+  where
+    grouped : (p q r : Bool) → ((p || q) || r) ≡ (p || (q || r))
+    grouped true q r = refl
+    grouped false q r = refl
+
 pub told_more : {A : Type 0} (h : List A → List Name) (f : A → List Name) → IsListed h f → (old new : NameNumbers) (xs : List A) (i : ℕ) (x : A) → i < length xs → x ≡ get_or xs i x → ((n : Name) → has_name old n ≡ stands_in n (h (take i xs))) → AddsNames old new (f x)
     → (n : Name) → has_name new n ≡ stands_in n (h (take (i + 1) xs))
 told_more h f is old new xs i x l e before then n =

@@ -29,12 +29,13 @@ use Rattle.data_typing.specs.Meanings.{declared_signature}
 use Rattle.sort_checker.specs.FullVocabularies.{Written, process_by, processes_in, FullVocabulary, process_from, Parameters, IsEntry, IsOver}
 use Rattle.sort_checker.specs.Operators.{stands_in}
 use Rattle.sort_checker.specs.Faults.{is_function, is_action}
-use Rattle.sort_checker.specs.KnownNames.{built_in_words, declared_names, action_names, process_names, process_names_by, process_names_of, Knows}
+use Rattle.sort_checker.specs.KnownNames.{plain_words, number_words, list_words, built_in_words, declared_names, action_names, process_names, process_names_by, process_names_of, Knows}
 use Rattle.data_theory.specs.declared.words.Word.{Word}
 use Rattle.sort_checker.specs.declared.name_numbers.NameNumbers.{NameNumbers}
 use Rattle.sort_checker.specs.NameNumbers.{number_under, has_name, AddsNames}
 use Rattle.sort_checker.specs.UnknownTrees.{IsKnown}
 use Rattle.sort_checker.specs.declared.known_names.KnownNames.{KnownNames}
+use Rattle.sort_checker.proofs.NameLists.{added_then}
 use Rattle.sort_checker.proofs.Members.{contains_cases, contains_none}
 use Rattle.sort_checker.proofs.SoundElaborations.{both_true}
 use Rattle.sort_checker.proofs.TypedEquations.{stands_among}
@@ -93,7 +94,7 @@ all_among xs ys h f k = of_list xs h (stands_among f xs k)
     of_list (z ∷ zs) h c = let r = both_true (stands_in z ys) (list_all (λ x. stands_in x ys) zs) h in ⊎_elim (λ (e : z ≡ f). subst (λ x. stands_in x ys ≡ true) e r.0) (λ d. of_list zs r.1 d) (contains_cases z f zs c)
 
 words_are_rows : (f : Name) → stands_in f (row_names (language_table any_sort lists_of_any)) ≡ stands_in f (map text_of built_in_words)
-unfolding language_table truth_rows sort_rows comparison_rows sum_rows first_rows quotient_rows extreme_rows step_rows list_rows built_in_words
+unfolding language_table truth_rows sort_rows comparison_rows sum_rows first_rows quotient_rows extreme_rows step_rows list_rows plain_words number_words list_words
 words_are_rows f =
     same_test (stands_in f (row_names (language_table any_sort lists_of_any))) (stands_in f (map text_of built_in_words))
     (all_among (row_names (language_table any_sort lists_of_any)) (map text_of built_in_words) refl f)
@@ -189,11 +190,18 @@ known_over g ss v k over knows = record {
 }
 
 -- ---- what is told once all are added
-pub functions_told : (g : Sig) (a b c : NameNumbers) (ws : List Word) (is : List FunId) → ((n : Name) → number_under a n ≡ None) → ws ≡ built_in_words → AddsNames a b (map text_of ws) → is ≡ g.declared → AddsNames b c (declared_names g is)
+pub words_told : (a b c d : NameNumbers) (ws ns ls : List Word) → ws ≡ plain_words → ns ≡ number_words → ls ≡ list_words → AddsNames a b (map text_of ws) → AddsNames b c (map text_of ns) → AddsNames c d (map text_of ls) → AddsNames a d (map text_of built_in_words)
+words_told a b c d ws ns ls plain number list one two three =
+    let all : map text_of ws ++ (map text_of ns ++ map text_of ls) ≡ map text_of built_in_words =
+    ap (λ (xs : List Name). map text_of ws ++ xs) (sym (map-append text_of ns ls))
+    ∙ (sym (map-append text_of ws (ns ++ ls)) ∙ (ap (λ (xs : List Word). map text_of (xs ++ (ns ++ ls))) plain ∙ ap₂ (λ (xs ys : List Word). map text_of (plain_words ++ (xs ++ ys))) number list)) in
+    subst (AddsNames a d) all (added_then a b d (map text_of ws) (map text_of ns ++ map text_of ls) one (added_then b c d (map text_of ns) (map text_of ls) two three))
+
+pub functions_told : (g : Sig) (a b c : NameNumbers) (is : List FunId) → ((n : Name) → number_under a n ≡ None) → AddsNames a b (map text_of built_in_words) → is ≡ g.declared → AddsNames b c (declared_names g is)
     → (x : Name) → has_name c x ≡ is_function (vocabulary_of g) x
-functions_told g a b c ws is new words built declared more x =
+functions_told g a b c is new built declared more x =
     more x
-    ∙ (ap₂ (λ (p : Bool) (js : List FunId). p || stands_in x (declared_names g js)) (built x ∙ ap₂ (λ (o : Option ℕ) (vs : List Word). is_some o || stands_in x (map text_of vs)) (new x) words) declared
+    ∙ (ap₂ (λ (p : Bool) (js : List FunId). p || stands_in x (declared_names g js)) (built x ∙ ap (λ (o : Option ℕ). is_some o || stands_in x (map text_of built_in_words)) (new x)) declared
     ∙ sym (functions_are g x))
 
 pub actions_told : (g : Sig) (a b : NameNumbers) (as_ : List Key) → ((n : Name) → number_under a n ≡ None) → as_ ≡ g.actions → AddsNames a b (action_names g as_) → (x : Name) → has_name b x ≡ is_action (vocabulary_of g) x

@@ -3,13 +3,14 @@ use Rattle.std.proofs.Common.{◌≡◌, ◌<◌, List, ap, arith}
 use Rattle.std.specs.Global.{Box, Vec}
 use denote.Param.Weighed.{most}
 use Rattle.mcrl2_syntax.specs.declared.word.Span.{Span}
+use Rattle.mcrl2_syntax.specs.declared.word.Word.{Word}
 use Rattle.mcrl2_syntax.specs.declared.data_tree.DataTree.{DataTree}
 use Rattle.mcrl2_syntax.specs.declared.process_tree.NameSet.{NameSet}
 use Rattle.mcrl2_syntax.specs.declared.process_tree.Renaming.{Renaming}
 use Rattle.mcrl2_syntax.specs.declared.process_tree.CommRule.{CommRule}
 use Rattle.mcrl2_syntax.specs.declared.process_tree.ProcTree.{ProcTree}
 use Rattle.mcrl2_syntax.specs.declared.process_tree.ProcTree.TheVariants as forms
-use Rattle.mcrl2_syntax.specs.declared.process_tree.ProcTree.TheViews.{sized-Allow, sized-Rename, sized-Comm, sized-Sequence, sized-When, sized-Either, sized-Parallel, sized-Choice}
+use Rattle.mcrl2_syntax.specs.declared.process_tree.ProcTree.TheViews.{sized-Allow, sized-Block, sized-Hide, sized-Rename, sized-Comm, sized-Sequence, sized-When, sized-Either, sized-Parallel, sized-Choice}
 use Rattle.mcrl2_syntax.proofs.process_tree.ProcTree.TheLaws.{the_size}
 
 module _ (tree p : ProcTree) (span : Span) where
@@ -18,6 +19,18 @@ module _ (tree p : ProcTree) (span : Span) where
       let whole : the_size tree ≡ the_size (forms.Allow span sets inner) = ap the_size is in
       let part : the_size p ≡ the_size inner.value = ap the_size e in
       omega (arith, sized-Allow span sets inner, whole, part)
+
+  pub block_smaller : (names : Vec Word) (inner : Box ProcTree) → tree ≡ forms.Block span names inner → p ≡ inner.value → the_size p < the_size tree
+  block_smaller names inner is e =
+      let whole : the_size tree ≡ the_size (forms.Block span names inner) = ap the_size is in
+      let part : the_size p ≡ the_size inner.value = ap the_size e in
+      omega (arith, sized-Block span names inner, whole, part)
+
+  pub hide_smaller : (names : Vec Word) (inner : Box ProcTree) → tree ≡ forms.Hide span names inner → p ≡ inner.value → the_size p < the_size tree
+  hide_smaller names inner is e =
+      let whole : the_size tree ≡ the_size (forms.Hide span names inner) = ap the_size is in
+      let part : the_size p ≡ the_size inner.value = ap the_size e in
+      omega (arith, sized-Hide span names inner, whole, part)
 
   pub rename_smaller : (renamings : Vec Renaming) (inner : Box ProcTree) → tree ≡ forms.Rename span renamings inner → p ≡ inner.value → the_size p < the_size tree
   rename_smaller renamings inner is e =

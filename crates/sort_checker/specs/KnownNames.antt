@@ -1,5 +1,5 @@
 -- The names that are known, in code.
-use Rattle.std.specs.Prelude.{◌≡◌, List, [], ◌∷◌, map, slice_get}
+use Rattle.std.specs.Prelude.{◌≡◌, List, [], ◌∷◌, ◌++◌, map, slice_get}
 use Rattle.mcrl2_syntax.specs.declared.declaration.Decl.{Decl}
 use Rattle.data_theory.specs.declared.ids.FunId.{FunId}
 use Rattle.data_theory.specs.declared.words.Word.{Word}
@@ -29,15 +29,23 @@ pub record Knows (v : Vocabulary) (ss : List Section) (k : KnownNames) : Type 0 
   pub actions : (x : Name) → has_name k.actions x ≡ is_action v x
   pub processes : (x : Name) → has_name k.processes x ≡ stands_in x (process_names ss)
 
--- the names of the built-in functions; `[]` is no word
-unfoldable pub built_in_words : List Word
-built_in_words =
-    words.True ∷ words.False ∷ words.Not ∷ words.And ∷ words.Or ∷ words.Implies ∷ words.Equal ∷ words.Different ∷ words.If ∷ words.Less ∷ words.AtMost ∷ words.Greater ∷ words.AtLeast
-    ∷ words.Number numbers.Plus ∷ words.Number numbers.Minus ∷ words.Number numbers.Times ∷ words.Number numbers.Div ∷ words.Number numbers.Mod ∷ words.Number numbers.Exp ∷ words.Number numbers.Min
+-- the names of the built-in functions: of truth and of any sort, of numbers, and of lists; `[]` is no word
+unfoldable pub plain_words : List Word
+plain_words = words.True ∷ words.False ∷ words.Not ∷ words.And ∷ words.Or ∷ words.Implies ∷ words.Equal ∷ words.Different ∷ words.If ∷ words.Less ∷ words.AtMost ∷ words.Greater ∷ words.AtLeast ∷ []
+
+unfoldable pub number_words : List Word
+number_words =
+    words.Number numbers.Plus ∷ words.Number numbers.Minus ∷ words.Number numbers.Times ∷ words.Number numbers.Div ∷ words.Number numbers.Mod ∷ words.Number numbers.Exp ∷ words.Number numbers.Min
     ∷ words.Number numbers.Max ∷ words.Number numbers.Abs ∷ words.Number numbers.Succ ∷ words.Number numbers.Pred ∷ words.Number numbers.PosToNat ∷ words.Number numbers.NatToInt ∷ words.Number numbers.PosToInt
-    ∷ words.Number numbers.NatToPos ∷ words.Number numbers.IntToNat ∷ words.Number numbers.IntToPos
-    ∷ words.List lists.Cons ∷ words.List lists.Snoc ∷ words.List lists.Concat ∷ words.List lists.Size ∷ words.List lists.At ∷ words.List lists.Head ∷ words.List lists.Rhead ∷ words.List lists.Tail ∷ words.List lists.Rtail
+    ∷ words.Number numbers.NatToPos ∷ words.Number numbers.IntToNat ∷ words.Number numbers.IntToPos ∷ []
+
+unfoldable pub list_words : List Word
+list_words =
+    words.List lists.Cons ∷ words.List lists.Snoc ∷ words.List lists.Concat ∷ words.List lists.Size ∷ words.List lists.At ∷ words.List lists.Head ∷ words.List lists.Rhead ∷ words.List lists.Tail ∷ words.List lists.Rtail
     ∷ words.List lists.In ∷ []
+
+abbrev pub built_in_words : List Word
+built_in_words = plain_words ++ (number_words ++ list_words)
 
 -- the names of declared functions
 abbrev pub declared_names : Sig → List FunId → List Name

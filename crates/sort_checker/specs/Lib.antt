@@ -51,3 +51,4 @@ pub mod TextModels
 pub mod SortedTrees
 pub mod TypedLabels
 pub mod WellTypedTexts
+pub mod FormTrees

@@ -13,7 +13,7 @@ ghost use Rattle.sort_table.specs.SignatureVocabularies.{text_under, function_na
 ghost use Rattle.sort_checker.specs.Faults.{is_function, is_action};
 ghost use Rattle.sort_checker.specs.Operators.{stands_in};
 ghost use Rattle.sort_checker.specs.NameNumbers.{has_name, AddsNames};
-ghost use Rattle.sort_checker.specs.KnownNames.{process_names, Knows, built_in_words, declared_names, action_names, process_names_by, process_names_of};
+ghost use Rattle.sort_checker.specs.KnownNames.{process_names, Knows, plain_words, number_words, list_words, built_in_words, declared_names, action_names, process_names_by, process_names_of};
 
 use crate::name_numbers::NameNumbers;
 use data_theory::{ActEntry, FunId, ListWord, NoMemory, NumberWord, Signature, Word};
@@ -52,16 +52,16 @@ fn function_names<'a>(alloc: Global, sig: &'a Signature) -> Result<NameNumbers<'
     ensures { IfOk result (λ names. (x : Name) → has_name names x ≡ is_function (vocabulary_of sig.now) x) }
 {
     let mut names = NameNumbers::new(alloc);
-    add_built_ins(&mut names, &built_in_words())?;
+    add_built_ins(&mut names)?;
     let _ = sig.next_sort();
     add_declared(&mut names, sig, sig.funs())?;
     Ok(names)
 }
 
-/// The names of the built-in functions; `[]` is no word.
-#[tactic(auto, unfolding(crate::specs::KnownNames::built_in_words))]
-fn built_in_words() -> [Word; 40]
-    ensures { result ≡ built_in_words }
+/// The built-in words of truth, of any sort and of its order.
+#[tactic(auto, unfolding(crate::specs::KnownNames::plain_words))]
+fn plain_words() -> [Word; 13]
+    ensures { result ≡ plain_words }
 {
     [
         Word::True,
@@ -77,6 +77,15 @@ fn built_in_words() -> [Word; 40]
         Word::AtMost,
         Word::Greater,
         Word::AtLeast,
+    ]
+}
+
+/// The built-in words of numbers.
+#[tactic(auto, unfolding(crate::specs::KnownNames::number_words))]
+fn number_words() -> [Word; 17]
+    ensures { result ≡ number_words }
+{
+    [
         Word::Number(NumberWord::Plus),
         Word::Number(NumberWord::Minus),
         Word::Number(NumberWord::Times),
@@ -94,6 +103,15 @@ fn built_in_words() -> [Word; 40]
         Word::Number(NumberWord::NatToPos),
         Word::Number(NumberWord::IntToNat),
         Word::Number(NumberWord::IntToPos),
+    ]
+}
+
+/// The built-in words of lists; `[]` is no word.
+#[tactic(auto, unfolding(crate::specs::KnownNames::list_words))]
+fn list_words() -> [Word; 10]
+    ensures { result ≡ list_words }
+{
+    [
         Word::List(ListWord::Cons),
         Word::List(ListWord::Snoc),
         Word::List(ListWord::Concat),
@@ -107,14 +125,23 @@ fn built_in_words() -> [Word; 40]
     ]
 }
 
-/// Adds the names of built-in functions.
-fn add_built_ins<'a>(names: &mut NameNumbers<'a>, words: &[Word]) -> Result<(), NoMemory>
+/// Adds the names of words.
+fn add_words<'a>(names: &mut NameNumbers<'a>, words: &[Word]) -> Result<(), NoMemory>
     ensures { OnOk result (AddsNames names.old names.new (map text_of words.now)) }
 {
     for word in words {
         names.put(word.text().as_bytes(), 0)?;
     }
     Ok(())
+}
+
+/// Adds the names of the built-in functions.
+fn add_built_ins<'a>(names: &mut NameNumbers<'a>) -> Result<(), NoMemory>
+    ensures { OnOk result (AddsNames names.old names.new (map text_of built_in_words)) }
+{
+    add_words(names, &plain_words())?;
+    add_words(names, &number_words())?;
+    add_words(names, &list_words())
 }
 
 /// The name of a function.

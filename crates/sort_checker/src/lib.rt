@@ -16,6 +16,7 @@ mod data_names;
 mod definitions;
 mod elaborating;
 mod equation_elaborating;
+mod form_trees;
 mod free_variables;
 mod known_names;
 mod labels;

@@ -2,31 +2,29 @@
 
 ghost use Rattle.std.specs.Prelude.{◌≡◌, map, IfOk, OnOk};
 ghost use Rattle.std.specs.List.{AllByRecursion};
-ghost use Rattle.mcrl2_syntax.specs.Words.{word_of};
 ghost use Rattle.mcrl2_syntax.specs.DataTrees.{plain_data};
-ghost use Rattle.mcrl2_syntax.specs.ProcessParts.{name_set_of, renaming_of, comm_rule_of, var_group_of};
+ghost use Rattle.mcrl2_syntax.specs.ProcessParts.{var_group_of};
 ghost use Rattle.mcrl2_syntax.specs.ProcessTrees as trees;
 ghost use Rattle.mcrl2_syntax.specs.ProcessTrees.{plain_process};
-ghost use Rattle.mcrl2_syntax.specs.TreeWords.{IsDataOfWords, IsProcessOfWords, AreProcessesOfWords, IsGroupOfWords, AreNames, IsNameSetOfWords, IsRenamingOfWords, IsRuleOfWords};
+ghost use Rattle.mcrl2_syntax.specs.TreeWords.{IsDataOfWords, IsProcessOfWords, AreProcessesOfWords, IsGroupOfWords};
 ghost use Rattle.process_terms.specs.PlainProcesses as code;
 ghost use Rattle.sort_table.specs.BareData.{bare_data};
 ghost use Rattle.sort_table.specs.BareProcesses as bare;
-ghost use Rattle.sort_table.specs.BareProcesses.{bare_names, bare_variables, bare_process, bare_processes};
+ghost use Rattle.sort_table.specs.BareProcesses.{bare_variables, bare_process, bare_processes};
 ghost use Rattle.data_typing.specs.Meanings as meanings;
 ghost use Rattle.sort_checker.specs.FullVocabularies.{FullVocabulary};
 ghost use Rattle.sort_checker.specs.Additions.{GoesOn};
-ghost use Rattle.sort_checker.specs.NumberedWords.{set_names, renaming_pair, rule_pair};
 ghost use Rattle.sort_checker.specs.CodeContexts.{IsReady, IsTableOver, Sees, CanElaborate, AllCanElaborate, IsElaborated, AreElaborated, SumNamesStand, AllSumNamesStand};
 
 use crate::binders::{enter_groups, leave_to};
+use crate::form_trees::{around, joined};
 use crate::labels::{action_or_call, call_by_name, multi_action};
 use crate::process_tables::ProcessTable;
 use crate::wished_terms::condition_term;
-use crate::word_numbers::{renaming_numbers, rule_numbers, set_numbers, word_numbers};
 use data_theory::{NoMemory, Signature};
 use data_typing::scope::Scope;
 use data_typing::sort_tables::SortTables;
-use mcrl2_syntax::{CommRule, DataTree, NameSet, ProcTree, Renaming, VarGroup, Word};
+use mcrl2_syntax::{DataTree, ProcTree, VarGroup};
 use process_terms::Proc;
 use std::alloc::Global;
 use term_pool::Pool;
@@ -61,112 +59,40 @@ pub(crate) fn process_of<'a>(
         ProcTree::Action(action) => action_or_call(
             alloc, sig, pool, tables, scope, processes, action,
         ),
-        ProcTree::Multi(_, actions) => multi_action(
-            alloc,
-            sig,
-            pool,
-            tables,
-            scope,
-            processes,
-            actions.as_slice(),
-        ),
-        ProcTree::Call(_, name, assignments) => {
-            call_by_name(
-                alloc,
-                sig,
-                pool,
-                tables,
-                scope,
-                processes,
-                name,
-                assignments.as_slice(),
-            )
+        ProcTree::Multi(_, actions) => {
+            let actions = actions.as_slice();
+            multi_action(alloc, sig, pool, tables, scope, processes, actions)
+        }
+        ProcTree::Call(_, name, values) => {
+            let values = values.as_slice();
+            call_by_name(alloc, sig, pool, tables, scope, processes, name, values)
         }
         ProcTree::Brackets(_, inner) => process_of(
             alloc, sig, pool, tables, scope, processes, inner,
         ),
-        ProcTree::Allow(_, sets, inner) => allow_of(
-            alloc,
-            sig,
-            pool,
-            tables,
-            scope,
-            processes,
-            sets.as_slice(),
-            inner,
-        ),
-        ProcTree::Block(_, names, inner) => block_of(
-            alloc,
-            sig,
-            pool,
-            tables,
-            scope,
-            processes,
-            names.as_slice(),
-            inner,
-        ),
-        ProcTree::Hide(_, names, inner) => hide_of(
-            alloc,
-            sig,
-            pool,
-            tables,
-            scope,
-            processes,
-            names.as_slice(),
-            inner,
-        ),
-        ProcTree::Rename(_, renamings, inner) => {
-            rename_of(
-                alloc,
-                sig,
-                pool,
-                tables,
-                scope,
-                processes,
-                renamings.as_slice(),
-                inner,
-            )
+        ProcTree::Allow(_, _, inner)
+        | ProcTree::Block(_, _, inner)
+        | ProcTree::Hide(_, _, inner)
+        | ProcTree::Rename(_, _, inner)
+        | ProcTree::Comm(_, _, inner) => {
+            let inner = boxed_process(alloc, sig, pool, tables, scope, processes, inner)?;
+            around(alloc, sig, tree, inner)
         }
-        ProcTree::Comm(_, rules, inner) => comm_of(
-            alloc,
-            sig,
-            pool,
-            tables,
-            scope,
-            processes,
-            rules.as_slice(),
-            inner,
-        ),
-        ProcTree::Sequence(_, parts) => {
-            let parts = processes_of(alloc, sig, pool, tables, scope, processes, parts.as_slice())?;
-            Ok(Proc::Seq(parts))
+        ProcTree::Sequence(_, list) | ProcTree::Parallel(_, list) | ProcTree::Choice(_, list) => {
+            let parts = processes_of(alloc, sig, pool, tables, scope, processes, list.as_slice())?;
+            Ok(joined(tree, parts))
         }
-        ProcTree::Sum(_, groups, inner) => sum_of(
-            alloc,
-            sig,
-            pool,
-            tables,
-            scope,
-            processes,
-            groups.as_slice(),
-            inner,
-        ),
+        ProcTree::Sum(_, groups, inner) => {
+            let groups = groups.as_slice();
+            sum_of(alloc, sig, pool, tables, scope, processes, groups, inner)
+        }
         ProcTree::When(_, condition, then) => when_of(
-            alloc, sig, pool, tables, scope, processes, then, condition,
+            alloc, sig, pool, tables, scope, processes, condition, then,
         ),
         ProcTree::Either(_, condition, then, other) => {
-            let condition = condition_term(alloc, sig, pool, tables, scope, condition)?;
-            let then = boxed_process(alloc, sig, pool, tables, scope, processes, then)?;
-            let other = boxed_process(alloc, sig, pool, tables, scope, processes, other)?;
-            Ok(Proc::Cond(condition, then, other))
-        }
-        ProcTree::Parallel(_, parts) => {
-            let parts = processes_of(alloc, sig, pool, tables, scope, processes, parts.as_slice())?;
-            Ok(Proc::Merge(parts))
-        }
-        ProcTree::Choice(_, parts) => {
-            let parts = processes_of(alloc, sig, pool, tables, scope, processes, parts.as_slice())?;
-            Ok(Proc::Choice(parts))
+            either_of(
+                alloc, sig, pool, tables, scope, processes, condition, then, other,
+            )
         }
     }
 }
@@ -238,8 +164,7 @@ fn sum_of<'a>(
 ) -> Result<Proc, NoMemory>
     requires ready { IsReady sig.old pool.old tables.old scope.old }
     requires table { IsTableOver sig.old processes.now }
-    requires words_form { AllByRecursion IsGroupOfWords (map var_group_of groups.now) }
-    requires words_inner { IsProcessOfWords (plain_process inner.now) }
+    requires words { AllByRecursion IsGroupOfWords (map var_group_of groups.now) × IsProcessOfWords (plain_process inner.now) }
     requires names { SumNamesStand sig.old (bare.sum (bare_variables (map var_group_of groups.now)) (bare_process (plain_process inner.now))) }
     requires elaborates { CanElaborate sig.old processes.now scope.old (bare.sum (bare_variables (map var_group_of groups.now)) (bare_process (plain_process inner.now))) }
     ensures kept { GoesOn sig.old pool.old sig.new pool.new }
@@ -263,162 +188,50 @@ fn when_of<'a>(
     tables: &mut SortTables,
     scope: &mut Scope,
     processes: &ProcessTable<'a>,
-    inner: &'a ProcTree,
     condition: &'a DataTree,
+    then: &'a ProcTree,
 ) -> Result<Proc, NoMemory>
     requires ready { IsReady sig.old pool.old tables.old scope.old }
     requires table { IsTableOver sig.old processes.now }
-    requires words_form { IsDataOfWords (plain_data condition.now) }
-    requires words_inner { IsProcessOfWords (plain_process inner.now) }
-    requires names { SumNamesStand sig.old (bare_process (plain_process inner.now)) }
-    requires elaborates { CanElaborate sig.old processes.now scope.old (bare.when (bare_data (plain_data condition.now)) (bare_process (plain_process inner.now))) }
+    requires words { IsDataOfWords (plain_data condition.now) × IsProcessOfWords (plain_process then.now) }
+    requires names { SumNamesStand sig.old (bare_process (plain_process then.now)) }
+    requires elaborates { CanElaborate sig.old processes.now scope.old (bare.when (bare_data (plain_data condition.now)) (bare_process (plain_process then.now))) }
     ensures kept { GoesOn sig.old pool.old sig.new pool.new }
     ensures ready { OnOk result (IsReady sig.new pool.new tables.new scope.new) }
     ensures scope { OnOk result (scope.new ≡ scope.old) }
-    ensures means { IfOk result (λ made. (v : FullVocabulary) (variables : meanings.Scope) → Sees sig.old processes.now scope.old v variables → IsElaborated v variables (bare.when (bare_data (plain_data condition.now)) (bare_process (plain_process inner.now))) sig.new pool.new (code.plain_process made)) }
+    ensures means { IfOk result (λ made. (v : FullVocabulary) (variables : meanings.Scope) → Sees sig.old processes.now scope.old v variables → IsElaborated v variables (bare.when (bare_data (plain_data condition.now)) (bare_process (plain_process then.now))) sig.new pool.new (code.plain_process made)) }
 {
     let condition = condition_term(alloc, sig, pool, tables, scope, condition)?;
-    let then = boxed_process(alloc, sig, pool, tables, scope, processes, inner)?;
+    let then = boxed_process(alloc, sig, pool, tables, scope, processes, then)?;
     let other = Box::new(alloc, Proc::Delta)?;
     Ok(Proc::Cond(condition, then, other))
 }
 
-/// The steps with these names.
+/// One of two process terms, as a condition holds.
 #[cycle(elaborating)]
-fn allow_of<'a>(
+fn either_of<'a>(
     alloc: Global,
     sig: &mut Signature,
     pool: &mut Pool,
     tables: &mut SortTables,
     scope: &mut Scope,
     processes: &ProcessTable<'a>,
-    sets: &'a [NameSet],
-    inner: &'a ProcTree,
+    condition: &'a DataTree,
+    then: &'a ProcTree,
+    other: &'a ProcTree,
 ) -> Result<Proc, NoMemory>
     requires ready { IsReady sig.old pool.old tables.old scope.old }
     requires table { IsTableOver sig.old processes.now }
-    requires words_form { AllByRecursion IsNameSetOfWords (map name_set_of sets.now) }
-    requires words_inner { IsProcessOfWords (plain_process inner.now) }
-    requires names { SumNamesStand sig.old (bare_process (plain_process inner.now)) }
-    requires elaborates { CanElaborate sig.old processes.now scope.old (bare.allow (map set_names sets.now) (bare_process (plain_process inner.now))) }
+    requires words { IsDataOfWords (plain_data condition.now) × IsProcessOfWords (plain_process then.now) × IsProcessOfWords (plain_process other.now) }
+    requires names { SumNamesStand sig.old (bare_process (plain_process then.now)) × SumNamesStand sig.old (bare_process (plain_process other.now)) }
+    requires elaborates { CanElaborate sig.old processes.now scope.old (bare.either (bare_data (plain_data condition.now)) (bare_process (plain_process then.now)) (bare_process (plain_process other.now))) }
     ensures kept { GoesOn sig.old pool.old sig.new pool.new }
     ensures ready { OnOk result (IsReady sig.new pool.new tables.new scope.new) }
     ensures scope { OnOk result (scope.new ≡ scope.old) }
-    ensures means { IfOk result (λ made. (v : FullVocabulary) (variables : meanings.Scope) → Sees sig.old processes.now scope.old v variables → IsElaborated v variables (bare.allow (map set_names sets.now) (bare_process (plain_process inner.now))) sig.new pool.new (code.plain_process made)) }
+    ensures means { IfOk result (λ made. (v : FullVocabulary) (variables : meanings.Scope) → Sees sig.old processes.now scope.old v variables → IsElaborated v variables (bare.either (bare_data (plain_data condition.now)) (bare_process (plain_process then.now)) (bare_process (plain_process other.now))) sig.new pool.new (code.plain_process made)) }
 {
-    let numbers = set_numbers(alloc, sig, sets)?;
-    let made = boxed_process(alloc, sig, pool, tables, scope, processes, inner)?;
-    Ok(Proc::Allow(numbers, made))
-}
-
-/// The steps without these names.
-#[cycle(elaborating)]
-fn block_of<'a>(
-    alloc: Global,
-    sig: &mut Signature,
-    pool: &mut Pool,
-    tables: &mut SortTables,
-    scope: &mut Scope,
-    processes: &ProcessTable<'a>,
-    names: &'a [Word],
-    inner: &'a ProcTree,
-) -> Result<Proc, NoMemory>
-    requires ready { IsReady sig.old pool.old tables.old scope.old }
-    requires table { IsTableOver sig.old processes.now }
-    requires words_form { AreNames (map word_of names.now) }
-    requires words_inner { IsProcessOfWords (plain_process inner.now) }
-    requires names { SumNamesStand sig.old (bare_process (plain_process inner.now)) }
-    requires elaborates { CanElaborate sig.old processes.now scope.old (bare.block (bare_names (map word_of names.now)) (bare_process (plain_process inner.now))) }
-    ensures kept { GoesOn sig.old pool.old sig.new pool.new }
-    ensures ready { OnOk result (IsReady sig.new pool.new tables.new scope.new) }
-    ensures scope { OnOk result (scope.new ≡ scope.old) }
-    ensures means { IfOk result (λ made. (v : FullVocabulary) (variables : meanings.Scope) → Sees sig.old processes.now scope.old v variables → IsElaborated v variables (bare.block (bare_names (map word_of names.now)) (bare_process (plain_process inner.now))) sig.new pool.new (code.plain_process made)) }
-{
-    let numbers = word_numbers(alloc, sig, names)?;
-    let made = boxed_process(alloc, sig, pool, tables, scope, processes, inner)?;
-    Ok(Proc::Block(numbers, made))
-}
-
-/// The steps, with the actions of these names left out.
-#[cycle(elaborating)]
-fn hide_of<'a>(
-    alloc: Global,
-    sig: &mut Signature,
-    pool: &mut Pool,
-    tables: &mut SortTables,
-    scope: &mut Scope,
-    processes: &ProcessTable<'a>,
-    names: &'a [Word],
-    inner: &'a ProcTree,
-) -> Result<Proc, NoMemory>
-    requires ready { IsReady sig.old pool.old tables.old scope.old }
-    requires table { IsTableOver sig.old processes.now }
-    requires words_form { AreNames (map word_of names.now) }
-    requires words_inner { IsProcessOfWords (plain_process inner.now) }
-    requires names { SumNamesStand sig.old (bare_process (plain_process inner.now)) }
-    requires elaborates { CanElaborate sig.old processes.now scope.old (bare.hide (bare_names (map word_of names.now)) (bare_process (plain_process inner.now))) }
-    ensures kept { GoesOn sig.old pool.old sig.new pool.new }
-    ensures ready { OnOk result (IsReady sig.new pool.new tables.new scope.new) }
-    ensures scope { OnOk result (scope.new ≡ scope.old) }
-    ensures means { IfOk result (λ made. (v : FullVocabulary) (variables : meanings.Scope) → Sees sig.old processes.now scope.old v variables → IsElaborated v variables (bare.hide (bare_names (map word_of names.now)) (bare_process (plain_process inner.now))) sig.new pool.new (code.plain_process made)) }
-{
-    let numbers = word_numbers(alloc, sig, names)?;
-    let made = boxed_process(alloc, sig, pool, tables, scope, processes, inner)?;
-    Ok(Proc::Hide(numbers, made))
-}
-
-/// The steps under other names.
-#[cycle(elaborating)]
-fn rename_of<'a>(
-    alloc: Global,
-    sig: &mut Signature,
-    pool: &mut Pool,
-    tables: &mut SortTables,
-    scope: &mut Scope,
-    processes: &ProcessTable<'a>,
-    renamings: &'a [Renaming],
-    inner: &'a ProcTree,
-) -> Result<Proc, NoMemory>
-    requires ready { IsReady sig.old pool.old tables.old scope.old }
-    requires table { IsTableOver sig.old processes.now }
-    requires words_form { AllByRecursion IsRenamingOfWords (map renaming_of renamings.now) }
-    requires words_inner { IsProcessOfWords (plain_process inner.now) }
-    requires names { SumNamesStand sig.old (bare_process (plain_process inner.now)) }
-    requires elaborates { CanElaborate sig.old processes.now scope.old (bare.rename (map renaming_pair renamings.now) (bare_process (plain_process inner.now))) }
-    ensures kept { GoesOn sig.old pool.old sig.new pool.new }
-    ensures ready { OnOk result (IsReady sig.new pool.new tables.new scope.new) }
-    ensures scope { OnOk result (scope.new ≡ scope.old) }
-    ensures means { IfOk result (λ made. (v : FullVocabulary) (variables : meanings.Scope) → Sees sig.old processes.now scope.old v variables → IsElaborated v variables (bare.rename (map renaming_pair renamings.now) (bare_process (plain_process inner.now))) sig.new pool.new (code.plain_process made)) }
-{
-    let numbers = renaming_numbers(alloc, sig, renamings)?;
-    let made = boxed_process(alloc, sig, pool, tables, scope, processes, inner)?;
-    Ok(Proc::Rename(numbers, made))
-}
-
-/// The steps, with actions that communicate.
-#[cycle(elaborating)]
-fn comm_of<'a>(
-    alloc: Global,
-    sig: &mut Signature,
-    pool: &mut Pool,
-    tables: &mut SortTables,
-    scope: &mut Scope,
-    processes: &ProcessTable<'a>,
-    rules: &'a [CommRule],
-    inner: &'a ProcTree,
-) -> Result<Proc, NoMemory>
-    requires ready { IsReady sig.old pool.old tables.old scope.old }
-    requires table { IsTableOver sig.old processes.now }
-    requires words_form { AllByRecursion IsRuleOfWords (map comm_rule_of rules.now) }
-    requires words_inner { IsProcessOfWords (plain_process inner.now) }
-    requires names { SumNamesStand sig.old (bare_process (plain_process inner.now)) }
-    requires elaborates { CanElaborate sig.old processes.now scope.old (bare.comm (map rule_pair rules.now) (bare_process (plain_process inner.now))) }
-    ensures kept { GoesOn sig.old pool.old sig.new pool.new }
-    ensures ready { OnOk result (IsReady sig.new pool.new tables.new scope.new) }
-    ensures scope { OnOk result (scope.new ≡ scope.old) }
-    ensures means { IfOk result (λ made. (v : FullVocabulary) (variables : meanings.Scope) → Sees sig.old processes.now scope.old v variables → IsElaborated v variables (bare.comm (map rule_pair rules.now) (bare_process (plain_process inner.now))) sig.new pool.new (code.plain_process made)) }
-{
-    let numbers = rule_numbers(alloc, sig, rules)?;
-    let made = boxed_process(alloc, sig, pool, tables, scope, processes, inner)?;
-    Ok(Proc::Comm(numbers, made))
+    let condition = condition_term(alloc, sig, pool, tables, scope, condition)?;
+    let then = boxed_process(alloc, sig, pool, tables, scope, processes, then)?;
+    let other = boxed_process(alloc, sig, pool, tables, scope, processes, other)?;
+    Ok(Proc::Cond(condition, then, other))
 }
