@@ -54,7 +54,7 @@ returns-clause-written c =
       printed_signature = w.0;
       stands = w.1;
       is_printed = w.2;
-      canonical = printed_texts_are_canonical (spec_of made.spec) made.sig w.0 made.pool.trees made.name (plain_linear made.lin) printed c.in_ok-made.ensures.linearised.stands w.1 c.in_ok-made.ensures.linearised.fits
+      canonical = printed_texts_are_canonical (spec_of made.spec) made.sig w.0 made.pool.trees made.name (plain_linear made.lin) printed.items c.in_ok-made.ensures.linearised.stands w.1 c.in_ok-made.ensures.linearised.fits
           c.in_ok-made.ensures.names.parameters c.in_ok-made.ensures.names.sums c.in_ok-made.ensures.conditions w.2;
     })
     c.print_out.ensures.written
