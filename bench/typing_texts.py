@@ -1,14 +1,15 @@
 #!/usr/bin/env python3
-"""How long texts take to be typed, and to be elaborated once they are: bench/typing_texts.py [WORD..] [--upto MIB] [--program PROGRAM]
+"""How long texts take to be typed, and to be elaborated once they are: bench/typing_texts.py [WORD..] [--upto MIB] [--by N] [--program PROGRAM]
 
-Run it from the top of the repository, after a build. It prints a line for each kind of text and size, from 1 MiB on by doubling up to 4 MiB
-or as many as are given: the kind, the size, the processor's seconds of the text with a name renamed twice at its end, which is the last of
-the refusals, and how many times those of half the size these are; then the same of the text without that fault, which is elaborated too, and
-its peak memory for each byte. With words only the kinds that have one of them are tried. At last it names the kinds that grow more than
-2.3 times by a doubling. It is no part of the gate.
+Run it from the top of the repository, after a build. It prints a line for each kind of text and size, from 1 MiB on by doubling, or by N
+times each, up to 4 MiB or as many as are given: the kind, the size, the processor's seconds of the text with a name renamed twice at its end,
+which is the last of the refusals, and how many times those of the size before these are; then the same of the text without that fault, which
+is elaborated too, and its peak memory for each byte. With words only the kinds that have one of them are tried. At last it names the kinds
+that grow more than 2.3 times by a doubling. `--upto 16 --by 4` tries 1, 4 and 16 MiB, the longest text that is taken. It is no part of the gate.
 """
 
 import argparse
+import math
 import os
 import pathlib
 import subprocess
@@ -83,8 +84,10 @@ def main():
     parser = argparse.ArgumentParser()
     parser.add_argument("words", nargs="*")
     parser.add_argument("--upto", type=int, default=4)
+    parser.add_argument("--by", type=int, default=2)
     parser.add_argument("--program", default=PROGRAM)
     wanted = parser.parse_args()
+    bound = BOUND ** math.log2(wanted.by)
     command, above = [wanted.program, "linearise"], []
     for kind, pieces in KINDS.items():
         if wanted.words and not any(word in kind for word in wanted.words):
@@ -96,9 +99,9 @@ def main():
             growth = [now / old if old else None for now, old in zip(seconds, before)]
             shown = [f"{now:8.3f} s" + (f" {more:5.2f} x" if more else " " * 8) for now, more in zip(seconds, growth)]
             print(f"{kind:26} {size:3} MiB  typed {shown[0]}  elaborated {shown[1]} {times[1][1] / 1024 / size:7.1f} a byte", flush=True)
-            above += [f"{kind} {more:.1f} x at {size} MiB" for more in growth if more and more > BOUND]
-            before, size = seconds, size * 2
-    print("above", BOUND, "by a doubling:", "; ".join(above) or "none")
+            above += [f"{kind} {more:.1f} x at {size} MiB" for more in growth if more and more > bound]
+            before, size = seconds, size * wanted.by
+    print(f"above {bound:.1f} from one size to the next:", "; ".join(above) or "none")
 
 
 if __name__ == "__main__":
