@@ -2,7 +2,8 @@
 """Runs the program on the examples, and compares what it writes, byte by byte, with what stands beside them.
 
 Run it anywhere: examples/check.py [PROGRAM WORD..]. The program is ./mcrl2lin if none is given.
-A specification NAME.mcrl2 has its linear process in NAME.lps, where there is one, and can be linearised, which the task `check` is to say.
+A specification NAME.mcrl2 has its linear process in NAME.lps, where there is one, which is given again when it is read itself. It can be
+linearised, which the task `check` is to say.
 One in refused/ has the line that refuses it in NAME.err, whatever the task. Each difference is a line, and the last line counts what was
 compared. The status is 1 where something differs.
 """
@@ -21,9 +22,10 @@ def run(program, task, path):
 
 
 def linear_processes():
-    """For each specification with a linear process beside it, the task, its path and what is to be answered."""
+    """For each specification with a linear process beside it, and for that itself, the task, its path and what is to be answered."""
     for made in sorted(HERE.glob("*.lps")):
-        yield "linearise", made.with_suffix(".mcrl2"), (0, made.read_bytes(), b"")
+        for path in (made.with_suffix(".mcrl2"), made):
+            yield "linearise", path, (0, made.read_bytes(), b"")
 
 
 def accepted():
