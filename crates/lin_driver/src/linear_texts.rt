@@ -48,7 +48,8 @@ fn print_out(alloc: Global, made: &mut Linearised) -> Result<Vec<u8>, LinFault>
 ///
 /// It stands for the given text: it has the same data and at most structs and constants behind them, and where these are consistent, both processes
 /// are bisimilar by a named link (Groote and Mousavi, strong bisimilarity). It is the printed text of a linear process that is plainly conditioned
-/// for what the text's specification writes, and no sort is added where no component needs a stack.
+/// for what the text's specification writes, and is canonical. No sort is added where no component needs a stack, and a linear text keeps its
+/// process, unless the method is `Stack`.
 ///
 /// # Errors
 ///
