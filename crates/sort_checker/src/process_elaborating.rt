@@ -89,11 +89,9 @@ pub(crate) fn process_of<'a>(
         ProcTree::When(_, condition, then) => when_of(
             alloc, sig, pool, tables, scope, processes, condition, then,
         ),
-        ProcTree::Either(_, condition, then, other) => {
-            either_of(
-                alloc, sig, pool, tables, scope, processes, condition, then, other,
-            )
-        }
+        ProcTree::Either(_, test, one, other) => either_of(
+            alloc, sig, pool, tables, scope, processes, test, one, other,
+        ),
     }
 }
 
