@@ -1,8 +1,7 @@
 -- What is printed for a text stands for it in each reading of both texts.
-use Rattle.std.proofs.Common.{◌≡◌, ℕ, List, [], ◌∷◌, ◌++◌, Bool, true, false, cond as by_test, map, refl, sym, ap, ap₂, ◌∙◌, subst}
-use Rattle.std.specs.Prelude.{Some, option_map, bytes_eq}
+use Rattle.std.proofs.Common.{◌≡◌, ℕ, List, [], ◌∷◌, ◌++◌, map, refl, sym, ap, ap₂, ◌∙◌, subst}
+use Rattle.std.specs.Prelude.{Some, option_map}
 use Rattle.std.proofs.lemmas.List.{map-append}
-use Rattle.std.proofs.lemmas.Option.{none-some}
 use Rattle.data_theory.specs.Terms.{Sort, boolean, positive, natural, integer, list, named, Symbol, truth, falsity, negation, conjunction, disjunction, implication, equality, inequality, conditional, comparison, arithmetic, minus, upcast, empty, cons, snoc, concatenation, size, element_at, head, rhead, tail, rtail, membership, function, Term, Terms, variable, numeral, unknown, application, none, more}
 use Rattle.data_theory.specs.Equations.{trueᵗ, falseᵗ}
 use Rattle.data_theory.specs.Environments.{Environment, bound}
@@ -18,6 +17,7 @@ use Rattle.sort_table.specs.Expressions.{Name}
 use Rattle.sort_table.specs.NamedLists.{all_named, first_named}
 use Rattle.sort_table.specs.Growth.{More, with_more}
 use Rattle.sort_table.specs.Vocabularies.{Vocabulary}
+use Rattle.sort_table.proofs.Growing.{first_behind, all_behind}
 use Rattle.lin_driver.specs.Renumberings.{Renumbering, back, new_sort, new_symbol, new_term, new_terms, new_action, new_label, new_body, new_definition, new_table, new_process, new_outcome, TakesVocabulary, TakesTheory}
 use Rattle.lin_driver.specs.SameProcesses.{SameDefinition, SameDefinitions, SameProcess, same_delta, same_act, same_choice, same_seq, same_cond, same_sum, same_call, same_merge, same_around}
 use Rattle.lin_driver.specs.EachReading.{FindsVocabulary, Under, under, WhatStandsForATextDoesSoInEachReading}
@@ -200,22 +200,6 @@ module _ (r : Renumbering) (th ti : Theory) (takes : TakesTheory r th ti) where
   consistent_under c e = c ((takes.equal trueᵗ falseᵗ).0 e)
 
 -- ---- vocabularies
-first_in_front : {A : Type 0} (n : Name) (rs qs : List (Name × A)) (x : A) → first_named n rs ≡ Some x → first_named n (rs ++ qs) ≡ Some x
-first_in_front n [] qs x h = absurd (none-some x h)
-first_in_front {A = A} n (r ∷ rs) qs x h = by_name (bytes_eq r.0 n) (first_in_front n rs qs x) h
-  where
-    by_name : (b : Bool) → (first_named n rs ≡ Some x → first_named n (rs ++ qs) ≡ Some x) → by_test b (Some r.1) (first_named n rs) ≡ Some x → by_test b (Some r.1) (first_named n (rs ++ qs)) ≡ Some x
-    by_name true rest k = k
-    by_name false rest k = rest k
-
-all_in_front : {A : Type 0} (f : Name) (rs qs : List (Name × A)) → all_named f (rs ++ qs) ≡ all_named f rs ++ all_named f qs
-all_in_front f [] qs = refl
-all_in_front f (r ∷ rs) qs = by_name (bytes_eq r.0 f) (all_in_front f rs qs)
-  where
-    by_name : (b : Bool) → all_named f (rs ++ qs) ≡ all_named f rs ++ all_named f qs → by_test b (r.1 ∷ all_named f (rs ++ qs)) (all_named f (rs ++ qs)) ≡ by_test b (r.1 ∷ all_named f rs) (all_named f rs) ++ all_named f qs
-    by_name true h = ap (λ xs. r.1 ∷ xs) h
-    by_name false h = h
-
 numbers_then : (r t : Renumbering) (ks : List ℕ) → map t.functions (map r.functions ks) ≡ map (and_then r t).functions ks
 numbers_then r t [] = refl
 numbers_then r t (k ∷ ks) = ap (λ xs. t.functions (r.functions k) ∷ xs) (numbers_then r t ks)
@@ -228,12 +212,12 @@ found : (r t : Renumbering) (v x y w : Vocabulary) (m : More) → TakesVocabular
 found r t v x y w m first grown second = record {
   sorts = λ n s h. (
       let one : first_named n x.sort_names ≡ Some (new_sort r s) = first.sorts n ∙ ap (option_map (new_sort r)) h in
-      let two : first_named n y.sort_names ≡ Some (new_sort r s) = ap (λ (z : Vocabulary). first_named n z.sort_names) grown ∙ first_in_front n x.sort_names m.sort_names (new_sort r s) one in
+      let two : first_named n y.sort_names ≡ Some (new_sort r s) = ap (λ (z : Vocabulary). first_named n z.sort_names) grown ∙ first_behind n x.sort_names m.sort_names (new_sort r s) one in
       second.sorts n ∙ ap (option_map (new_sort t)) two ∙ ap (λ (z : Sort). Some z) (sym (sort_then r t s))
       );
   functions = λ f. (
     map t.functions (all_named f m.function_names),
-    second.functions f ∙ ap (map t.functions) (ap (λ (z : Vocabulary). all_named f z.function_names) grown ∙ all_in_front f x.function_names m.function_names)
+    second.functions f ∙ ap (map t.functions) (ap (λ (z : Vocabulary). all_named f z.function_names) grown ∙ all_behind f x.function_names m.function_names)
         ∙ map-append t.functions (all_named f x.function_names) (all_named f m.function_names)
         ∙ ap (λ ks. ks ++ map t.functions (all_named f m.function_names)) (ap (map t.functions) (first.functions f) ∙ numbers_then r t (all_named f v.function_names)),
   );
