@@ -23,6 +23,7 @@ pub mod IndexLemmas
 pub mod IdLemmas
 pub mod KeyLemmas
 pub mod NamedLemmas
+mod NamelessRows
 pub mod FunctionLemmas
 pub mod SortNameLemmas
 pub mod ListSortLemmas

@@ -23,6 +23,7 @@ mod names;
 mod no_memory;
 mod num;
 pub mod rewriting;
+mod row_names;
 mod rows;
 mod signature;
 mod sort_lists;

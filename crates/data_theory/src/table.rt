@@ -5,6 +5,7 @@ ghost use Rattle.data_theory.specs.Table as table;
 
 use crate::ids::SortId;
 use crate::no_memory::NoMemory;
+use crate::row_names::names_rows;
 use crate::rows::Row;
 use crate::words::{ListWord, NumberWord, Word};
 use std::alloc::Global;
@@ -220,6 +221,9 @@ ghost use Rattle.data_theory.specs.RowsOfWords.{rows_of};
 pub fn rows_of(alloc: Global, name: &str, sort: SortId, list: SortId) -> Result<Vec<Row>, NoMemory>
     ensures { IfOk result (λ rows. rows.items ≡ rows_of name.now sort list) }
 {
+    if !names_rows(name.as_bytes()) {
+        return Ok(Vec::new(alloc));
+    }
     let table = language_table(alloc, sort, list)?;
     let mut rows = Vec::new(alloc);
     for row in table.as_slice() {

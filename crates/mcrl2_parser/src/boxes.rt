@@ -83,7 +83,7 @@ pub fn boxed_brackets(
     ensures tree { IfOk result (λ tree. plain_process tree.value ≡ within (span_of opening.now close.now) (plain_process inner.value)) }
     ensures no_memory { IfErr result (λ e. e ≡ Fault.NoMemory) }
 {
-    let tree = ProcTree::brackets_at(alloc, token_span(opening, close), Box::into_inner(inner))?;
+    let tree = ProcTree::brackets_at(token_span(opening, close), inner);
     Ok(Box::new(alloc, tree)?)
 }
 
@@ -99,7 +99,7 @@ pub fn boxed_operator(
     ensures tree { IfOk result (λ tree. plain_process tree.value ≡ operated (span_of word.now close.now) (operation_of operator) (plain_process inner.value)) }
     ensures no_memory { IfErr result (λ e. e ≡ Fault.NoMemory) }
 {
-    let tree = operator.around(alloc, token_span(word, close), Box::into_inner(inner))?;
+    let tree = operator.around(token_span(word, close), inner);
     Ok(Box::new(alloc, tree)?)
 }
 
@@ -115,9 +115,8 @@ pub fn boxed_sum(
         ≡ sum (joined (span_of word.now word.now) (process_span (plain_process inner.value))) (map var_group_of variables.items) (plain_process inner.value)) }
     ensures no_memory { IfErr result (λ e. e ≡ Fault.NoMemory) }
 {
-    let inner = Box::into_inner(inner);
     let span = joined_spans(token_span(word, word), inner.span());
-    let tree = ProcTree::sum_at(alloc, span, variables, inner)?;
+    let tree = ProcTree::sum_at(span, variables, inner);
     Ok(Box::new(alloc, tree)?)
 }
 
@@ -132,10 +131,8 @@ pub fn boxed_when(
         ≡ when (joined (data_span (plain_data condition.value)) (process_span (plain_process then.value))) (plain_data condition.value) (plain_process then.value)) }
     ensures no_memory { IfErr result (λ e. e ≡ Fault.NoMemory) }
 {
-    let condition = Box::into_inner(condition);
-    let then = Box::into_inner(then);
     let span = joined_spans(condition.span(), then.span());
-    let tree = ProcTree::when_at(alloc, span, condition, then)?;
+    let tree = ProcTree::when_at(span, condition, then);
     Ok(Box::new(alloc, tree)?)
 }
 
@@ -151,10 +148,7 @@ pub fn boxed_either(
         ≡ either (joined (data_span (plain_data condition.value)) (process_span (plain_process other.value))) (plain_data condition.value) (plain_process then.value) (plain_process other.value)) }
     ensures no_memory { IfErr result (λ e. e ≡ Fault.NoMemory) }
 {
-    let condition = Box::into_inner(condition);
-    let then = Box::into_inner(then);
-    let other = Box::into_inner(other);
     let span = joined_spans(condition.span(), other.span());
-    let tree = ProcTree::either_at(alloc, span, condition, then, other)?;
+    let tree = ProcTree::either_at(span, condition, then, other);
     Ok(Box::new(alloc, tree)?)
 }

@@ -34,15 +34,15 @@ fn whole_data(alloc: Global, text: &[u8], tokens: &[Token]) -> Result<DataTree, 
 }
 
 // The process term that all the tokens spell.
-fn whole_process(alloc: Global, text: &[u8], tokens: &[Token]) -> Result<ProcTree, Fault>
-    ensures found { IfOk result (λ x. SpellsProcess text.now (plain_process x) tokens.now []) }
+fn whole_process(alloc: Global, text: &[u8], tokens: &[Token]) -> Result<Box<ProcTree>, Fault>
+    ensures found { IfOk result (λ x. SpellsProcess text.now (plain_process x.value) tokens.now []) }
     ensures only { (p : PlainProcess) → SpellsProcess text.now p tokens.now []
-        → MatchResult result (λ x. plain_process x ≡ p) (λ e. e ≡ Fault.NoMemory) }
+        → MatchResult result (λ x. plain_process x.value ≡ p) (λ e. e ≡ Fault.NoMemory) }
 {
     let arrows = arrows_of(alloc, tokens)?;
     let (tree, rest) = process(alloc, text, &arrows, tokens)?;
     end(rest)?;
-    Ok(Box::into_inner(tree))
+    Ok(tree)
 }
 
 // The names of sorts that all the tokens spell.
@@ -73,7 +73,8 @@ fn sort_definition(
     let Ok((_, rest)) = expect(tokens, Kind::Struct) else {
         let sort = whole_sort(alloc, text, tokens)?;
         let span = joined_spans(name.span, sort.span());
-        return Ok(Decl::alias_at(span, name, sort));
+        let tree = Decl::alias_at(alloc, span, name, sort)?;
+        return Ok(tree);
     };
     let (constructors, rest) = list::<Constructor>(alloc, text, rest, Kind::Bar)?;
     end(rest)?;
@@ -101,7 +102,8 @@ fn cons_declaration(alloc: Global, text: &[u8], tokens: &[Token]) -> Result<Decl
 {
     let (names, domain, sort) = signature(alloc, text, tokens)?;
     let span = joined_spans(names_span(&names), sort.span());
-    Ok(Decl::cons_at(span, names, domain, sort))
+    let tree = Decl::cons_at(alloc, span, names, domain, sort)?;
+    Ok(tree)
 }
 
 // The declaration of a `map` section.
@@ -112,7 +114,8 @@ fn map_declaration(alloc: Global, text: &[u8], tokens: &[Token]) -> Result<Decl,
 {
     let (names, domain, sort) = signature(alloc, text, tokens)?;
     let span = joined_spans(names_span(&names), sort.span());
-    Ok(Decl::map_at(span, names, domain, sort))
+    let tree = Decl::map_at(alloc, span, names, domain, sort)?;
+    Ok(tree)
 }
 
 // The declaration of a `var` section.
@@ -144,7 +147,8 @@ fn eqn_declaration(alloc: Global, text: &[u8], tokens: &[Token]) -> Result<Decl,
     let (_, rest) = expect(rest, Kind::Equals)?;
     let right = whole_data(alloc, text, rest)?;
     let span = joined_spans(first.span(), right.span());
-    let tree = Decl::equation_at(alloc, span, Some(first), left, right)?;
+    let condition = Box::new(alloc, first)?;
+    let tree = Decl::equation_at(alloc, span, Some(condition), left, right)?;
     Ok(tree)
 }
 
@@ -177,8 +181,7 @@ fn proc_declaration(alloc: Global, text: &[u8], tokens: &[Token]) -> Result<Decl
     let (_, rest) = expect(rest, Kind::Equals)?;
     let body = whole_process(alloc, text, rest)?;
     let span = joined_spans(name.span, body.span());
-    let tree = Decl::proc_at(alloc, span, name, parameters, body)?;
-    Ok(tree)
+    Ok(Decl::proc_at(span, name, parameters, body))
 }
 
 // The declaration of an `init` section.
@@ -188,8 +191,7 @@ fn init_declaration(alloc: Global, text: &[u8], tokens: &[Token]) -> Result<Decl
         → MatchResult result (λ x. plain_decl x ≡ d) (λ e. e ≡ Fault.NoMemory) }
 {
     let body = whole_process(alloc, text, tokens)?;
-    let tree = Decl::init_at(alloc, body.span(), body)?;
-    Ok(tree)
+    Ok(Decl::init_at(body.span(), body))
 }
 
 /// The declaration that all the tokens spell in a section of that word.

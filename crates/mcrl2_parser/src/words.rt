@@ -8,7 +8,7 @@ ghost use Rattle.mcrl2_lexer.specs.Tokens.{slice_of};
 ghost use Rattle.mcrl2_parser.specs.DeclarationParts.{BeginsNamed};
 
 use mcrl2_lexer::{Kind, Token};
-use mcrl2_syntax::{Word, token_span};
+use mcrl2_syntax::{Word, WordBytes, token_span};
 use std::alloc::{AllocError, AllocFailed, Global};
 
 /// Why no tree was read.
@@ -112,6 +112,6 @@ pub fn word(alloc: Global, text: &[u8], token: &Token) -> Result<Word, Fault>
     ensures found { IfOk result (λ w. word_of w ≡ token_word text.now token.now) }
     ensures err { IsErrOf result Fault.Syntax → ⊥ }
 {
-    let bytes = token_bytes(text, token).to_vec(alloc)?;
+    let bytes = WordBytes::new(alloc, token_bytes(text, token))?;
     Ok(Word::new(token_span(token, token), bytes))
 }

@@ -1,5 +1,6 @@
 -- Declarations, sections and specifications as plain data.
 use Rattle.std.specs.Prelude.{List, map, Option, Some, None}
+use Rattle.std.specs.Global.{Box}
 use Rattle.mcrl2_syntax.specs.declared.word.Span.{Span}
 use Rattle.mcrl2_syntax.specs.declared.word.Word.{Word}
 use Rattle.mcrl2_syntax.specs.declared.data_tree.DataTree.{DataTree}
@@ -20,9 +21,9 @@ abbrev pub some_word : Option Word → Option PlainWord
 some_word None = None
 some_word (Some word) = Some (word_of word)
 
-abbrev pub some_data : Option DataTree → Option PlainData
+abbrev pub some_data : Option (Box DataTree) → Option PlainData
 some_data None = None
-some_data (Some tree) = Some (plain_data tree)
+some_data (Some tree) = Some (plain_data tree.value)
 
 -- an argument of a constructor, as `p: S` or `S`
 pub record PlainField : Type 0 where
@@ -58,10 +59,10 @@ pub data PlainDecl : Type 0 where
 
 abbrev pub plain_decl : Decl → PlainDecl
 plain_decl (decl.Sorts span names) = sorts_decl span (map word_of names.items)
-plain_decl (decl.Alias span name sort) = alias_decl span (word_of name) (plain_sort sort)
+plain_decl (decl.Alias span name sort) = alias_decl span (word_of name) (plain_sort sort.value)
 plain_decl (decl.Struct span name constructors) = struct_decl span (word_of name) (map constructor_of constructors.items)
-plain_decl (decl.Cons span names domain sort) = cons_decl span (map word_of names.items) (map plain_sort domain.items) (plain_sort sort)
-plain_decl (decl.Map span names domain sort) = map_decl span (map word_of names.items) (map plain_sort domain.items) (plain_sort sort)
+plain_decl (decl.Cons span names domain sort) = cons_decl span (map word_of names.items) (map plain_sort domain.items) (plain_sort sort.value)
+plain_decl (decl.Map span names domain sort) = map_decl span (map word_of names.items) (map plain_sort domain.items) (plain_sort sort.value)
 plain_decl (decl.Vars span groups) = vars_decl span (map var_group_of groups.items)
 plain_decl (decl.Equation span equation) = equation_decl span (some_data equation.value.condition) (plain_data equation.value.left) (plain_data equation.value.right)
 plain_decl (decl.Act span names domain) = act_decl span (map word_of names.items) (map plain_sort domain.items)

@@ -1,3 +1,5 @@
+pub mod ByteLists
+pub mod WordBytes
 pub mod Words
 pub mod SortTrees
 pub mod DataTrees

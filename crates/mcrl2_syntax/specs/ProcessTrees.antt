@@ -50,8 +50,8 @@ plain_process_step (open_.Rename span renamings inner) = rename span (map renami
 plain_process_step (open_.Comm span rules inner) = comm span (map comm_rule_of rules.items) inner.value
 plain_process_step (open_.Sequence span parts) = sequence span (processes_of parts.items)
 plain_process_step (open_.Sum span variables inner) = sum span (map var_group_of variables.items) inner.value
-plain_process_step (open_.When span condition then) = when span (plain_data condition) then.value
-plain_process_step (open_.Either span condition then other) = either span (plain_data condition) then.value other.value
+plain_process_step (open_.When span condition then) = when span (plain_data condition.value) then.value
+plain_process_step (open_.Either span condition then other) = either span (plain_data condition.value) then.value other.value
 plain_process_step (open_.Parallel span parts) = parallel span (processes_of parts.items)
 plain_process_step (open_.Choice span parts) = choice span (processes_of parts.items)
 

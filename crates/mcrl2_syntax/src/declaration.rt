@@ -78,7 +78,7 @@ impl Constructor {
 #[derive(Debug, Drop)]
 pub struct EquationTree {
     /// Under which condition it holds.
-    pub condition: Option<DataTree>,
+    pub condition: Option<Box<DataTree>>,
     /// Its left side.
     pub left: DataTree,
     /// Its right side.
@@ -87,19 +87,19 @@ pub struct EquationTree {
 
 /// A declaration, without the semicolon behind it.
 ///
-/// What has room for a whole expression or process term stands in a box, so that each declaration of a long list takes little.
+/// What has room for a whole expression, process term or sort stands in a box, so that each declaration of a long list takes little.
 #[derive(Debug, Drop)]
 pub enum Decl {
     /// `sort S, T;`
     Sorts(Span, Vec<Word>),
     /// `sort S = List(T);`
-    Alias(Span, Word, SortTree),
+    Alias(Span, Word, Box<SortTree>),
     /// `sort S = struct c(p: T)?r | d;`
     Struct(Span, Word, Vec<Constructor>),
     /// `cons c, d: S # T -> U;`; without an arrow the domain is empty.
-    Cons(Span, Vec<Word>, Vec<SortTree>, SortTree),
+    Cons(Span, Vec<Word>, Vec<SortTree>, Box<SortTree>),
     /// `map f, g: S # T -> U;`; without an arrow the domain is empty.
-    Map(Span, Vec<Word>, Vec<SortTree>, SortTree),
+    Map(Span, Vec<Word>, Vec<SortTree>, Box<SortTree>),
     /// `var x, y: S, z: T;`
     Vars(Span, Vec<VarGroup>),
     /// `eqn c -> d = e;` or `eqn d = e;`
@@ -121,10 +121,20 @@ impl Decl {
     }
 
     /// A name for a sort expression.
-    pub fn alias_at(span: Span, name: Word, sort: SortTree) -> Decl
-        ensures { plain_decl result ≡ alias_decl span (word_of name) (plain_sort sort) }
+    ///
+    /// # Errors
+    ///
+    /// The sort expression again, where no memory is left.
+    pub fn alias_at(
+        alloc: Global,
+        span: Span,
+        name: Word,
+        sort: SortTree,
+    ) -> Result<Decl, AllocFailed<SortTree>>
+        ensures { IfOk result (λ tree. plain_decl tree ≡ alias_decl span (word_of name) (plain_sort sort)) }
     {
-        Decl::Alias(span, name, sort)
+        let sort = Box::new(alloc, sort)?;
+        Ok(Decl::Alias(span, name, sort))
     }
 
     /// A structured sort.
@@ -135,17 +145,39 @@ impl Decl {
     }
 
     /// Constructors of a sort.
-    pub fn cons_at(span: Span, names: Vec<Word>, domain: Vec<SortTree>, sort: SortTree) -> Decl
-        ensures { plain_decl result ≡ cons_decl span (map word_of names.items) (map plain_sort domain.items) (plain_sort sort) }
+    ///
+    /// # Errors
+    ///
+    /// The sort again, where no memory is left.
+    pub fn cons_at(
+        alloc: Global,
+        span: Span,
+        names: Vec<Word>,
+        domain: Vec<SortTree>,
+        sort: SortTree,
+    ) -> Result<Decl, AllocFailed<SortTree>>
+        ensures { IfOk result (λ tree. plain_decl tree ≡ cons_decl span (map word_of names.items) (map plain_sort domain.items) (plain_sort sort)) }
     {
-        Decl::Cons(span, names, domain, sort)
+        let sort = Box::new(alloc, sort)?;
+        Ok(Decl::Cons(span, names, domain, sort))
     }
 
     /// Functions.
-    pub fn map_at(span: Span, names: Vec<Word>, domain: Vec<SortTree>, sort: SortTree) -> Decl
-        ensures { plain_decl result ≡ map_decl span (map word_of names.items) (map plain_sort domain.items) (plain_sort sort) }
+    ///
+    /// # Errors
+    ///
+    /// The sort again, where no memory is left.
+    pub fn map_at(
+        alloc: Global,
+        span: Span,
+        names: Vec<Word>,
+        domain: Vec<SortTree>,
+        sort: SortTree,
+    ) -> Result<Decl, AllocFailed<SortTree>>
+        ensures { IfOk result (λ tree. plain_decl tree ≡ map_decl span (map word_of names.items) (map plain_sort domain.items) (plain_sort sort)) }
     {
-        Decl::Map(span, names, domain, sort)
+        let sort = Box::new(alloc, sort)?;
+        Ok(Decl::Map(span, names, domain, sort))
     }
 
     /// Variables of equations.
@@ -163,7 +195,7 @@ impl Decl {
     pub fn equation_at(
         alloc: Global,
         span: Span,
-        condition: Option<DataTree>,
+        condition: Option<Box<DataTree>>,
         left: DataTree,
         right: DataTree,
     ) -> Result<Decl, AllocFailed<EquationTree>>
@@ -186,33 +218,17 @@ impl Decl {
     }
 
     /// A process definition.
-    ///
-    /// # Errors
-    ///
-    /// The body again, where no memory is left.
-    pub fn proc_at(
-        alloc: Global,
-        span: Span,
-        name: Word,
-        parameters: Vec<VarGroup>,
-        body: ProcTree,
-    ) -> Result<Decl, AllocFailed<ProcTree>>
-        ensures { IfOk result (λ tree. plain_decl tree ≡ proc_decl span (word_of name) (map var_group_of parameters.items) (plain_process body)) }
+    pub fn proc_at(span: Span, name: Word, parameters: Vec<VarGroup>, body: Box<ProcTree>) -> Decl
+        ensures { plain_decl result ≡ proc_decl span (word_of name) (map var_group_of parameters.items) (plain_process body.value) }
     {
-        let body = Box::new(alloc, body)?;
-        Ok(Decl::Proc(span, name, parameters, body))
+        Decl::Proc(span, name, parameters, body)
     }
 
     /// The initial process.
-    ///
-    /// # Errors
-    ///
-    /// The process again, where no memory is left.
-    pub fn init_at(alloc: Global, span: Span, body: ProcTree) -> Result<Decl, AllocFailed<ProcTree>>
-        ensures { IfOk result (λ tree. plain_decl tree ≡ init_decl span (plain_process body)) }
+    pub fn init_at(span: Span, body: Box<ProcTree>) -> Decl
+        ensures { plain_decl result ≡ init_decl span (plain_process body.value) }
     {
-        let body = Box::new(alloc, body)?;
-        Ok(Decl::Init(span, body))
+        Decl::Init(span, body)
     }
 
     /// Where the declaration stands.

@@ -12,6 +12,7 @@ mod process_tree;
 mod signs;
 mod sort_tree;
 mod word;
+mod word_bytes;
 
 pub use copying::is_first_copied;
 pub use data_tree::{DataTree, InfixSign, PrefixSign};
@@ -26,3 +27,4 @@ pub use process_tree::{
 pub use signs::{infix_sign, prefix_sign, section_of_kind, sign_level};
 pub use sort_tree::SortTree;
 pub use word::{Span, Word, joined_spans, token_span};
+pub use word_bytes::WordBytes;

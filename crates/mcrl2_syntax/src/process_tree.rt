@@ -1,6 +1,6 @@
 //! Process terms, actions and labels.
 
-ghost use Rattle.std.specs.Prelude.{◌≡◌, IfOk, map};
+ghost use Rattle.std.specs.Prelude.{◌≡◌, map};
 ghost use Rattle.mcrl2_syntax.specs.Words.{word_of};
 ghost use Rattle.mcrl2_syntax.specs.SortTrees.{plain_sort};
 ghost use Rattle.mcrl2_syntax.specs.DataTrees.{plain_data};
@@ -10,7 +10,6 @@ ghost use Rattle.mcrl2_syntax.specs.ProcessTrees.{delta, acts, multi, call, with
 use crate::data_tree::DataTree;
 use crate::sort_tree::SortTree;
 use crate::word::{Span, Word};
-use std::alloc::{AllocFailed, Global};
 
 /// An action, or none.
 #[derive(Debug, Drop)]
@@ -195,9 +194,9 @@ pub enum ProcTree {
     /// `sum x: S . p`
     Sum(Span, Vec<VarGroup>, Box<ProcTree>),
     /// `c -> p`
-    When(Span, DataTree, Box<ProcTree>),
+    When(Span, Box<DataTree>, Box<ProcTree>),
     /// `c -> p <> q`
-    Either(Span, DataTree, Box<ProcTree>, Box<ProcTree>),
+    Either(Span, Box<DataTree>, Box<ProcTree>, Box<ProcTree>),
     /// `p || q`
     Parallel(Span, Vec<ProcTree>),
     /// `p + q`
@@ -234,80 +233,45 @@ impl ProcTree {
     }
 
     /// A process in brackets.
-    pub fn brackets_at(
-        alloc: Global,
-        span: Span,
-        inner: ProcTree,
-    ) -> Result<ProcTree, AllocFailed<ProcTree>>
-        ensures { IfOk result (λ tree. plain_process tree ≡ within span (plain_process inner)) }
+    pub fn brackets_at(span: Span, inner: Box<ProcTree>) -> ProcTree
+        ensures { plain_process result ≡ within span (plain_process inner.value) }
     {
-        let inner = Box::new(alloc, inner)?;
-        Ok(ProcTree::Brackets(span, inner))
+        ProcTree::Brackets(span, inner)
     }
 
     /// The steps with these names.
-    pub fn allow_at(
-        alloc: Global,
-        span: Span,
-        sets: Vec<NameSet>,
-        inner: ProcTree,
-    ) -> Result<ProcTree, AllocFailed<ProcTree>>
-        ensures { IfOk result (λ tree. plain_process tree ≡ allow span (map name_set_of sets.items) (plain_process inner)) }
+    pub fn allow_at(span: Span, sets: Vec<NameSet>, inner: Box<ProcTree>) -> ProcTree
+        ensures { plain_process result ≡ allow span (map name_set_of sets.items) (plain_process inner.value) }
     {
-        let inner = Box::new(alloc, inner)?;
-        Ok(ProcTree::Allow(span, sets, inner))
+        ProcTree::Allow(span, sets, inner)
     }
 
     /// The steps without these names.
-    pub fn block_at(
-        alloc: Global,
-        span: Span,
-        names: Vec<Word>,
-        inner: ProcTree,
-    ) -> Result<ProcTree, AllocFailed<ProcTree>>
-        ensures { IfOk result (λ tree. plain_process tree ≡ block span (map word_of names.items) (plain_process inner)) }
+    pub fn block_at(span: Span, names: Vec<Word>, inner: Box<ProcTree>) -> ProcTree
+        ensures { plain_process result ≡ block span (map word_of names.items) (plain_process inner.value) }
     {
-        let inner = Box::new(alloc, inner)?;
-        Ok(ProcTree::Block(span, names, inner))
+        ProcTree::Block(span, names, inner)
     }
 
     /// The steps, with the actions of these names left out.
-    pub fn hide_at(
-        alloc: Global,
-        span: Span,
-        names: Vec<Word>,
-        inner: ProcTree,
-    ) -> Result<ProcTree, AllocFailed<ProcTree>>
-        ensures { IfOk result (λ tree. plain_process tree ≡ hide span (map word_of names.items) (plain_process inner)) }
+    pub fn hide_at(span: Span, names: Vec<Word>, inner: Box<ProcTree>) -> ProcTree
+        ensures { plain_process result ≡ hide span (map word_of names.items) (plain_process inner.value) }
     {
-        let inner = Box::new(alloc, inner)?;
-        Ok(ProcTree::Hide(span, names, inner))
+        ProcTree::Hide(span, names, inner)
     }
 
     /// The steps under other names.
-    pub fn rename_at(
-        alloc: Global,
-        span: Span,
-        renamings: Vec<Renaming>,
-        inner: ProcTree,
-    ) -> Result<ProcTree, AllocFailed<ProcTree>>
-        ensures { IfOk result (λ tree. plain_process tree ≡ rename span (map renaming_of renamings.items) (plain_process inner)) }
+    pub fn rename_at(span: Span, renamings: Vec<Renaming>, inner: Box<ProcTree>) -> ProcTree
+        ensures { plain_process result ≡ rename span (map renaming_of renamings.items) (plain_process inner.value) }
     {
-        let inner = Box::new(alloc, inner)?;
-        Ok(ProcTree::Rename(span, renamings, inner))
+        ProcTree::Rename(span, renamings, inner)
     }
 
     /// The steps, with actions that communicate.
-    pub fn comm_at(
-        alloc: Global,
-        span: Span,
-        rules: Vec<CommRule>,
-        inner: ProcTree,
-    ) -> Result<ProcTree, AllocFailed<ProcTree>>
-        ensures { IfOk result (λ tree. plain_process tree ≡ comm span (map comm_rule_of rules.items) (plain_process inner)) }
+    pub fn comm_at(span: Span, rules: Vec<CommRule>, inner: Box<ProcTree>) -> ProcTree
+        ensures { plain_process result ≡ comm span (map comm_rule_of rules.items) (plain_process inner.value) }
     {
-        let inner = Box::new(alloc, inner)?;
-        Ok(ProcTree::Comm(span, rules, inner))
+        ProcTree::Comm(span, rules, inner)
     }
 
     /// One process after the other.
@@ -318,44 +282,29 @@ impl ProcTree {
     }
 
     /// A process for each value of the variables.
-    pub fn sum_at(
-        alloc: Global,
-        span: Span,
-        variables: Vec<VarGroup>,
-        inner: ProcTree,
-    ) -> Result<ProcTree, AllocFailed<ProcTree>>
-        ensures { IfOk result (λ tree. plain_process tree ≡ sum span (map var_group_of variables.items) (plain_process inner)) }
+    pub fn sum_at(span: Span, variables: Vec<VarGroup>, inner: Box<ProcTree>) -> ProcTree
+        ensures { plain_process result ≡ sum span (map var_group_of variables.items) (plain_process inner.value) }
     {
-        let inner = Box::new(alloc, inner)?;
-        Ok(ProcTree::Sum(span, variables, inner))
+        ProcTree::Sum(span, variables, inner)
     }
 
     /// A process under a condition.
-    pub fn when_at(
-        alloc: Global,
-        span: Span,
-        condition: DataTree,
-        then: ProcTree,
-    ) -> Result<ProcTree, AllocFailed<ProcTree>>
-        ensures { IfOk result (λ tree. plain_process tree ≡ when span (plain_data condition) (plain_process then)) }
+    pub fn when_at(span: Span, condition: Box<DataTree>, then: Box<ProcTree>) -> ProcTree
+        ensures { plain_process result ≡ when span (plain_data condition.value) (plain_process then.value) }
     {
-        let then = Box::new(alloc, then)?;
-        Ok(ProcTree::When(span, condition, then))
+        ProcTree::When(span, condition, then)
     }
 
     /// A process under a condition, and another one where it doesn't hold.
     pub fn either_at(
-        alloc: Global,
         span: Span,
-        condition: DataTree,
-        then: ProcTree,
-        other: ProcTree,
-    ) -> Result<ProcTree, AllocFailed<ProcTree>>
-        ensures { IfOk result (λ tree. plain_process tree ≡ either span (plain_data condition) (plain_process then) (plain_process other)) }
+        condition: Box<DataTree>,
+        then: Box<ProcTree>,
+        other: Box<ProcTree>,
+    ) -> ProcTree
+        ensures { plain_process result ≡ either span (plain_data condition.value) (plain_process then.value) (plain_process other.value) }
     {
-        let then = Box::new(alloc, then)?;
-        let other = Box::new(alloc, other)?;
-        Ok(ProcTree::Either(span, condition, then, other))
+        ProcTree::Either(span, condition, then, other)
     }
 
     /// Processes side by side.

@@ -3,6 +3,7 @@
 ghost use Rattle.std.specs.Prelude.{◌≡◌};
 ghost use Rattle.mcrl2_syntax.specs.Words.{joined, span_of, word_of};
 
+use crate::word_bytes::WordBytes;
 use mcrl2_lexer::Token;
 
 /// A stretch of a text.
@@ -20,12 +21,12 @@ pub struct Word {
     /// Where it stands.
     pub span: Span,
     /// Its bytes.
-    pub bytes: Vec<u8>,
+    pub bytes: WordBytes,
 }
 
 impl Word {
     /// A word of these bytes.
-    pub fn new(span: Span, bytes: Vec<u8>) -> Word
+    pub fn new(span: Span, bytes: WordBytes) -> Word
         ensures { word_of result ≡ record { span = span; bytes = bytes.items } }
     {
         Word { span, bytes }

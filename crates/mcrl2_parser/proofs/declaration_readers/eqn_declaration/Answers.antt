@@ -1,5 +1,9 @@
-use Rattle.std.proofs.Common.{refl, sym, ◌∙◌, ◌∷◌}
+use Rattle.std.proofs.Common.{refl, sym, ap, ◌∙◌, ◌∷◌}
+use Rattle.std.specs.Prelude.{Some}
 use Rattle.mcrl2_lexer.specs.declared.kind.Kind.TheVariants.{Equals}
+use Rattle.mcrl2_syntax.specs.declared.data_tree.DataTree.{DataTree}
+use Rattle.mcrl2_syntax.specs.DataTrees.{plain_data}
+use Rattle.mcrl2_syntax.specs.Declarations.{equation_decl}
 use Rattle.mcrl2_syntax.proofs.DeclarationsOnce.{decl_once, stop_equals, data_from}
 use Rattle.mcrl2_parser.proofs.Exits.{passes, begins}
 use Rattle.mcrl2_parser.proofs.DeclarationCases.{same_tail, by_equation, by_conditional, data_case, equation_case, right_case, conditional_case}
@@ -30,7 +34,7 @@ pub returns-in_err-right-2-clause-only : goal.returns-in_err-right-2-clause-only
 returns-in_err-right-2-clause-only c = λ d s. conditional_case c.in_ok-first.ensures.only s c.in-Ok.ensures.found.0 c.in-Ok.ensures.found.1 (λ x y e vs a equals b. let same = c.in_ok-left.ensures.only x (e ∷ vs) a (stop_equals e vs equals) in passes _ _ c.from_residual-in_err-right-2.ensures.1 (c.in_err-right-2.ensures.only y (data_from (same_tail (sym c.in_ok-rest-2.ensures.found.0 ∙ same.1)) b)))
 
 pub returns-clause-found : goal.returns-clause-found
-returns-clause-found c = by_conditional c.in_ok-tree-2.ensures c.joined_spans-span-2.ensures c.span-2.ensures c.span-3.ensures c.in_ok-first.ensures.found c.in-Ok.ensures.found.0 c.in-Ok.ensures.found.1 c.in_ok-left.ensures.found c.in_ok-rest-2.ensures.found.0 c.in_ok-rest-2.ensures.found.1 c.in_ok-right-2.ensures.found
+returns-clause-found c = by_conditional (c.in_ok-tree-2.ensures ∙ ap (λ (d : DataTree). equation_decl c.joined_spans-span-2.result (Some (plain_data d)) (plain_data c.in_ok-left.left) (plain_data c.in_ok-right-2.right)) c.in_ok-condition.ensures.ok) c.joined_spans-span-2.ensures c.span-2.ensures c.span-3.ensures c.in_ok-first.ensures.found c.in-Ok.ensures.found.0 c.in-Ok.ensures.found.1 c.in_ok-left.ensures.found c.in_ok-rest-2.ensures.found.0 c.in_ok-rest-2.ensures.found.1 c.in_ok-right-2.ensures.found
 
 pub returns-clause-only : goal.returns-clause-only
-returns-clause-only c = λ d s. decl_once (by_conditional c.in_ok-tree-2.ensures c.joined_spans-span-2.ensures c.span-2.ensures c.span-3.ensures c.in_ok-first.ensures.found c.in-Ok.ensures.found.0 c.in-Ok.ensures.found.1 c.in_ok-left.ensures.found c.in_ok-rest-2.ensures.found.0 c.in_ok-rest-2.ensures.found.1 c.in_ok-right-2.ensures.found) s
+returns-clause-only c = λ d s. decl_once (by_conditional (c.in_ok-tree-2.ensures ∙ ap (λ (d : DataTree). equation_decl c.joined_spans-span-2.result (Some (plain_data d)) (plain_data c.in_ok-left.left) (plain_data c.in_ok-right-2.right)) c.in_ok-condition.ensures.ok) c.joined_spans-span-2.ensures c.span-2.ensures c.span-3.ensures c.in_ok-first.ensures.found c.in-Ok.ensures.found.0 c.in-Ok.ensures.found.1 c.in_ok-left.ensures.found c.in_ok-rest-2.ensures.found.0 c.in_ok-rest-2.ensures.found.1 c.in_ok-right-2.ensures.found) s

@@ -17,10 +17,10 @@ pub returns-in_err-sort-clause-only : goal.returns-in_err-sort-clause-only
 returns-in_err-sort-clause-only c = λ whole d b s. alias_case b s (c.in_default.ensures.none refl) (λ o e a. passes _ _ c.from_residual-in_err-sort.ensures.1 (c.in_err-sort.ensures.only o a))
 
 pub returns-in_default-clause-found : goal.returns-in_default-clause-found
-returns-in_default-clause-found c = λ whole b. by_alias c.alias_at.ensures c.joined_spans-span.ensures c.span.ensures c.in_ok-name.ensures.found b c.in_ok-sort.ensures.found
+returns-in_default-clause-found c = λ whole b. by_alias c.in_ok-tree.ensures c.joined_spans-span.ensures c.span.ensures c.in_ok-name.ensures.found b c.in_ok-sort.ensures.found
 
 pub returns-in_default-clause-only : goal.returns-in_default-clause-only
-returns-in_default-clause-only c = λ whole d b s. decl_once (by_alias c.alias_at.ensures c.joined_spans-span.ensures c.span.ensures c.in_ok-name.ensures.found b c.in_ok-sort.ensures.found) s
+returns-in_default-clause-only c = λ whole d b s. decl_once (by_alias c.in_ok-tree.ensures c.joined_spans-span.ensures c.span.ensures c.in_ok-name.ensures.found b c.in_ok-sort.ensures.found) s
 
 pub returns-in_err-constructors-clause-only : goal.returns-in_err-constructors-clause-only
 returns-in_err-constructors-clause-only c = λ whole d b s. struct_case b c.in-Ok.ensures.found.0 c.in-Ok.ensures.found.1 s (λ ks e a. passes _ _ c.from_residual-in_err-constructors.ensures.1 (c.in_err-constructors.ensures.only ks [] a (λ f. f, λ f. f) (λ f. f)))
