@@ -1,10 +1,12 @@
 #!/usr/bin/env python3
-"""How fast texts are read up to their refusal, beside `wc -w` on the same file, and how much stack deep ones take.
+"""How fast texts are read, beside `wc -w` on the same file, and refused, and how much stack deep ones take.
 
-Run it from the top of the repository, after a build: bench/reading.py [speed|brackets|names|stack|short] [PROGRAM WORD..]
-`speed` prints one line for each text: its kind, size, seconds, bytes a second, peak memory in all and for each byte of the
-text, how many times the time of `wc -w` that was, and how many times that of the text of a quarter of its size. At last it
-names the kinds of 16 MiB that are above a bound: 25 times `wc -w`, 4.4 times the time of 4 MiB, 80 bytes a byte. The peak
+Run it from the top of the repository, after a build: bench/reading.py [speed|refusals|brackets|names|stack|short] [PROGRAM WORD..]
+`speed` builds a program that reads a text up to its tree, by `lex` and `parse`, and prints one line for each text: its kind,
+size, the processor's seconds, bytes a second, peak memory in all and for each byte of the text, how many times the time of
+`wc -w` that was, and how many times that of the text of a quarter of its size. At last it names the kinds of 16 MiB that are
+above a bound: 25 times `wc -w`, 4.4 times the time of 4 MiB, 80 bytes a byte. `refusals` prints the same lines, without
+bounds, of the whole program, up to its refusal of the text. The peak
 is never less than that of this script, which starts the program. `brackets` prints how many times longer 16 MiB take with
 990 brackets around. `names` linearises systems of many actions, whose names collide in tables of std with their fixed seed,
 or don't: it builds a program that searches such names. `stack` prints for each kind of nesting the least `ulimit -s` that
@@ -18,7 +20,6 @@ import resource
 import subprocess
 import sys
 import tempfile
-import time
 
 from programs import build
 
@@ -131,17 +132,41 @@ fn main(rt: HostRuntime) -> io::Result<()> {
 """
 
 
-def run(words):
-    """Runs a program with its output dropped; gives its seconds and its peak memory in KiB."""
-    start = time.perf_counter()
-    child = subprocess.Popen(words, stdout=subprocess.DEVNULL, stderr=subprocess.DEVNULL)
-    _, _, usage = os.wait4(child.pid, 0)
-    child.returncode = 0
-    return time.perf_counter() - start, usage.ru_maxrss
+READS = """//! Reads a text to its tree.
+#![tactic(auto)]
+
+use mcrl2_lexer::lex;
+use mcrl2_parser::parse;
+use std::io::{self, Read};
+
+fn main(rt: HostRuntime) -> io::Result<()> {
+    let alloc = rt.alloc();
+    let mut text = Vec::new(alloc);
+    rt.stdin().read_to_end(&mut text)?;
+    let Ok(tokens) = lex(alloc, text.as_slice()) else {
+        println!(rt; "no tokens")?;
+        return Ok(());
+    };
+    match parse(alloc, &tokens) {
+        Ok(spec) => println!(rt; "{} sections", spec.sections.len())?,
+        Err(_) => println!(rt; "no tree")?,
+    }
+    Ok(())
+}
+"""
 
 
-def best(words):
-    runs = [run(words) for _ in range(3)]
+def run(words, path):
+    """Runs a program over the file, as its last word and its input, with its output dropped; gives the processor's seconds and the peak memory in KiB."""
+    with open(path) as text:
+        child = subprocess.Popen([*words, path], stdin=text, stdout=subprocess.DEVNULL, stderr=subprocess.DEVNULL)
+        _, _, usage = os.wait4(child.pid, 0)
+        child.returncode = 0
+    return usage.ru_utime + usage.ru_stime, usage.ru_maxrss
+
+
+def best(words, path):
+    runs = [run(words, path) for _ in range(3)]
     return min(seconds for seconds, _ in runs), max(memory for _, memory in runs)
 
 
@@ -153,14 +178,15 @@ def text_of(size, front, piece, behind):
     return (piece * (room // len(piece) + 1))[:size]
 
 
-def speed(command, path):
+def figures(command, path):
+    """Prints the figures of all kinds; gives what is above the bounds."""
     above = []
     for kind, pieces in KINDS.items():
         before = None
         for size in (1, 4, 16):
             path.write_bytes(text_of(size * MIB, *pieces))
-            seconds, memory = best([*command, path])
-            words, _ = best(["wc", "-w", path])
+            seconds, memory = best(command, path)
+            words, _ = best(["wc", "-w"], path)
             each = memory / 1024 / size
             times = seconds / words
             growth = seconds / before if before else 0.0
@@ -171,15 +197,27 @@ def speed(command, path):
         for name, value, bound in (("x wc -w", times, 25), ("x 4 MiB", growth, 4.4), ("a byte", each, 80)):
             if value > bound:
                 above.append(f"{kind} {value:.1f} {name}")
+    return above
+
+
+def speed(_, path):
+    with tempfile.TemporaryDirectory() as folder:
+        crates = ["mcrl2_lexer", "mcrl2_syntax", "mcrl2_parser"]
+        reader = build(folder, "reads", crates, {"src/main.rt": READS})
+        above = figures([reader], path)
     print("above the bounds:", "; ".join(above) or "none")
+
+
+def refusals(command, path):
+    figures(command, path)
 
 
 def brackets(command, path):
     path.write_bytes(text_of(16 * MIB, *KINDS["choices"]))
-    plain, _ = best([*command, path])
+    plain, _ = best(command, path)
     for kind in ("nested choices", "nested arrow", "nested, no guards"):
         path.write_bytes(text_of(16 * MIB, *KINDS[kind]))
-        seconds, _ = best([*command, path])
+        seconds, _ = best(command, path)
         print(f"{kind:21} {seconds:7.3f} s {seconds / plain:6.2f} times the choices without brackets")
 
 
@@ -192,7 +230,7 @@ def names(command, path):
         for count in (len(all_names) // 4, len(all_names) // 2, len(all_names)):
             some = all_names[:count]
             path.write_bytes(b"act " + b", ".join(some) + b";\nproc X = " + some[0] + b";\ninit X;\n")
-            seconds, _ = best([*command, path])
+            seconds, _ = best(command, path)
             print(f"{kind:21} {count:7} {seconds:7.3f} s")
 
 
@@ -237,7 +275,7 @@ def short(command, path):
 
 
 def main():
-    parts = {"speed": speed, "brackets": brackets, "names": names, "stack": stack, "short": short}
+    parts = {"speed": speed, "refusals": refusals, "brackets": brackets, "names": names, "stack": stack, "short": short}
     wanted = sys.argv[1:2] if len(sys.argv) > 1 else list(parts)
     command = sys.argv[2:] if len(sys.argv) > 2 else [PROGRAM, "linearise"]
     with tempfile.TemporaryDirectory() as folder:
