@@ -1,15 +1,16 @@
 -- The operands of an expression join to what its tokens spell.
-use Rattle.std.proofs.Common.{◌≡◌, ℕ, zero, suc, ◌+◌, ◌<◌, Bool, true, false, ◌||◌, ◌&&◌, if◌then◌else◌, List, [], ◌∷◌, ◌++◌, Some, nat_eq, reverse, refl, ap, sym, ◌∙◌, subst, add-one, arith}
-use Rattle.std.specs.List.{list_all, list_any}
+use Rattle.std.proofs.Common.{◌≡◌, ℕ, zero, suc, ◌+◌, ◌<◌, ◌≤◌, min, Bool, true, false, ◌||◌, ◌&&◌, if◌then◌else◌, List, [], ◌∷◌, ◌++◌, Some, nat_eq, reverse, length, drop, get_or, refl, ap, sym, ◌∙◌, subst, add-one, arith}
+use Rattle.std.specs.List.{list_all}
+use Rattle.std.proofs.Math.Nat.{min-le_left, min-le_right}
 use Rattle.std.proofs.lemmas.Bool.{cond_both, eqb-true, eqb-false}
-use Rattle.std.proofs.lemmas.List.{reverse-append}
+use Rattle.std.proofs.lemmas.List.{reverse-append, drop_more, drop_all}
 use Rattle.mcrl2_lexer.specs.declared.token.Token.{Token}
 use Rattle.mcrl2_syntax.specs.declared.data_tree.InfixSign.{InfixSign}
 use Rattle.mcrl2_syntax.specs.declared.data_tree.DataTree.{DataTree}
 use Rattle.mcrl2_syntax.specs.DataTrees.{PlainData, Operand, plain_data, plain_operands}
 use Rattle.mcrl2_syntax.specs.InfixSigns.{infix_of, level_of, grouped}
 use Rattle.mcrl2_syntax.specs.SpelledData.{SpellsUnit, SpellsData, SpellsLevel, level_unit, level_chain, SpellsTail, tail_end, tail_more}
-use Rattle.mcrl2_parser.specs.Operands.{a_sign, SpellsOperands, operands_end, operands_more, with_operand, parted, joined_at, joined_up_to}
+use Rattle.mcrl2_parser.specs.Operands.{a_sign, SpellsOperands, operands_end, operands_more, tightest, with_operand, parted, joined_at, joined_up_to}
 use Rattle.mcrl2_parser.proofs.Operands.{some_level, greatest_level, pushed_operands}
 
 -- Operands in front of some that are parted already.
@@ -141,14 +142,40 @@ grouped_none : (k : ℕ) (d : PlainData) → grouped k d [] ≡ d
 grouped_none k d =
     either_way (nat_eq k 1) d _ d refl (either_way (nat_eq k 3) d _ d refl (either_way (nat_eq k 6) d _ d refl (either_way (nat_eq k 9) d _ d refl (either_way (nat_eq k 10) d _ d refl (either_way (nat_eq k 11) d d d refl refl)))))
 
--- no sign of the level stands between the operands
-parted_none : (k : ℕ) (os : List (InfixSign × DataTree)) → list_any (λ o. nat_eq (level_of o.0) k) os ≡ false → parted k (plain_operands os) ≡ ([], plain_operands os)
-parted_none k [] e = refl
-parted_none k (o ∷ os) e =
-    let both = or_false (nat_eq (level_of o.0) k) (list_any (λ o. nat_eq (level_of o.0) k) os) e in
-    ap (λ (x : List Operand × List Operand). with_operand k (o.0, plain_data o.1) x) (parted_none k os both.1)
-    ∙ with_other k (o.0, plain_data o.1) ([], plain_operands os) (eqb-false (level_of o.0) k both.0)
-    ∙ ap (λ (x : PlainData). ([], (o.0, x) ∷ plain_operands os)) (grouped_none k (plain_data o.1))
+lt-min : (k a b : ℕ) → k < a → k < b → k < min a b
+lt-min k a b less small = omega (arith, less, small)
+
+-- no sign of the level, or of a tighter one, stands between the operands
+parted_above : (k : ℕ) (os : List Operand) → k < tightest os → parted k os ≡ ([], os)
+parted_above k [] less = refl
+parted_above k (o ∷ os) less =
+    let at_first : k < level_of o.0 = omega (arith, less, min-le_left (level_of o.0) (tightest os)) in
+    ap (λ (x : List Operand × List Operand). with_operand k o x) (parted_above k os (omega (arith, less, min-le_right (level_of o.0) (tightest os))))
+    ∙ with_other k o ([], os) (λ is. omega (arith, at_first, is))
+    ∙ ap (λ (x : PlainData). ([], (o.0, x) ∷ os)) (grouped_none k o.1)
+
+joined_above : (k : ℕ) (x : PlainData × List Operand) → k < tightest x.1 → x ≡ joined_at k x
+joined_above k x less = sym (ap (λ (y : List Operand × List Operand). (grouped k x.0 y.0, y.1)) (parted_above k x.1 less) ∙ ap (λ (y : PlainData). (y, x.1)) (grouped_none k x.0))
+
+-- a level joins its signs, and leaves those of the levels above it
+left_above : (k : ℕ) (os : List Operand) → k ≤ tightest os → k < 12 → k < tightest (parted k os).1
+left_above k [] least small = small
+left_above k (o ∷ os) least small =
+    let behind : k < tightest (parted k os).1 = left_above k os (omega (arith, least, min-le_right (level_of o.0) (tightest os))) small in
+    let here : k ≤ level_of o.0 = omega (arith, least, min-le_left (level_of o.0) (tightest os)) in
+    cond_both (nat_eq (level_of o.0) k) (o ∷ (parted k os).0, (parted k os).1) ([], (o.0, grouped k o.1 (parted k os).0) ∷ (parted k os).1) (λ (x : List Operand × List Operand). k < tightest x.1)
+    (λ is. behind)
+    (λ not_so.
+    let differs : level_of o.0 ≡ k → ⊥ = eqb-false (level_of o.0) k not_so in
+    lt-min k (level_of o.0) (tightest (parted k os).1) (omega (arith, here, differs)) behind)
+
+pub some_tightest : (os : List Operand) → 0 < tightest os
+some_tightest [] = omega arith
+some_tightest (o ∷ os) = lt-min 0 (level_of o.0) (tightest os) (some_level o.0) (some_tightest os)
+
+tightest_bound : (os : List Operand) → tightest os ≤ 12
+tightest_bound [] = omega arith
+tightest_bound (o ∷ os) = omega (arith, tightest_bound os, min-le_right (level_of o.0) (tightest os))
 
 and_true : (a b : Bool) → a && b ≡ true → (a ≡ true) × (b ≡ true)
 and_true true b e = (refl, e)
@@ -165,8 +192,35 @@ pub parted_all : (k : ℕ) (os seen others : List (InfixSign × DataTree)) → s
     → (plain_operands os, plain_operands others) ≡ parted k (plain_operands os)
 parted_all k os seen others same e none = rw none (sym (all_parted k os (subst (λ (x : List (InfixSign × DataTree)). list_all (λ o. nat_eq (level_of o.0) k) x ≡ true) same (sym e))))
 
-pub joined_at_none : (k : ℕ) (d : PlainData) (os seen : List (InfixSign × DataTree)) → seen ≡ os → false ≡ list_any (λ o. nat_eq (level_of o.0) k) seen → (d, plain_operands os) ≡ joined_at k (d, plain_operands os)
-joined_at_none k d os seen same e = sym (ap (λ (x : List Operand × List Operand). (grouped k d x.0, x.1)) (parted_none k os (subst (λ (x : List (InfixSign × DataTree)). list_any (λ o. nat_eq (level_of o.0) k) x ≡ false) same (sym e))) ∙ ap (λ (x : PlainData). (x, plain_operands os)) (grouped_none k d))
+-- the tightest level of some operands, and of all of them
+pub tightest_begins : (os : List (InfixSign × DataTree)) → (min 12 (tightest (plain_operands os)) ≡ tightest (plain_operands os)) × (12 ≤ 12)
+tightest_begins os = (omega (arith, tightest_bound (plain_operands os)), omega arith)
+
+pub tightest_goes_on : (os : List (InfixSign × DataTree)) (k : ℕ) (o : InfixSign × DataTree) (level : ℕ) → k < length os → o ≡ get_or os k o
+    → (min level (tightest (plain_operands (drop k os))) ≡ tightest (plain_operands os)) × (level ≤ 12)
+    → (min (min level (level_of o.0)) (tightest (plain_operands (drop (k + 1) os))) ≡ tightest (plain_operands os)) × (min level (level_of o.0) ≤ 12)
+tightest_goes_on os k o level less is so =
+    let front : drop k os ≡ o ∷ drop (k + 1) os = drop_more os k o less ∙ ap (λ (x : InfixSign × DataTree). x ∷ drop (k + 1) os) (sym is) in
+    let whole : min level (min (level_of o.0) (tightest (plain_operands (drop (k + 1) os)))) ≡ tightest (plain_operands os) = ap (λ (x : List (InfixSign × DataTree)). min level (tightest (plain_operands x))) (sym front) ∙ so.0 in
+    (omega (arith, whole), omega (arith, so.1, min-le_left level (level_of o.0)))
+
+pub tightest_ends : (os : List (InfixSign × DataTree)) (k level : ℕ) → length os ≤ k → (min level (tightest (plain_operands (drop k os))) ≡ tightest (plain_operands os)) × (level ≤ 12) → level ≡ tightest (plain_operands os)
+tightest_ends os k level all so =
+    let whole : min level 12 ≡ tightest (plain_operands os) = ap (λ (x : List (InfixSign × DataTree)). min level (tightest (plain_operands x))) (sym (drop_all k os all)) ∙ so.0 in
+    omega (arith, whole, so.1)
+
+-- One level more, where signs of it stand, and where none do.
+pub level_joined : (k level : ℕ) (x y z : PlainData × List Operand) → (y ≡ joined_up_to k x) × (level ≡ tightest y.1) × (k < level) → k < 11 → level ≡ k + 1 → z ≡ joined_at level y
+    → (z ≡ joined_up_to (k + 1) x) × (k + 1 < tightest z.1)
+level_joined k level x y z so small is joins =
+    let at : z ≡ joined_at (k + 1) y = joins ∙ ap (λ (l : ℕ). joined_at l y) is in
+    let least : k + 1 ≤ tightest y.1 = omega (arith, so.1, is) in
+    (joined_more k x y z so.0 at, subst (λ (w : PlainData × List Operand). k + 1 < tightest w.1) (sym at) (left_above (k + 1) y.1 least (omega (arith, small))))
+
+pub level_passed : (k level : ℕ) (x y : PlainData × List Operand) → (y ≡ joined_up_to k x) × (level ≡ tightest y.1) × (k < level) → (level ≡ k + 1 → ⊥) → (y ≡ joined_up_to (k + 1) x) × (level ≡ tightest y.1) × (k + 1 < level)
+level_passed k level x y so differs =
+    let above : k + 1 < level = omega (arith, so.2, differs) in
+    (joined_more k x y y so.0 (joined_above (k + 1) y (omega (arith, above, so.1))), so.1, above)
 
 alone_joins : (k : ℕ) (d : PlainData) → joined_up_to k (d, []) ≡ (d, [])
 unfolding joined_up_to

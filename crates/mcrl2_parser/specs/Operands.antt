@@ -1,5 +1,5 @@
 -- The operands of an expression, in the order of the text, and how they join from the tightest level on.
-use Rattle.std.specs.Prelude.{◌≡◌, ℕ, zero, suc, List, [], ◌∷◌, Some, nat_eq, if◌then◌else◌}
+use Rattle.std.specs.Prelude.{◌≡◌, ℕ, zero, suc, List, [], ◌∷◌, Some, nat_eq, min, if◌then◌else◌}
 use Rattle.mcrl2_lexer.specs.declared.token.Token.{Token}
 use Rattle.mcrl2_syntax.specs.declared.data_tree.InfixSign.{InfixSign}
 use Rattle.mcrl2_syntax.specs.DataTrees.{PlainData, Operand}
@@ -15,6 +15,11 @@ pub data SpellsOperands (text : List ℕ) : List Operand → List Token → List
   operands_end : {r : List Token} → SpellsOperands text [] r r
   operands_more : {sign : InfixSign} {d : PlainData} {os : List Operand} {ts vs us r : List Token} → SpellsSign sign ts vs → SpellsUnit text d vs us
       → SpellsOperands text os us r → SpellsOperands text ((sign, d) ∷ os) ts r
+
+-- the tightest level of a sign between operands, and 12 where there is no sign
+abbrev pub tightest : List Operand → ℕ
+tightest [] = 12
+tightest (o ∷ os) = min (level_of o.0) (tightest os)
 
 -- Operands parted at a level: those that its signs join to what stands in front of them all, and the others, each with those
 -- that its signs join to it.

@@ -1,10 +1,10 @@
 //! The operands of all levels in one tree.
 
-ghost use Rattle.std.specs.Prelude.{◌≡◌, IfErr, IfOk, nat_eq};
-ghost use Rattle.std.specs.List.{list_all, list_any};
+ghost use Rattle.std.specs.Prelude.{◌≡◌, IfErr, IfOk, min, nat_eq};
+ghost use Rattle.std.specs.List.{list_all};
 ghost use Rattle.mcrl2_syntax.specs.DataTrees.{plain_data, plain_operands};
 ghost use Rattle.mcrl2_syntax.specs.InfixSigns.{level_of};
-ghost use Rattle.mcrl2_parser.specs.Operands.{parted, joined_at, joined_up_to};
+ghost use Rattle.mcrl2_parser.specs.Operands.{parted, joined_at, joined_up_to, tightest};
 
 use crate::grouping::grouped;
 use crate::words::Fault;
@@ -51,13 +51,22 @@ fn parted(
     Ok((run, others))
 }
 
-// Whether a sign of the level stands between operands.
-fn has_level(level: u8, operands: &[(InfixSign, DataTree)]) -> bool
-    ensures { result ≡ list_any (λ operand. nat_eq (level_of operand.0) level) operands.now }
+// The one of two levels that binds more tightly.
+fn tighter(first: u8, second: u8) -> u8
+    ensures { result ≡ min first second }
 {
-    operands
-        .iter()
-        .any(|operand| sign_level(operand.0) == level)
+    if first < second { first } else { second }
+}
+
+// The tightest level of a sign between operands, and 12 where there is no sign.
+fn tightest(operands: &[(InfixSign, DataTree)]) -> u8
+    ensures { result ≡ tightest (plain_operands operands.now) }
+{
+    let mut level = 12;
+    for operand in operands {
+        level = tighter(level, sign_level(operand.0));
+    }
+    level
 }
 
 // The first operand and the further ones, where the signs of the level have joined theirs.
@@ -70,15 +79,12 @@ fn joined_at(
     ensures joined { IfOk result (λ x. (plain_data x.0, plain_operands x.1.items) ≡ joined_at level (plain_data first, plain_operands operands.items)) }
     ensures no_memory { IfErr result (λ e. e ≡ Fault.NoMemory) }
 {
-    if !has_level(level, &operands) {
-        return Ok((first, operands));
-    }
     let (run, others) = parted(alloc, level, operands)?;
     let tree = grouped(alloc, level, first, run)?;
     Ok((tree, others))
 }
 
-/// The first operand and the further ones in one tree, joined from the tightest level on.
+/// The first operand and the further ones in one tree, joined from the tightest level on. A level without signs takes no time.
 #[inline(never)]
 pub fn joined(
     alloc: Global,
@@ -92,10 +98,15 @@ pub fn joined(
         return Ok(first);
     }
     let mut tree = first;
+    let mut level = tightest(&operands);
     let mut further = operands;
     for below in 0..11 {
-        let (joined, others) = joined_at(alloc, below + 1, tree, further)?;
+        if level != below + 1 {
+            continue;
+        }
+        let (joined, others) = joined_at(alloc, level, tree, further)?;
         tree = joined;
+        level = tightest(&others);
         further = others;
     }
     Ok(tree)
