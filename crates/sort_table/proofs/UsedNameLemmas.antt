@@ -89,7 +89,7 @@ processes_listed = record { of_none = refl; of_more = λ p ps. flat_map-append n
 pub sum_names : (span : Span) (groups : Vec VarGroup) (inner : Box ProcTree) → sums_of_one (Sum span groups inner) ≡ names_of_groups groups.items ++ sums_of_one inner.value
 sum_names span groups inner = ap names_of_sums (ap plain_process (sym (rolls-Sum span groups inner)) ∙ fold-roll-ProcTree PlainProcess plain_process_step _)
 
-pub either_names : (span : Span) (d : DataTree) (then other : Box ProcTree) → sums_of_one (Either span d then other) ≡ sums_of_one then.value ++ sums_of_one other.value
+pub either_names : (span : Span) (d : Box DataTree) (then other : Box ProcTree) → sums_of_one (Either span d then other) ≡ sums_of_one then.value ++ sums_of_one other.value
 either_names span d then other =
     ap names_of_sums (ap plain_process (sym (rolls-Either span d then other)) ∙ fold-roll-ProcTree PlainProcess plain_process_step _)
     ∙ flat_map-append names_of_variables (sums_in (bare_process (plain_process then.value))) (sums_in (bare_process (plain_process other.value)))

@@ -243,7 +243,7 @@ fn add_groups<'a>(list: &mut Vec<&'a [u8]>, groups: &'a [VarGroup]) -> Result<()
 /// Puts the identifiers of a condition, where there is one, behind the others.
 fn add_condition<'a>(
     list: &mut Vec<&'a [u8]>,
-    condition: &'a Option<DataTree>,
+    condition: &'a Option<Box<DataTree>>,
 ) -> Result<(), NoMemory>
     ensures { OnOk result (texts_of list.new.items ≡ texts_of list.old.items ++ in_condition (some_data condition.now)) }
 {

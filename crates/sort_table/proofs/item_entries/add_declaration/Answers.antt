@@ -60,7 +60,7 @@ returns-in_ok-domain-in-Cons c =
     on_ok_weaker c.add_functions.result (λ (added : marks_of c.add_functions.new.entries.items ≡ marks_of c.args.entries.now.items ++ marks_of_functions c.args.number (option_map domain_under c.in_ok-domain-in-Cons.domain) c.as_slice-in-Cons-2.result.now).
     added ∙ ap (λ (ms : List Mark). marks_of c.args.entries.now.items ++ ms)
     ((λ j. marks_of_functions c.args.number (told j) (c.as_slice-in-Cons-2.ensures.value j))
-    ∙ (functions_marked (domains_by c.args.table.now) c.args.number (expressions_of c.in-Cons.trees.items) (expression_of c.in-Cons.field-3) declared_constructor (bare_names (map word_of c.in-Cons.names.items))
+    ∙ (functions_marked (domains_by c.args.table.now) c.args.number (expressions_of c.in-Cons.trees.items) (expression_of c.in-Cons.field-3.value) declared_constructor (bare_names (map word_of c.in-Cons.names.items))
     ∙ ap (λ (d : Decl). items_marks (domains_by c.args.table.now) c.args.number (items_of c.args.section (declaration_of d))) (sym c.in-Cons.is)))) c.add_functions.ensures
 
 pub returns-in_ok-domain-in-Map : goal.returns-in_ok-domain-in-Map
@@ -70,5 +70,5 @@ returns-in_ok-domain-in-Map c =
     on_ok_weaker c.add_functions-in-Map.result (λ (added : marks_of c.add_functions-in-Map.new.entries.items ≡ marks_of c.args.entries.now.items ++ marks_of_functions c.args.number (option_map domain_under c.in_ok-domain-in-Map.domain) c.as_slice-in-Map-2.result.now).
     added ∙ ap (λ (ms : List Mark). marks_of c.args.entries.now.items ++ ms)
     ((λ j. marks_of_functions c.args.number (told j) (c.as_slice-in-Map-2.ensures.value j))
-    ∙ (functions_marked (domains_by c.args.table.now) c.args.number (expressions_of c.in-Map.trees.items) (expression_of c.in-Map.field-3) mapping (bare_names (map word_of c.in-Map.names.items))
+    ∙ (functions_marked (domains_by c.args.table.now) c.args.number (expressions_of c.in-Map.trees.items) (expression_of c.in-Map.field-3.value) mapping (bare_names (map word_of c.in-Map.names.items))
     ∙ ap (λ (d : Decl). items_marks (domains_by c.args.table.now) c.args.number (items_of c.args.section (declaration_of d))) (sym c.in-Map.is)))) c.add_functions-in-Map.ensures

@@ -28,43 +28,45 @@ returns-in-Struct c =
 pub add_functions-requires-clause-next : goal.add_functions-requires-clause-next
 add_functions-requires-clause-next c =
     let g = c.args.signature.now in
-    let e = bare_sort (plain_sort c.in-Cons.sort) in
+    let e = bare_sort (plain_sort c.deref.result.now) in
     let next = subst (λ (d : Decl). CanEnter g (functions_by (declaration_of d))) c.in-Cons.is c.requires.next in (
       declared_constructor,
       plain_cons,
       subst (λ ws. CanEnter g (functions_named (map bare_sort (map plain_sort c.as_slice-in-Cons-2.result.now)) e declared_constructor ws)) (sym c.as_slice-in-Cons.ensures.value)
-          (subst (λ ds. CanEnter g (functions_named (map bare_sort (map plain_sort ds)) e declared_constructor c.in-Cons.words.items)) (sym c.as_slice-in-Cons-2.ensures.value) next),
+          (subst (λ ds. CanEnter g (functions_named (map bare_sort (map plain_sort ds)) e declared_constructor c.in-Cons.words.items)) (sym c.as_slice-in-Cons-2.ensures.value)
+          (subst (λ to. CanEnter g (functions_named (map bare_sort (map plain_sort c.in-Cons.domain.items)) (bare_sort (plain_sort to)) declared_constructor c.in-Cons.words.items)) (sym c.deref.ensures) next)),
     )
 
 pub returns-in-Cons : goal.returns-in-Cons
 returns-in-Cons c =
     let old = c.args.signature.now in
     let new = c.add_functions.new.signature in
-    let e = bare_sort (plain_sort c.in-Cons.sort) in
+    let e = bare_sort (plain_sort c.deref.result.now) in
     on_ok_two c.add_functions.result (λ adds same.
     subst (λ (d : Decl). AddsDeclarations (declaration_of d ∷ []) old new) (sym c.in-Cons.is)
     (functions_alone (declaration_of (Cons c.in-Cons.field-0 c.in-Cons.words c.in-Cons.domain c.in-Cons.sort)) old new (functions_named (map bare_sort (map plain_sort c.as_slice-in-Cons-2.result.now)) e declared_constructor c.as_slice-in-Cons.result.now)
-    (λ i. functions_named (map bare_sort (map plain_sort (sym c.as_slice-in-Cons-2.ensures.value i))) e declared_constructor (sym c.as_slice-in-Cons.ensures.value i)) refl (adds declared_constructor plain_cons) same))
+    (λ i. functions_named (map bare_sort (map plain_sort (sym c.as_slice-in-Cons-2.ensures.value i))) (bare_sort (plain_sort (sym c.deref.ensures i))) declared_constructor (sym c.as_slice-in-Cons.ensures.value i)) refl (adds declared_constructor plain_cons) same))
     c.add_functions.ensures.entered c.add_functions.ensures.sorts
 
 pub add_functions-requires-in-Map-clause-next : goal.add_functions-requires-in-Map-clause-next
 add_functions-requires-in-Map-clause-next c =
     let g = c.args.signature.now in
-    let e = bare_sort (plain_sort c.in-Map.sort) in
+    let e = bare_sort (plain_sort c.deref-in-Map.result.now) in
     let next = subst (λ (d : Decl). CanEnter g (functions_by (declaration_of d))) c.in-Map.is c.requires.next in (
       mapping,
       plain_map,
       subst (λ ws. CanEnter g (functions_named (map bare_sort (map plain_sort c.as_slice-in-Map-2.result.now)) e mapping ws)) (sym c.as_slice-in-Map.ensures.value)
-          (subst (λ ds. CanEnter g (functions_named (map bare_sort (map plain_sort ds)) e mapping c.in-Map.words.items)) (sym c.as_slice-in-Map-2.ensures.value) next),
+          (subst (λ ds. CanEnter g (functions_named (map bare_sort (map plain_sort ds)) e mapping c.in-Map.words.items)) (sym c.as_slice-in-Map-2.ensures.value)
+          (subst (λ to. CanEnter g (functions_named (map bare_sort (map plain_sort c.in-Map.domain.items)) (bare_sort (plain_sort to)) mapping c.in-Map.words.items)) (sym c.deref-in-Map.ensures) next)),
     )
 
 pub returns-in-Map : goal.returns-in-Map
 returns-in-Map c =
     let old = c.args.signature.now in
     let new = c.add_functions-in-Map.new.signature in
-    let e = bare_sort (plain_sort c.in-Map.sort) in
+    let e = bare_sort (plain_sort c.deref-in-Map.result.now) in
     on_ok_two c.add_functions-in-Map.result (λ adds same.
     subst (λ (d : Decl). AddsDeclarations (declaration_of d ∷ []) old new) (sym c.in-Map.is)
     (functions_alone (declaration_of (Map c.in-Map.field-0 c.in-Map.words c.in-Map.domain c.in-Map.sort)) old new (functions_named (map bare_sort (map plain_sort c.as_slice-in-Map-2.result.now)) e mapping c.as_slice-in-Map.result.now)
-    (λ i. functions_named (map bare_sort (map plain_sort (sym c.as_slice-in-Map-2.ensures.value i))) e mapping (sym c.as_slice-in-Map.ensures.value i)) refl (adds mapping plain_map) same))
+    (λ i. functions_named (map bare_sort (map plain_sort (sym c.as_slice-in-Map-2.ensures.value i))) (bare_sort (plain_sort (sym c.deref-in-Map.ensures i))) mapping (sym c.as_slice-in-Map.ensures.value i)) refl (adds mapping plain_map) same))
     c.add_functions-in-Map.ensures.entered c.add_functions-in-Map.ensures.sorts
