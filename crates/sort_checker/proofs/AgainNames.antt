@@ -29,7 +29,7 @@ again_in_one p = again_in_process (plain_process p)
 pub processes_searched : IsSearch again_in_all again_in_one
 processes_searched = record { of_none = refl; of_more = λ p ps. first_append renamed_twice (operators_in (bare_process (plain_process p))) _ }
 
-pub either_again : (span : Span) (d : DataTree) (then other : Box ProcTree) → again_in_one (Either span d then other) ≡ option_or (again_in_one then.value) (again_in_one other.value)
+pub either_again : (span : Span) (d : Box DataTree) (then other : Box ProcTree) → again_in_one (Either span d then other) ≡ option_or (again_in_one then.value) (again_in_one other.value)
 either_again span d then other =
     ap again_in_process (ap plain_process (sym (rolls-Either span d then other)) ∙ fold-roll-ProcTree PlainProcess plain_process_step _)
     ∙ first_append renamed_twice (operators_in (bare_process (plain_process then.value))) (operators_in (bare_process (plain_process other.value)))

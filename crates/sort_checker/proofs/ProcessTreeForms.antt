@@ -109,14 +109,15 @@ sum_plain tree span groups inner gs p is e f =
     ap plain_process is
     ∙ (ap plain_process (sym (forms.rolls-Sum span groups inner)) ∙ (fold-roll-ProcTree PlainProcess plain_process_step _ ∙ ap₂ (λ (xs : List VarGroup) (q : ProcTree). trees.sum span (map var_group_of xs) (plain_process q)) (sym e) (sym f)))
 
-pub when_plain : (tree : ProcTree) (span : Span) (d : DataTree) (then : Box ProcTree) (p : ProcTree) → tree ≡ forms.When span d then → p ≡ then.value → plain_process tree ≡ trees.when span (plain_data d) (plain_process p)
-when_plain tree span d then p is f =
-    ap plain_process is ∙ (ap plain_process (sym (forms.rolls-When span d then)) ∙ (fold-roll-ProcTree PlainProcess plain_process_step _ ∙ ap (λ (q : ProcTree). trees.when span (plain_data d) (plain_process q)) (sym f)))
-
-pub either_plain : (tree : ProcTree) (span : Span) (d : DataTree) (then other : Box ProcTree) (p r : ProcTree) → tree ≡ forms.Either span d then other → p ≡ then.value → r ≡ other.value → plain_process tree ≡ trees.either span (plain_data d) (plain_process p) (plain_process r)
-either_plain tree span d then other p r is f k =
+pub when_plain : (tree : ProcTree) (span : Span) (condition : Box DataTree) (then : Box ProcTree) (d : DataTree) (p : ProcTree) → tree ≡ forms.When span condition then → d ≡ condition.value → p ≡ then.value → plain_process tree ≡ trees.when span (plain_data d) (plain_process p)
+when_plain tree span condition then d p is e f =
     ap plain_process is
-    ∙ (ap plain_process (sym (forms.rolls-Either span d then other)) ∙ (fold-roll-ProcTree PlainProcess plain_process_step _ ∙ ap₂ (λ (q s : ProcTree). trees.either span (plain_data d) (plain_process q) (plain_process s)) (sym f) (sym k)))
+    ∙ (ap plain_process (sym (forms.rolls-When span condition then)) ∙ (fold-roll-ProcTree PlainProcess plain_process_step _ ∙ ap₂ (λ (c : DataTree) (q : ProcTree). trees.when span (plain_data c) (plain_process q)) (sym e) (sym f)))
+
+pub either_plain : (tree : ProcTree) (span : Span) (condition : Box DataTree) (then other : Box ProcTree) (d : DataTree) (p r : ProcTree) → tree ≡ forms.Either span condition then other → d ≡ condition.value → p ≡ then.value → r ≡ other.value → plain_process tree ≡ trees.either span (plain_data d) (plain_process p) (plain_process r)
+either_plain tree span condition then other d p r is e f k =
+    ap plain_process is
+    ∙ (ap plain_process (sym (forms.rolls-Either span condition then other)) ∙ (fold-roll-ProcTree PlainProcess plain_process_step _ ∙ (ap₂ (λ (q s : ProcTree). trees.either span (plain_data condition.value) (plain_process q) (plain_process s)) (sym f) (sym k) ∙ ap (λ (c : DataTree). trees.either span (plain_data c) (plain_process p) (plain_process r)) (sym e))))
 
 -- ---- the bare process terms
 pub delta_same : (tree : ProcTree) (span : Span) → tree ≡ forms.Delta span → bare_one tree ≡ bare.delta
@@ -161,8 +162,8 @@ choice_same tree span parts ps is e = ap bare_process (choice_plain tree span pa
 pub sum_same : (tree : ProcTree) (span : Span) (groups : Vec VarGroup) (inner : Box ProcTree) (gs : List VarGroup) (p : ProcTree) → tree ≡ forms.Sum span groups inner → gs ≡ groups.items → p ≡ inner.value → bare_one tree ≡ bare.sum (bare_variables (map var_group_of gs)) (bare_one p)
 sum_same tree span groups inner gs p is e f = ap bare_process (sum_plain tree span groups inner gs p is e f)
 
-pub when_same : (tree : ProcTree) (span : Span) (d : DataTree) (then : Box ProcTree) (p : ProcTree) → tree ≡ forms.When span d then → p ≡ then.value → bare_one tree ≡ bare.when (bare_data (plain_data d)) (bare_one p)
-when_same tree span d then p is f = ap bare_process (when_plain tree span d then p is f)
+pub when_same : (tree : ProcTree) (span : Span) (condition : Box DataTree) (then : Box ProcTree) (d : DataTree) (p : ProcTree) → tree ≡ forms.When span condition then → d ≡ condition.value → p ≡ then.value → bare_one tree ≡ bare.when (bare_data (plain_data d)) (bare_one p)
+when_same tree span condition then d p is e f = ap bare_process (when_plain tree span condition then d p is e f)
 
-pub either_same : (tree : ProcTree) (span : Span) (d : DataTree) (then other : Box ProcTree) (p r : ProcTree) → tree ≡ forms.Either span d then other → p ≡ then.value → r ≡ other.value → bare_one tree ≡ bare.either (bare_data (plain_data d)) (bare_one p) (bare_one r)
-either_same tree span d then other p r is f k = ap bare_process (either_plain tree span d then other p r is f k)
+pub either_same : (tree : ProcTree) (span : Span) (condition : Box DataTree) (then other : Box ProcTree) (d : DataTree) (p r : ProcTree) → tree ≡ forms.Either span condition then other → d ≡ condition.value → p ≡ then.value → r ≡ other.value → bare_one tree ≡ bare.either (bare_data (plain_data d)) (bare_one p) (bare_one r)
+either_same tree span condition then other d p r is e f k = ap bare_process (either_plain tree span condition then other d p r is e f k)

@@ -44,19 +44,19 @@ module _ (tree p : ProcTree) (span : Span) where
       let part : the_size p ≡ the_size inner.value = ap the_size e in
       omega (arith, sized-Comm span rules inner, whole, part)
 
-  pub when_smaller : (d : DataTree) (then : Box ProcTree) → tree ≡ forms.When span d then → p ≡ then.value → the_size p < the_size tree
+  pub when_smaller : (d : Box DataTree) (then : Box ProcTree) → tree ≡ forms.When span d then → p ≡ then.value → the_size p < the_size tree
   when_smaller d then is e =
       let whole : the_size tree ≡ the_size (forms.When span d then) = ap the_size is in
       let part : the_size p ≡ the_size then.value = ap the_size e in
       omega (arith, sized-When span d then, whole, part)
 
-  pub then_smaller : (d : DataTree) (then other : Box ProcTree) → tree ≡ forms.Either span d then other → p ≡ then.value → the_size p < the_size tree
+  pub then_smaller : (d : Box DataTree) (then other : Box ProcTree) → tree ≡ forms.Either span d then other → p ≡ then.value → the_size p < the_size tree
   then_smaller d then other is e =
       let whole : the_size tree ≡ the_size (forms.Either span d then other) = ap the_size is in
       let part : the_size p ≡ the_size then.value = ap the_size e in
       omega (arith, sized-Either span d then other, whole, part)
 
-  pub other_smaller : (d : DataTree) (then other : Box ProcTree) → tree ≡ forms.Either span d then other → p ≡ other.value → the_size p < the_size tree
+  pub other_smaller : (d : Box DataTree) (then other : Box ProcTree) → tree ≡ forms.Either span d then other → p ≡ other.value → the_size p < the_size tree
   other_smaller d then other is e =
       let whole : the_size tree ≡ the_size (forms.Either span d then other) = ap the_size is in
       let part : the_size p ≡ the_size other.value = ap the_size e in

@@ -90,7 +90,7 @@ fn condition_or_true(
     pool: &mut Pool,
     tables: &mut SortTables,
     scope: &Scope,
-    condition: &Option<DataTree>,
+    condition: &Option<Box<DataTree>>,
 ) -> Result<TermId, NoMemory>
     requires ready { IsReady sig.old pool.old tables.old scope.now }
     requires words { IsConditionOfWords (some_data condition.now) }

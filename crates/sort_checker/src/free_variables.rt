@@ -86,7 +86,7 @@ fn free_in_condition<'a>(
     alloc: Global,
     variables: &NameNumbers<'a>,
     left: &NameNumbers<'a>,
-    condition: &'a Option<DataTree>,
+    condition: &'a Option<Box<DataTree>>,
 ) -> Result<Option<&'a [u8]>, NoMemory>
     ensures { IfOk result (λ found. option_map (λ n. n.now) found ≡ first_free variables.now left.now (in_condition (some_data condition.now))) }
 {

@@ -86,24 +86,29 @@ process_of-returns-in_ok-parts-in-Sequence-clause-means t c =
 
 pub process_of-when_of-requires : goal.process_of-when_of-requires
 process_of-when_of-requires t c =
-    let w = subst IsProcessOfWords (when_plain c.args.tree.now c.in-When.field-0 c.in-When.condition c.in-When.then c.deref-in-When.result.now c.in-When.is c.deref-in-When.ensures) c.requires.words in
-    let e = when_same c.args.tree.now c.in-When.field-0 c.in-When.condition c.in-When.then c.deref-in-When.result.now c.in-When.is c.deref-in-When.ensures in (
-      omega (arith, c.decreases, when_smaller c.args.tree.now c.deref-in-When.result.now c.in-When.field-0 c.in-When.condition c.in-When.then c.in-When.is c.deref-in-When.ensures),
+    let w = subst IsProcessOfWords (when_plain c.args.tree.now c.in-When.field-0 c.in-When.condition c.in-When.then c.deref-in-When.result.now c.deref-in-When-2.result.now c.in-When.is c.deref-in-When.ensures c.deref-in-When-2.ensures) c.requires.words in
+    let e = when_same c.args.tree.now c.in-When.field-0 c.in-When.condition c.in-When.then c.deref-in-When.result.now c.deref-in-When-2.result.now c.in-When.is c.deref-in-When.ensures c.deref-in-When-2.ensures in (
+      omega (arith, c.decreases, when_smaller c.args.tree.now c.deref-in-When-2.result.now c.in-When.field-0 c.in-When.condition c.in-When.then c.in-When.is c.deref-in-When-2.ensures),
       (c.requires.ready, (c.requires.table, (w, (subst (SumNamesStand c.args.sig.now) e c.requires.names, subst (CanElaborate c.args.sig.now c.args.processes.now c.args.scope.now) e c.requires.elaborates)))),
     )
 
+pub process_of-returns-in-When-clause-means : goal.process_of-returns-in-When-clause-means
+process_of-returns-in-When-clause-means t c =
+    subst (λ p. IfOk c.when_of.result (λ made. (v : FullVocabulary) (variables : Scope) → Sees c.args.sig.now c.args.processes.now c.args.scope.now v variables → IsElaborated v variables p c.when_of.new.sig c.when_of.new.pool (code.plain_process made)))
+    (sym (when_same c.args.tree.now c.in-When.field-0 c.in-When.condition c.in-When.then c.deref-in-When.result.now c.deref-in-When-2.result.now c.in-When.is c.deref-in-When.ensures c.deref-in-When-2.ensures)) c.when_of.ensures.means
+
 pub process_of-either_of-requires : goal.process_of-either_of-requires
 process_of-either_of-requires t c =
-    let w = subst IsProcessOfWords (either_plain c.args.tree.now c.in-Either.field-0 c.in-Either.test c.in-Either.one c.in-Either.other c.deref-in-Either.result.now c.deref-in-Either-2.result.now c.in-Either.is c.deref-in-Either.ensures c.deref-in-Either-2.ensures) c.requires.words in
-    let e = either_same c.args.tree.now c.in-Either.field-0 c.in-Either.test c.in-Either.one c.in-Either.other c.deref-in-Either.result.now c.deref-in-Either-2.result.now c.in-Either.is c.deref-in-Either.ensures c.deref-in-Either-2.ensures in
-    let one = then_smaller c.args.tree.now c.deref-in-Either.result.now c.in-Either.field-0 c.in-Either.test c.in-Either.one c.in-Either.other c.in-Either.is c.deref-in-Either.ensures in
-    let two = other_smaller c.args.tree.now c.deref-in-Either-2.result.now c.in-Either.field-0 c.in-Either.test c.in-Either.one c.in-Either.other c.in-Either.is c.deref-in-Either-2.ensures in
+    let w = subst IsProcessOfWords (either_plain c.args.tree.now c.in-Either.field-0 c.in-Either.test c.in-Either.one c.in-Either.other c.deref-in-Either.result.now c.deref-in-Either-2.result.now c.deref-in-Either-3.result.now c.in-Either.is c.deref-in-Either.ensures c.deref-in-Either-2.ensures c.deref-in-Either-3.ensures) c.requires.words in
+    let e = either_same c.args.tree.now c.in-Either.field-0 c.in-Either.test c.in-Either.one c.in-Either.other c.deref-in-Either.result.now c.deref-in-Either-2.result.now c.deref-in-Either-3.result.now c.in-Either.is c.deref-in-Either.ensures c.deref-in-Either-2.ensures c.deref-in-Either-3.ensures in
+    let one = then_smaller c.args.tree.now c.deref-in-Either-2.result.now c.in-Either.field-0 c.in-Either.test c.in-Either.one c.in-Either.other c.in-Either.is c.deref-in-Either-2.ensures in
+    let two = other_smaller c.args.tree.now c.deref-in-Either-3.result.now c.in-Either.field-0 c.in-Either.test c.in-Either.one c.in-Either.other c.in-Either.is c.deref-in-Either-3.ensures in
     (omega (arith, c.decreases, one, two), (c.requires.ready, (c.requires.table, (w, (subst (SumNamesStand c.args.sig.now) e c.requires.names, subst (CanElaborate c.args.sig.now c.args.processes.now c.args.scope.now) e c.requires.elaborates)))))
 
 pub process_of-returns-in-Either-clause-means : goal.process_of-returns-in-Either-clause-means
 process_of-returns-in-Either-clause-means t c =
     subst (λ p. IfOk c.either_of.result (λ made. (v : FullVocabulary) (variables : Scope) → Sees c.args.sig.now c.args.processes.now c.args.scope.now v variables → IsElaborated v variables p c.either_of.new.sig c.either_of.new.pool (code.plain_process made)))
-    (sym (either_same c.args.tree.now c.in-Either.field-0 c.in-Either.test c.in-Either.one c.in-Either.other c.deref-in-Either.result.now c.deref-in-Either-2.result.now c.in-Either.is c.deref-in-Either.ensures c.deref-in-Either-2.ensures)) c.either_of.ensures.means
+    (sym (either_same c.args.tree.now c.in-Either.field-0 c.in-Either.test c.in-Either.one c.in-Either.other c.deref-in-Either.result.now c.deref-in-Either-2.result.now c.deref-in-Either-3.result.now c.in-Either.is c.deref-in-Either.ensures c.deref-in-Either-2.ensures c.deref-in-Either-3.ensures)) c.either_of.ensures.means
 
 pub when_of-condition_term-requires-clause-typed : goal.when_of-condition_term-requires-clause-typed
 when_of-condition_term-requires-clause-typed t c =

@@ -4,6 +4,7 @@ use Rattle.mcrl2_syntax.specs.declared.declaration.Decl.{Decl}
 use Rattle.mcrl2_syntax.specs.declared.declaration.EquationTree.{EquationTree}
 use Rattle.mcrl2_syntax.specs.declared.process_tree.ProcTree.{ProcTree}
 use Rattle.mcrl2_syntax.specs.declared.process_tree.VarGroup.{VarGroup}
+use Rattle.mcrl2_syntax.specs.declared.sort_tree.SortTree.{SortTree}
 use Rattle.mcrl2_syntax.specs.DataTrees.{plain_data}
 use Rattle.mcrl2_syntax.specs.Declarations.{plain_decl, some_data}
 use Rattle.mcrl2_syntax.specs.ProcessParts.{var_group_of}
@@ -15,6 +16,9 @@ use Rattle.sort_table.specs.BareDeclarations.{bare_condition}
 use Rattle.sort_table.specs.BareSorts.{bare_sort}
 use Rattle.sort_table.specs.DeclarationTrees.{declaration_of}
 use Rattle.sort_table.specs.Identifiers.{in_group, in_process}
+use Rattle.sort_table.specs.SignatureVocabularies.{vocabulary_of}
+use Rattle.sort_table.specs.Vocabularies.{sort_in}
+use Rattle.sort_checker.specs.Faults.{is_plain_sort}
 use Rattle.sort_checker.specs.ReadyTrees.{AreReadyGroups, AreReadyLeaves, IsReadyDeclaration, leaves_in}
 use Rattle.sort_checker.specs.TypedTrees.{are_parts_typed, is_equation}
 use Rattle.sort_checker.proofs.Firsts.{ok_then}
@@ -47,12 +51,15 @@ is_process_typed-requires-in-Init-clause-process c =
 pub returns-in-Cons : goal.returns-in-Cons
 returns-in-Cons c =
     ok_then c.is_result.result c.is_result.ensures
-    (λ b h v xs over inside. h ∙ (result_told v xs c.args.context.now c.args.scope.now over inside (bare_sort (plain_sort c.in-Cons.to)) ∙ (sym (and_true _) ∙ ap (λ (d : Decl). are_parts_typed v (record { variables = xs; declaration = declaration_of d })) (sym c.in-Cons.is))))
+    (λ b h v xs over inside.
+    h
+    ∙ (ap (λ (s : SortTree). is_plain_sort (vocabulary_of c.args.context.now.sig.now).tables (sort_in (vocabulary_of c.args.context.now.sig.now).sort_names (bare_sort (plain_sort s)))) c.deref.ensures
+    ∙ (result_told v xs c.args.context.now c.args.scope.now over inside (bare_sort (plain_sort c.in-Cons.to.value)) ∙ (sym (and_true _) ∙ ap (λ (d : Decl). are_parts_typed v (record { variables = xs; declaration = declaration_of d })) (sym c.in-Cons.is)))))
 
 pub returns-in-Equation : goal.returns-in-Equation
 returns-in-Equation c =
     ok_then c.is_equation.result c.is_equation.ensures
     (λ b h v xs over inside.
     h
-    ∙ (ap (λ (q : EquationTree). is_equation c.args.context.now c.args.scope.now (bare_condition (some_data q.condition)) (bare_data (plain_data q.left)) (bare_data (plain_data q.right))) c.deref.ensures
+    ∙ (ap (λ (q : EquationTree). is_equation c.args.context.now c.args.scope.now (bare_condition (some_data q.condition)) (bare_data (plain_data q.left)) (bare_data (plain_data q.right))) c.deref-in-Equation.ensures
     ∙ (equation_told v xs c.args.context.now c.args.scope.now over inside (bare_condition (some_data c.in-Equation.equation.value.condition)) (bare_data (plain_data c.in-Equation.equation.value.left)) (bare_data (plain_data c.in-Equation.equation.value.right)) ∙ (sym (and_true _) ∙ ap (λ (d : Decl). are_parts_typed v (record { variables = xs; declaration = declaration_of d })) (sym c.in-Equation.is)))))
