@@ -148,7 +148,7 @@ impl CopiedText {
     }
 
     /// `c ->`, or nothing where there is no condition.
-    fn condition(&mut self, condition: &Option<DataTree>) -> Result<(), NoMemory>
+    fn condition(&mut self, condition: &Option<Box<DataTree>>) -> Result<(), NoMemory>
         ensures { OnOk result (AddsCopied self.old self.new (condition_tokens (some_data condition.now))) }
     {
         match condition {

@@ -39,7 +39,7 @@ fn infix_text(sign: InfixSign) -> &'static [u8] {
 
 /// A name or a numeral.
 pub fn push_word(out: &mut Vec<u8>, word: &Word) -> Result<(), AllocError> {
-    out.extend_from_slice(&word.bytes)
+    out.extend_from_slice(word.bytes.as_slice())
 }
 
 /// Names with a sign between them.
