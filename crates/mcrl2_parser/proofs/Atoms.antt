@@ -1,23 +1,23 @@
 -- What the exits of the readers of steps and atoms stand on.
-use Rattle.std.proofs.Common.{◌≡◌, ◌⊎◌, inl, inr, ℕ, List, ◌∷◌, refl, ap, sym, ◌∙◌, subst}
+use Rattle.std.proofs.Common.{◌≡◌, ◌⊎◌, inl, inr, ℕ, List, [], ◌∷◌, refl, ap, sym, ◌∙◌, subst}
 use Rattle.mcrl2_lexer.specs.declared.kind.Kind.{Kind}
 use Rattle.mcrl2_lexer.specs.declared.kind.Kind.TheVariants.{Identifier, Delta, LeftParen, RightParen, Comma, Equals, Bar, Allow, Block, Hide, Rename, Comm}
 use Rattle.mcrl2_lexer.specs.declared.token.Token.{Token}
 use Rattle.mcrl2_syntax.specs.declared.word.Span.{Span}
-use Rattle.mcrl2_syntax.specs.Words.{Begins, span_of}
+use Rattle.mcrl2_syntax.specs.Words.{Begins, span_of, spanned}
 use Rattle.mcrl2_syntax.specs.DataTrees.{PlainData}
-use Rattle.mcrl2_syntax.specs.ProcessParts.{PlainAction, PlainLabel}
-use Rattle.mcrl2_syntax.specs.ProcessTrees.{PlainProcess, delta, within}
+use Rattle.mcrl2_syntax.specs.ProcessParts.{PlainAction, action_span}
+use Rattle.mcrl2_syntax.specs.ProcessTrees.{PlainProcess, delta, acts, within}
 use Rattle.mcrl2_syntax.specs.SpelledWords.{last_item, more_items}
 use Rattle.mcrl2_syntax.specs.SpelledData.{SpellsItems, items_last, items_more}
-use Rattle.mcrl2_syntax.specs.SpelledLabels.{SpellsAction, action_tau, action_name, action_applied, SpellsActions, label_from, SpellsLabel, label_actions, assignment, SpellsCall, call_empty, call_assigns, Operation, operated, SpellsOperation, spells_allow, spells_block, spells_hide, spells_rename, spells_comm}
+use Rattle.mcrl2_syntax.specs.SpelledLabels.{SpellsAction, action_tau, action_name, action_applied, SpellsActions, assignment, SpellsCall, call_empty, call_assigns, Operation, operated, SpellsOperation, spells_allow, spells_block, spells_hide, spells_rename, spells_comm}
 use Rattle.mcrl2_syntax.specs.SpelledProcesses.{SpellsAtom, atom_delta, atom_action, atom_multi, atom_call, atom_brackets, atom_operator, SpellsProcess, spells_process}
 use Rattle.mcrl2_syntax.specs.Follow.{NoAction, Ends}
 use Rattle.mcrl2_syntax.proofs.Lists.{heads, tails, moved}
 use Rattle.mcrl2_syntax.proofs.DataOnce.{closed_paren, stops_comma, items_paren}
-use Rattle.mcrl2_syntax.proofs.LabelsOnce.{no_other, before_equals}
+use Rattle.mcrl2_syntax.proofs.LabelsOnce.{NoParen, bar_paren, no_other, before_equals}
 use Rattle.mcrl2_syntax.proofs.ProcessesOnce.{class, is_operator, apart, action_class, call_class, operation_class, ends_shut}
-use Rattle.mcrl2_parser.specs.ProcessReading.{acted, BeginsCall, begins_empty, begins_assignment, SpellsStep, step_call, step_actions}
+use Rattle.mcrl2_parser.specs.ProcessReading.{acted, BeginsCall, begins_empty, begins_assignment, SpellsStep, step_call, step_actions, SpellsMulti, multi_actions}
 
 -- Where a call begins, no action does.
 items_equals : {text : List ℕ} {ds : List PlainData} {t e v : Token} {ts q : List Token} → t.kind ≡ Identifier → e.kind ≡ Equals → SpellsItems text ds (t ∷ e ∷ ts) (v ∷ q) → v.kind ≡ RightParen → ⊥
@@ -45,22 +45,50 @@ call_begins (call_empty h i j) = begins_empty h i j
 call_begins (call_assigns h i (last_item (assignment k l d)) j) = begins_assignment h i k l
 call_begins (call_assigns h i (more_items (assignment k l d) m c) j) = begins_assignment h i k l
 
--- the term of actions, and their label
-pub record IsLabelled (text : List ℕ) (p : PlainProcess) (ts r : List Token) : Type 0 where
-  pub label : PlainLabel
-  pub tree : p ≡ acted label.span label.actions
-  pub is : SpellsLabel text label ts r
+-- what is no call is actions
+pub record IsActing (text : List ℕ) (p : PlainProcess) (ts r : List Token) : Type 0 where
+  pub actions : List PlainAction
+  pub tree : p ≡ acted (spanned action_span actions) actions
+  pub is : SpellsActions text actions ts r
 
-pub labelled : {text : List ℕ} {p : PlainProcess} {ts r : List Token} → (BeginsCall ts → ⊥) → SpellsStep text p ts r → IsLabelled text p ts r
-labelled n (step_call a) = absurd (n (call_begins a))
-labelled n (step_actions {as_ = as_} a) = record { label = label_from as_; tree = refl; is = label_actions a }
+pub acting : {text : List ℕ} {p : PlainProcess} {ts r : List Token} → (BeginsCall ts → ⊥) → SpellsStep text p ts r → IsActing text p ts r
+acting n (step_call a) = absurd (n (call_begins a))
+acting n (step_actions {as_ = as_} a) = record { actions = as_; tree = refl; is = a }
 
-pub acts_found : {text : List ℕ} {l : PlainLabel} {p : PlainProcess} {ts r : List Token} → SpellsLabel text l ts r → p ≡ acted l.span l.actions → SpellsStep text p ts r
-acts_found (label_actions a) e = rw e (step_actions a)
+-- the one reading of a first action
+abbrev pub OnlyAction : List ℕ → PlainAction → List Token → List Token → Type 0
+OnlyAction text a ts us = (x : PlainAction) (r : List Token) → SpellsAction text x ts r → NoParen r → (a ≡ x) × (us ≡ r)
 
-pub acts_only : {text : List ℕ} {l : PlainLabel} {q p : PlainProcess} {ts us r : List Token} → ((x : PlainLabel) (v : List Token) → SpellsLabel text x ts v → NoAction v → (l ≡ x) × (us ≡ v)) → q ≡ acted l.span l.actions
-    → IsLabelled text p ts r → NoAction r → (q ≡ p) × (us ≡ r)
-acts_only {r = r} only e one n = let same = only one.label r one.is n in (e ∙ ap (λ (x : PlainLabel). acted x.span x.actions) same.0 ∙ sym one.tree, same.1)
+-- the fault of a first action is that of the step
+first_err : (Q : Type 0) {text : List ℕ} {as_ : List PlainAction} {ts r : List Token} → ((x : PlainAction) (v : List Token) → SpellsAction text x ts v → NoParen v → Q) → SpellsActions text as_ ts r → NoAction r → Q
+first_err Q f (last_item a) n = f _ _ a n.paren
+first_err Q f (more_items {sign = s} {us = us} a h c) n = f _ _ a (bar_paren s us h)
+
+pub action_err : (Q : Type 0) {text : List ℕ} {p : PlainProcess} {ts r : List Token} → ((x : PlainAction) (v : List Token) → SpellsAction text x ts v → NoParen v → Q) → IsActing text p ts r → NoAction r → Q
+action_err Q f s n = first_err Q f s.is n
+
+-- an action with no bar behind it
+pub single_found : {text : List ℕ} {a : PlainAction} {p : PlainProcess} {ts r : List Token} → p ≡ acts a → SpellsAction text a ts r → SpellsStep text p ts r
+single_found e a = rw e (step_actions (last_item a))
+
+single_action : {text : List ℕ} {a : PlainAction} {as_ : List PlainAction} {ts us r : List Token} → OnlyAction text a ts us → (Begins Bar us → ⊥) → SpellsActions text as_ ts r → NoAction r → (a ∷ [] ≡ as_) × (us ≡ r)
+single_action only none (last_item {item = x} {r = r} b) n = let same = only x r b n.paren in (ap (λ (y : PlainAction). y ∷ []) same.0, same.1)
+single_action only none (more_items {item = x} {sign = s} {us = us} b h c) n = absurd (none (moved Bar (sym (only x (s ∷ us) b (bar_paren s us h)).1) h))
+
+pub single_only : {text : List ℕ} {a : PlainAction} {p q : PlainProcess} {ts us r : List Token} → q ≡ acts a → OnlyAction text a ts us → (Begins Bar us → ⊥) → IsActing text p ts r → NoAction r → (q ≡ p) × (us ≡ r)
+single_only e only none s n = let same = single_action only none s.is n in (e ∙ ap (λ (as_ : List PlainAction). acted (spanned action_span as_) as_) same.0 ∙ sym s.tree, same.1)
+
+-- an action with a bar and further ones behind it
+pub multi_found : {text : List ℕ} {a : PlainAction} {p : PlainProcess} {t : Token} {ts us vs r : List Token} → SpellsAction text a ts us → us ≡ t ∷ vs → t.kind ≡ Bar → SpellsMulti text a p vs r → SpellsStep text p ts r
+multi_found {text = text} {a = a} {ts = ts} b e h (multi_actions c) = step_actions (more_items (subst (λ (x : List Token). SpellsAction text a ts x) e b) h c)
+
+multi_from : {text : List ℕ} {a : PlainAction} {as_ : List PlainAction} {t : Token} {ts us vs r : List Token} → OnlyAction text a ts us → us ≡ t ∷ vs → t.kind ≡ Bar → SpellsActions text as_ ts r → NoAction r
+    → SpellsMulti text a (acted (spanned action_span as_) as_) vs r
+multi_from only e h (last_item {item = x} {r = r} b) n = absurd (n.bar (moved Bar (sym e ∙ (only x r b n.paren).1) h))
+multi_from {r = r} only e h (more_items {item = x} {sign = s} {us = us} b k c) n = let same = only x (s ∷ us) b (bar_paren s us k) in rw (same.0, tails (sym e ∙ same.1)) (multi_actions c)
+
+pub multi_of : {text : List ℕ} {a : PlainAction} {p : PlainProcess} {t : Token} {ts us vs r : List Token} → OnlyAction text a ts us → us ≡ t ∷ vs → t.kind ≡ Bar → IsActing text p ts r → NoAction r → SpellsMulti text a p vs r
+multi_of only e h s n = rw s.tree (multi_from only e h s.is n)
 
 -- A step is an atom.
 pub atom_step : {text : List ℕ} {p : PlainProcess} {ts r : List Token} → SpellsStep text p ts r → SpellsAtom text p ts r

@@ -22,6 +22,7 @@ pub mod Calls
 pub mod Operations
 pub mod Joins
 pub mod LabelLines
+pub mod LastParts
 pub mod Exits
 pub mod ConstructorCases
 pub mod DeclarationCases

@@ -27,6 +27,10 @@ pub data SpellsStep (text : List ℕ) : PlainProcess → List Token → List Tok
   step_call : {p : PlainProcess} {ts r : List Token} → SpellsCall text p ts r → SpellsStep text p ts r
   step_actions : {as_ : List PlainAction} {ts r : List Token} → SpellsActions text as_ ts r → SpellsStep text (acted (spanned action_span as_) as_) ts r
 
+-- actions behind a first one, with it in one tree
+pub data SpellsMulti (text : List ℕ) (first : PlainAction) : PlainProcess → List Token → List Token → Type 0 where
+  multi_actions : {as_ : List PlainAction} {ts r : List Token} → SpellsActions text as_ ts r → SpellsMulti text first (acted (spanned action_span (first ∷ as_)) (first ∷ as_)) ts r
+
 -- the guard of a condition, with its arrow
 pub data SpellsGuard (text : List ℕ) : PlainData → List Token → List Token → Type 0 where
   spells_guard : {c : PlainData} {a : Token} {ts r : List Token} → SpellsUnit text c ts (a ∷ r) → a.kind ≡ Arrow → SpellsGuard text c ts r

@@ -1,13 +1,11 @@
 //! The parts of a chain of process terms in one tree.
 
 ghost use Rattle.std.specs.Prelude.{◌≡◌, ◌≢◌, ◌∷◌, [], IfOk, IfErr, length, map};
-ghost use Rattle.mcrl2_syntax.specs.Words.{spanned, last_of};
-ghost use Rattle.mcrl2_syntax.specs.ProcessParts.{plain_action};
+ghost use Rattle.mcrl2_syntax.specs.Words.{spanned};
 ghost use Rattle.mcrl2_syntax.specs.ProcessTrees.{plain_process, process_span};
 ghost use Rattle.mcrl2_syntax.specs.SpelledProcesses.{sequenced, merged, chosen};
-ghost use Rattle.mcrl2_parser.specs.ProcessReading.{acted};
 
-use mcrl2_syntax::{LabelTree, ProcTree, Span, joined_spans};
+use mcrl2_syntax::{ProcTree, Span, joined_spans};
 
 // The only item, or the items where there isn't just one, in a list without spare room.
 fn single<T: Drop>(items: Vec<T>) -> Result<T, Vec<T>>
@@ -29,14 +27,11 @@ fn single<T: Drop>(items: Vec<T>) -> Result<T, Vec<T>>
 fn parts_span(parts: &[ProcTree]) -> Span
     ensures { result ≡ spanned process_span (map plain_process parts.now) }
 {
-    let [first, others @ ..] = parts else {
-        return Span { start: 0, end: 0 };
-    };
-    let mut last = first.span();
-    for part in others {
-        last = part.span();
+    match parts {
+        [] => Span { start: 0, end: 0 },
+        [only] => joined_spans(only.span(), only.span()),
+        [first, .., last] => joined_spans(first.span(), last.span()),
     }
-    joined_spans(first.span(), last)
 }
 
 /// Parts of a sequence in one tree: one part is itself.
@@ -75,16 +70,5 @@ pub fn in_choice(parts: Vec<ProcTree>) -> ProcTree
             let span = parts_span(&parts);
             ProcTree::choice_at(span, parts)
         }
-    }
-}
-
-/// The actions of a label as a process term: one action is itself.
-pub fn in_step(label: LabelTree) -> ProcTree
-    ensures { plain_process result ≡ acted label.span (map plain_action label.actions.items) }
-{
-    let span = label.span;
-    match single(label.actions) {
-        Ok(action) => ProcTree::action_at(action),
-        Err(actions) => ProcTree::multi_at(span, actions),
     }
 }

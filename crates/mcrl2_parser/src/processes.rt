@@ -19,10 +19,9 @@ use crate::boxes::{
     boxed_brackets, boxed_choice, boxed_delta, boxed_either, boxed_operator, boxed_parallel,
     boxed_sequence, boxed_sum, boxed_when, push_part,
 };
-use crate::chains::in_step;
 use crate::guards::{begins_call, guard};
 use crate::operator_parts::operator;
-use crate::parts::{call, label, vars};
+use crate::parts::{action, call, multi, vars};
 use crate::words::{Fault, expect, next};
 use mcrl2_lexer::{Kind, Token};
 use mcrl2_syntax::{DataTree, ProcTree};
@@ -173,8 +172,11 @@ fn step<'a>(
     if begins_call(tokens) {
         return call(alloc, text, tokens);
     }
-    let (label, rest) = label(alloc, text, tokens)?;
-    Ok((in_step(label), rest))
+    let (first, rest) = action(alloc, text, tokens)?;
+    let Ok((_, behind)) = expect(rest, Kind::Bar) else {
+        return Ok((ProcTree::action_at(first), rest));
+    };
+    multi(alloc, text, first, behind)
 }
 
 // The same in a box.
