@@ -77,6 +77,8 @@ struct Place {
     operand: usize,
     /// What the infix signs of each level have joined, the tightest first.
     chains: [Chain; LEVELS],
+    /// The tightest level whose signs have joined something, or `LEVELS + 1` where there is none.
+    tightest: usize,
     /// How deep the deepest tree is that has ended.
     deepest: usize,
 }
@@ -90,6 +92,7 @@ impl Place {
             prefixes: 0,
             operand: 0,
             chains: [Chain::new(); LEVELS],
+            tightest: LEVELS + 1,
             deepest: 0,
         }
     }
@@ -116,6 +119,9 @@ impl Place {
 
     /// Ends the chains of that many levels, from the tightest on, and gives the depth of their tree. The operand ends them.
     fn end_chains(&mut self, levels: usize, operand: usize) -> usize {
+        if levels < self.tightest {
+            return operand;
+        }
         let mut depth = operand;
         for chain in self.chains.iter_mut().take(levels) {
             depth = chain.ended(depth);
@@ -132,12 +138,14 @@ impl Place {
         if let Some(chain) = self.chains.get_mut(tighter) {
             *chain = chain.extended(level, depth);
         }
+        self.tightest = usize::from(level);
     }
 
     /// Ends all infix signs.
     fn end(&mut self) {
         let operand = self.end_operand();
         let depth = self.end_chains(LEVELS, operand);
+        self.tightest = LEVELS + 1;
         self.deepest = self.deepest.max(depth);
     }
 
