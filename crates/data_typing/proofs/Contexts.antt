@@ -23,7 +23,7 @@ use Rattle.data_typing.specs.declared.scope.Bound.{Bound}
 use Rattle.data_typing.specs.declared.sort_tables.SortTables.{SortTables}
 use Rattle.data_typing.specs.declared.steps.Wanted.{Wanted}
 use Rattle.data_typing.specs.declared.steps.Wanted.TheVariants as wanted
-use Rattle.data_typing.specs.Typings.{Typing, untyped, flexible, call_by_sort, call_infers}
+use Rattle.data_typing.specs.Typings.{Typing, untyped, functions, word_typing}
 use Rattle.data_typing.specs.FlatSorts.{flat_sort}
 use Rattle.data_typing.specs.Nodes.{values_at, values_behind}
 use Rattle.data_typing.specs.NodeTypings.{callee_symbol, signature_of, scheme_of, kind_typing, node_typings, typing_at}
@@ -92,7 +92,7 @@ module _ (g h : Sig) (table : IsTable g) (grown : IsGrown g h) where
   kind_stays : (n : ℕ) (k : Kind) → IsKindWithin n (length g.functions) k → (ts : List Typing) → kind_typing (symbol_under h) k ts ≡ kind_typing (symbol_under g) k ts
   kind_stays n (kinds.Variable v s) is ts = refl
   kind_stays n (kinds.Numeral k) is ts = refl
-  kind_stays n (kinds.Call fs a) is ts = ap (λ ss. flexible (call_by_sort ss (option_map scheme_of a) ts) (call_infers ss (option_map scheme_of a) ts)) (signatures_stay n fs.items is.0)
+  kind_stays n (kinds.Call fs) is ts = ap (λ ss. word_typing (functions ss (option_map scheme_of fs.value.any)) ts) (signatures_stay n fs.value.signatures.items is.signatures)
   kind_stays n kinds.List is ts = refl
 
   typings_stay : (n : ℕ) (ns : List Node) → AreNodesWithin n (length g.functions) ns → (ts : List Typing) → values_behind untyped (kind_typing (symbol_under h)) ts ns ≡ values_behind untyped (kind_typing (symbol_under g)) ts ns

@@ -27,6 +27,7 @@ pub mod StepLemmas
 pub mod FindingLemmas
 pub mod TableLemmas
 pub mod WordsWithin
+pub mod TableOfWords
 pub mod Contexts
 pub mod SameVocabulary
 pub mod MakingLemmas

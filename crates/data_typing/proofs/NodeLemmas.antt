@@ -169,7 +169,7 @@ parts_below ns are i n h is = below_from 0 ns are i i n (omega arith) h is
 kinds_check : (k : Kind) (ts : List Sorting) (s : Sort) → (kind_sorting k ts).checks s ≡ cond (checks_by k ts s) true (fits_in s (kind_sorting k ts).infers)
 kinds_check (kinds.Variable v r) ts s = refl
 kinds_check (kinds.Numeral n) ts s = refl
-kinds_check (kinds.Call fs c) ts s = refl
+kinds_check (kinds.Call fs) ts s = refl
 kinds_check kinds.List ts s = refl
 
 pub checks_there : (ns : List Node) → AreNodes ns → (i : ℕ) (n : Node) → i < length ns → n ≡ get_or ns i n → (s : Sort) (b : Bool) → b ≡ checks_by n.kind (sortings_at (sortings ns) n.arguments.items) s

@@ -9,12 +9,12 @@ use Rattle.data_typing.specs.declared.nodes.AnyOverload as code_any
 use Rattle.data_typing.specs.declared.nodes.Kind.{Kind}
 use Rattle.data_typing.specs.declared.nodes.Kind.TheVariants as kinds
 use Rattle.data_typing.specs.declared.nodes.Node.{Node}
-use Rattle.data_typing.specs.Typings.{Typing, untyped, flexible, call_by_sort, call_infers, least_sort, functions}
+use Rattle.data_typing.specs.Typings.{Typing, untyped, least_sort, word_typing}
 use Rattle.data_typing.specs.FlatSorts.{flat_sort}
 use Rattle.data_typing.specs.Sortings.{Sorting, no_sorting, profile, any_profile, call_sorting, Tells}
 use Rattle.data_typing.specs.Plans.{TellAll}
 use Rattle.data_typing.specs.Nodes.{profile_of, any_profile_of, kind_sorting, sorting_at, sortings_at, sortings, values_at, values_behind, AreNodes}
-use Rattle.data_typing.specs.NodeTypings.{signature_of, scheme_of, kind_typing, node_typings, typing_at}
+use Rattle.data_typing.specs.NodeTypings.{signature_of, scheme_of, meaning_of_functions, kind_typing, node_typings, typing_at}
 use Rattle.data_typing.specs.CodeSteps.{typings_at, kind_weight, weights, parts_limit}
 use Rattle.data_typing.proofs.SortsFirst.{flexible_told, list_told, by_meaning}
 use Rattle.data_typing.proofs.NodeLemmas.{value_from}
@@ -30,10 +30,12 @@ any_profile_is (Some c) = refl
 kinds_tell : (y : FunId → Symbol) (k : Kind) (ss : List Sorting) (ts : List Typing) → TellAll ss ts → Tells (kind_sorting k ss) (kind_typing y k ts)
 kinds_tell y (kinds.Variable v s) ss ts h = flexible_told (λ r. false) (Some (flat_sort s)) (λ r. None) (Some (record { term = variable v.0; sort = flat_sort s })) (λ r. refl) refl
 kinds_tell y (kinds.Numeral n) ss ts h = flexible_told (λ s. false) (Some (least_sort n)) (λ s. None) (Some (record { term = terms.numeral (least_sort n) (pos n); sort = least_sort n })) (λ s. refl) refl
-kinds_tell y (kinds.Call fs c) ss ts h =
-    let T : Typing = flexible (call_by_sort (map (signature_of y) fs.items) (option_map scheme_of c) ts) (call_infers (map (signature_of y) fs.items) (option_map scheme_of c) ts) in
-    subst (λ ps. Tells (call_sorting ps (option_map any_profile_of c) ss) T) (profiles_are y fs.items)
-    (subst (λ p. Tells (call_sorting (map profile (map (signature_of y) fs.items)) p ss) T) (any_profile_is c) (by_meaning (functions (map (signature_of y) fs.items) (option_map scheme_of c)) ss ts h))
+kinds_tell y (kinds.Call fs) ss ts h =
+    let os : List code.Overload = fs.value.signatures.items in
+    let c : Option code_any.AnyOverload = fs.value.any in
+    let T : Typing = word_typing (meaning_of_functions y fs.value) ts in
+    subst (λ ps. Tells (call_sorting ps (option_map any_profile_of c) ss) T) (profiles_are y os)
+    (subst (λ p. Tells (call_sorting (map profile (map (signature_of y) os)) p ss) T) (any_profile_is c) (by_meaning (meaning_of_functions y fs.value) ss ts h))
 kinds_tell y kinds.List ss ts h = list_told ss ts h
 
 -- ---- values of nodes

@@ -298,13 +298,13 @@ heavier y ns n m l (Some e) want (t, is, x) = (t, is, record { terms = x.terms; 
 kinds_are : (y : FunId → Symbol) (k : Kind) (ts : List Typing) → (kind_typing y k ts).infers ≡ kind_infers y k ts
 kinds_are y (kinds.Variable v s) ts = refl
 kinds_are y (kinds.Numeral n) ts = refl
-kinds_are y (kinds.Call fs c) ts = refl
+kinds_are y (kinds.Call fs) ts = refl
 kinds_are y kinds.List ts = refl
 
 kinds_check : (y : FunId → Symbol) (k : Kind) (ts : List Typing) (s : Sort) → (kind_typing y k ts).checks s ≡ option_or (kind_by_sort y k ts s) (option_and_then (embedded s) (kind_typing y k ts).infers)
 kinds_check y (kinds.Variable v r) ts s = refl
 kinds_check y (kinds.Numeral n) ts s = refl
-kinds_check y (kinds.Call fs c) ts s = refl
+kinds_check y (kinds.Call fs) ts s = refl
 kinds_check y kinds.List ts s = refl
 
 module _ (ns : List Node) (are : AreNodes ns) (at : ℕ) (n : Node) (within : at < length ns) (is : n ≡ get_or ns at n) where

@@ -157,7 +157,7 @@ any_more n m le (Some a) h = record { row = h.row; arguments = all_more (IsPlace
 kind_more : (n m c e : ℕ) → n ≤ m → c ≤ e → (k : Kind) → IsKindWithin n c k → IsKindWithin m e k
 kind_more n m c e le ce (kinds.Variable v s) h = flat_more n m le s h
 kind_more n m c e le ce (kinds.Numeral v) h = tt
-kind_more n m c e le ce (kinds.Call fs a) h = (all_more (IsOverloadWithin n c) (IsOverloadWithin m e) (overload_more n m c e le ce) fs.items h.0, any_more n m le a h.1)
+kind_more n m c e le ce (kinds.Call fs) h = record { signatures = all_more (IsOverloadWithin n c) (IsOverloadWithin m e) (overload_more n m c e le ce) fs.value.signatures.items h.signatures; any = any_more n m le fs.value.any h.any }
 kind_more n m c e le ce kinds.List h = tt
 
 pub nodes_more : (n m c e : ℕ) → n ≤ m → c ≤ e → (ns : List Node) → AreNodesWithin n c ns → AreNodesWithin m e ns
@@ -291,7 +291,7 @@ least_within n (suc k) = tt
 kind_within : (n c : ℕ) (k : Kind) → IsKindWithin n c k → (ts : List Sorting) → AreWithin n ts → MayBeWithin n (kind_sorting k ts).infers
 kind_within n c (kinds.Variable v s) h ts all = flat_there n s h
 kind_within n c (kinds.Numeral k) h ts all = least_within n k
-kind_within n c (kinds.Call fs a) h ts all = call_within n c fs.items a h.0 h.1 ts all
+kind_within n c (kinds.Call fs) h ts all = call_within n c fs.value.signatures.items fs.value.any h.signatures h.any ts all
 kind_within n c kinds.List h ts all = list_within n ts all
 
 sorting_within : (n : ℕ) (ts : List Sorting) → AreWithin n ts → (k : ℕ) → MayBeWithin n (sorting_at ts k).infers

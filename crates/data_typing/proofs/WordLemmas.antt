@@ -1,7 +1,6 @@
 -- What words mean, in code and over the vocabulary of a signature.
 use Rattle.std.proofs.Common.{◌≡◌, ◌<◌, ◌≤◌, ◌+◌, ◌==◌, ◌||◌, ℕ, suc, Bool, true, false, cond, List, [], ◌∷◌, ◌++◌, length, map, take, drop, get_or, refl, sym, subst, ap, ◌∙◌, arith, eqb-true, eq-eqb, length-append, append-nil}
-use Rattle.std.specs.Prelude.{Option, Some, None, is_some, option_map, option_to_list, slice_get, bytes_eq, Vec}
-use Rattle.std.specs.Global.{Global}
+use Rattle.std.specs.Prelude.{Option, Some, None, is_some, option_map, option_to_list, slice_get, bytes_eq}
 use Rattle.std.specs.List.{All, Contains, filter, list_any}
 use Rattle.std.proofs.lemmas.Option.{slice_get-get_or, get_or_from_slice_get}
 use Rattle.std.proofs.lemmas.List.{drop_more, get_or_default}
@@ -29,13 +28,14 @@ use Rattle.sort_table.specs.SignatureVocabularies.{function_name_of, function_na
 use Rattle.data_typing.specs.declared.flat_sorts.SortPlace.{SortPlace}
 use Rattle.data_typing.specs.declared.nodes.Overload as code
 use Rattle.data_typing.specs.declared.nodes.AnyOverload as code_any
+use Rattle.data_typing.specs.declared.nodes.WordFunctions.{WordFunctions}
 use Rattle.data_typing.specs.declared.nodes.Kind.TheVariants as kinds
 use Rattle.data_typing.specs.declared.scope.Bound as code_bound
 use Rattle.data_typing.specs.Typings.{Place, over, Signature, Scheme, scheme_at, Typing, functions, bound, word_typing}
 use Rattle.data_typing.specs.BuiltIns.{hangs, row_places, is_over_any, is_settled, word_scheme, row_scheme, row_signature, built_ins, scheme_named}
 use Rattle.data_typing.specs.Meanings.{Bound, Scope, bound_row, declared_signature, signatures_named, meaning_or}
 use Rattle.data_typing.specs.FlatSorts.{flat_sort, place_of}
-use Rattle.data_typing.specs.NodeTypings.{signature_of, scheme_of, kind_typing}
+use Rattle.data_typing.specs.NodeTypings.{signature_of, scheme_of, meaning_of_functions, kind_typing}
 use Rattle.data_typing.specs.CodeWords.{bound_of, scope_behind, scope_of, found_behind, meaning_in, sorts_of_function, result_of_function, fun_signature, is_empty_list, IsAlone}
 
 -- ---- rows
@@ -294,50 +294,54 @@ none_named_in g is t none k (j ∷ js) within =
     ∙ none_named_in g is t none (suc k) js (All-tail (λ (i : FunId). i.0 < length g.functions) j js within)
 
 -- ---- what a word means
-module _ (g : Sig) (is : IsSignature g) (bs : List code_bound.Bound) (named : AreNamed g.texts bs) (t : Name) where
-  functions_mean : (fs : List code.Overload) (c : Option code_any.AnyOverload) (cap : Vec code.Overload Global) → cap.items ≡ fs → first_named t (map bound_row (scope_of g.texts bs)) ≡ None
-      → map (signature_of (symbol_under g)) fs ≡ signatures_named (vocabulary_of g) t → option_map scheme_of c ≡ scheme_named t
-      → (ts : List Typing) → kind_typing (symbol_under g) (kinds.Call cap c) ts ≡ word_typing (meaning_in g bs t) ts
-  functions_mean fs c cap same free e h ts =
-      let mean : List Signature → Option Scheme → Typing = λ ss k. word_typing (functions ss k) ts in
-      ap (λ os. mean (map (signature_of (symbol_under g)) os) (option_map scheme_of c)) same
-      ∙ ap (λ ss. mean ss (option_map scheme_of c)) e ∙ ap (mean (signatures_named (vocabulary_of g) t)) h
-      ∙ ap (λ o. word_typing (meaning_or (functions (signatures_named (vocabulary_of g) t) (scheme_named t)) o) ts) (sym free)
+pub functions_mean : (y : FunId → Symbol) (os : List code.Overload) (c : Option code_any.AnyOverload) (fs : List Signature) (k : Option Scheme) → map (signature_of y) os ≡ fs → option_map scheme_of c ≡ k
+    → functions (map (signature_of y) os) (option_map scheme_of c) ≡ functions fs k
+functions_mean y os c fs k e h = ap (λ ss. functions ss (option_map scheme_of c)) e ∙ ap (functions fs) h
 
+module _ (g : Sig) (is : IsSignature g) (t : Name) where
   -- the table hasn't the text
-  pub unnamed_means : ¬ (Contains g.texts t) → (cap : Vec code.Overload Global) (c : Option code_any.AnyOverload)
-      → ((y : FunId → Symbol) → map (signature_of y) cap.items ≡ built_ins t) → option_map scheme_of c ≡ scheme_named t
-      → (ts : List Typing) → kind_typing (symbol_under g) (kinds.Call cap c) ts ≡ word_typing (meaning_in g bs t) ts
-  unnamed_means none cap c e h =
-      functions_mean cap.items c cap refl (unbound g.texts t none bs named [] refl)
-      (e (symbol_under g) ∙ sym (ap (λ ks. built_ins t ++ map (declared_signature (data_meant g)) ks) (none_named_in g is t none 0 g.declared is.complete.within.declared) ∙ append-nil (built_ins t))) h
+  pub unnamed_signatures : ¬ (Contains g.texts t) → (os : List code.Overload) → ((y : FunId → Symbol) → map (signature_of y) os ≡ built_ins t)
+      → map (signature_of (symbol_under g)) os ≡ signatures_named (vocabulary_of g) t
+  unnamed_signatures none os e = e (symbol_under g) ∙ sym (ap (λ ks. built_ins t ++ map (declared_signature (data_meant g)) ks) (none_named_in g is t none 0 g.declared is.complete.within.declared) ∙ append-nil (built_ins t))
 
-  module _ (n : NameId) (at : slice_get g.texts n.0 ≡ Some t) where
-    found : first_named t (map bound_row (scope_of g.texts bs)) ≡ option_map (bound_of g.texts) (found_behind n None bs)
-    found = found_is g.texts is.table.different t n at bs named [] None refl
+  pub named_signatures : (n : NameId) → slice_get g.texts n.0 ≡ Some t → (os old : List code.Overload) → ((y : FunId → Symbol) → map (signature_of y) old ≡ built_ins t)
+      → map (signature_of (symbol_under g)) os ≡ map (signature_of (symbol_under g)) old ++ map (fun_signature g) (functions_named g.functions n)
+      → map (signature_of (symbol_under g)) os ≡ signatures_named (vocabulary_of g) t
+  named_signatures n at os old e all =
+      all ∙ ap (λ ss. ss ++ map (fun_signature g) (functions_named g.functions n)) (e (symbol_under g)) ∙ ap (λ ss. built_ins t ++ ss) (sym (declared_named g is t n at))
 
-    pub functions_named_mean : found_behind n None bs ≡ None → (cap : Vec code.Overload Global) (old : List code.Overload) (c : Option code_any.AnyOverload)
-        → ((y : FunId → Symbol) → map (signature_of y) old ≡ built_ins t) → option_map scheme_of c ≡ scheme_named t
-        → map (signature_of (symbol_under g)) cap.items ≡ map (signature_of (symbol_under g)) old ++ map (fun_signature g) (functions_named g.functions n)
-        → (ts : List Typing) → kind_typing (symbol_under g) (kinds.Call cap c) ts ≡ word_typing (meaning_in g bs t) ts
-    functions_named_mean free cap old c e h all =
-        functions_mean cap.items c cap refl (found ∙ ap (option_map (bound_of g.texts)) free)
-        (all ∙ ap (λ ss. ss ++ map (fun_signature g) (functions_named g.functions n)) (e (symbol_under g)) ∙ ap (λ ss. built_ins t ++ ss) (sym (declared_named g is t n at))) h
+  module _ (bs : List code_bound.Bound) (named : AreNamed g.texts bs) where
+    pub unnamed_bound : ¬ (Contains g.texts t) → first_named t (map bound_row (scope_of g.texts bs)) ≡ None
+    unnamed_bound none = unbound g.texts t none bs named [] refl
 
-    bound_is : (b : code_bound.Bound) → found_behind n None bs ≡ Some b → meaning_in g bs t ≡ bound b.var.0 (flat_sort b.sort)
-    bound_is b e = ap (meaning_or (functions (signatures_named (vocabulary_of g) t) (scheme_named t))) (found ∙ ap (option_map (bound_of g.texts)) e)
+    pub named_bound : (n : NameId) → slice_get g.texts n.0 ≡ Some t → first_named t (map bound_row (scope_of g.texts bs)) ≡ option_map (bound_of g.texts) (found_behind n None bs)
+    named_bound n at = found_is g.texts is.table.different t n at bs named [] None refl
 
-    alone_means : (b : code_bound.Bound) (ts : List Typing) → true ≡ is_empty_list ts → kind_typing (symbol_under g) (kinds.Variable b.var b.sort) ts ≡ word_typing (bound b.var.0 (flat_sort b.sort)) ts
-    alone_means b [] e = refl
-    alone_means b (x ∷ ts) e = cc
+-- what a word means, by whether it is a variable
+pub bound_means : (g : Sig) (bs : List code_bound.Bound) (t : Name) (o : Option code_bound.Bound) → option_map (bound_of g.texts) o ≡ first_named t (map bound_row (scope_of g.texts bs)) → (b : code_bound.Bound) → o ≡ Some b
+    → bound b.var.0 (flat_sort b.sort) ≡ meaning_in g bs t
+bound_means g bs t o e b q = ap (meaning_or (functions (signatures_named (vocabulary_of g) t) (scheme_named t))) (ap (option_map (bound_of g.texts)) (sym q) ∙ e)
 
-    applied_means : (b : code_bound.Bound) (cap : Vec code.Overload Global) (ts : List Typing) → cap.items ≡ [] → false ≡ is_empty_list ts → kind_typing (symbol_under g) (kinds.Call cap None) ts ≡ word_typing (bound b.var.0 (flat_sort b.sort)) ts
-    applied_means b cap [] e q = cc
-    applied_means b cap (x ∷ ts) e q = ap (λ (os : List code.Overload). word_typing (functions (map (signature_of (symbol_under g)) os) None) (x ∷ ts)) e
+pub free_means : (g : Sig) (bs : List code_bound.Bound) (t : Name) (o : Option code_bound.Bound) → option_map (bound_of g.texts) o ≡ first_named t (map bound_row (scope_of g.texts bs)) → o ≡ None
+    → functions (signatures_named (vocabulary_of g) t) (scheme_named t) ≡ meaning_in g bs t
+free_means g bs t o e q = ap (meaning_or (functions (signatures_named (vocabulary_of g) t) (scheme_named t))) (ap (option_map (bound_of g.texts)) (sym q) ∙ e)
 
-    pub variable_means : (b : code_bound.Bound) → found_behind n None bs ≡ Some b → (alone : Bool) → alone ≡ true → (ts : List Typing) → IsAlone alone ts → kind_typing (symbol_under g) (kinds.Variable b.var b.sort) ts ≡ word_typing (meaning_in g bs t) ts
-    variable_means b e alone q ts h = alone_means b ts (sym q ∙ h) ∙ ap (λ m. word_typing m ts) (sym (bound_is b e))
+-- ---- variables with no arguments or with some
+alone_means : (y : FunId → Symbol) (b : code_bound.Bound) (ts : List Typing) → true ≡ is_empty_list ts → kind_typing y (kinds.Variable b.var b.sort) ts ≡ word_typing (bound b.var.0 (flat_sort b.sort)) ts
+alone_means y b [] e = refl
+alone_means y b (x ∷ ts) e = cc
 
-    pub variable_with_arguments_means : (b : code_bound.Bound) → found_behind n None bs ≡ Some b → (alone : Bool) → alone ≡ false → (cap : Vec code.Overload Global) → cap.items ≡ []
-        → (ts : List Typing) → IsAlone alone ts → kind_typing (symbol_under g) (kinds.Call cap None) ts ≡ word_typing (meaning_in g bs t) ts
-    variable_with_arguments_means b e alone q cap none ts h = applied_means b cap ts none (sym q ∙ h) ∙ ap (λ m. word_typing m ts) (sym (bound_is b e))
+pub variable_means : (y : FunId → Symbol) (b : code_bound.Bound) (alone : Bool) → alone ≡ true → (ts : List Typing) → IsAlone alone ts → kind_typing y (kinds.Variable b.var b.sort) ts ≡ word_typing (bound b.var.0 (flat_sort b.sort)) ts
+variable_means y b alone q ts h = alone_means y b ts (sym q ∙ h)
+
+applied_means : (y : FunId → Symbol) (b : code_bound.Bound) (os : List code.Overload) (ts : List Typing) → os ≡ [] → false ≡ is_empty_list ts
+    → word_typing (functions (map (signature_of y) os) None) ts ≡ word_typing (bound b.var.0 (flat_sort b.sort)) ts
+applied_means y b os [] e q = cc
+applied_means y b os (x ∷ ts) e q = ap (λ (them : List code.Overload). word_typing (functions (map (signature_of y) them) None) (x ∷ ts)) e
+
+pub variable_with_arguments_means : (y : FunId → Symbol) (b : code_bound.Bound) (alone : Bool) → alone ≡ false → (none : WordFunctions) → none.signatures.items ≡ [] → none.any ≡ None → (fs : WordFunctions) → fs ≡ none
+    → (ts : List Typing) → IsAlone alone ts → word_typing (meaning_of_functions y fs) ts ≡ word_typing (bound b.var.0 (flat_sort b.sort)) ts
+variable_with_arguments_means y b alone q none e h fs same ts k =
+    ap (λ (them : WordFunctions). word_typing (meaning_of_functions y them) ts) same
+    ∙ ap (λ (c : Option code_any.AnyOverload). word_typing (functions (map (signature_of y) none.signatures.items) (option_map scheme_of c)) ts) h
+    ∙ applied_means y b none.signatures.items ts e (sym q ∙ k)

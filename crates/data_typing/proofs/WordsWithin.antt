@@ -82,9 +82,9 @@ declared_more y g funs i d front all new f l h k e =
     ∙ ap (λ ss. front ++ ss) (ap (λ s. map (fun_signature g) (take i funs) ++ s ∷ []) k ∙ sym (map_more (fun_signature g) funs i d l))
 
 -- ---- variables
-pub found_within : (P : code_bound.Bound → Type 0) (n : NameId) (bs : List code_bound.Bound) → All P bs → (o : Option code_bound.Bound) → IfSome o P → (b : code_bound.Bound) → found_behind n o bs ≡ Some b → P b
-found_within P n [] all o h b e = subst (λ p. IfSome p P) e h
-found_within P n (x ∷ bs) all o h b e = found_within P n bs (All-tail P x bs all) (cond (x.name.0 == n.0) (Some x) o) (by (x.name.0 == n.0)) b e
+pub found_within : (P : code_bound.Bound → Type 0) (n : NameId) (bs : List code_bound.Bound) → All P bs → (o : Option code_bound.Bound) → IfSome o P → IfSome (found_behind n o bs) P
+found_within P n [] all o h = h
+found_within P n (x ∷ bs) all o h = found_within P n bs (All-tail P x bs all) (cond (x.name.0 == n.0) (Some x) o) (by (x.name.0 == n.0))
   where
     by : (t : Bool) → IfSome (cond t (Some x) o) P
     by true = All-head P x bs all

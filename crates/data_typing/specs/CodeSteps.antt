@@ -58,13 +58,13 @@ list_items s (suc n) = over (cons s) 2 ∷ list_items s n
 abbrev pub kind_by_sort : (FunId → Symbol) → Kind → List Typing → Sort → Option Term
 kind_by_sort y (kinds.Variable v r) ts s = None
 kind_by_sort y (kinds.Numeral n) ts s = None
-kind_by_sort y (kinds.Call fs c) ts s = call_by_sort (map (signature_of y) fs.items) (option_map scheme_of c) ts s
+kind_by_sort y (kinds.Call fs) ts s = call_by_sort (map (signature_of y) fs.value.signatures.items) (option_map scheme_of fs.value.any) ts s
 kind_by_sort y kinds.List ts s = list_by_sort ts s
 
 abbrev pub kind_infers : (FunId → Symbol) → Kind → List Typing → Option Inferred
 kind_infers y (kinds.Variable v s) ts = Some (record { term = variable v.0; sort = flat_sort s })
 kind_infers y (kinds.Numeral n) ts = Some (record { term = terms.numeral (least_sort n) (pos n); sort = least_sort n })
-kind_infers y (kinds.Call fs c) ts = call_infers (map (signature_of y) fs.items) (option_map scheme_of c) ts
+kind_infers y (kinds.Call fs) ts = call_infers (map (signature_of y) fs.value.signatures.items) (option_map scheme_of fs.value.any) ts
 kind_infers y kinds.List ts = list_infers ts
 
 abbrev pub term_in : Option Inferred → Option Term

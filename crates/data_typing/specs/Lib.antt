@@ -13,6 +13,7 @@ pub mod Readings
 pub mod Within
 pub mod Contexts
 pub mod ContextLaws
+pub mod WordTables
 pub mod Plans
 pub mod CodePlans
 pub mod Making

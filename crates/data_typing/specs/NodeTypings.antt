@@ -8,11 +8,12 @@ use Rattle.data_typing.specs.declared.nodes.Callee.{Callee}
 use Rattle.data_typing.specs.declared.nodes.Callee.TheVariants as callees
 use Rattle.data_typing.specs.declared.nodes.Overload as code
 use Rattle.data_typing.specs.declared.nodes.AnyOverload as code_any
+use Rattle.data_typing.specs.declared.nodes.WordFunctions.{WordFunctions}
 use Rattle.data_typing.specs.declared.nodes.Kind.{Kind}
 use Rattle.data_typing.specs.declared.nodes.Kind.TheVariants as kinds
 use Rattle.data_typing.specs.declared.nodes.Node.{Node}
 use Rattle.sort_table.specs.Expressions.{Name, Expression}
-use Rattle.data_typing.specs.Typings.{Signature, Scheme, Typing, Meaning, untyped, flexible, rigid, call_by_sort, call_infers, list_by_sort, list_infers, least_sort, typing}
+use Rattle.data_typing.specs.Typings.{Signature, Scheme, Typing, Meaning, functions, untyped, flexible, rigid, list_by_sort, list_infers, least_sort, word_typing, typing}
 use Rattle.data_typing.specs.BuiltIns.{word_scheme}
 use Rattle.data_typing.specs.FlatSorts.{flat_sort, place_of}
 use Rattle.data_typing.specs.Nodes.{values_behind, AreNodes}
@@ -27,10 +28,14 @@ signature_of y f = record { symbol = callee_symbol y f.callee (map flat_sort f.a
 abbrev pub scheme_of : code_any.AnyOverload → Scheme
 scheme_of c = word_scheme c.word (map place_of c.arguments.items) (place_of c.result) c.by_result
 
+-- what a word of these functions means
+abbrev pub meaning_of_functions : (FunId → Symbol) → WordFunctions → Meaning
+meaning_of_functions y fs = functions (map (signature_of y) fs.signatures.items) (option_map scheme_of fs.any)
+
 abbrev pub kind_typing : (FunId → Symbol) → Kind → List Typing → Typing
 kind_typing y (kinds.Variable v s) ts = rigid (record { term = variable v.0; sort = flat_sort s })
 kind_typing y (kinds.Numeral n) ts = rigid (record { term = terms.numeral (least_sort n) (pos n); sort = least_sort n })
-kind_typing y (kinds.Call fs c) ts = flexible (call_by_sort (map (signature_of y) fs.items) (option_map scheme_of c) ts) (call_infers (map (signature_of y) fs.items) (option_map scheme_of c) ts)
+kind_typing y (kinds.Call fs) ts = word_typing (meaning_of_functions y fs.value) ts
 kind_typing y kinds.List ts = flexible (list_by_sort ts) (list_infers ts)
 
 unfoldable pub node_typings : (FunId → Symbol) → List Node → List Typing

@@ -21,14 +21,14 @@ any_profile_of c = record { arguments = map place_of c.arguments.items; result =
 abbrev pub kind_sorting : Kind → List Sorting → Sorting
 kind_sorting (kinds.Variable v s) ts = rigid_sorting (flat_sort s)
 kind_sorting (kinds.Numeral n) ts = rigid_sorting (least_sort n)
-kind_sorting (kinds.Call fs c) ts = call_sorting (map profile_of fs.items) (option_map any_profile_of c) ts
+kind_sorting (kinds.Call fs) ts = call_sorting (map profile_of fs.value.signatures.items) (option_map any_profile_of fs.value.any) ts
 kind_sorting kinds.List ts = list_sorting ts
 
 -- whether it checks by the wanted sort
 abbrev pub checks_by : Kind → List Sorting → Sort → Bool
 checks_by (kinds.Variable v s) ts r = false
 checks_by (kinds.Numeral n) ts r = false
-checks_by (kinds.Call fs c) ts r = cond (is_some (first_exact_sort ts (map profile_of fs.items))) false (may_check ts (option_map any_profile_of c) r)
+checks_by (kinds.Call fs) ts r = cond (is_some (first_exact_sort ts (map profile_of fs.value.signatures.items))) false (may_check ts (option_map any_profile_of fs.value.any) r)
 checks_by kinds.List ts r = each_checks_at ts (read_off r elements)
 
 -- ---- values of nodes, each made from those of its parts

@@ -16,6 +16,7 @@ use Rattle.data_typing.specs.declared.nodes.Callee.{Callee}
 use Rattle.data_typing.specs.declared.nodes.Callee.TheVariants as callees
 use Rattle.data_typing.specs.declared.nodes.Overload.{Overload}
 use Rattle.data_typing.specs.declared.nodes.AnyOverload.{AnyOverload}
+use Rattle.data_typing.specs.declared.nodes.WordFunctions.{WordFunctions}
 use Rattle.data_typing.specs.declared.nodes.Kind.{Kind}
 use Rattle.data_typing.specs.declared.nodes.Kind.TheVariants as kinds
 use Rattle.data_typing.specs.declared.nodes.Node.{Node}
@@ -73,10 +74,14 @@ abbrev pub IsSomeAnyWithin : ℕ → Option AnyOverload → Type 0
 IsSomeAnyWithin n None = Unit {0}
 IsSomeAnyWithin n (Some c) = IsAnyWithin n c
 
+pub record AreFunctionsWithin (n c : ℕ) (fs : WordFunctions) : Type 0 where
+  pub signatures : AllByRecursion (IsOverloadWithin n c) fs.signatures.items
+  pub any : IsSomeAnyWithin n fs.any
+
 abbrev pub IsKindWithin : ℕ → ℕ → Kind → Type 0
 IsKindWithin n c (kinds.Variable v s) = IsFlatWithin n s
 IsKindWithin n c (kinds.Numeral k) = Unit {0}
-IsKindWithin n c (kinds.Call fs a) = AllByRecursion (IsOverloadWithin n c) fs.items × IsSomeAnyWithin n a
+IsKindWithin n c (kinds.Call fs) = AreFunctionsWithin n c fs.value
 IsKindWithin n c kinds.List = Unit {0}
 
 abbrev pub AreNodesWithin : ℕ → ℕ → List Node → Type 0

@@ -13,6 +13,7 @@ use crate::nodes::{Reading, infer_all, no_nodes};
 use crate::reading::read;
 use crate::scope::Scope;
 use crate::sort_tables::SortTables;
+use crate::word_table::{WordContext, WordTable};
 use data_theory::{NoMemory, Signature};
 use mcrl2_syntax::DataTree;
 use std::alloc::Global;
@@ -30,8 +31,14 @@ pub fn read_expression(
     requires tree { IsReadable (plain_data tree.now) }
     ensures { IfOk result (λ r. IsReadingOf sig.now r (typing_in (vocabulary_of sig.now) (scope_of sig.now.texts scope.now) (bare_data (plain_data tree.now)))) }
 {
+    let context = WordContext {
+        sig,
+        flats: tables.flats.as_slice(),
+        scope,
+    };
     let mut nodes = no_nodes(alloc);
-    let at = read(alloc, sig, tables.flats.as_slice(), scope, &mut nodes, tree)?;
+    let mut words = WordTable::new(alloc);
+    let at = read(alloc, &context, &mut nodes, &mut words, tree)?;
     let known = infer_all(alloc, nodes.as_slice())?;
     Ok(Reading { nodes, known, at })
 }

@@ -18,4 +18,5 @@ pub mod scope;
 pub mod sort_tables;
 pub mod standing;
 pub mod steps;
+pub mod word_table;
 pub mod words;

@@ -3,6 +3,7 @@
 use crate::flat_sorts::{Base, FlatSort, SortPlace};
 use data_theory::{FunId, NoMemory, VarId, Word};
 use std::alloc::Global;
+use std::rc::Rc;
 
 /// What is called: a declared function, or a built-in one by its name.
 #[derive(Clone, Copy)]
@@ -28,14 +29,21 @@ pub struct AnyOverload {
     pub by_result: bool,
 }
 
+/// The functions of a word, in the order in which they are tried.
+#[derive(Drop)]
+pub struct WordFunctions {
+    pub signatures: Vec<Overload>,
+    pub any: Option<AnyOverload>,
+}
+
 /// What stands at a node.
 #[derive(Drop)]
 pub enum Kind {
     /// A variable of this sort.
     Variable(VarId, FlatSort),
     Numeral(u128),
-    /// A word with its arguments, by the functions of its name in the order in which they are tried.
-    Call(Vec<Overload>, Option<AnyOverload>),
+    /// A word with its arguments, by the functions of its name. The nodes of a word share them.
+    Call(Rc<WordFunctions>),
     /// A list in brackets.
     List,
 }
@@ -154,13 +162,13 @@ fn checks_by_sort(
     match &node.kind {
         Kind::Variable(_, _) => Ok(false),
         Kind::Numeral(_) => Ok(false),
-        Kind::Call(signatures, any) => call_checks_by_sort(
+        Kind::Call(functions) => call_checks_by_sort(
             nodes,
             known,
             bound,
             &node.arguments,
-            signatures,
-            any,
+            &functions.signatures,
+            &functions.any,
             sort,
         ),
         Kind::List => match sort.read_off(SortPlace::Elements) {
@@ -477,9 +485,13 @@ fn infer(
     match &node.kind {
         Kind::Variable(_, sort) => Ok(Some(*sort)),
         Kind::Numeral(value) => Ok(Some(least_sort_of(*value))),
-        Kind::Call(signatures, any) => {
-            call_sort_of(nodes, known, &node.arguments, signatures, any)
-        }
+        Kind::Call(functions) => call_sort_of(
+            nodes,
+            known,
+            &node.arguments,
+            &functions.signatures,
+            &functions.any,
+        ),
         Kind::List => list_sort_of(nodes, known, &node.arguments),
     }
 }

@@ -1,7 +1,6 @@
 //! Expressions as nodes.
 
 ghost use Rattle.std.specs.Prelude.{◌≡◌, ◌<◌, ◌^◌, ℕ, length, map, List, IfOk, OnOk};
-ghost use Rattle.std.specs.List.{All};
 ghost use Rattle.std.specs.Str.{IsUtf8};
 ghost use Rattle.data_theory.specs.declared.ids.FunId.{FunId};
 ghost use Rattle.data_theory.specs.Terms.{Symbol};
@@ -15,15 +14,15 @@ ghost use Rattle.data_typing.specs.Typings.{Meaning};
 ghost use Rattle.data_typing.specs.Nodes.{AreNodes, AreBelow};
 ghost use Rattle.data_typing.specs.NodeTypings.{Stands, EachStands, GoOn};
 ghost use Rattle.sort_table.specs.NamedSorts.{sort_count};
-ghost use Rattle.data_typing.specs.Within.{IsFlatWithin, AreNodesWithin};
-ghost use Rattle.data_typing.specs.CodeWords.{AreFlat, meaning_in};
+ghost use Rattle.data_typing.specs.Within.{AreNodesWithin};
+ghost use Rattle.data_typing.specs.CodeWords.{meaning_in};
+ghost use Rattle.data_typing.specs.WordTables.{IsWordContext, HasFunctions};
 ghost use Rattle.data_typing.specs.Readings.{expressions_of, joined, bare_trees, IsReadable, AreReadable, AreReadableOperands};
 
-use crate::flat_sorts::FlatSort;
 use crate::nodes::{Kind, Node, add};
-use crate::scope::Scope;
+use crate::word_table::{WordContext, WordTable};
 use crate::words::word_kind;
-use data_theory::{NoMemory, Signature};
+use data_theory::NoMemory;
 use mcrl2_lexer::numeral_value;
 use mcrl2_syntax::{DataTree, InfixSign, PrefixSign, Word};
 use std::alloc::Global;
@@ -79,50 +78,48 @@ fn text_of(name: &Word) -> &str
 }
 
 /// A word with arguments, behind the nodes.
-fn add_word(
+fn add_word<'a>(
     alloc: Global,
-    sig: &Signature,
-    flats: &[FlatSort],
-    scope: &Scope,
+    context: &WordContext<'_>,
     nodes: &mut Vec<Node>,
-    text: &str,
+    words: &mut WordTable<'a>,
+    text: &'a str,
     arguments: Vec<usize>,
 ) -> Result<usize, NoMemory>
-    requires flats { AreFlat sig.now flats.now }
-    requires names { All (λ b. b.name.0 < length sig.now.texts) scope.now }
-    requires sorts { All (λ b. IsFlatWithin (sort_count sig.now) b.sort) scope.now }
+    requires context { IsWordContext context.now }
+    requires words { HasFunctions context.now words.old }
     requires nodes { AreNodes nodes.old.items }
     requires below { AreBelow (length nodes.old.items) arguments.items }
+    ensures words { OnOk result (HasFunctions context.now words.new) }
     ensures grown { OnOk result (GoOn nodes.old.items nodes.new.items) }
-    ensures sound { OnOk result (AreNodesWithin (sort_count sig.now) (length sig.now.functions) nodes.old.items → AreNodesWithin (sort_count sig.now) (length sig.now.functions) nodes.new.items) }
+    ensures sound { OnOk result (AreNodesWithin (sort_count context.now.sig.now) (length context.now.sig.now.functions) nodes.old.items → AreNodesWithin (sort_count context.now.sig.now) (length context.now.sig.now.functions) nodes.new.items) }
     ensures within { IfOk result (λ at. at < length nodes.new.items) }
-    ensures stands { IfOk result (λ at. (es : List Expression) → EachStands (symbol_under sig.now) (meaning_in sig.now scope.now) nodes.old.items arguments.items es → Stands (symbol_under sig.now) (meaning_in sig.now scope.now) nodes.new.items at (word text.now (expressions_of es))) }
+    ensures stands { IfOk result (λ at. (es : List Expression) → EachStands (symbol_under context.now.sig.now) (meaning_in context.now.sig.now context.now.scope.now) nodes.old.items arguments.items es → Stands (symbol_under context.now.sig.now) (meaning_in context.now.sig.now context.now.scope.now) nodes.new.items at (word text.now (expressions_of es))) }
 {
     let alone = arguments.as_slice().is_empty();
-    let kind = word_kind(alloc, sig, flats, scope, text, alone)?;
+    let kind = word_kind(alloc, context, words, text, alone)?;
     let at = add(nodes, Node { kind, arguments })?;
     Ok(at)
 }
 
 /// A word alone, behind the nodes.
-fn add_name(
+fn add_name<'a>(
     alloc: Global,
-    sig: &Signature,
-    flats: &[FlatSort],
-    scope: &Scope,
+    context: &WordContext<'_>,
     nodes: &mut Vec<Node>,
-    text: &str,
+    words: &mut WordTable<'a>,
+    text: &'a str,
 ) -> Result<usize, NoMemory>
-    requires flats { AreFlat sig.now flats.now }
-    requires names { All (λ b. b.name.0 < length sig.now.texts) scope.now }
-    requires sorts { All (λ b. IsFlatWithin (sort_count sig.now) b.sort) scope.now }
+    requires context { IsWordContext context.now }
+    requires words { HasFunctions context.now words.old }
     requires nodes { AreNodes nodes.old.items }
+    ensures words { OnOk result (HasFunctions context.now words.new) }
     ensures grown { OnOk result (GoOn nodes.old.items nodes.new.items) }
-    ensures sound { OnOk result (AreNodesWithin (sort_count sig.now) (length sig.now.functions) nodes.old.items → AreNodesWithin (sort_count sig.now) (length sig.now.functions) nodes.new.items) }
+    ensures sound { OnOk result (AreNodesWithin (sort_count context.now.sig.now) (length context.now.sig.now.functions) nodes.old.items → AreNodesWithin (sort_count context.now.sig.now) (length context.now.sig.now.functions) nodes.new.items) }
     ensures within { IfOk result (λ at. at < length nodes.new.items) }
-    ensures stands { IfOk result (λ at. Stands (symbol_under sig.now) (meaning_in sig.now scope.now) nodes.new.items at (word text.now none)) }
+    ensures stands { IfOk result (λ at. Stands (symbol_under context.now.sig.now) (meaning_in context.now.sig.now context.now.scope.now) nodes.new.items at (word text.now none)) }
 {
-    add_word(alloc, sig, flats, scope, nodes, text, Vec::new(alloc))
+    add_word(alloc, context, nodes, words, text, Vec::new(alloc))
 }
 
 /// A list in brackets, behind the nodes.
@@ -162,115 +159,112 @@ fn add_numeral(alloc: Global, nodes: &mut Vec<Node>, digits: &[u8]) -> Result<us
 }
 
 /// Words between expressions, from the right.
-fn join(
+fn join<'a>(
     alloc: Global,
-    sig: &Signature,
-    flats: &[FlatSort],
-    scope: &Scope,
+    context: &WordContext<'_>,
     nodes: &mut Vec<Node>,
-    text: &str,
+    words: &mut WordTable<'a>,
+    text: &'a str,
     operands: &[usize],
 ) -> Result<usize, NoMemory>
-    requires flats { AreFlat sig.now flats.now }
-    requires names { All (λ b. b.name.0 < length sig.now.texts) scope.now }
-    requires sorts { All (λ b. IsFlatWithin (sort_count sig.now) b.sort) scope.now }
+    requires context { IsWordContext context.now }
+    requires words { HasFunctions context.now words.old }
     requires nodes { AreNodes nodes.old.items }
     requires below { AreBelow (length nodes.old.items) operands.now }
+    ensures words { OnOk result (HasFunctions context.now words.new) }
     ensures grown { OnOk result (GoOn nodes.old.items nodes.new.items) }
-    ensures sound { OnOk result (AreNodesWithin (sort_count sig.now) (length sig.now.functions) nodes.old.items → AreNodesWithin (sort_count sig.now) (length sig.now.functions) nodes.new.items) }
-    ensures stands { IfOk result (λ at. (es : List Expression) → EachStands (symbol_under sig.now) (meaning_in sig.now scope.now) nodes.old.items operands.now es → Stands (symbol_under sig.now) (meaning_in sig.now scope.now) nodes.new.items at (joined text.now es)) }
+    ensures sound { OnOk result (AreNodesWithin (sort_count context.now.sig.now) (length context.now.sig.now.functions) nodes.old.items → AreNodesWithin (sort_count context.now.sig.now) (length context.now.sig.now.functions) nodes.new.items) }
+    ensures stands { IfOk result (λ at. (es : List Expression) → EachStands (symbol_under context.now.sig.now) (meaning_in context.now.sig.now context.now.scope.now) nodes.old.items operands.now es → Stands (symbol_under context.now.sig.now) (meaning_in context.now.sig.now context.now.scope.now) nodes.new.items at (joined text.now es)) }
 {
     if operands.is_empty() {
-        return add_name(alloc, sig, flats, scope, nodes, text);
+        return add_name(alloc, context, nodes, words, text);
     }
     let last = operands.len() - 1;
     let mut at = operands[last];
     for step in 0..last {
         let parts = Vec::from_array(alloc, [operands[last - 1 - step], at])?;
-        at = add_word(alloc, sig, flats, scope, nodes, text, parts)?;
+        at = add_word(alloc, context, nodes, words, text, parts)?;
     }
     Ok(at)
 }
 
 /// An expression as nodes behind the others, and the number of its own node.
 #[cycle(reading)]
-pub fn read(
+pub fn read<'a>(
     alloc: Global,
-    sig: &Signature,
-    flats: &[FlatSort],
-    scope: &Scope,
+    context: &WordContext<'_>,
     nodes: &mut Vec<Node>,
-    tree: &DataTree,
+    words: &mut WordTable<'a>,
+    tree: &'a DataTree,
 ) -> Result<usize, NoMemory>
-    requires flats { AreFlat sig.now flats.now }
-    requires names { All (λ b. b.name.0 < length sig.now.texts) scope.now }
-    requires sorts { All (λ b. IsFlatWithin (sort_count sig.now) b.sort) scope.now }
+    requires context { IsWordContext context.now }
+    requires words { HasFunctions context.now words.old }
     requires nodes { AreNodes nodes.old.items }
     requires tree { IsReadable (plain_data tree.now) }
+    ensures words { OnOk result (HasFunctions context.now words.new) }
     ensures grown { OnOk result (GoOn nodes.old.items nodes.new.items) }
-    ensures sound { OnOk result (AreNodesWithin (sort_count sig.now) (length sig.now.functions) nodes.old.items → AreNodesWithin (sort_count sig.now) (length sig.now.functions) nodes.new.items) }
-    ensures stands { IfOk result (λ at. Stands (symbol_under sig.now) (meaning_in sig.now scope.now) nodes.new.items at (bare.bare_data (plain_data tree.now))) }
+    ensures sound { OnOk result (AreNodesWithin (sort_count context.now.sig.now) (length context.now.sig.now.functions) nodes.old.items → AreNodesWithin (sort_count context.now.sig.now) (length context.now.sig.now.functions) nodes.new.items) }
+    ensures stands { IfOk result (λ at. Stands (symbol_under context.now.sig.now) (meaning_in context.now.sig.now context.now.scope.now) nodes.new.items at (bare.bare_data (plain_data tree.now))) }
 {
     match tree {
-        DataTree::Name(name) => add_name(alloc, sig, flats, scope, nodes, text_of(name)),
+        DataTree::Name(name) => add_name(alloc, context, nodes, words, text_of(name)),
         DataTree::Numeral(digits) => add_numeral(alloc, nodes, digits.bytes.as_slice()),
-        DataTree::True(_) => add_name(alloc, sig, flats, scope, nodes, "true"),
-        DataTree::False(_) => add_name(alloc, sig, flats, scope, nodes, "false"),
+        DataTree::True(_) => add_name(alloc, context, nodes, words, "true"),
+        DataTree::False(_) => add_name(alloc, context, nodes, words, "false"),
         DataTree::List(_, elements) => {
-            let parts = read_all(alloc, sig, flats, scope, nodes, elements.as_slice())?;
+            let parts = read_all(alloc, context, nodes, words, elements.as_slice())?;
             add_list(nodes, parts)
         }
         DataTree::Apply(_, name, arguments) => {
-            let parts = read_all(alloc, sig, flats, scope, nodes, arguments.as_slice())?;
-            add_word(alloc, sig, flats, scope, nodes, text_of(name), parts)
+            let parts = read_all(alloc, context, nodes, words, arguments.as_slice())?;
+            add_word(alloc, context, nodes, words, text_of(name), parts)
         }
-        DataTree::Brackets(_, inner) => read(alloc, sig, flats, scope, nodes, inner),
+        DataTree::Brackets(_, inner) => read(alloc, context, nodes, words, inner),
         DataTree::Prefix(_, sign, inner) => {
-            let part = read(alloc, sig, flats, scope, nodes, inner)?;
+            let part = read(alloc, context, nodes, words, inner)?;
             let parts = Vec::from_array(alloc, [part])?;
-            add_word(alloc, sig, flats, scope, nodes, prefix_text(*sign), parts)
+            add_word(alloc, context, nodes, words, prefix_text(*sign), parts)
         }
         DataTree::Infix(_, sign, left, right) => {
-            let first = read(alloc, sig, flats, scope, nodes, left)?;
-            let second = read(alloc, sig, flats, scope, nodes, right)?;
+            let first = read(alloc, context, nodes, words, left)?;
+            let second = read(alloc, context, nodes, words, right)?;
             let parts = Vec::from_array(alloc, [first, second])?;
-            add_word(alloc, sig, flats, scope, nodes, infix_text(*sign), parts)
+            add_word(alloc, context, nodes, words, infix_text(*sign), parts)
         }
         DataTree::Sum(_, first, operands) | DataTree::Product(_, first, operands) => {
-            let at = read(alloc, sig, flats, scope, nodes, first)?;
-            read_chain(alloc, sig, flats, scope, nodes, at, operands.as_slice())
+            let at = read(alloc, context, nodes, words, first)?;
+            read_chain(alloc, context, nodes, words, at, operands.as_slice())
         }
         DataTree::And(_, operands) => {
-            read_joined(alloc, sig, flats, scope, nodes, "&&", operands.as_slice())
+            read_joined(alloc, context, nodes, words, "&&", operands.as_slice())
         }
         DataTree::Or(_, operands) => {
-            read_joined(alloc, sig, flats, scope, nodes, "||", operands.as_slice())
+            read_joined(alloc, context, nodes, words, "||", operands.as_slice())
         }
     }
 }
 
 /// Expressions as nodes, one after the other, and the numbers of their own nodes.
 #[cycle(reading)]
-fn read_all(
+fn read_all<'a>(
     alloc: Global,
-    sig: &Signature,
-    flats: &[FlatSort],
-    scope: &Scope,
+    context: &WordContext<'_>,
     nodes: &mut Vec<Node>,
-    trees: &[DataTree],
+    words: &mut WordTable<'a>,
+    trees: &'a [DataTree],
 ) -> Result<Vec<usize>, NoMemory>
-    requires flats { AreFlat sig.now flats.now }
-    requires names { All (λ b. b.name.0 < length sig.now.texts) scope.now }
-    requires sorts { All (λ b. IsFlatWithin (sort_count sig.now) b.sort) scope.now }
+    requires context { IsWordContext context.now }
+    requires words { HasFunctions context.now words.old }
     requires nodes { AreNodes nodes.old.items }
     requires trees { AreReadable (datas_of (map plain_data trees.now)) }
+    ensures words { OnOk result (HasFunctions context.now words.new) }
     ensures grown { OnOk result (GoOn nodes.old.items nodes.new.items) }
-    ensures sound { OnOk result (AreNodesWithin (sort_count sig.now) (length sig.now.functions) nodes.old.items → AreNodesWithin (sort_count sig.now) (length sig.now.functions) nodes.new.items) }
-    ensures stand { IfOk result (λ parts. EachStands (symbol_under sig.now) (meaning_in sig.now scope.now) nodes.new.items parts.items (bare_trees trees.now)) }
+    ensures sound { OnOk result (AreNodesWithin (sort_count context.now.sig.now) (length context.now.sig.now.functions) nodes.old.items → AreNodesWithin (sort_count context.now.sig.now) (length context.now.sig.now.functions) nodes.new.items) }
+    ensures stand { IfOk result (λ parts. EachStands (symbol_under context.now.sig.now) (meaning_in context.now.sig.now context.now.scope.now) nodes.new.items parts.items (bare_trees trees.now)) }
 {
     let mut parts: Vec<usize> = Vec::new(alloc);
     for tree in trees {
-        let at = read(alloc, sig, flats, scope, nodes, tree)?;
+        let at = read(alloc, context, nodes, words, tree)?;
         parts.push(at)?;
     }
     Ok(parts)
@@ -279,62 +273,52 @@ fn read_all(
 /// Expressions with a word between them, from the right. It is inlined, so that a level takes no more of the stack.
 #[inline(always)]
 #[cycle(reading)]
-fn read_joined(
+fn read_joined<'a>(
     alloc: Global,
-    sig: &Signature,
-    flats: &[FlatSort],
-    scope: &Scope,
+    context: &WordContext<'_>,
     nodes: &mut Vec<Node>,
-    text: &str,
-    trees: &[DataTree],
+    words: &mut WordTable<'a>,
+    text: &'a str,
+    trees: &'a [DataTree],
 ) -> Result<usize, NoMemory>
-    requires flats { AreFlat sig.now flats.now }
-    requires names { All (λ b. b.name.0 < length sig.now.texts) scope.now }
-    requires sorts { All (λ b. IsFlatWithin (sort_count sig.now) b.sort) scope.now }
+    requires context { IsWordContext context.now }
+    requires words { HasFunctions context.now words.old }
     requires nodes { AreNodes nodes.old.items }
     requires trees { AreReadable (datas_of (map plain_data trees.now)) }
+    ensures words { OnOk result (HasFunctions context.now words.new) }
     ensures grown { OnOk result (GoOn nodes.old.items nodes.new.items) }
-    ensures sound { OnOk result (AreNodesWithin (sort_count sig.now) (length sig.now.functions) nodes.old.items → AreNodesWithin (sort_count sig.now) (length sig.now.functions) nodes.new.items) }
-    ensures stands { IfOk result (λ at. Stands (symbol_under sig.now) (meaning_in sig.now scope.now) nodes.new.items at (joined text.now (bare_trees trees.now))) }
+    ensures sound { OnOk result (AreNodesWithin (sort_count context.now.sig.now) (length context.now.sig.now.functions) nodes.old.items → AreNodesWithin (sort_count context.now.sig.now) (length context.now.sig.now.functions) nodes.new.items) }
+    ensures stands { IfOk result (λ at. Stands (symbol_under context.now.sig.now) (meaning_in context.now.sig.now context.now.scope.now) nodes.new.items at (joined text.now (bare_trees trees.now))) }
 {
-    let parts = read_all(alloc, sig, flats, scope, nodes, trees)?;
-    join(alloc, sig, flats, scope, nodes, text, parts.as_slice())
+    let parts = read_all(alloc, context, nodes, words, trees)?;
+    join(alloc, context, nodes, words, text, parts.as_slice())
 }
 
 /// An expression that was read, with further ones behind signs, from the left.
 #[cycle(reading)]
-fn read_chain(
+fn read_chain<'a>(
     alloc: Global,
-    sig: &Signature,
-    flats: &[FlatSort],
-    scope: &Scope,
+    context: &WordContext<'_>,
     nodes: &mut Vec<Node>,
+    words: &mut WordTable<'a>,
     first: usize,
-    operands: &[(InfixSign, DataTree)],
+    operands: &'a [(InfixSign, DataTree)],
 ) -> Result<usize, NoMemory>
-    requires flats { AreFlat sig.now flats.now }
-    requires names { All (λ b. b.name.0 < length sig.now.texts) scope.now }
-    requires sorts { All (λ b. IsFlatWithin (sort_count sig.now) b.sort) scope.now }
+    requires context { IsWordContext context.now }
+    requires words { HasFunctions context.now words.old }
     requires nodes { AreNodes nodes.old.items }
     requires first { first < length nodes.old.items }
     requires trees { AreReadableOperands (operands_of (plain_operands operands.now)) }
+    ensures words { OnOk result (HasFunctions context.now words.new) }
     ensures grown { OnOk result (GoOn nodes.old.items nodes.new.items) }
-    ensures sound { OnOk result (AreNodesWithin (sort_count sig.now) (length sig.now.functions) nodes.old.items → AreNodesWithin (sort_count sig.now) (length sig.now.functions) nodes.new.items) }
-    ensures stands { IfOk result (λ at. (e : Expression) → Stands (symbol_under sig.now) (meaning_in sig.now scope.now) nodes.old.items first e → Stands (symbol_under sig.now) (meaning_in sig.now scope.now) nodes.new.items at (bare.to_the_left e (operands_of (plain_operands operands.now)))) }
+    ensures sound { OnOk result (AreNodesWithin (sort_count context.now.sig.now) (length context.now.sig.now.functions) nodes.old.items → AreNodesWithin (sort_count context.now.sig.now) (length context.now.sig.now.functions) nodes.new.items) }
+    ensures stands { IfOk result (λ at. (e : Expression) → Stands (symbol_under context.now.sig.now) (meaning_in context.now.sig.now context.now.scope.now) nodes.old.items first e → Stands (symbol_under context.now.sig.now) (meaning_in context.now.sig.now context.now.scope.now) nodes.new.items at (bare.to_the_left e (operands_of (plain_operands operands.now)))) }
 {
     let mut at = first;
     for operand in operands {
-        let right = read(alloc, sig, flats, scope, nodes, &operand.1)?;
+        let right = read(alloc, context, nodes, words, &operand.1)?;
         let parts = Vec::from_array(alloc, [at, right])?;
-        at = add_word(
-            alloc,
-            sig,
-            flats,
-            scope,
-            nodes,
-            infix_text(operand.0),
-            parts,
-        )?;
+        at = add_word(alloc, context, nodes, words, infix_text(operand.0), parts)?;
     }
     Ok(at)
 }

@@ -439,9 +439,15 @@ fn expansion_by_sort(
     match &node.kind {
         Kind::Variable(_, _) => Ok(None),
         Kind::Numeral(_) => Ok(None),
-        Kind::Call(signatures, any) => {
-            call_by_sort(alloc, nodes, known, arguments, signatures, any, sort)
-        }
+        Kind::Call(functions) => call_by_sort(
+            alloc,
+            nodes,
+            known,
+            arguments,
+            &functions.signatures,
+            &functions.any,
+            sort,
+        ),
         Kind::List => match sort.read_off(SortPlace::Elements) {
             Some(element) => list_expansion(alloc, nodes, known, arguments, element),
             None => Ok(None),
@@ -482,9 +488,14 @@ fn inferred_expansion(
             let expansion = one_step(alloc, Step::Numeral(*value))?;
             Ok(Some(expansion))
         }
-        Kind::Call(signatures, any) => {
-            call_expansion(alloc, nodes, known, arguments, signatures, any)
-        }
+        Kind::Call(functions) => call_expansion(
+            alloc,
+            nodes,
+            known,
+            arguments,
+            &functions.signatures,
+            &functions.any,
+        ),
         Kind::List => match widest_of(nodes, known, arguments) {
             Some(element) => list_expansion(alloc, nodes, known, arguments, element),
             None => Ok(None),

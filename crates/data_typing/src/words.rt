@@ -1,6 +1,6 @@
 //! What words mean, in code.
 
-ghost use Rattle.std.specs.Prelude.{◌≡◌, ◌<◌, ◌++◌, ◌∷◌, length, map, List, [], IfOk, IfSome, OnOk, option_map, option_to_list, slice_get};
+ghost use Rattle.std.specs.Prelude.{◌≡◌, ◌<◌, ◌++◌, ◌∷◌, ℕ, length, map, List, [], IfOk, IfSome, OnOk, option_map, option_to_list, slice_get};
 ghost use Rattle.std.specs.List.{All, AllByRecursion, Contains, filter, list_any};
 ghost use Rattle.data_theory.specs.declared.ids.FunId.{FunId};
 ghost use Rattle.data_theory.specs.Terms.{Symbol, boolean};
@@ -9,20 +9,28 @@ ghost use Rattle.data_theory.specs.Table.{language_table};
 ghost use Rattle.data_theory.specs.IdSorts.{meant_by};
 ghost use Rattle.data_theory.specs.IdTerms.{symbol_under};
 ghost use Rattle.sort_table.specs.Duplicates.{any_sort, lists_of_any};
+ghost use Rattle.sort_table.specs.NamedLists.{first_named};
 ghost use Rattle.sort_table.specs.NamedSorts.{sort_count};
-ghost use Rattle.data_typing.specs.Within.{IsFlatWithin, IsPlaceWithin, IsAnyWithin, IsSomeAnyWithin, IsOverloadWithin, IsKindWithin};
+ghost use Rattle.sort_table.specs.SignatureVocabularies.{vocabulary_of};
+ghost use Rattle.data_typing.specs.Within.{IsFlatWithin, IsPlaceWithin, IsAnyWithin, IsSomeAnyWithin, IsOverloadWithin, AreFunctionsWithin, IsKindWithin};
 ghost use Rattle.data_typing.specs.BuiltIns as built_in;
 ghost use Rattle.data_typing.specs.BuiltIns.{hangs, row_places, row_scheme, row_signature};
 ghost use Rattle.data_typing.specs.FlatSorts.{flat_sort, place_of};
+ghost use Rattle.data_typing.specs.Typings as typings;
 ghost use Rattle.data_typing.specs.Typings.{Typing, over, scheme_at, word_typing};
-ghost use Rattle.data_typing.specs.NodeTypings.{signature_of, scheme_of, kind_typing};
-ghost use Rattle.data_typing.specs.CodeWords.{meaning_in, fun_signature, IsAlone, AreFlat};
+ghost use Rattle.data_typing.specs.Meanings.{bound_row, signatures_named};
+ghost use Rattle.data_typing.specs.NodeTypings.{signature_of, scheme_of, meaning_of_functions, kind_typing};
+ghost use Rattle.data_typing.specs.CodeWords.{bound_of, scope_of, meaning_in, fun_signature, IsAlone, AreFlat};
+ghost use Rattle.data_typing.specs.Contexts.{IsScopeOver};
+ghost use Rattle.data_typing.specs.WordTables.{IsWordContext, HasFunctions};
 
 use crate::flat_sorts::{Base, FlatSort, SortPlace};
-use crate::nodes::{AnyOverload, Callee, Kind, Overload};
-use crate::scope::Scope;
+use crate::nodes::{AnyOverload, Callee, Kind, Overload, WordFunctions};
+use crate::scope::{Bound, Scope};
+use crate::word_table::{WordContext, WordTable};
 use data_theory::{FunId, ListWord, NoMemory, Row, Signature, SortId, Word, rows_of};
 use std::alloc::Global;
+use std::rc::Rc;
 
 /// A sort that is no list.
 fn plain(base: Base) -> FlatSort
@@ -315,40 +323,76 @@ fn declared_overloads(
     Ok(all)
 }
 
-/// What a word means, with no arguments or with some.
-pub fn word_kind(
+/// The functions of a word that is no variable: the built-in ones, and behind them the declared ones.
+fn word_functions(
     alloc: Global,
     sig: &Signature,
     flats: &[FlatSort],
-    scope: &Scope,
     text: &str,
-    alone: bool,
-) -> Result<Kind, NoMemory>
-    requires flats { AreFlat sig.now flats.now }
-    requires names { All (λ b. b.name.0 < length sig.now.texts) scope.now }
-    requires sorts { All (λ b. IsFlatWithin (sort_count sig.now) b.sort) scope.now }
-    ensures within { IfOk result (IsKindWithin (sort_count sig.now) (length sig.now.functions)) }
-    ensures means { IfOk result (λ kind. (ts : List Typing) → IsAlone alone ts → kind_typing (symbol_under sig.now) kind ts ≡ word_typing (meaning_in sig.now scope.now text.now) ts) }
+) -> Result<WordFunctions, NoMemory>
+    requires { AreFlat sig.now flats.now }
+    ensures within { IfOk result (AreFunctionsWithin (sort_count sig.now) (length sig.now.functions)) }
+    ensures mean { IfOk result (λ them. meaning_of_functions (symbol_under sig.now) them ≡ typings.functions (signatures_named (vocabulary_of sig.now) text.now) (built_in.scheme_named text.now)) }
 {
     let rows = rows_of(alloc, text, SortId(4), SortId(5))?;
     let any = first_over_any(alloc, rows.as_slice())?;
     let overloads = settled_overloads(alloc, rows.as_slice())?;
     let Some(name) = sig.names().find(text) else {
-        return Ok(Kind::Call(overloads, any));
+        let signatures = overloads;
+        return Ok(WordFunctions { signatures, any });
     };
-    let variable = scope.find(name);
-    match variable {
-        Some(bound) => {
-            if alone {
-                Ok(Kind::Variable(bound.var, bound.sort))
-            } else {
-                Ok(Kind::Call(Vec::new(alloc), None))
-            }
-        }
-        None => {
-            let funs = sig.funs_named(name);
-            let all = declared_overloads(alloc, sig, flats, funs, overloads)?;
-            Ok(Kind::Call(all, any))
-        }
+    let funs = sig.funs_named(name);
+    let signatures = declared_overloads(alloc, sig, flats, funs, overloads)?;
+    Ok(WordFunctions { signatures, any })
+}
+
+/// The innermost variable of a name.
+fn variable_named(sig: &Signature, scope: &Scope, text: &str) -> Option<Bound>
+    requires { IsScopeOver sig.now scope.now }
+    ensures found { option_map (bound_of sig.now.texts) result ≡ first_named text.now (map bound_row (scope_of sig.now.texts scope.now)) }
+    ensures within { IfSome result (λ b. IsFlatWithin (sort_count sig.now) b.sort) }
+{
+    let name = sig.names().find(text)?;
+    scope.find(name)
+}
+
+/// A variable, with no arguments or with some. Over arguments it is a call that has no function.
+fn variable_kind(alloc: Global, bound: Bound, alone: bool) -> Result<Kind, NoMemory>
+    ensures within { IfOk result (λ kind. (n c : ℕ) → IsFlatWithin n bound.sort → IsKindWithin n c kind) }
+    ensures means { IfOk result (λ kind. (y : FunId → Symbol) (ts : List Typing) → IsAlone alone ts → kind_typing y kind ts ≡ word_typing (typings.bound bound.var.0 (flat_sort bound.sort)) ts) }
+{
+    if alone {
+        return Ok(Kind::Variable(bound.var, bound.sort));
     }
+    let none = WordFunctions {
+        signatures: Vec::new(alloc),
+        any: None,
+    };
+    let functions = Rc::new(alloc, none)?;
+    Ok(Kind::Call(functions))
+}
+
+/// What a word means, with no arguments or with some. Its functions are looked up once, and from then on stand in the table.
+pub fn word_kind<'a>(
+    alloc: Global,
+    context: &WordContext<'_>,
+    words: &mut WordTable<'a>,
+    text: &'a str,
+    alone: bool,
+) -> Result<Kind, NoMemory>
+    requires context { IsWordContext context.now }
+    requires words { HasFunctions context.now words.old }
+    ensures words { OnOk result (HasFunctions context.now words.new) }
+    ensures within { IfOk result (IsKindWithin (sort_count context.now.sig.now) (length context.now.sig.now.functions)) }
+    ensures means { IfOk result (λ kind. (ts : List Typing) → IsAlone alone ts → kind_typing (symbol_under context.now.sig.now) kind ts ≡ word_typing (meaning_in context.now.sig.now context.now.scope.now text.now) ts) }
+{
+    if let Some(functions) = words.get(text)? {
+        return Ok(Kind::Call(functions));
+    }
+    if let Some(bound) = variable_named(context.sig, context.scope, text) {
+        return variable_kind(alloc, bound, alone);
+    }
+    let functions = word_functions(alloc, context.sig, context.flats, text)?;
+    let shared = words.enter(alloc, text, functions)?;
+    Ok(Kind::Call(shared))
 }

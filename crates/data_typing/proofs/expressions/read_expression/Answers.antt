@@ -8,15 +8,6 @@ use Rattle.data_typing.specs.Within.{IsFlatWithin, AreNodesWithin}
 use Rattle.data_typing.specs.Contexts.{IsBoundOver}
 use Rattle.data_typing.proofs.expressions.read_expression.Goals as goal
 
-pub read-requires-clause-flats : goal.read-requires-clause-flats
-read-requires-clause-flats c = subst (AreFlat c.args.sig.now) (sym c.as_slice.ensures.value) c.requires.tables.flats
-
-pub read-requires-clause-names : goal.read-requires-clause-names
-read-requires-clause-names c = All-weaker (IsBoundOver c.args.sig.now) (λ b. b.name.0 < length c.args.sig.now.texts) (λ b is. is.0) c.args.scope.now c.requires.scope
-
-pub read-requires-clause-sorts : goal.read-requires-clause-sorts
-read-requires-clause-sorts c = All-weaker (IsBoundOver c.args.sig.now) (λ b. IsFlatWithin (sort_count c.args.sig.now) b.sort) (λ b is. is.1) c.args.scope.now c.requires.scope
-
 pub infer_all-requires : goal.infer_all-requires
 infer_all-requires c = subst AreNodes (sym c.as_slice-2.ensures.value) c.in_ok-at.ensures.grown.nodes
 

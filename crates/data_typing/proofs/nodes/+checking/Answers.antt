@@ -1,10 +1,12 @@
 use Rattle.std.proofs.Common.{rules, ◌<◌, ℕ, Bool, List, false, length, map, get_or, sym, ap, ◌∙◌, arith}
-use Rattle.std.specs.Prelude.{Some, None, is_some, cond, option_map}
+use Rattle.std.specs.Prelude.{Option, Some, None, is_some, cond, option_map}
 use Rattle.data_typing.specs.FlatSorts.{flat_sort}
 use Rattle.data_typing.specs.Nodes.{profile_of, any_profile_of, checks_by, sortings_at, sortings}
 use Rattle.data_typing.specs.Sortings.{first_exact_sort, may_check}
 use Rattle.data_typing.proofs.NodeLemmas.{check_lengths, below_at, parts_below, checks_by_wanted, checks_by_inferred, ok_along}
 use Rattle.data_typing.specs.declared.nodes.Overload as code
+use Rattle.data_typing.specs.declared.nodes.AnyOverload.{AnyOverload}
+use Rattle.data_typing.specs.declared.nodes.WordFunctions.{WordFunctions}
 use Rattle.data_typing.specs.declared.nodes.Kind.{Kind}
 use Rattle.data_typing.proofs.nodes.+checking.Goals as goal
 
@@ -44,8 +46,11 @@ checks-returns-in-None t c =
 pub checks_by_sort-returns-in-Call : goal.checks_by_sort-returns-in-Call
 checks_by_sort-returns-in-Call t c =
     let w = c.in-Call in
-    let from : List ℕ → List code.Overload → Bool = λ js gs. cond (is_some (first_exact_sort (sortings_at (sortings c.args.nodes.now) js) (map profile_of gs))) false (may_check (sortings_at (sortings c.args.nodes.now) js) (option_map any_profile_of w.any) (flat_sort c.args.sort)) in
+    let parts : List ℕ = c.args.node.now.arguments.items in
+    let from : List ℕ → List code.Overload → Option AnyOverload → Bool = λ js gs a. cond (is_some (first_exact_sort (sortings_at (sortings c.args.nodes.now) js) (map profile_of gs))) false (may_check (sortings_at (sortings c.args.nodes.now) js) (option_map any_profile_of a) (flat_sort c.args.sort)) in
     ok_along c.call_checks_by_sort.result _ _
-    (ap (λ js. from js c.deref-in-Call.result.now) c.deref.ensures.value ∙ ap (from c.args.node.now.arguments.items) c.deref-in-Call.ensures.value
-    ∙ sym (ap (λ (k : Kind). checks_by k (sortings_at (sortings c.args.nodes.now) c.args.node.now.arguments.items) (flat_sort c.args.sort)) w.is))
+    (ap (λ js. from js c.deref-in-Call-2.result.now c.deref-in-Call-3.result.now.any) c.deref.ensures.value
+    ∙ ap (λ gs. from parts gs c.deref-in-Call-3.result.now.any) (c.deref-in-Call-2.ensures.value ∙ ap (λ (them : WordFunctions). them.signatures.items) c.deref-in-Call.ensures)
+    ∙ ap (λ (them : WordFunctions). from parts w.functions.value.signatures.items them.any) c.deref-in-Call-3.ensures
+    ∙ sym (ap (λ (k : Kind). checks_by k (sortings_at (sortings c.args.nodes.now) parts) (flat_sort c.args.sort)) w.is))
     c.call_checks_by_sort.ensures

@@ -9,7 +9,7 @@ returns-clause-grown c = one_on c.args.nodes.now.items c.add.new.nodes.items (re
 
 pub returns-clause-stands : goal.returns-clause-stands
 returns-clause-stands c = λ es s.
-    word_stands (symbol_under c.args.sig.now) (meaning_in c.args.sig.now c.args.scope.now) c.args.nodes.now.items c.add.new.nodes.items (record { kind = c.in_ok-kind.kind; arguments = c.args.arguments })
+    word_stands (symbol_under c.args.context.now.sig.now) (meaning_in c.args.context.now.sig.now c.args.context.now.scope.now) c.args.nodes.now.items c.add.new.nodes.items (record { kind = c.in_ok-kind.kind; arguments = c.args.arguments })
     c.in_ok-at.at c.in_ok-at.ensures.at c.in_ok-at.ensures.added c.args.text.now c.is_empty-alone.result (c.is_empty-alone.ensures ∙ ap (λ (l : List ℕ). length l == 0) c.as_slice.ensures.value) c.in_ok-kind.ensures.means es s
 
 pub returns-clause-within : goal.returns-clause-within

@@ -7,15 +7,16 @@ use Rattle.data_typing.proofs.reading.join.Goals as goal
 
 pub returns-then-is_empty-clause-stands : goal.returns-then-is_empty-clause-stands
 returns-then-is_empty-clause-stands c =
-    join_of_none (symbol_under c.args.sig.now) (meaning_in c.args.sig.now c.args.scope.now) c.args.text.now c.args.nodes.now.items c.add_name.new.nodes.items c.args.operands.now (none_there c.args.operands.now c.is_empty.result c.is_empty.ensures c.if-is_empty.true) c.add_name.result c.add_name.ensures.stands
+    join_of_none (symbol_under c.args.context.now.sig.now) (meaning_in c.args.context.now.sig.now c.args.context.now.scope.now) c.args.text.now c.args.nodes.now.items c.add_name.new.nodes.items c.args.operands.now (none_there c.args.operands.now c.is_empty.result c.is_empty.ensures c.if-is_empty.true) c.add_name.result c.add_name.ensures.stands
 
 pub loop-step-init : goal.loop-step-init
 loop-step-init c =
     let some : 1 ≤ length c.args.operands.now = some_there c.args.operands.now c.is_empty.result c.is_empty.ensures c.if-is_empty.false in
     record {
+      words = c.requires.words;
       grown = not_on c.args.nodes.now.items c.requires.nodes;
       sound = λ h. h;
-      stands = λ es s. join_begins (symbol_under c.args.sig.now) (meaning_in c.args.sig.now c.args.scope.now) c.args.text.now c.args.nodes.now.items c.args.operands.now es s (length c.args.operands.now - 1) _ (omega arith) (omega (arith, some));
+      stands = λ es s. join_begins (symbol_under c.args.context.now.sig.now) (meaning_in c.args.context.now.sig.now c.args.context.now.scope.now) c.args.text.now c.args.nodes.now.items c.args.operands.now es s (length c.args.operands.now - 1) _ (omega arith) (omega (arith, some));
       within = below_at (length c.args.nodes.now.items) c.args.operands.now (length c.args.operands.now - 1) c.requires.below (omega (arith, some));
     }
 
@@ -23,10 +24,11 @@ pub loop-step-preserved : goal.loop-step-preserved
 loop-step-preserved c =
     let some : 1 ≤ length c.args.operands.now = some_there c.args.operands.now c.is_empty.result c.is_empty.ensures c.if-is_empty.false in
     record {
+      words = c.in_ok-at.ensures.words;
       grown = goes_on c.args.nodes.now.items c.loop-step.nodes.items c.add_word.new.nodes.items c.loop-step.invariant.grown c.in_ok-at.ensures.grown;
       sound = λ h. c.in_ok-at.ensures.sound (c.loop-step.invariant.sound h);
       stands = λ es s.
-          join_goes_on (symbol_under c.args.sig.now) (meaning_in c.args.sig.now c.args.scope.now) c.args.text.now c.args.nodes.now.items c.loop-step.nodes.items c.add_word.new.nodes.items c.args.operands.now es s c.loop-step.invariant.grown
+          join_goes_on (symbol_under c.args.context.now.sig.now) (meaning_in c.args.context.now.sig.now c.args.context.now.scope.now) c.args.text.now c.args.nodes.now.items c.loop-step.nodes.items c.add_word.new.nodes.items c.args.operands.now es s c.loop-step.invariant.grown
           (length c.args.operands.now - 1 - 1 - c.loop-step.step) (length c.args.operands.now - 1 - c.loop-step.step) (length c.args.operands.now - 1 - (c.loop-step.step + 1)) c.loop-step.at c.in_ok-at.at
           (omega arith) (omega (arith, some, c.loop-step-test.true)) (omega (arith, some, c.loop-step-test.true)) (c.loop-step.invariant.stands es s) c.in_ok-parts.parts.items c.in_ok-parts.ensures.items c.in_ok-at.ensures.stands;
       within = c.in_ok-at.ensures.within;

@@ -2,9 +2,11 @@ use Rattle.std.proofs.lemmas.Result.{IfOk-weaker}
 use Rattle.data_typing.specs.Typings.{elements}
 use Rattle.data_typing.proofs.WithinLemmas.{read_off_within}
 use Rattle.std.proofs.Common.{ℕ, List, map, sym, subst, ap, ◌∙◌}
-use Rattle.std.specs.Prelude.{IfOk, option_map}
+use Rattle.std.specs.Prelude.{Option, IfOk, option_map}
 use Rattle.data_theory.specs.declared.ids.FunId.{FunId}
-use Rattle.data_theory.specs.Terms.{Symbol}
+use Rattle.data_theory.specs.Terms.{Symbol, Term}
+use Rattle.data_typing.specs.declared.nodes.AnyOverload.{AnyOverload}
+use Rattle.data_typing.specs.declared.nodes.WordFunctions.{WordFunctions}
 use Rattle.data_typing.specs.declared.nodes.Kind.{Kind}
 use Rattle.data_typing.specs.declared.nodes.Overload as code
 use Rattle.data_typing.specs.FlatSorts.{flat_sort}
@@ -18,11 +20,13 @@ pub returns-in-Call-clause-comes : goal.returns-in-Call-clause-comes
 returns-in-Call-clause-comes c =
     let n = c.args.nodes.now in
     let js : List ℕ = c.as_slice-arguments.result.now in
+    let from : (FunId → Symbol) → List code.Overload → Option AnyOverload → Option Term = λ y gs a. typings.call_by_sort (map (signature_of y) gs) (option_map scheme_of a) (typings_at y n js) (flat_sort c.args.sort) in
     subst (λ (ks : List ℕ). IfOk c.call_by_sort.result (λ o. (y : FunId → Symbol) → Comes y n (parts_limit n ks) o (kind_by_sort y c.args.node.now.kind (typings_at y n ks) (flat_sort c.args.sort)))) c.as_slice-arguments.ensures.value
-    (comes_as n (parts_limit n js) (λ y. typings.call_by_sort (map (signature_of y) c.deref.result.now) (option_map scheme_of c.in-Call.any) (typings_at y n js) (flat_sort c.args.sort))
+    (comes_as n (parts_limit n js) (λ y. from y c.deref-in-Call.result.now c.deref-in-Call-2.result.now.any)
     (λ y. kind_by_sort y c.args.node.now.kind (typings_at y n js) (flat_sort c.args.sort))
     (λ y.
-    ap (λ (fs : List code.Overload). typings.call_by_sort (map (signature_of y) fs) (option_map scheme_of c.in-Call.any) (typings_at y n js) (flat_sort c.args.sort)) c.deref.ensures.value
+    ap (λ gs. from y gs c.deref-in-Call-2.result.now.any) (c.deref-in-Call.ensures.value ∙ ap (λ (them : WordFunctions). them.signatures.items) c.deref.ensures)
+    ∙ ap (λ (them : WordFunctions). from y c.in-Call.functions.value.signatures.items them.any) c.deref-in-Call-2.ensures
     ∙ ap (λ (k : Kind). kind_by_sort y k (typings_at y n js) (flat_sort c.args.sort)) (sym c.in-Call.is))
     c.call_by_sort.result c.call_by_sort.ensures.comes)
 

@@ -1,11 +1,13 @@
 use Rattle.std.proofs.lemmas.Result.{IfOk-weaker}
 use Rattle.data_typing.proofs.WithinLemmas.{widest_is_within}
 use Rattle.std.proofs.Common.{ℕ, List, map, refl, sym, subst, ap, ◌∙◌, arith}
-use Rattle.std.specs.Prelude.{Some, IfOk, option_map}
+use Rattle.std.specs.Prelude.{Option, Some, IfOk, option_map}
 use Rattle.data_theory.specs.declared.ids.FunId.{FunId}
-use Rattle.data_theory.specs.Terms.{Symbol, variable}
+use Rattle.data_theory.specs.Terms.{Symbol, Term, variable}
 use Rattle.data_theory.specs.Terms as terms
 use Rattle.std.specs.Prelude.{pos}
+use Rattle.data_typing.specs.declared.nodes.AnyOverload.{AnyOverload}
+use Rattle.data_typing.specs.declared.nodes.WordFunctions.{WordFunctions}
 use Rattle.data_typing.specs.declared.nodes.Kind.{Kind}
 use Rattle.data_typing.specs.declared.nodes.Overload as code
 use Rattle.data_typing.specs.declared.steps.Step.TheVariants as steps
@@ -34,11 +36,13 @@ pub returns-in-Call-clause-comes : goal.returns-in-Call-clause-comes
 returns-in-Call-clause-comes c =
     let n = c.args.nodes.now in
     let js : List ℕ = c.as_slice-arguments.result.now in
+    let from : (FunId → Symbol) → List code.Overload → Option AnyOverload → Option Term = λ y gs a. term_in (call_infers (map (signature_of y) gs) (option_map scheme_of a) (typings_at y n js)) in
     subst (λ (ks : List ℕ). IfOk c.call_expansion.result (λ o. (y : FunId → Symbol) → Comes y n (parts_limit n ks) o (term_in (kind_infers y c.args.node.now.kind (typings_at y n ks))))) c.as_slice-arguments.ensures.value
-    (comes_as n (parts_limit n js) (λ y. term_in (call_infers (map (signature_of y) c.deref.result.now) (option_map scheme_of c.in-Call.any) (typings_at y n js)))
+    (comes_as n (parts_limit n js) (λ y. from y c.deref-in-Call.result.now c.deref-in-Call-2.result.now.any)
     (λ y. term_in (kind_infers y c.args.node.now.kind (typings_at y n js)))
     (λ y.
-    ap (λ (fs : List code.Overload). term_in (call_infers (map (signature_of y) fs) (option_map scheme_of c.in-Call.any) (typings_at y n js))) c.deref.ensures.value
+    ap (λ gs. from y gs c.deref-in-Call-2.result.now.any) (c.deref-in-Call.ensures.value ∙ ap (λ (them : WordFunctions). them.signatures.items) c.deref.ensures)
+    ∙ ap (λ (them : WordFunctions). from y c.in-Call.functions.value.signatures.items them.any) c.deref-in-Call-2.ensures
     ∙ ap (λ (k : Kind). term_in (kind_infers y k (typings_at y n js))) (sym c.in-Call.is))
     c.call_expansion.result c.call_expansion.ensures.comes)
 
