@@ -1,5 +1,5 @@
 -- The table of a list of tokens, and the rests that it is for.
-use Rattle.std.proofs.Common.{◌≡◌, ◌≤◌, ◌<◌, ℕ, suc, ◌+◌, Bool, false, List, [], ◌∷◌, ◌++◌, length, drop, get_or, reverse, refl, ap, sym, ◌∙◌, arith, add-one}
+use Rattle.std.proofs.Common.{◌≡◌, ◌≤◌, ◌<◌, ℕ, zero, suc, ◌+◌, Bool, true, false, ◌&&◌, ◌||◌, List, [], ◌∷◌, ◌++◌, length, drop, get_or, reverse, refl, ap, sym, ◌∙◌, arith, add-one}
 use Rattle.std.proofs.Math.ListN.{get_or-append}
 use Rattle.std.proofs.Math.Seq.{get_or-append_seam, drop-cons, drop-length}
 use Rattle.std.proofs.lemmas.List.{length_push}
@@ -9,9 +9,11 @@ use Rattle.mcrl2_syntax.specs.DataTrees.{PlainData}
 use Rattle.mcrl2_syntax.specs.ProcessParts.{PlainVarGroup}
 use Rattle.mcrl2_syntax.specs.ProcessTrees.{PlainProcess}
 use Rattle.mcrl2_syntax.specs.SpelledLabels.{SpellsVars, Operation, SpellsOperation}
+use Rattle.mcrl2_parser.specs.declared.levels.Effect.{Effect}
+use Rattle.mcrl2_parser.specs.declared.levels.Effect.TheVariants.{Opens, Closes, Counts, Stops, Stays}
 use Rattle.mcrl2_parser.specs.Levels.{effect_of}
 use Rattle.mcrl2_parser.specs.ProcessReading.{SpellsGuard, spells_guard, SpellsLast, last_sum, last_cond, FindsPart, finds_last, finds_atom, FindsOperand, FindsMerge}
-use Rattle.mcrl2_parser.specs.Arrows.{is_arrow, begins_arrow, with_closer, first_end, ends_of, ends_at_arrow, arrows_of, IsRest, whole, behind, HasArrows}
+use Rattle.mcrl2_parser.specs.Arrows.{is_arrow, begins_arrow, closes, closes_at_arrow, with_closer, first_end, ends_of, ends_at_arrow, arrows_of, IsRest, whole, behind, HasArrows}
 use Rattle.mcrl2_parser.proofs.Rests.{rests_join, ends_step, unit_passes, vars_pass, operation_rest, atom_passes, operand_passes, sum_passes, cond_passes, merge_passes}
 
 rest_shorter : {r ts : List Token} → IsRest r ts → length r ≤ length ts
@@ -49,6 +51,38 @@ table_each (t ∷ ts) r (behind a) =
 
 pub table_has : {arrows : List Bool} (ts : List Token) → arrows ≡ arrows_of ts → HasArrows arrows ts
 table_has ts e = rw e (record { each = table_each ts })
+
+or_false : (a b : Bool) → a || b ≡ false → (a ≡ false) × (b ≡ false)
+or_false true b e = absurd cc
+or_false false b e = (refl, e)
+
+-- Where no bracket ends in front of an arrow, none of those that the tokens close does, and an empty table tells that.
+closer_false : (effect : Effect) (arrow : Bool) (ends : List Bool) → closes effect && arrow ≡ false → ((n : ℕ) → get_or ends n false ≡ false) → (n : ℕ)
+    → get_or (with_closer effect arrow ends) n false ≡ false
+closer_false Opens arrow [] e each n = each n
+closer_false Opens arrow (x ∷ ends) e each n = each (suc n)
+closer_false Closes arrow ends e each zero = e
+closer_false Closes arrow ends e each (suc n) = each n
+closer_false Counts arrow ends e each n = each n
+closer_false Stops arrow ends e each n = each n
+closer_false Stays arrow ends e each n = each n
+
+ends_false : (ts : List Token) → closes_at_arrow ts ≡ false → (n : ℕ) → get_or (ends_of ts) n false ≡ false
+ends_false [] e n = ap (λ (x : List Bool). get_or x n false) ends_none
+ends_false (t ∷ ts) e n =
+    let neither = or_false _ _ e in
+    ap (λ (x : List Bool). get_or x n false) (ends_step t ts) ∙ closer_false (effect_of t.kind) (begins_arrow ts) (ends_of ts) neither.0 (ends_false ts neither.1) n
+
+first_is : (ends : List Bool) → first_end ends ≡ get_or ends 0 false
+first_is [] = refl
+first_is (x ∷ ends) = refl
+
+no_end : (r ts : List Token) → closes_at_arrow ts ≡ false → IsRest r ts → false ≡ ends_at_arrow r
+no_end r ts e whole = sym (ends_first ts ∙ first_is (ends_of ts) ∙ ends_false ts e 0)
+no_end r (t ∷ ts) e (behind a) = no_end r ts (or_false _ _ e).1 a
+
+pub nothing_has : {arrows : List Bool} (ts : List Token) → arrows ≡ [] → closes_at_arrow ts ≡ false → HasArrows arrows ts
+nothing_has ts e none = rw e (record { each = λ r a. no_end r ts none a })
 
 -- a table of some tokens is one of their rests
 pub has_rest : {arrows : List Bool} {ts r : List Token} → HasArrows arrows ts → IsRest r ts → HasArrows arrows r

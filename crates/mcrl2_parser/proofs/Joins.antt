@@ -1,5 +1,5 @@
 -- The operands of an expression join to what its tokens spell.
-use Rattle.std.proofs.Common.{◌≡◌, ℕ, zero, suc, ◌+◌, ◌<◌, ◌≤◌, min, Bool, true, false, ◌||◌, ◌&&◌, if◌then◌else◌, List, [], ◌∷◌, ◌++◌, Some, nat_eq, reverse, length, drop, get_or, refl, ap, sym, ◌∙◌, subst, add-one, arith}
+use Rattle.std.proofs.Common.{◌≡◌, ℕ, zero, suc, ◌+◌, ◌<◌, ◌≤◌, min, Bool, true, false, ◌&&◌, if◌then◌else◌, List, [], ◌∷◌, ◌++◌, Some, nat_eq, reverse, length, drop, get_or, refl, ap, sym, ◌∙◌, subst, add-one, arith}
 use Rattle.std.specs.List.{list_all}
 use Rattle.std.proofs.Math.Nat.{min-le_left, min-le_right}
 use Rattle.std.proofs.lemmas.Bool.{cond_both, eqb-true, eqb-false}
@@ -128,10 +128,6 @@ pub data_found : {text : List ℕ} {x d : PlainData} {os : List Operand} {ts us 
 data_found {text = text} {d = d} {os = os} {ts = ts} {r = r} is a b =
     let whole = joined_spells 11 a b in
     subst (λ (y : PlainData). SpellsData text y ts r) (sym is) (subst (λ (y : List Token). SpellsLevel text 11 (joined_up_to 11 (d, os)).0 ts y) (nothing_above whole.others) whole.first)
-
-or_false : (a b : Bool) → a || b ≡ false → (a ≡ false) × (b ≡ false)
-or_false true b e = absurd cc
-or_false false b e = (refl, e)
 
 -- One operand is itself at each level.
 either_way : (b : Bool) (x y d : PlainData) → x ≡ d → y ≡ d → (if b then x else y) ≡ d

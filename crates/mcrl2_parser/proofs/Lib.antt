@@ -10,6 +10,7 @@ pub mod ItemLists
 mod Rests
 mod GuardLooks
 mod ArrowTables
+mod LevelBounds
 mod ProcessGuards
 mod ChainLeft
 mod Atoms

@@ -1,5 +1,5 @@
 -- Where a condition begins, and the table that tells it: which brackets close in front of an arrow.
-use Rattle.std.specs.Prelude.{◌≡◌, Bool, true, false, List, [], ◌∷◌, ◌++◌, length, drop, get_or}
+use Rattle.std.specs.Prelude.{◌≡◌, Bool, true, false, List, [], ◌∷◌, ◌++◌, ◌&&◌, ◌||◌, length, drop, get_or}
 use Rattle.mcrl2_lexer.specs.declared.kind.Kind.{Kind}
 use Rattle.mcrl2_lexer.specs.declared.kind.Kind.TheVariants.{Identifier, LeftParen, Arrow, Delta, Tau, Allow, Block, Hide, Rename, Comm}
 use Rattle.mcrl2_lexer.specs.declared.token.Token.{Token}
@@ -14,6 +14,15 @@ is_arrow _ = false
 abbrev pub begins_arrow : List Token → Bool
 begins_arrow [] = false
 begins_arrow (token ∷ tokens) = is_arrow token.kind
+
+abbrev pub closes : Effect → Bool
+closes Closes = true
+closes _ = false
+
+-- whether a bracket ends in front of an arrow
+abbrev pub closes_at_arrow : List Token → Bool
+closes_at_arrow [] = false
+closes_at_arrow (token ∷ tokens) = closes (effect_of token.kind) && begins_arrow tokens || closes_at_arrow tokens
 
 -- Tokens may close brackets that were opened in front of them, the innermost first. For each such bracket: whether an arrow
 -- stands behind its end.

@@ -3,7 +3,7 @@
 
 ghost use Rattle.std.specs.Prelude.{◌≡◌, IfOk, OnOk, reverse};
 ghost use Rattle.mcrl2_parser.specs.Levels.{effect_of};
-ghost use Rattle.mcrl2_parser.specs.Arrows.{is_arrow, begins_arrow, with_closer, first_end, ends_at_arrow, arrows_of, HasArrows, names_guard, begins_guard};
+ghost use Rattle.mcrl2_parser.specs.Arrows.{is_arrow, begins_arrow, with_closer, first_end, closes_at_arrow, ends_at_arrow, HasArrows, names_guard, begins_guard};
 
 use crate::levels::{Effect, effect_of};
 use crate::words::next;
@@ -43,14 +43,24 @@ fn innermost(ends: &[bool]) -> bool
     }
 }
 
-/// For each rest of the tokens, from the empty one on: whether the innermost bracket that is open there ends in front of an
-/// arrow.
-///
-/// # Errors
-///
-/// `AllocError` where no memory is left.
-pub fn arrows_of(alloc: Global, tokens: &[Token]) -> Result<Vec<bool>, AllocError>
-    ensures { IfOk result (λ arrows. arrows.items ≡ arrows_of tokens.now) }
+// Whether a bracket ends in front of an arrow.
+fn closes_at_arrow(tokens: &[Token]) -> bool
+    ensures { result ≡ closes_at_arrow tokens.now }
+{
+    let mut closes = false;
+    for token in tokens {
+        if closes && is_arrow(token.kind) {
+            return true;
+        }
+        closes = effect_of(token.kind) == Effect::Closes;
+    }
+    false
+}
+
+// For each rest of the tokens, from the empty one on: whether the innermost bracket that is open there ends in front of an
+// arrow.
+fn table_of(alloc: Global, tokens: &[Token]) -> Result<Vec<bool>, AllocError>
+    ensures { IfOk result (λ arrows. HasArrows arrows.items tokens.now) }
 {
     let mut arrows = Vec::new(alloc);
     arrows.push(false)?;
@@ -65,6 +75,22 @@ pub fn arrows_of(alloc: Global, tokens: &[Token]) -> Result<Vec<bool>, AllocErro
         arrow = is_arrow(kind);
     }
     Ok(arrows)
+}
+
+/// The table of the tokens: for each rest of them, at its length, whether the innermost bracket that is open there ends in front
+/// of an arrow. Where no bracket does, the table is empty.
+///
+/// # Errors
+///
+/// `AllocError` where no memory is left.
+pub fn arrows_of(alloc: Global, tokens: &[Token]) -> Result<Vec<bool>, AllocError>
+    ensures { IfOk result (λ arrows. HasArrows arrows.items tokens.now) }
+{
+    if closes_at_arrow(tokens) {
+        table_of(alloc, tokens)
+    } else {
+        Ok(Vec::new(alloc))
+    }
 }
 
 // Whether the innermost bracket that is open in front of the tokens ends in front of an arrow, by the table.

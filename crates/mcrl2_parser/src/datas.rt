@@ -181,6 +181,9 @@ pub fn data<'a>(
         → MatchResult result (λ x. (plain_data x.0 ≡ d) × (x.1.now ≡ r)) (λ e. e ≡ Fault.NoMemory) }
 {
     let (first, rest) = unit(alloc, text, tokens)?;
+    if sign(rest).is_none() {
+        return Ok((first, rest));
+    }
     let (operands, rest) = operands(alloc, text, rest)?;
     let tree = joined(alloc, first, operands)?;
     Ok((tree, rest))

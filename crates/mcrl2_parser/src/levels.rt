@@ -1,5 +1,5 @@
 //! How deep tokens nest.
-ghost use Rattle.std.specs.Prelude.{◌≡◌, ◌≤◌, ◌<◌, ◌+◌, ◌^◌, min, IfOk, reverse};
+ghost use Rattle.std.specs.Prelude.{◌≡◌, ◌≤◌, ◌<◌, ◌+◌, ◌^◌, true, false, min, IfOk, reverse};
 ghost use Rattle.mcrl2_parser.specs.Levels.{effect_of, after, level_of};
 
 use mcrl2_lexer::{Kind, Token};
@@ -97,4 +97,19 @@ pub fn level(alloc: Global, tokens: &[Token]) -> Result<usize, AllocError>
         most = most.max(total);
     }
     Ok(most)
+}
+
+/// Whether the level of a declaration's tokens passes [`MAX_LEVEL`]. Few tokens don't nest deeper than there are of them.
+///
+/// # Errors
+///
+/// `AllocError` where no memory is left.
+pub fn is_too_deep(alloc: Global, tokens: &[Token]) -> Result<bool, AllocError>
+    ensures deep { IfOk result (λ deep. deep ≡ true → MAX_LEVEL < level_of tokens.now) }
+    ensures fine { IfOk result (λ deep. deep ≡ false → level_of tokens.now ≤ MAX_LEVEL) }
+{
+    if tokens.len() <= MAX_LEVEL {
+        return Ok(false);
+    }
+    Ok(level(alloc, tokens)? > MAX_LEVEL)
 }

@@ -8,7 +8,7 @@ ghost use Rattle.mcrl2_syntax.specs.SpelledDeclarations.{SpellsSpec};
 use crate::declaration_readers::read_declaration;
 use crate::declaring::{Declaration, declarations};
 use crate::faults::ParseFault;
-use crate::levels::{MAX_LEVEL, level};
+use crate::levels::is_too_deep;
 use crate::sectioning::{begin_left, put_next};
 use crate::stack::has_room;
 use crate::words::Fault;
@@ -35,7 +35,7 @@ fn tree_of(
     ensures refused { IfErr result (λ fault. fault ≢ ParseFault.NoMemory → IsRefused text.now tokens.now number declaration fault) }
 {
     let own = &tokens[declaration.start as usize..declaration.end as usize];
-    if level(alloc, own)? > MAX_LEVEL {
+    if is_too_deep(alloc, own)? {
         return Err(ParseFault::TooDeep(number));
     }
     let Some(section) = declaration.section else {

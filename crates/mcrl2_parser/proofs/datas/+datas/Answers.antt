@@ -1,4 +1,4 @@
-use Rattle.std.proofs.Common.{List, map, refl, ap, sym, ◌∙◌, arith}
+use Rattle.std.proofs.Common.{List, [], map, refl, ap, sym, ◌∙◌, arith}
 use Rattle.std.proofs.lemmas.Result.{err_from_is_err_and}
 use Rattle.std.proofs.lemmas.Grind.{common_steps}
 use Rattle.mcrl2_lexer.specs.declared.kind.Kind.TheVariants.{Comma}
@@ -9,11 +9,12 @@ use Rattle.mcrl2_syntax.specs.DataTrees.{plain_data, plain_operands, listed, dat
 use Rattle.mcrl2_syntax.specs.Follow.{Stops}
 use Rattle.mcrl2_syntax.specs.SpelledData.{SpellsData}
 use Rattle.mcrl2_syntax.proofs.DataOnce.{stops_comma}
+use Rattle.mcrl2_parser.specs.Operands.{operands_end}
 use Rattle.mcrl2_parser.proofs.ListLeft.{list_begins, goes_on, ends_found, ends_only, faults}
 use Rattle.mcrl2_parser.proofs.ItemLists.{list_of_items, items_of_list}
 use Rattle.mcrl2_parser.proofs.Units.{by_name, by_numeral, by_true, by_false, by_apply, by_empty, by_list, by_brackets, by_prefix, name_only, numeral_only, true_only, false_only, apply_fault, apply_unclosed, apply_only, empty_only, list_fault, list_unclosed, list_only, brackets_fault, brackets_unclosed, brackets_only, prefix_fault, prefix_only, no_unit}
 use Rattle.mcrl2_parser.proofs.Operands.{operands_begin, operands_go_on, operands_only, operands_fault, pushed_operands, first_unit_fault, further_fault, data_only}
-use Rattle.mcrl2_parser.proofs.Joins.{data_found}
+use Rattle.mcrl2_parser.proofs.Joins.{data_found, alone_joined}
 use Rattle.mcrl2_parser.proofs.datas.+datas.Goals as goal
 
 pub bracketed-returns-in_err-inner-clause-only : goal.bracketed-returns-in_err-inner-clause-only
@@ -57,6 +58,14 @@ items-loop-list-preserved t c = (
 pub data-returns-in_err-first-clause-only : goal.data-returns-in_err-first-clause-only
 data-returns-in_err-first-clause-only t c = λ d r l s. let p = err_from_is_err_and c.from_residual.result c.from_residual.ensures.1 in
     rw p.1 (p.2 ∙ first_unit_fault _ c.in_err-first.ensures.only d r l s)
+
+pub data-returns-then-is_none-clause-found : goal.data-returns-then-is_none-clause-found
+data-returns-then-is_none-clause-found t c = data_found (alone_joined 11 (plain_data c.in_ok-first.first) [] refl) c.in_ok-first.ensures.found operands_end
+
+pub data-returns-then-is_none-clause-only : goal.data-returns-then-is_none-clause-only
+data-returns-then-is_none-clause-only t c = λ d r l s.
+    data_only c.in_ok-first.ensures.only (operands_only (operands_begin c.args.text.now c.in_ok-first.rest.now) (c.sign.ensures.none c.if-is_none.ensures))
+    (data_found (alone_joined 11 (plain_data c.in_ok-first.first) [] refl) c.in_ok-first.ensures.found operands_end) d r l s
 
 pub data-returns-in_err-operands-clause-only : goal.data-returns-in_err-operands-clause-only
 data-returns-in_err-operands-clause-only t c = λ d r l s. let p = err_from_is_err_and c.from_residual-in_err-operands.result c.from_residual-in_err-operands.ensures.1 in

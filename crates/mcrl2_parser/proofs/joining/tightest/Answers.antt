@@ -1,4 +1,4 @@
-use Rattle.std.proofs.Common.{ap, sym, ◌∙◌, min}
+use Rattle.std.proofs.Common.{ap, ◌∙◌, min}
 use Rattle.mcrl2_parser.proofs.Joins.{tightest_begins, tightest_goes_on, tightest_ends}
 use Rattle.mcrl2_parser.proofs.joining.tightest.Goals as goal
 
