@@ -7,6 +7,8 @@ use Rattle.mcrl2_syntax.specs.declared.word.Span.{Span}
 use Rattle.mcrl2_syntax.specs.declared.word.Word.{Word}
 use Rattle.mcrl2_syntax.specs.declared.data_tree.PrefixSign.{PrefixSign}
 use Rattle.mcrl2_syntax.specs.declared.data_tree.InfixSign.{InfixSign}
+use Rattle.mcrl2_syntax.specs.declared.data_tree.Application.{Application}
+use Rattle.mcrl2_syntax.specs.declared.data_tree.Chain.{Chain}
 use Rattle.mcrl2_syntax.specs.declared.data_tree.DataTree.{DataTree}
 use Rattle.mcrl2_syntax.specs.declared.data_tree.DataTree.TheVariants as variants
 use Rattle.mcrl2_syntax.specs.declared.data_tree.DataTree.TheFolds.{fold-roll-DataTree}
@@ -32,8 +34,8 @@ false_is s = ap bare_data (ap plain_data (sym (variants.rolls-False s)) ∙ fold
 pub list_is : (s : Span) (ts : Vec DataTree Global) → bare (variants.List s ts) ≡ listed (bare_datas (datas_of (map plain_data ts.items)))
 list_is s ts = ap bare_data (ap plain_data (sym (variants.rolls-List s ts)) ∙ fold-roll-DataTree PlainData plain_data_step _)
 
-pub apply_is : (s : Span) (w : Word) (ts : Vec DataTree Global) → bare (variants.Apply s w ts) ≡ word w.bytes.items (bare_datas (datas_of (map plain_data ts.items)))
-apply_is s w ts = ap bare_data (ap plain_data (sym (variants.rolls-Apply s w ts)) ∙ fold-roll-DataTree PlainData plain_data_step _)
+pub apply_is : (s : Span) (a : Box (Application DataTree)) → bare (variants.Apply s a) ≡ word a.value.name.bytes.items (bare_datas (datas_of (map plain_data a.value.arguments.items)))
+apply_is s a = ap bare_data (ap plain_data (sym (variants.rolls-Apply s a)) ∙ fold-roll-DataTree PlainData plain_data_step _)
 
 pub and_is : (s : Span) (ts : Vec DataTree Global) → bare (variants.And s ts) ≡ to_the_right (codes "&&") (datas_of (map plain_data ts.items))
 and_is s ts = ap bare_data (ap plain_data (sym (variants.rolls-And s ts)) ∙ fold-roll-DataTree PlainData plain_data_step _)
@@ -47,13 +49,13 @@ prefix_is s sign t = ap bare_data (ap plain_data (sym (variants.rolls-Prefix s s
 pub infix_is : (s : Span) (sign : InfixSign) (t u : Box DataTree) → bare (variants.Infix s sign t u) ≡ two (infix_text sign) (bare t.value) (bare u.value)
 infix_is s sign t u = ap bare_data (ap plain_data (sym (variants.rolls-Infix s sign t u)) ∙ fold-roll-DataTree PlainData plain_data_step _)
 
-pub sum_is : (s : Span) (t : Box DataTree) (os : Vec (InfixSign × DataTree) Global) → bare (variants.Sum s t os) ≡ to_the_left (bare t.value) (operands_of (plain_operands os.items))
-sum_is s t os = ap bare_data (ap plain_data (sym (variants.rolls-Sum s t os)) ∙ fold-roll-DataTree PlainData plain_data_step _)
+pub sum_is : (s : Span) (c : Box (Chain DataTree)) → bare (variants.Sum s c) ≡ to_the_left (bare c.value.first) (operands_of (plain_operands c.value.further.items))
+sum_is s c = ap bare_data (ap plain_data (sym (variants.rolls-Sum s c)) ∙ fold-roll-DataTree PlainData plain_data_step _)
 
-pub product_is : (s : Span) (t : Box DataTree) (os : Vec (InfixSign × DataTree) Global) → bare (variants.Product s t os) ≡ to_the_left (bare t.value) (operands_of (plain_operands os.items))
-product_is s t os = ap bare_data (ap plain_data (sym (variants.rolls-Product s t os)) ∙ fold-roll-DataTree PlainData plain_data_step _)
+pub product_is : (s : Span) (c : Box (Chain DataTree)) → bare (variants.Product s c) ≡ to_the_left (bare c.value.first) (operands_of (plain_operands c.value.further.items))
+product_is s c = ap bare_data (ap plain_data (sym (variants.rolls-Product s c)) ∙ fold-roll-DataTree PlainData plain_data_step _)
 
 -- a chain of `+` and `-`, or one of `*`, `div` and `mod`
-pub chain_is : (t : DataTree) (first : Box DataTree) (os : Vec (InfixSign × DataTree) Global) → ((s : Span) × (t ≡ variants.Sum s first os)) ⊎ ((s : Span) × (t ≡ variants.Product s first os)) → bare t ≡ to_the_left (bare first.value) (operands_of (plain_operands os.items))
-chain_is t first os (inl (s, e)) = ap bare e ∙ sum_is s first os
-chain_is t first os (inr (s, e)) = ap bare e ∙ product_is s first os
+pub chain_is : (t : DataTree) (c : Box (Chain DataTree)) → ((s : Span) × (t ≡ variants.Sum s c)) ⊎ ((s : Span) × (t ≡ variants.Product s c)) → bare t ≡ to_the_left (bare c.value.first) (operands_of (plain_operands c.value.further.items))
+chain_is t c (inl (s, e)) = ap bare e ∙ sum_is s c
+chain_is t c (inr (s, e)) = ap bare e ∙ product_is s c

@@ -215,9 +215,11 @@ pub fn read<'a>(
             let parts = read_all(alloc, context, nodes, words, elements.as_slice())?;
             add_list(nodes, parts)
         }
-        DataTree::Apply(_, name, arguments) => {
-            let parts = read_all(alloc, context, nodes, words, arguments.as_slice())?;
-            add_word(alloc, context, nodes, words, text_of(name), parts)
+        DataTree::Apply(_, application) => {
+            let word = text_of(&application.name);
+            let arguments = application.arguments.as_slice();
+            let parts = read_all(alloc, context, nodes, words, arguments)?;
+            add_word(alloc, context, nodes, words, word, parts)
         }
         DataTree::Brackets(_, inner) => read(alloc, context, nodes, words, inner),
         DataTree::Prefix(_, sign, inner) => {
@@ -231,9 +233,9 @@ pub fn read<'a>(
             let parts = Vec::from_array(alloc, [first, second])?;
             add_word(alloc, context, nodes, words, infix_text(*sign), parts)
         }
-        DataTree::Sum(_, first, operands) | DataTree::Product(_, first, operands) => {
-            let at = read(alloc, context, nodes, words, first)?;
-            read_chain(alloc, context, nodes, words, at, operands.as_slice())
+        DataTree::Sum(_, chain) | DataTree::Product(_, chain) => {
+            let at = read(alloc, context, nodes, words, &chain.first)?;
+            read_chain(alloc, context, nodes, words, at, chain.further.as_slice())
         }
         DataTree::And(_, operands) => {
             read_joined(alloc, context, nodes, words, "&&", operands.as_slice())

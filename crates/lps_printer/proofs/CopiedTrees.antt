@@ -1,5 +1,5 @@
 -- The tokens of trees in code.
-use Rattle.std.proofs.Common.{◌≡◌, ◌<◌, ◌≤◌, ◌+◌, ℕ, Bool, true, false, [], ◌∷◌, length, get_or, map, drop, refl, sym, ap, ◌∙◌, arith, eqb}
+use Rattle.std.proofs.Common.{◌≡◌, ◌<◌, ◌≤◌, ◌+◌, ℕ, Bool, true, false, [], ◌∷◌, length, get_or, map, drop, refl, sym, ap, ◌∙◌, ◌⊎◌, inl, inr, arith, eqb}
 use Rattle.std.proofs.Common as common
 use Rattle.std.specs.Prelude.{Vec, codes}
 use Rattle.std.specs.Global.{Global, Box}
@@ -9,6 +9,8 @@ use Rattle.mcrl2_lexer.specs.declared.kind.Kind.TheVariants as kind_
 use Rattle.mcrl2_syntax.specs.declared.word.Span.{Span}
 use Rattle.mcrl2_syntax.specs.declared.word.Word.{Word}
 use Rattle.mcrl2_syntax.specs.declared.data_tree.InfixSign.{InfixSign}
+use Rattle.mcrl2_syntax.specs.declared.data_tree.Application.{Application}
+use Rattle.mcrl2_syntax.specs.declared.data_tree.Chain.{Chain}
 use Rattle.mcrl2_syntax.specs.declared.data_tree.DataTree.{DataTree}
 use Rattle.mcrl2_syntax.specs.declared.data_tree.DataTree.TheVariants as variants
 use Rattle.mcrl2_syntax.specs.declared.data_tree.DataTree.TheFolds.{fold-roll-DataTree}
@@ -60,8 +62,8 @@ signed_tokens os rest = operands_tokens (operands_of (plain_operands os)) rest
 list_form : (s : Span) (ts : Vec DataTree Global) → plain_data (variants.List s ts) ≡ datas.listed s (datas_of (map plain_data ts.items))
 list_form s ts = ap plain_data (sym (variants.rolls-List s ts)) ∙ fold-roll-DataTree PlainData plain_data_step _
 
-apply_form : (s : Span) (w : Word) (ts : Vec DataTree Global) → plain_data (variants.Apply s w ts) ≡ datas.applied s (word_of w) (datas_of (map plain_data ts.items))
-apply_form s w ts = ap plain_data (sym (variants.rolls-Apply s w ts)) ∙ fold-roll-DataTree PlainData plain_data_step _
+apply_form : (s : Span) (a : Box (Application DataTree)) → plain_data (variants.Apply s a) ≡ datas.applied s (word_of a.value.name) (datas_of (map plain_data a.value.arguments.items))
+apply_form s a = ap plain_data (sym (variants.rolls-Apply s a)) ∙ fold-roll-DataTree PlainData plain_data_step _
 
 brackets_form : (s : Span) (t : Box DataTree) → plain_data (variants.Brackets s t) ≡ datas.brackets s (plain_data t.value)
 brackets_form s t = ap plain_data (sym (variants.rolls-Brackets s t)) ∙ fold-roll-DataTree PlainData plain_data_step _
@@ -69,22 +71,22 @@ brackets_form s t = ap plain_data (sym (variants.rolls-Brackets s t)) ∙ fold-r
 infix_form : (s : Span) (sign : InfixSign) (t u : Box DataTree) → plain_data (variants.Infix s sign t u) ≡ datas.binary s sign (plain_data t.value) (plain_data u.value)
 infix_form s sign t u = ap plain_data (sym (variants.rolls-Infix s sign t u)) ∙ fold-roll-DataTree PlainData plain_data_step _
 
-sum_form : (s : Span) (t : Box DataTree) (os : Vec (InfixSign × DataTree) Global) → plain_data (variants.Sum s t os) ≡ datas.sum_chain s (plain_data t.value) (operands_of (plain_operands os.items))
-sum_form s t os = ap plain_data (sym (variants.rolls-Sum s t os)) ∙ fold-roll-DataTree PlainData plain_data_step _
+sum_form : (s : Span) (c : Box (Chain DataTree)) → plain_data (variants.Sum s c) ≡ datas.sum_chain s (plain_data c.value.first) (operands_of (plain_operands c.value.further.items))
+sum_form s c = ap plain_data (sym (variants.rolls-Sum s c)) ∙ fold-roll-DataTree PlainData plain_data_step _
 
-product_form : (s : Span) (t : Box DataTree) (os : Vec (InfixSign × DataTree) Global) → plain_data (variants.Product s t os) ≡ datas.product_chain s (plain_data t.value) (operands_of (plain_operands os.items))
-product_form s t os = ap plain_data (sym (variants.rolls-Product s t os)) ∙ fold-roll-DataTree PlainData plain_data_step _
+product_form : (s : Span) (c : Box (Chain DataTree)) → plain_data (variants.Product s c) ≡ datas.product_chain s (plain_data c.value.first) (operands_of (plain_operands c.value.further.items))
+product_form s c = ap plain_data (sym (variants.rolls-Product s c)) ∙ fold-roll-DataTree PlainData plain_data_step _
 
 module _ {a b c d : common.List ℕ} {p q r s : Place} (x : DataTree) (span : Span) where
   pub list_added : (ts : Vec DataTree Global) (items : common.List DataTree) → items ≡ ts.items → x ≡ variants.List span ts → AddsTokens a p b q (λ rest. left_bracket ∷ rest) → AddsTokens b q c r (expressions_tokens comma items)
       → AddsTokens c r d s (λ rest. right_bracket ∷ rest) → AddsTokens a p d s (expression_tokens x)
   list_added ts items is e h k m = tokens_of data_tokens (ap plain_data e ∙ list_form span ts) (tokens_of (λ z rest. left_bracket ∷ expressions_tokens comma z (right_bracket ∷ rest)) (sym is) (tokens_both h (tokens_both k m)))
 
-  pub apply_added : {o : common.List ℕ} {v : Place} (name : Word) (ts : Vec DataTree Global) (bytes : common.List ℕ) (items : common.List DataTree) → bytes ≡ name.bytes.items → items ≡ ts.items → x ≡ variants.Apply span name ts
+  pub apply_added : {o : common.List ℕ} {v : Place} (application : Box (Application DataTree)) (bytes : common.List ℕ) (items : common.List DataTree) → bytes ≡ application.value.name.bytes.items → items ≡ application.value.arguments.items → x ≡ variants.Apply span application
       → AddsTokens o v a p (λ rest. token kind_.Identifier bytes ∷ rest) → AddsTokens a p b q (λ rest. left_paren ∷ rest) → AddsTokens b q c r (expressions_tokens comma items) → AddsTokens c r d s (λ rest. right_paren ∷ rest) → AddsTokens o v d s (expression_tokens x)
-  apply_added {o = o} {v = v} name ts bytes items is same e n h k m =
-      let front : AddsTokens o v a p (λ rest. token kind_.Identifier name.bytes.items ∷ rest) = tokens_of (λ z rest. token kind_.Identifier z ∷ rest) (sym is) n in
-      tokens_of data_tokens (ap plain_data e ∙ apply_form span name ts) (tokens_both front (tokens_of (λ z rest. left_paren ∷ expressions_tokens comma z (right_paren ∷ rest)) (sym same) (tokens_both h (tokens_both k m))))
+  apply_added {o = o} {v = v} application bytes items is same e n h k m =
+      let front : AddsTokens o v a p (λ rest. token kind_.Identifier application.value.name.bytes.items ∷ rest) = tokens_of (λ z rest. token kind_.Identifier z ∷ rest) (sym is) n in
+      tokens_of data_tokens (ap plain_data e ∙ apply_form span application) (tokens_both front (tokens_of (λ z rest. left_paren ∷ expressions_tokens comma z (right_paren ∷ rest)) (sym same) (tokens_both h (tokens_both k m))))
 
   pub brackets_added : (t : Box DataTree) (y : DataTree) → y ≡ t.value → x ≡ variants.Brackets span t → AddsTokens a p b q (λ rest. left_paren ∷ rest) → AddsTokens b q c r (expression_tokens y) → AddsTokens c r d s (λ rest. right_paren ∷ rest) → AddsTokens a p d s (expression_tokens x)
   brackets_added t y is e h k m = tokens_of data_tokens (ap plain_data e ∙ brackets_form span t) (tokens_of (λ z rest. left_paren ∷ expression_tokens z (right_paren ∷ rest)) (sym is) (tokens_both h (tokens_both k m)))
@@ -94,14 +96,11 @@ module _ {a b c d : common.List ℕ} {p q r s : Place} (x : DataTree) (span : Sp
   infix_added sign t u y z is same e h k m =
       tokens_of data_tokens (ap plain_data e ∙ infix_form span sign t u) (tokens_both (tokens_of expression_tokens (sym is) h) (tokens_both k (tokens_of expression_tokens (sym same) m)))
 
-module _ {a b d : common.List ℕ} {p q s : Place} (x : DataTree) (span : Span) where
-  pub sum_added : (t : Box DataTree) (os : Vec (InfixSign × DataTree) Global) (y : DataTree) (items : common.List (InfixSign × DataTree)) → y ≡ t.value → items ≡ os.items → x ≡ variants.Sum span t os → AddsTokens a p b q (expression_tokens y) → AddsTokens b q d s (signed_tokens items)
-      → AddsTokens a p d s (expression_tokens x)
-  sum_added t os y items is same e h k = tokens_of data_tokens (ap plain_data e ∙ sum_form span t os) (tokens_both (tokens_of expression_tokens (sym is) h) (tokens_of signed_tokens (sym same) k))
-
-  pub product_added : (t : Box DataTree) (os : Vec (InfixSign × DataTree) Global) (y : DataTree) (items : common.List (InfixSign × DataTree)) → y ≡ t.value → items ≡ os.items → x ≡ variants.Product span t os → AddsTokens a p b q (expression_tokens y) → AddsTokens b q d s (signed_tokens items)
-      → AddsTokens a p d s (expression_tokens x)
-  product_added t os y items is same e h k = tokens_of data_tokens (ap plain_data e ∙ product_form span t os) (tokens_both (tokens_of expression_tokens (sym is) h) (tokens_of signed_tokens (sym same) k))
+-- a chain of `+` and `-`, or one of `*`, `div` and `mod`
+pub chain_added : {a b d : common.List ℕ} {p q s : Place} (x : DataTree) (chain : Box (Chain DataTree)) (first : DataTree) (items : common.List (InfixSign × DataTree)) → first ≡ chain.value.first → items ≡ chain.value.further.items
+    → ((span : Span) × (x ≡ variants.Sum span chain)) ⊎ ((span : Span) × (x ≡ variants.Product span chain)) → AddsTokens a p b q (expression_tokens first) → AddsTokens b q d s (signed_tokens items) → AddsTokens a p d s (expression_tokens x)
+chain_added x chain first items is same (inl (span, e)) h k = tokens_of data_tokens (ap plain_data e ∙ sum_form span chain) (tokens_both (tokens_of expression_tokens (sym is) h) (tokens_of signed_tokens (sym same) k))
+chain_added x chain first items is same (inr (span, e)) h k = tokens_of data_tokens (ap plain_data e ∙ product_form span chain) (tokens_both (tokens_of expression_tokens (sym is) h) (tokens_of signed_tokens (sym same) k))
 
 -- ---- lists of expressions
 -- what is left of a list

@@ -105,10 +105,10 @@ impl CopiedText {
                 self.datas(Kind::Comma, b",", elements.as_slice())?;
                 self.token(Kind::RightBracket, b"]")
             }
-            DataTree::Apply(_, name, arguments) => {
-                self.token(Kind::Identifier, name.bytes.as_slice())?;
+            DataTree::Apply(_, application) => {
+                self.token(Kind::Identifier, application.name.bytes.as_slice())?;
                 self.token(Kind::LeftParen, b"(")?;
-                self.datas(Kind::Comma, b",", arguments.as_slice())?;
+                self.datas(Kind::Comma, b",", application.arguments.as_slice())?;
                 self.token(Kind::RightParen, b")")
             }
             DataTree::Brackets(_, inner) => {
@@ -125,13 +125,9 @@ impl CopiedText {
                 self.infix(*sign)?;
                 self.data(right)
             }
-            DataTree::Sum(_, first, operands) => {
-                self.data(first)?;
-                self.operands(operands.as_slice())
-            }
-            DataTree::Product(_, first, operands) => {
-                self.data(first)?;
-                self.operands(operands.as_slice())
+            DataTree::Sum(_, chain) | DataTree::Product(_, chain) => {
+                self.data(&chain.first)?;
+                self.operands(chain.further.as_slice())
             }
             DataTree::And(_, operands) => self.datas(Kind::AndAnd, b"&&", operands.as_slice()),
             DataTree::Or(_, operands) => self.datas(Kind::BarBar, b"||", operands.as_slice()),

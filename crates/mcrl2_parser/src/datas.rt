@@ -94,7 +94,8 @@ fn named<'a>(
     let (arguments, rest) = items(alloc, text, inner)?;
     let (close, rest) = expect(rest, Kind::RightParen)?;
     let span = token_span(name, close);
-    Ok((DataTree::apply_at(span, name_word, arguments), rest))
+    let tree = DataTree::apply_at(alloc, span, name_word, arguments)?;
+    Ok((tree, rest))
 }
 
 // The list that an opening bracket begins, and the rest.

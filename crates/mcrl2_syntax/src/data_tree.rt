@@ -61,7 +61,27 @@ pub enum InfixSign {
     At,
 }
 
+/// A name with arguments.
+#[derive(Debug, Drop)]
+pub struct Application<T: Drop> {
+    /// The name.
+    pub name: Word,
+    /// The arguments.
+    pub arguments: Vec<T>,
+}
+
+/// A first operand, and further ones, each behind a sign.
+#[derive(Debug, Drop)]
+pub struct Chain<T: Drop> {
+    /// The first operand.
+    pub first: T,
+    /// The further ones.
+    pub further: Vec<(InfixSign, T)>,
+}
+
 /// A data expression.
+///
+/// What takes more room than a word or a list stands in a box, so that each name of a long text takes little.
 #[derive(Debug, Drop)]
 pub enum DataTree {
     /// `x`
@@ -75,7 +95,7 @@ pub enum DataTree {
     /// `[d, e]`
     List(Span, Vec<DataTree>),
     /// `f(d, e)`
-    Apply(Span, Word, Vec<DataTree>),
+    Apply(Span, Box<Application<DataTree>>),
     /// `(d)`
     Brackets(Span, Box<DataTree>),
     /// `!d`
@@ -83,9 +103,9 @@ pub enum DataTree {
     /// `d == e`
     Infix(Span, InfixSign, Box<DataTree>, Box<DataTree>),
     /// `d + e - f`
-    Sum(Span, Box<DataTree>, Vec<(InfixSign, DataTree)>),
+    Sum(Span, Box<Chain<DataTree>>),
     /// `d * e . f`
-    Product(Span, Box<DataTree>, Vec<(InfixSign, DataTree)>),
+    Product(Span, Box<Chain<DataTree>>),
     /// `d && e`
     And(Span, Vec<DataTree>),
     /// `d || e`
@@ -129,10 +149,20 @@ impl DataTree {
     }
 
     /// A name with arguments.
-    pub fn apply_at(span: Span, name: Word, arguments: Vec<DataTree>) -> DataTree
-        ensures { plain_data result ≡ applied span (word_of name) (datas_of (map plain_data arguments.items)) }
+    ///
+    /// # Errors
+    ///
+    /// The application again, where no memory is left.
+    pub fn apply_at(
+        alloc: Global,
+        span: Span,
+        name: Word,
+        arguments: Vec<DataTree>,
+    ) -> Result<DataTree, AllocFailed<Application<DataTree>>>
+        ensures { IfOk result (λ tree. plain_data tree ≡ applied span (word_of name) (datas_of (map plain_data arguments.items))) }
     {
-        DataTree::Apply(span, name, arguments)
+        let application = Box::new(alloc, Application { name, arguments })?;
+        Ok(DataTree::Apply(span, application))
     }
 
     /// An expression in brackets.
@@ -180,12 +210,12 @@ impl DataTree {
         alloc: Global,
         span: Span,
         first: DataTree,
-        operands: Vec<(InfixSign, DataTree)>,
-    ) -> Result<DataTree, AllocFailed<DataTree>>
-        ensures { IfOk result (λ tree. plain_data tree ≡ sum_chain span (plain_data first) (operands_of (plain_operands operands.items))) }
+        further: Vec<(InfixSign, DataTree)>,
+    ) -> Result<DataTree, AllocFailed<Chain<DataTree>>>
+        ensures { IfOk result (λ tree. plain_data tree ≡ sum_chain span (plain_data first) (operands_of (plain_operands further.items))) }
     {
-        let first = Box::new(alloc, first)?;
-        Ok(DataTree::Sum(span, first, operands))
+        let chain = Box::new(alloc, Chain { first, further })?;
+        Ok(DataTree::Sum(span, chain))
     }
 
     /// A first operand, and further ones after `*` or `.`, from the left.
@@ -193,12 +223,12 @@ impl DataTree {
         alloc: Global,
         span: Span,
         first: DataTree,
-        operands: Vec<(InfixSign, DataTree)>,
-    ) -> Result<DataTree, AllocFailed<DataTree>>
-        ensures { IfOk result (λ tree. plain_data tree ≡ product_chain span (plain_data first) (operands_of (plain_operands operands.items))) }
+        further: Vec<(InfixSign, DataTree)>,
+    ) -> Result<DataTree, AllocFailed<Chain<DataTree>>>
+        ensures { IfOk result (λ tree. plain_data tree ≡ product_chain span (plain_data first) (operands_of (plain_operands further.items))) }
     {
-        let first = Box::new(alloc, first)?;
-        Ok(DataTree::Product(span, first, operands))
+        let chain = Box::new(alloc, Chain { first, further })?;
+        Ok(DataTree::Product(span, chain))
     }
 
     /// Operands of `&&`, to be read from the right.
@@ -225,12 +255,12 @@ impl DataTree {
             DataTree::True(span) => *span,
             DataTree::False(span) => *span,
             DataTree::List(span, _) => *span,
-            DataTree::Apply(span, _, _) => *span,
+            DataTree::Apply(span, _) => *span,
             DataTree::Brackets(span, _) => *span,
             DataTree::Prefix(span, _, _) => *span,
             DataTree::Infix(span, _, _, _) => *span,
-            DataTree::Sum(span, _, _) => *span,
-            DataTree::Product(span, _, _) => *span,
+            DataTree::Sum(span, _) => *span,
+            DataTree::Product(span, _) => *span,
             DataTree::And(span, _) => *span,
             DataTree::Or(span, _) => *span,
         }

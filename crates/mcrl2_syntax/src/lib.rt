@@ -15,7 +15,7 @@ mod word;
 mod word_bytes;
 
 pub use copying::is_first_copied;
-pub use data_tree::{DataTree, InfixSign, PrefixSign};
+pub use data_tree::{Application, Chain, DataTree, InfixSign, PrefixSign};
 pub use declaration::{Constructor, Decl, EquationTree, Field, Section, SectionWord, Spec};
 pub use laws::{
     data_are_single, declarations_are_single, labels_are_single, processes_are_single,

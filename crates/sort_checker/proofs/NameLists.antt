@@ -8,6 +8,7 @@ use Rattle.std.specs.Option.{option_or}
 use Rattle.std.proofs.lemmas.List.Folds.{find-append}
 use denote.Ref.{Bor}
 use Rattle.std.specs.List.{Contains, AllByRecursion, flat_map, list_any, list_all}
+use Rattle.mcrl2_syntax.specs.declared.data_tree.Chain.{Chain}
 use Rattle.mcrl2_syntax.specs.declared.data_tree.DataTree.{DataTree}
 use Rattle.mcrl2_syntax.specs.declared.data_tree.InfixSign.{InfixSign}
 use Rattle.mcrl2_syntax.specs.declared.word.Word.{Word}
@@ -210,8 +211,8 @@ first_among (x ∷ ws) w e = subst (λ (y : Word). Contains (of_words (x ∷ ws)
 pub infix_names : (span : Span) (sign : InfixSign) (left right : Box DataTree) → of_data (Infix span sign left right) ≡ of_data left.value ++ of_data right.value
 infix_names span sign left right = ap in_data (ap plain_data (sym (rolls-Infix span sign left right)) ∙ fold-roll-DataTree PlainData plain_data_step _)
 
-pub sum_names : (span : Span) (first : Box DataTree) (others : Vec (InfixSign × DataTree)) → of_data (Sum span first others) ≡ of_data first.value ++ of_operands others.items
-sum_names span first others = ap in_data (ap plain_data (sym (rolls-Sum span first others)) ∙ fold-roll-DataTree PlainData plain_data_step _)
+pub sum_names : (span : Span) (chain : Box (Chain DataTree)) → of_data (Sum span chain) ≡ of_data chain.value.first ++ of_operands chain.value.further.items
+sum_names span chain = ap in_data (ap plain_data (sym (rolls-Sum span chain)) ∙ fold-roll-DataTree PlainData plain_data_step _)
 
-pub product_names : (span : Span) (first : Box DataTree) (others : Vec (InfixSign × DataTree)) → of_data (Product span first others) ≡ of_data first.value ++ of_operands others.items
-product_names span first others = ap in_data (ap plain_data (sym (rolls-Product span first others)) ∙ fold-roll-DataTree PlainData plain_data_step _)
+pub product_names : (span : Span) (chain : Box (Chain DataTree)) → of_data (Product span chain) ≡ of_data chain.value.first ++ of_operands chain.value.further.items
+product_names span chain = ap in_data (ap plain_data (sym (rolls-Product span chain)) ∙ fold-roll-DataTree PlainData plain_data_step _)

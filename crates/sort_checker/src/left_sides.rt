@@ -101,10 +101,14 @@ fn lone_word<'a>(tree: &'a DataTree) -> Option<&'a [u8]>
         DataTree::Name(name) => Some(name.bytes.as_slice()),
         DataTree::True(_) => Some(b"true"),
         DataTree::False(_) => Some(b"false"),
-        DataTree::Apply(_, name, args) => lone_call(name.bytes.as_slice(), args.as_slice()),
+        DataTree::Apply(_, application) => {
+            let arguments = application.arguments.as_slice();
+            lone_call(application.name.bytes.as_slice(), arguments)
+        }
         DataTree::Brackets(_, inner) => lone_word(inner),
-        DataTree::Sum(_, first, others) => lone_first(first, others.as_slice()),
-        DataTree::Product(_, first, others) => lone_first(first, others.as_slice()),
+        DataTree::Sum(_, chain) | DataTree::Product(_, chain) => {
+            lone_first(&chain.first, chain.further.as_slice())
+        }
         DataTree::And(_, operands) => lone_operand(b"&&", operands.as_slice()),
         DataTree::Or(_, operands) => lone_operand(b"||", operands.as_slice()),
         DataTree::Numeral(_)

@@ -75,10 +75,10 @@ fn unknown_in_data<'a>(
         DataTree::List(_, parts) | DataTree::And(_, parts) | DataTree::Or(_, parts) => {
             unknown_in_datas(known, scope, parts.as_slice())
         }
-        DataTree::Apply(_, name, arguments) => {
-            match unknown_word(known, scope, name.bytes.as_slice()) {
+        DataTree::Apply(_, application) => {
+            match unknown_word(known, scope, application.name.bytes.as_slice()) {
                 Some(name) => Some(name),
-                None => unknown_in_datas(known, scope, arguments.as_slice()),
+                None => unknown_in_datas(known, scope, application.arguments.as_slice()),
             }
         }
         DataTree::Brackets(_, inner) => unknown_in_data(known, scope, inner),
@@ -87,13 +87,13 @@ fn unknown_in_data<'a>(
             Some(name) => Some(name),
             None => unknown_in_data(known, scope, right),
         },
-        DataTree::Sum(_, first, others) => match unknown_in_data(known, scope, first) {
+        DataTree::Sum(_, chain) => match unknown_in_data(known, scope, &chain.first) {
             Some(name) => Some(name),
-            None => unknown_in_operands(known, scope, others.as_slice()),
+            None => unknown_in_operands(known, scope, chain.further.as_slice()),
         },
-        DataTree::Product(_, first, others) => match unknown_in_data(known, scope, first) {
+        DataTree::Product(_, chain) => match unknown_in_data(known, scope, &chain.first) {
             Some(name) => Some(name),
-            None => unknown_in_operands(known, scope, others.as_slice()),
+            None => unknown_in_operands(known, scope, chain.further.as_slice()),
         },
     }
 }

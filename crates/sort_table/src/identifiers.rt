@@ -267,18 +267,18 @@ fn add_data<'a>(list: &mut Vec<&'a [u8]>, tree: &'a DataTree) -> Result<(), NoMe
         DataTree::List(_, parts) | DataTree::And(_, parts) | DataTree::Or(_, parts) => {
             add_datas(list, parts.as_slice())
         }
-        DataTree::Apply(_, name, parts) => {
-            list.push(name.bytes.as_slice())?;
-            add_datas(list, parts.as_slice())
+        DataTree::Apply(_, application) => {
+            list.push(application.name.bytes.as_slice())?;
+            add_datas(list, application.arguments.as_slice())
         }
         DataTree::Brackets(_, inner) | DataTree::Prefix(_, _, inner) => add_data(list, inner),
         DataTree::Infix(_, _, left, right) => {
             add_data(list, left)?;
             add_data(list, right)
         }
-        DataTree::Sum(_, first, others) | DataTree::Product(_, first, others) => {
-            add_data(list, first)?;
-            add_operands(list, others.as_slice())
+        DataTree::Sum(_, chain) | DataTree::Product(_, chain) => {
+            add_data(list, &chain.first)?;
+            add_operands(list, chain.further.as_slice())
         }
     }
 }

@@ -139,10 +139,10 @@ pub fn push_data(out: &mut Vec<u8>, tree: &DataTree) -> Result<(), AllocError> {
             push_items(out, items)?;
             out.extend_from_slice(b"]")
         }
-        DataTree::Apply(_, name, items) => {
-            push_word(out, name)?;
+        DataTree::Apply(_, application) => {
+            push_word(out, &application.name)?;
             out.push(b'(')?;
-            push_items(out, items)?;
+            push_items(out, &application.arguments)?;
             out.extend_from_slice(b")")
         }
         DataTree::Brackets(_, inner) => push_data(out, inner),
@@ -158,10 +158,10 @@ pub fn push_data(out: &mut Vec<u8>, tree: &DataTree) -> Result<(), AllocError> {
             push_data(out, right)?;
             out.extend_from_slice(b")")
         }
-        DataTree::Sum(_, first, operands) | DataTree::Product(_, first, operands) => {
-            push_copies(out, b'(', operands.len())?;
-            push_data(out, first)?;
-            push_operands(out, operands)
+        DataTree::Sum(_, chain) | DataTree::Product(_, chain) => {
+            push_copies(out, b'(', chain.further.len())?;
+            push_data(out, &chain.first)?;
+            push_operands(out, &chain.further)
         }
         DataTree::And(_, operands) => push_to_the_right(out, InfixSign::And, operands),
         DataTree::Or(_, operands) => push_to_the_right(out, InfixSign::Or, operands),

@@ -4,8 +4,10 @@ use Rattle.std.proofs.lemmas.Result.{IfOk-weaker}
 use Rattle.data_theory.specs.IdTerms.{symbol_under}
 use Rattle.mcrl2_lexer.specs.Words.{decimal}
 use Rattle.mcrl2_syntax.specs.declared.data_tree.InfixSign.{InfixSign}
+use Rattle.mcrl2_syntax.specs.declared.data_tree.Application.{Application}
+use Rattle.mcrl2_syntax.specs.declared.data_tree.Chain.{Chain}
 use Rattle.mcrl2_syntax.specs.declared.data_tree.DataTree.{DataTree}
-use Rattle.mcrl2_syntax.specs.declared.data_tree.DataTree.TheShapes.{weighed-DataTree-Sum-2-at-2}
+use Rattle.mcrl2_syntax.specs.declared.data_tree.DataTree.TheShapes.{weighed-DataTree-Sum-1-at-3}
 use Rattle.mcrl2_syntax.proofs.data_tree.DataTree.TheLaws.{the_size}
 use Rattle.mcrl2_syntax.specs.DataTrees.{plain_data, plain_operands, operands_of}
 use Rattle.sort_table.specs.NamedSorts.{sort_count}
@@ -23,7 +25,7 @@ pub read-add_list-requires-clause-below : goal.read-add_list-requires-clause-bel
 read-add_list-requires-clause-below t c = each_below (symbol_under c.args.context.now.sig.now) (meaning_in c.args.context.now.sig.now c.args.context.now.scope.now) c.read_all.new.nodes.items c.in_ok-parts-in-List.parts.items (bare_trees c.as_slice-in-List.result.now) c.in_ok-parts-in-List.ensures.stand
 
 pub read-add_word-requires-clause-below : goal.read-add_word-requires-clause-below
-read-add_word-requires-clause-below t c = each_below (symbol_under c.args.context.now.sig.now) (meaning_in c.args.context.now.sig.now c.args.context.now.scope.now) c.read_all-in-Apply.new.nodes.items c.in_ok-parts-in-Apply.parts.items (bare_trees c.as_slice-in-Apply.result.now) c.in_ok-parts-in-Apply.ensures.stand
+read-add_word-requires-clause-below t c = each_below (symbol_under c.args.context.now.sig.now) (meaning_in c.args.context.now.sig.now c.args.context.now.scope.now) c.read_all-in-Apply.new.nodes.items c.in_ok-parts-in-Apply.parts.items (bare_trees c.as_slice-arguments.result.now) c.in_ok-parts-in-Apply.ensures.stand
 
 pub read-returns-in-Numeral-clause-stands : goal.read-returns-in-Numeral-clause-stands
 read-returns-in-Numeral-clause-stands t c =
@@ -85,7 +87,7 @@ read_all-read-requires t c = (
 
 pub read_chain-read-requires : goal.read_chain-read-requires
 read_chain-read-requires t c = (
-  omega (arith, c.decreases, most_at (λ (o : InfixSign × DataTree). weighed-DataTree-Sum-2-at-2.weight DataTree the_size o) c.args.operands.now c.loop-operand.operand-index c.operand-item.result c.loop-operand-test.true c.operand-item.is),
+  omega (arith, c.decreases, most_at (λ (o : InfixSign × DataTree). weighed-DataTree-Sum-1-at-3.weight DataTree the_size o) c.args.operands.now c.loop-operand.operand-index c.operand-item.result c.loop-operand-test.true c.operand-item.is),
   (c.requires.context, (c.loop-operand.invariant.words, (c.loop-operand.invariant.grown.nodes, operand_at c.args.operands.now c.loop-operand.operand-index c.operand-item.result c.requires.trees c.loop-operand-test.true c.operand-item.is))),
 )
 
@@ -118,20 +120,21 @@ read-returns-in-False-clause-stands t c =
 
 pub read-returns-in_ok-parts-in-Apply-clause-stands : goal.read-returns-in_ok-parts-in-Apply-clause-stands
 read-returns-in_ok-parts-in-Apply-clause-stands t c =
-    read_by (symbol_under c.args.context.now.sig.now) (meaning_in c.args.context.now.sig.now c.args.context.now.scope.now) c.read_all-in-Apply.new.nodes.items c.add_word.new.nodes.items c.in_ok-parts-in-Apply.parts.items (bare_trees c.as_slice-in-Apply.result.now) c.in_ok-parts-in-Apply.ensures.stand
-    (λ ds. word c.text_of-in-Apply.result.now (expressions_of ds)) c.add_word.result c.add_word.ensures.stands (bare_data (plain_data c.args.tree.now))
-    (ap (λ n. word n (expressions_of (bare_trees c.as_slice-in-Apply.result.now))) c.text_of-in-Apply.ensures
-    ∙ ap (λ (ts : List DataTree). word c.in-Apply.name.bytes.items (expressions_of (bare_trees ts))) c.as_slice-in-Apply.ensures.value
-    ∙ ap (word c.in-Apply.name.bytes.items) (sym (datas_are c.in-Apply.arguments.items)) ∙ sym (ap (λ (u : DataTree). bare_data (plain_data u)) c.in-Apply.is ∙ apply_is c.in-Apply.field-0 c.in-Apply.name c.in-Apply.arguments))
+    read_by (symbol_under c.args.context.now.sig.now) (meaning_in c.args.context.now.sig.now c.args.context.now.scope.now) c.read_all-in-Apply.new.nodes.items c.add_word.new.nodes.items c.in_ok-parts-in-Apply.parts.items (bare_trees c.as_slice-arguments.result.now) c.in_ok-parts-in-Apply.ensures.stand
+    (λ ds. word c.text_of-word.result.now (expressions_of ds)) c.add_word.result c.add_word.ensures.stands (bare_data (plain_data c.args.tree.now))
+    (ap (λ n. word n (expressions_of (bare_trees c.as_slice-arguments.result.now))) c.text_of-word.ensures
+    ∙ ap (λ (a : Application DataTree). word a.name.bytes.items (expressions_of (bare_trees c.as_slice-arguments.result.now))) c.deref.ensures
+    ∙ ap (λ (ts : List DataTree). word c.in-Apply.application.value.name.bytes.items (expressions_of (bare_trees ts))) (c.as_slice-arguments.ensures.value ∙ ap (λ (a : Application DataTree). a.arguments.items) c.deref-in-Apply.ensures)
+    ∙ ap (word c.in-Apply.application.value.name.bytes.items) (sym (datas_are c.in-Apply.application.value.arguments.items)) ∙ sym (ap (λ (u : DataTree). bare_data (plain_data u)) c.in-Apply.is ∙ apply_is c.in-Apply.field-0 c.in-Apply.application))
 
 pub read-returns-in_ok-at-in-Sum-clause-stands : goal.read-returns-in_ok-at-in-Sum-clause-stands
 read-returns-in_ok-at-in-Sum-clause-stands t c =
     IfOk-weaker c.read_chain.result _ _
     (λ at k. subst (Stands (symbol_under c.args.context.now.sig.now) (meaning_in c.args.context.now.sig.now c.args.context.now.scope.now) c.read_chain.new.nodes.items at)
-    (ap (λ (os : List (InfixSign × DataTree)). to_the_left (bare_data (plain_data c.deref-in-Sum.result.now)) (operands_of (plain_operands os))) c.as_slice-in-Sum.ensures.value
-    ∙ ap (λ (u : DataTree). to_the_left (bare_data (plain_data u)) (operands_of (plain_operands c.in-Sum.operands.items))) c.deref-in-Sum.ensures
-    ∙ sym (chain_is c.args.tree.now c.in-Sum.first c.in-Sum.operands c.in-Sum.is))
-    (k (bare_data (plain_data c.deref-in-Sum.result.now)) c.in_ok-at-in-Sum.ensures.stands)) c.read_chain.ensures.stands
+    (ap (λ (os : List (InfixSign × DataTree)). to_the_left (bare_data (plain_data c.deref-in-Sum.result.now.first)) (operands_of (plain_operands os))) (c.as_slice-in-Sum.ensures.value ∙ ap (λ (x : Chain DataTree). x.further.items) c.deref-in-Sum-2.ensures)
+    ∙ ap (λ (x : Chain DataTree). to_the_left (bare_data (plain_data x.first)) (operands_of (plain_operands c.in-Sum.chain.value.further.items))) c.deref-in-Sum.ensures
+    ∙ sym (chain_is c.args.tree.now c.in-Sum.chain c.in-Sum.is))
+    (k (bare_data (plain_data c.deref-in-Sum.result.now.first)) c.in_ok-at-in-Sum.ensures.stands)) c.read_chain.ensures.stands
 
 pub read-returns-in-And-clause-stands : goal.read-returns-in-And-clause-stands
 read-returns-in-And-clause-stands t c =

@@ -114,11 +114,11 @@ named-returns-in_err-close-clause-only t c = λ d r u s.
 
 pub named-returns-clause-found : goal.named-returns-clause-found
 named-returns-clause-found t c =
-    by_apply c.apply_at.ensures c.token_span-span.ensures c.in_ok-name_word.ensures.found c.requires c.in-Ok.ensures.found.0 c.in-Ok.ensures.found.1 c.in_ok-arguments.ensures.found c.in_ok-close.ensures.found.0 c.in_ok-close.ensures.found.1
+    by_apply c.in_ok-tree.ensures c.token_span-span.ensures c.in_ok-name_word.ensures.found c.requires c.in-Ok.ensures.found.0 c.in-Ok.ensures.found.1 c.in_ok-arguments.ensures.found c.in_ok-close.ensures.found.0 c.in_ok-close.ensures.found.1
 
 pub named-returns-clause-only : goal.named-returns-clause-only
 named-returns-clause-only t c = λ d r u s.
-    apply_only c.apply_at.ensures c.token_span-span.ensures c.in_ok-name_word.ensures.found c.requires c.in-Ok.ensures.found.0 c.in-Ok.ensures.found.1 c.in_ok-arguments.ensures.only c.in_ok-close.ensures.found.0 d r u s
+    apply_only c.in_ok-tree.ensures c.token_span-span.ensures c.in_ok-name_word.ensures.found c.requires c.in-Ok.ensures.found.0 c.in-Ok.ensures.found.1 c.in_ok-arguments.ensures.only c.in_ok-close.ensures.found.0 d r u s
 
 pub prefixed-returns-in_err-inner-clause-only : goal.prefixed-returns-in_err-inner-clause-only
 prefixed-returns-in_err-inner-clause-only t c = λ d r u s. let p = err_from_is_err_and c.from_residual.result c.from_residual.ensures.1 in

@@ -1,4 +1,5 @@
 use Rattle.std.proofs.Common.{◌++◌, ap, sym, ◌∙◌}
+use Rattle.mcrl2_syntax.specs.declared.data_tree.Chain.{Chain}
 use Rattle.mcrl2_syntax.specs.declared.data_tree.DataTree.{DataTree}
 use Rattle.sort_table.proofs.Searches.{further, here}
 use Rattle.sort_checker.specs.UnknownTrees.{is_unknown_word, unknown_word}
@@ -36,26 +37,28 @@ unknown_in_data-returns-in-None-unknown_in_data t c =
 
 pub unknown_in_data-returns-in-Some-unknown_in_data-2 : goal.unknown_in_data-returns-in-Some-unknown_in_data-2
 unknown_in_data-returns-in-Some-unknown_in_data-2 t c =
-    found_front (unknown_word c.args.known.now c.args.scope.now (of_data c.deref-in-Sum.result.now)) (unknown_word c.args.known.now c.args.scope.now (of_operands c.in-Sum.others.items)) c.unknown_in_data-in-Sum.result c.in-Some-unknown_in_data-2.name c.unknown_in_data-in-Sum.ensures c.in-Some-unknown_in_data-2.is
-    ∙ sym (ap (unknown_word c.args.known.now c.args.scope.now) (ap of_data c.in-Sum.is ∙ (sum_names c.in-Sum.field-0 c.in-Sum.first c.in-Sum.others ∙ ap (λ (d : DataTree). of_data d ++ of_operands c.in-Sum.others.items) (sym c.deref-in-Sum.ensures)))
-    ∙ word_joined c.args.known.now c.args.scope.now (of_data c.deref-in-Sum.result.now) (of_operands c.in-Sum.others.items))
+    found_front (unknown_word c.args.known.now c.args.scope.now (of_data c.deref-in-Sum.result.now.first)) (unknown_word c.args.known.now c.args.scope.now (of_operands c.in-Sum.chain.value.further.items)) c.unknown_in_data-in-Sum.result c.in-Some-unknown_in_data-2.name c.unknown_in_data-in-Sum.ensures c.in-Some-unknown_in_data-2.is
+    ∙ sym (ap (unknown_word c.args.known.now c.args.scope.now) (ap of_data c.in-Sum.is ∙ (sum_names c.in-Sum.field-0 c.in-Sum.chain ∙ ap (λ (x : Chain DataTree). of_data x.first ++ of_operands c.in-Sum.chain.value.further.items) (sym c.deref-in-Sum.ensures)))
+    ∙ word_joined c.args.known.now c.args.scope.now (of_data c.deref-in-Sum.result.now.first) (of_operands c.in-Sum.chain.value.further.items))
 
 pub unknown_in_data-returns-in-None-unknown_in_data-2 : goal.unknown_in_data-returns-in-None-unknown_in_data-2
 unknown_in_data-returns-in-None-unknown_in_data-2 t c =
-    found_back (unknown_word c.args.known.now c.args.scope.now (of_data c.deref-in-Sum.result.now)) (unknown_word c.args.known.now c.args.scope.now (of_operands c.as_slice-in-None-unknown_in_data-2.result.now)) c.unknown_in_data-in-Sum.result c.unknown_in_operands.result c.unknown_in_data-in-Sum.ensures c.in-None-unknown_in_data-2.is
+    found_back (unknown_word c.args.known.now c.args.scope.now (of_data c.deref-in-Sum.result.now.first)) (unknown_word c.args.known.now c.args.scope.now (of_operands c.as_slice-in-None-unknown_in_data-2.result.now)) c.unknown_in_data-in-Sum.result c.unknown_in_operands.result c.unknown_in_data-in-Sum.ensures c.in-None-unknown_in_data-2.is
     c.unknown_in_operands.ensures
-    ∙ sym (ap (unknown_word c.args.known.now c.args.scope.now) (ap of_data c.in-Sum.is ∙ (sum_names c.in-Sum.field-0 c.in-Sum.first c.in-Sum.others ∙ (λ i. of_data (sym c.deref-in-Sum.ensures i) ++ of_operands (sym c.as_slice-in-None-unknown_in_data-2.ensures.value i))))
-    ∙ word_joined c.args.known.now c.args.scope.now (of_data c.deref-in-Sum.result.now) (of_operands c.as_slice-in-None-unknown_in_data-2.result.now))
+    ∙ sym (ap (unknown_word c.args.known.now c.args.scope.now) (ap of_data c.in-Sum.is ∙ (sum_names c.in-Sum.field-0 c.in-Sum.chain
+    ∙ (λ i. of_data (sym c.deref-in-Sum.ensures i).first ++ of_operands (sym (c.as_slice-in-None-unknown_in_data-2.ensures.value ∙ ap (λ (x : Chain DataTree). x.further.items) c.deref-in-None-unknown_in_data-2.ensures) i))))
+    ∙ word_joined c.args.known.now c.args.scope.now (of_data c.deref-in-Sum.result.now.first) (of_operands c.as_slice-in-None-unknown_in_data-2.result.now))
 
 pub unknown_in_data-returns-in-Some-unknown_in_data-3 : goal.unknown_in_data-returns-in-Some-unknown_in_data-3
 unknown_in_data-returns-in-Some-unknown_in_data-3 t c =
-    found_front (unknown_word c.args.known.now c.args.scope.now (of_data c.deref-in-Product.result.now)) (unknown_word c.args.known.now c.args.scope.now (of_operands c.in-Product.others.items)) c.unknown_in_data-in-Product.result c.in-Some-unknown_in_data-3.name c.unknown_in_data-in-Product.ensures c.in-Some-unknown_in_data-3.is
-    ∙ sym (ap (unknown_word c.args.known.now c.args.scope.now) (ap of_data c.in-Product.is ∙ (product_names c.in-Product.field-0 c.in-Product.first c.in-Product.others ∙ ap (λ (d : DataTree). of_data d ++ of_operands c.in-Product.others.items) (sym c.deref-in-Product.ensures)))
-    ∙ word_joined c.args.known.now c.args.scope.now (of_data c.deref-in-Product.result.now) (of_operands c.in-Product.others.items))
+    found_front (unknown_word c.args.known.now c.args.scope.now (of_data c.deref-in-Product.result.now.first)) (unknown_word c.args.known.now c.args.scope.now (of_operands c.in-Product.chain.value.further.items)) c.unknown_in_data-in-Product.result c.in-Some-unknown_in_data-3.name c.unknown_in_data-in-Product.ensures c.in-Some-unknown_in_data-3.is
+    ∙ sym (ap (unknown_word c.args.known.now c.args.scope.now) (ap of_data c.in-Product.is ∙ (product_names c.in-Product.field-0 c.in-Product.chain ∙ ap (λ (x : Chain DataTree). of_data x.first ++ of_operands c.in-Product.chain.value.further.items) (sym c.deref-in-Product.ensures)))
+    ∙ word_joined c.args.known.now c.args.scope.now (of_data c.deref-in-Product.result.now.first) (of_operands c.in-Product.chain.value.further.items))
 
 pub unknown_in_data-returns-in-None-unknown_in_data-3 : goal.unknown_in_data-returns-in-None-unknown_in_data-3
 unknown_in_data-returns-in-None-unknown_in_data-3 t c =
-    found_back (unknown_word c.args.known.now c.args.scope.now (of_data c.deref-in-Product.result.now)) (unknown_word c.args.known.now c.args.scope.now (of_operands c.as_slice-in-None-unknown_in_data-3.result.now)) c.unknown_in_data-in-Product.result c.unknown_in_operands-in-None-unknown_in_data-3.result c.unknown_in_data-in-Product.ensures c.in-None-unknown_in_data-3.is
+    found_back (unknown_word c.args.known.now c.args.scope.now (of_data c.deref-in-Product.result.now.first)) (unknown_word c.args.known.now c.args.scope.now (of_operands c.as_slice-in-None-unknown_in_data-3.result.now)) c.unknown_in_data-in-Product.result c.unknown_in_operands-in-None-unknown_in_data-3.result c.unknown_in_data-in-Product.ensures c.in-None-unknown_in_data-3.is
     c.unknown_in_operands-in-None-unknown_in_data-3.ensures
-    ∙ sym (ap (unknown_word c.args.known.now c.args.scope.now) (ap of_data c.in-Product.is ∙ (product_names c.in-Product.field-0 c.in-Product.first c.in-Product.others ∙ (λ i. of_data (sym c.deref-in-Product.ensures i) ++ of_operands (sym c.as_slice-in-None-unknown_in_data-3.ensures.value i))))
-    ∙ word_joined c.args.known.now c.args.scope.now (of_data c.deref-in-Product.result.now) (of_operands c.as_slice-in-None-unknown_in_data-3.result.now))
+    ∙ sym (ap (unknown_word c.args.known.now c.args.scope.now) (ap of_data c.in-Product.is ∙ (product_names c.in-Product.field-0 c.in-Product.chain
+    ∙ (λ i. of_data (sym c.deref-in-Product.ensures i).first ++ of_operands (sym (c.as_slice-in-None-unknown_in_data-3.ensures.value ∙ ap (λ (x : Chain DataTree). x.further.items) c.deref-in-None-unknown_in_data-3.ensures) i))))
+    ∙ word_joined c.args.known.now c.args.scope.now (of_data c.deref-in-Product.result.now.first) (of_operands c.as_slice-in-None-unknown_in_data-3.result.now))

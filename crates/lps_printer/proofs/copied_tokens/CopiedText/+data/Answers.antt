@@ -1,6 +1,10 @@
+use Rattle.std.proofs.Common.{ap, ◌∙◌}
 use Rattle.std.proofs.lemmas.Result.{on_ok_weaker}
+use Rattle.mcrl2_syntax.specs.declared.data_tree.Application.{Application}
+use Rattle.mcrl2_syntax.specs.declared.data_tree.Chain.{Chain}
+use Rattle.mcrl2_syntax.specs.declared.data_tree.DataTree.{DataTree}
 use Rattle.lps_printer.specs.TreeTokens.{token}
-use Rattle.lps_printer.proofs.CopiedTrees.{list_added, apply_added, brackets_added, infix_added, sum_added, product_added, expression_step, expression_end, operand_step, operand_end}
+use Rattle.lps_printer.proofs.CopiedTrees.{list_added, apply_added, brackets_added, infix_added, chain_added, expression_step, expression_end, operand_step, operand_end}
 use Rattle.lps_printer.proofs.copied_tokens.CopiedText.+data.Goals as goal
 
 pub data-returns-in_ok-datas-in-List : goal.data-returns-in_ok-datas-in-List
@@ -9,12 +13,12 @@ data-returns-in_ok-datas-in-List t c =
 
 pub data-returns-in_ok-datas-in-Apply : goal.data-returns-in_ok-datas-in-Apply
 data-returns-in_ok-datas-in-Apply t c =
-    on_ok_weaker c.token-in-Apply-3.result (λ p. apply_added c.args.tree.now c.in-Apply.field-0 c.in-Apply.name c.in-Apply.arguments c.as_slice-in-Apply.result.now c.as_slice-in-Apply-2.result.now c.as_slice-in-Apply.ensures.value c.as_slice-in-Apply-2.ensures.value c.in-Apply.is
-    c.in_ok-token-in-Apply.ensures c.in_ok-token-in-Apply-2.ensures c.in_ok-datas-in-Apply.ensures p) c.token-in-Apply-3.ensures
+    on_ok_weaker c.token-in-Apply-3.result (λ p. apply_added c.args.tree.now c.in-Apply.field-0 c.in-Apply.application c.as_slice-in-Apply.result.now c.as_slice-in-Apply-2.result.now (c.as_slice-in-Apply.ensures.value ∙ ap (λ (x : Application DataTree). x.name.bytes.items) c.deref.ensures)
+    (c.as_slice-in-Apply-2.ensures.value ∙ ap (λ (x : Application DataTree). x.arguments.items) c.deref-in-Apply.ensures) c.in-Apply.is c.in_ok-token-in-Apply.ensures c.in_ok-token-in-Apply-2.ensures c.in_ok-datas-in-Apply.ensures p) c.token-in-Apply-3.ensures
 
 pub data-returns-in_ok-data-in-Brackets : goal.data-returns-in_ok-data-in-Brackets
 data-returns-in_ok-data-in-Brackets t c =
-    on_ok_weaker c.token-in-Brackets-2.result (λ p. brackets_added c.args.tree.now c.in-Brackets.field-0 c.in-Brackets.inner c.deref.result.now c.deref.ensures c.in-Brackets.is c.in_ok-token-in-Brackets.ensures c.in_ok-data-in-Brackets.ensures p) c.token-in-Brackets-2.ensures
+    on_ok_weaker c.token-in-Brackets-2.result (λ p. brackets_added c.args.tree.now c.in-Brackets.field-0 c.in-Brackets.inner c.deref-in-Brackets.result.now c.deref-in-Brackets.ensures c.in-Brackets.is c.in_ok-token-in-Brackets.ensures c.in_ok-data-in-Brackets.ensures p) c.token-in-Brackets-2.ensures
 
 pub data-returns-in_ok-infix-in-Infix : goal.data-returns-in_ok-infix-in-Infix
 data-returns-in_ok-infix-in-Infix t c =
@@ -23,12 +27,8 @@ data-returns-in_ok-infix-in-Infix t c =
 
 pub data-returns-in_ok-data-in-Sum : goal.data-returns-in_ok-data-in-Sum
 data-returns-in_ok-data-in-Sum t c =
-    on_ok_weaker c.operands.result (λ p. sum_added c.args.tree.now c.in-Sum.field-0 c.in-Sum.first c.in-Sum.operands c.deref-in-Sum.result.now c.as_slice-in-Sum.result.now c.deref-in-Sum.ensures c.as_slice-in-Sum.ensures.value c.in-Sum.is c.in_ok-data-in-Sum.ensures p) c.operands.ensures
-
-pub data-returns-in_ok-data-in-Product : goal.data-returns-in_ok-data-in-Product
-data-returns-in_ok-data-in-Product t c =
-    on_ok_weaker c.operands-in-Product.result (λ p. product_added c.args.tree.now c.in-Product.field-0 c.in-Product.first c.in-Product.operands c.deref-in-Product.result.now c.as_slice-in-Product.result.now c.deref-in-Product.ensures c.as_slice-in-Product.ensures.value c.in-Product.is
-    c.in_ok-data-in-Product.ensures p) c.operands-in-Product.ensures
+    on_ok_weaker c.operands.result (λ p. chain_added c.args.tree.now c.in-Sum.chain c.deref-in-Sum.result.now.first c.as_slice-in-Sum.result.now (ap (λ (x : Chain DataTree). x.first) c.deref-in-Sum.ensures)
+    (c.as_slice-in-Sum.ensures.value ∙ ap (λ (x : Chain DataTree). x.further.items) c.deref-in-Sum-2.ensures) c.in-Sum.is c.in_ok-data-in-Sum.ensures p) c.operands.ensures
 
 pub datas-loop-tree-preserved : goal.datas-loop-tree-preserved
 datas-loop-tree-preserved t c = λ final next h.
