@@ -31,6 +31,7 @@ case "$1 ${2-}" in
 'linearise '*) cat -- "$2" 2> /dev/null || { echo 'read fault' >&2; exit 3; } ;;
 'replay '*) cat -- "$2" "${4:-${3#*=}}" 2> /dev/null || { echo 'read fault' >&2; exit 3; } ;;
 'stack '*) ulimit -S -s; ulimit -H -s ;;
+'pages '*) echo "${GLIBC_TUNABLES-unset}" ;;
 'refuse '*) head -n 1 -- "$2" >&2; exit 1 ;;
 'ask '*) read -r line; echo "got $line"; echo heard >&2; exit "$2" ;;
 'wait '*) echo "$$"; exec sleep 60 ;;
@@ -196,6 +197,14 @@ def stack(place):
     same(ran.stdout.split(), [str(32 << 10)] * 2)
     ran = place.run("stack", preexec_fn=limits(8 << 20, resource.RLIM_INFINITY))
     same(ran.stdout.split(), ["unlimited"] * 2)
+
+
+def large_pages(place):
+    place.example()
+    place.env.pop("GLIBC_TUNABLES", None)
+    same(place.run("pages").stdout.split(), ["glibc.malloc.hugetlb=1"])
+    for own in ("glibc.malloc.check=0", ""):
+        same(place.run("pages", env={"GLIBC_TUNABLES": own}).stdout.split(), own.split())
 
 
 def links(place):
@@ -505,6 +514,7 @@ TRIES = [
     streams,
     process,
     stack,
+    large_pages,
     links,
     sources,
     changed_meanwhile,

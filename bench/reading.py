@@ -2,16 +2,17 @@
 """How fast texts are read, beside `wc -w` on the same file, and refused, and how much stack deep ones take.
 
 Run it from the top of the repository, after a build: bench/reading.py [speed|refusals|brackets|names|stack|short] [PROGRAM WORD..]
-`speed` builds a program that reads a text up to its tree, by `lex` and `parse`, and prints one line for each text: its kind,
-size, the processor's seconds, bytes a second, peak memory in all and for each byte of the text, how many times the time of
-`wc -w` that was, and how many times that of the text of a quarter of its size. At last it names the kinds of 16 MiB that are
-above a bound: 25 times `wc -w`, 4.4 times the time of 4 MiB, 80 bytes a byte. `refusals` prints the same lines, without
-bounds, of the whole program, up to its refusal of the text. The peak
-is never less than that of this script, which starts the program. `brackets` prints how many times longer 16 MiB take with
-990 brackets around. `names` linearises systems of many actions, whose names collide in tables of std with their fixed seed,
-or don't: it builds a program that searches such names. `stack` prints for each kind of nesting the least `ulimit -s` that
-texts of some depths need, and how many bytes a level that is. `short` prints what the program says of texts that nest less
-than they seem to: none ends for want of memory. With no word all are printed. It is no part of the gate.
+Programs run as the launcher starts them, with memory in large pages. `speed` builds a program that reads a text up to its tree,
+by `lex` and `parse`, and prints one line for each text: its kind, size, the processor's seconds, bytes a second, peak memory in
+all and for each byte of the text, how many times the time of `wc -w` that was, and how many times that of the text of a quarter
+of its size. Each is run five times, in turn with `wc -w` and the other sizes, and the best time counts, since a machine that is
+shared is now faster, now slower. At last it names the kinds of 16 MiB that are above a bound: 25 times `wc -w`, 4.4 times the time
+of 4 MiB, 80 bytes a byte. `refusals` prints the same lines, without bounds, of the whole program, up to its refusal of the text.
+The peak is never less than that of this script, which starts the program. `brackets` prints how many times longer 16 MiB take with
+990 brackets around. `names` linearises systems of many actions, whose names collide in tables of std with their fixed seed, or
+don't: it builds a program that searches such names. `stack` prints for each kind of nesting the least `ulimit -s` that texts of
+some depths need, and how many bytes a level that is. `short` prints what the program says of texts that nest less than they seem
+to: none ends for want of memory. With no word all are printed. It is no part of the gate.
 """
 
 import os
@@ -156,10 +157,15 @@ fn main(rt: HostRuntime) -> io::Result<()> {
 """
 
 
+# What the launcher sets.
+LARGE_PAGES = {"GLIBC_TUNABLES": "glibc.malloc.hugetlb=1"}
+
+
 def run(words, path):
     """Runs a program over the file, as its last word and its input, with its output dropped; gives the processor's seconds and the peak memory in KiB."""
+    quiet = {"stdout": subprocess.DEVNULL, "stderr": subprocess.DEVNULL}
     with open(path) as text:
-        child = subprocess.Popen([*words, path], stdin=text, stdout=subprocess.DEVNULL, stderr=subprocess.DEVNULL)
+        child = subprocess.Popen([*words, path], stdin=text, env={**os.environ, **LARGE_PAGES}, **quiet)
         _, _, usage = os.wait4(child.pid, 0)
         child.returncode = 0
     return usage.ru_utime + usage.ru_stime, usage.ru_maxrss
@@ -178,15 +184,27 @@ def text_of(size, front, piece, behind):
     return (piece * (room // len(piece) + 1))[:size]
 
 
+def in_turns(commands, paths):
+    """The least seconds and the greatest memory of each command on each file."""
+    runs = {}
+    for _ in range(5):
+        for path in paths:
+            for name, words in commands.items():
+                runs.setdefault((name, path), []).append(run(words, path))
+    return {pair: (min(seconds for seconds, _ in each), max(memory for _, memory in each)) for pair, each in runs.items()}
+
+
 def figures(command, path):
     """Prints the figures of all kinds; gives what is above the bounds."""
     above = []
+    paths = {size: path.with_suffix(f".{size}") for size in (1, 4, 16)}
     for kind, pieces in KINDS.items():
+        for size, file in paths.items():
+            file.write_bytes(text_of(size * MIB, *pieces))
+        runs = in_turns({"reads": command, "counts": ["wc", "-w"]}, paths.values())
         before = None
-        for size in (1, 4, 16):
-            path.write_bytes(text_of(size * MIB, *pieces))
-            seconds, memory = best(command, path)
-            words, _ = best(["wc", "-w"], path)
+        for size, file in paths.items():
+            (seconds, memory), (words, _) = runs["reads", file], runs["counts", file]
             each = memory / 1024 / size
             times = seconds / words
             growth = seconds / before if before else 0.0
