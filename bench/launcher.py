@@ -202,7 +202,7 @@ def stack(place):
 def large_pages(place):
     place.example()
     place.env.pop("GLIBC_TUNABLES", None)
-    same(place.run("pages").stdout.split(), ["glibc.malloc.hugetlb=1"])
+    same(place.run("pages").stdout.split(), ["glibc.malloc.hugetlb=1:glibc.malloc.trim_threshold=4294967296"])
     for own in ("glibc.malloc.check=0", ""):
         same(place.run("pages", env={"GLIBC_TUNABLES": own}).stdout.split(), own.split())
 

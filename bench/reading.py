@@ -2,8 +2,8 @@
 """How fast texts are read, beside `wc -w` on the same file, and refused, and how much stack deep ones take.
 
 Run it from the top of the repository, after a build: bench/reading.py [speed|refusals|brackets|names|stack|short] [PROGRAM WORD..]
-Programs run as the launcher starts them, with memory in large pages. `speed` builds a program that reads a text up to its tree,
-by `lex` and `parse`, and prints one line for each text: its kind, size, the processor's seconds, bytes a second, peak memory in
+Programs run as the launcher starts them, with memory in large pages that is kept. `speed` builds a program that reads a text up to
+its tree, by `lex` and `parse`, and prints one line for each text: its kind, size, the processor's seconds, bytes a second, peak memory in
 all and for each byte of the text, how many times the time of `wc -w` that was, and how many times that of the text of a quarter
 of its size. Each is run five times, in turn with `wc -w` and the other sizes, and the best time counts, since a machine that is
 shared is now faster, now slower. At last it names the kinds of 16 MiB that are above a bound: 25 times `wc -w`, 4.4 times the time
@@ -158,14 +158,14 @@ fn main(rt: HostRuntime) -> io::Result<()> {
 
 
 # What the launcher sets.
-LARGE_PAGES = {"GLIBC_TUNABLES": "glibc.malloc.hugetlb=1"}
+AS_STARTED = {"GLIBC_TUNABLES": "glibc.malloc.hugetlb=1:glibc.malloc.trim_threshold=4294967296"}
 
 
 def run(words, path):
     """Runs a program over the file, as its last word and its input, with its output dropped; gives the processor's seconds and the peak memory in KiB."""
     quiet = {"stdout": subprocess.DEVNULL, "stderr": subprocess.DEVNULL}
     with open(path) as text:
-        child = subprocess.Popen([*words, path], stdin=text, env={**os.environ, **LARGE_PAGES}, **quiet)
+        child = subprocess.Popen([*words, path], stdin=text, env={**os.environ, **AS_STARTED}, **quiet)
         _, _, usage = os.wait4(child.pid, 0)
         child.returncode = 0
     return usage.ru_utime + usage.ru_stime, usage.ru_maxrss
