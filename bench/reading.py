@@ -3,9 +3,9 @@
 
 Run it from the top of the repository, after a build: bench/reading.py [speed|refusals|brackets|names|stack|short] [PROGRAM WORD..]
 Programs run as the launcher starts them, with memory in large pages that is kept. `speed` builds a program that reads a text up to
-its tree, by `lex` and `parse`, and prints one line for each text: its kind, size, the processor's seconds, bytes a second, peak memory in
-all and for each byte of the text, how many times the time of `wc -w` that was, and how many times that of the text of a quarter
-of its size. Each is run five times, in turn with `wc -w` and the other sizes, and the best time counts, since a machine that is
+its tree, by `lex` and `parse`, and prints one line for each text: its kind, size, the processor's seconds, bytes a second, peak
+memory in all and for each byte of the text, how many times the time of `wc -w` that was, and how many times that of the text of a
+quarter of its size. Each is run five times, in turn with `wc -w` and the other sizes, and the best time counts, since a machine that is
 shared is now faster, now slower. At last it names the kinds of 16 MiB that are above a bound: 25 times `wc -w`, 4.4 times the time
 of 4 MiB, 80 bytes a byte. `refusals` prints the same lines, without bounds, of the whole program, up to its refusal of the text.
 The peak is never less than that of this script, which starts the program. `brackets` prints how many times longer 16 MiB take with
