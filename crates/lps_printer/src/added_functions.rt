@@ -64,8 +64,8 @@ fn behind_declaration<'a>(funs: &'a [FunId], decl: &Decl) -> &'a [FunId]
 {
     match decl {
         Decl::Struct(_, _, constructors) => behind_constructors(funs, constructors.as_slice()),
-        Decl::Cons(_, names, _, _) => behind(funs, names.len()),
-        Decl::Map(_, names, _, _) => behind(funs, names.len()),
+        Decl::Cons(_, names, _, _) => behind(funs, names.as_slice().len()),
+        Decl::Map(_, names, _, _) => behind(funs, names.as_slice().len()),
         _ => funs,
     }
 }

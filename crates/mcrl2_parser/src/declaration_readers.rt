@@ -54,7 +54,7 @@ fn sort_names(alloc: Global, text: &[u8], tokens: &[Token]) -> Result<Decl, Faul
 {
     let (names, rest) = names(alloc, text, tokens, Kind::Comma)?;
     end(rest)?;
-    Ok(Decl::sorts_at(names_span(&names), names))
+    Ok(Decl::sorts_at(names_span(names.as_slice()), names))
 }
 
 // The name, and the sort that is given that name: that sort's tokens stand behind the `=`.
@@ -101,7 +101,7 @@ fn cons_declaration(alloc: Global, text: &[u8], tokens: &[Token]) -> Result<Decl
         → MatchResult result (λ x. plain_decl x ≡ d) (λ e. e ≡ Fault.NoMemory) }
 {
     let (names, domain, sort) = signature(alloc, text, tokens)?;
-    let span = joined_spans(names_span(&names), sort.span());
+    let span = joined_spans(names_span(names.as_slice()), sort.span());
     let tree = Decl::cons_at(alloc, span, names, domain, sort)?;
     Ok(tree)
 }
@@ -113,7 +113,7 @@ fn map_declaration(alloc: Global, text: &[u8], tokens: &[Token]) -> Result<Decl,
         → MatchResult result (λ x. plain_decl x ≡ d) (λ e. e ≡ Fault.NoMemory) }
 {
     let (names, domain, sort) = signature(alloc, text, tokens)?;
-    let span = joined_spans(names_span(&names), sort.span());
+    let span = joined_spans(names_span(names.as_slice()), sort.span());
     let tree = Decl::map_at(alloc, span, names, domain, sort)?;
     Ok(tree)
 }
@@ -140,16 +140,14 @@ fn eqn_declaration(alloc: Global, text: &[u8], tokens: &[Token]) -> Result<Decl,
         let (_, rest) = expect(rest, Kind::Equals)?;
         let right = whole_data(alloc, text, rest)?;
         let span = joined_spans(first.span(), right.span());
-        let tree = Decl::equation_at(alloc, span, None, first, right)?;
-        return Ok(tree);
+        return Ok(Decl::equation_at(span, None, first, right));
     };
     let (left, rest) = data(alloc, text, rest)?;
     let (_, rest) = expect(rest, Kind::Equals)?;
     let right = whole_data(alloc, text, rest)?;
     let span = joined_spans(first.span(), right.span());
     let condition = Box::new(alloc, first)?;
-    let tree = Decl::equation_at(alloc, span, Some(condition), left, right)?;
-    Ok(tree)
+    Ok(Decl::equation_at(span, Some(condition), left, right))
 }
 
 // The declaration of an `act` section.
@@ -161,11 +159,11 @@ fn act_declaration(alloc: Global, text: &[u8], tokens: &[Token]) -> Result<Decl,
     let (names, rest) = names(alloc, text, tokens, Kind::Comma)?;
     let Ok((_, rest)) = expect(rest, Kind::Colon) else {
         end(rest)?;
-        return Ok(Decl::act_at(names_span(&names), names, Vec::new(alloc)));
+        return Ok(Decl::act_at(names_span(names.as_slice()), names, Vec::new(alloc)));
     };
     let (domain, rest) = domain(alloc, text, rest)?;
     end(rest)?;
-    let span = joined_spans(names_span(&names), sorts_span(&domain));
+    let span = joined_spans(names_span(names.as_slice()), sorts_span(&domain));
     Ok(Decl::act_at(span, names, domain))
 }
 

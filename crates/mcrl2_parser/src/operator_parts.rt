@@ -34,7 +34,7 @@ impl Part for NameSet {
         tokens: &'a [Token],
     ) -> Result<(NameSet, &'a [Token]), Fault> {
         let (names, rest) = names(alloc, text, tokens, Kind::Bar)?;
-        Ok((NameSet::new(names_span(&names), names), rest))
+        Ok((NameSet::new(names_span(names.as_slice()), names), rest))
     }
 }
 
@@ -79,13 +79,13 @@ impl Part for CommRule {
         tokens: &'a [Token],
     ) -> Result<(CommRule, &'a [Token]), Fault> {
         let (names, behind) = names(alloc, text, tokens, Kind::Bar)?;
-        if names.len() < 2 {
+        if names.as_slice().len() < 2 {
             return Err(Fault::Syntax);
         }
         let (_, behind) = expect(behind, Kind::Arrow)?;
         let (outcome, rest) = expect(behind, Kind::Identifier)?;
         let outcome = word(alloc, text, outcome)?;
-        let span = joined_spans(names_span(&names), outcome.span);
+        let span = joined_spans(names_span(names.as_slice()), outcome.span);
         Ok((CommRule::new(span, names, outcome), rest))
     }
 }

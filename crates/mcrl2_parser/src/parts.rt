@@ -18,7 +18,8 @@ use crate::reading::sort;
 use crate::words::{Fault, expect, word};
 use mcrl2_lexer::{Kind, Token};
 use mcrl2_syntax::{
-    ActionTree, Assignment, LabelTree, ProcTree, Span, VarGroup, Word, joined_spans, token_span,
+    ActionTree, Assignment, LabelTree, ProcTree, Span, VarGroup, Word, WordList, joined_spans,
+    token_span,
 };
 use std::alloc::Global;
 
@@ -60,7 +61,7 @@ impl Part for VarGroup {
         let (names, behind) = names(alloc, text, tokens, Kind::Comma)?;
         let (_, behind) = expect(behind, Kind::Colon)?;
         let (sort, rest) = sort(alloc, text, behind)?;
-        let span = joined_spans(names_span(&names), sort.span());
+        let span = joined_spans(names_span(names.as_slice()), sort.span());
         Ok((VarGroup::new(span, names, sort), rest))
     }
 }
@@ -130,13 +131,18 @@ pub fn names<'a>(
     text: &[u8],
     tokens: &'a [Token],
     separator: Kind,
-) -> Result<(Vec<Word>, &'a [Token]), Fault>
+) -> Result<(WordList, &'a [Token]), Fault>
     ensures shorter { IfOk result (λ x. length x.1.now < length tokens.now) }
     ensures found { IfOk result (λ x. SpellsList (SpellsName text.now) separator (map word_of x.0.items) tokens.now x.1.now) }
     ensures only { (ws : List PlainWord) (r : List Token) → SpellsList (SpellsName text.now) separator ws tokens.now r → (Begins separator r → ⊥)
         → MatchResult result (λ x. (map word_of x.0.items ≡ ws) × (x.1.now ≡ r)) (λ e. e ≡ Fault.NoMemory) }
 {
-    list::<Word>(alloc, text, tokens, separator)
+    let (first, rest) = Word::read(alloc, text, tokens)?;
+    let Ok((_, behind)) = expect(rest, separator) else {
+        return Ok((WordList::lone(first), rest));
+    };
+    let (others, rest) = list::<Word>(alloc, text, behind, separator)?;
+    Ok((WordList::led(first, others)?, rest))
 }
 
 /// The variables with their sorts that a front of the tokens spells, and the rest.

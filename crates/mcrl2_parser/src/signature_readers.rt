@@ -14,7 +14,7 @@ use crate::parts::{names, vars};
 use crate::reading::sort;
 use crate::words::{Fault, end, expect};
 use mcrl2_lexer::{Kind, Token};
-use mcrl2_syntax::{SortTree, VarGroup, Word};
+use mcrl2_syntax::{SortTree, VarGroup, WordList};
 use std::alloc::Global;
 
 /// A sort expression.
@@ -82,7 +82,7 @@ pub fn signature(
     alloc: Global,
     text: &[u8],
     tokens: &[Token],
-) -> Result<(Vec<Word>, Vec<SortTree>, SortTree), Fault>
+) -> Result<(WordList, Vec<SortTree>, SortTree), Fault>
     ensures found { IfOk result (λ x. SpellsSignature text.now (map word_of x.0.items) (map plain_sort x.1.items) (plain_sort x.2) tokens.now) }
     ensures only { (ws : List PlainWord) (ss : List PlainSort) (s : PlainSort) → SpellsSignature text.now ws ss s tokens.now
         → MatchResult result (λ x. (map word_of x.0.items ≡ ws) × (map plain_sort x.1.items ≡ ss) × (plain_sort x.2 ≡ s)) (λ e. e ≡ Fault.NoMemory) }
@@ -92,7 +92,8 @@ pub fn signature(
     let (sorts, rest) = domain(alloc, text, rest)?;
     let Ok((_, rest)) = expect(rest, Kind::Arrow) else {
         end(rest)?;
-        return Ok((names, Vec::new(alloc), only_sort(sorts)?));
+        let sort = only_sort(sorts)?;
+        return Ok((names, Vec::new(alloc), sort));
     };
     let sort = whole_sort(alloc, text, rest)?;
     Ok((names, sorts, sort))

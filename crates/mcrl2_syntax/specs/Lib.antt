@@ -1,5 +1,7 @@
 pub mod ByteLists
 pub mod WordBytes
+pub mod ListedWords
+pub mod WordLists
 pub mod Words
 pub mod SortTrees
 pub mod DataTrees

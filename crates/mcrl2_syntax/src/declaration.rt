@@ -12,6 +12,7 @@ use crate::data_tree::DataTree;
 use crate::process_tree::{ProcTree, VarGroup};
 use crate::sort_tree::SortTree;
 use crate::word::{Span, Word};
+use crate::word_list::WordList;
 use std::alloc::{AllocFailed, Global};
 
 /// The word that begins a section.
@@ -87,25 +88,26 @@ pub struct EquationTree {
 
 /// A declaration, without the semicolon behind it.
 ///
-/// What has room for a whole expression, process term or sort stands in a box, so that each declaration of a long list takes little.
+/// Process terms and sorts stand in a box, so that each declaration of a long list takes little. An equation stands in none, and a
+/// name alone neither, so that a long list of them takes no memory but its own.
 #[derive(Debug, Drop)]
 pub enum Decl {
     /// `sort S, T;`
-    Sorts(Span, Vec<Word>),
+    Sorts(Span, WordList),
     /// `sort S = List(T);`
     Alias(Span, Word, Box<SortTree>),
     /// `sort S = struct c(p: T)?r | d;`
     Struct(Span, Word, Vec<Constructor>),
     /// `cons c, d: S # T -> U;`; without an arrow the domain is empty.
-    Cons(Span, Vec<Word>, Vec<SortTree>, Box<SortTree>),
+    Cons(Span, WordList, Vec<SortTree>, Box<SortTree>),
     /// `map f, g: S # T -> U;`; without an arrow the domain is empty.
-    Map(Span, Vec<Word>, Vec<SortTree>, Box<SortTree>),
+    Map(Span, WordList, Vec<SortTree>, Box<SortTree>),
     /// `var x, y: S, z: T;`
     Vars(Span, Vec<VarGroup>),
     /// `eqn c -> d = e;` or `eqn d = e;`
-    Equation(Span, Box<EquationTree>),
+    Equation(Span, EquationTree),
     /// `act a, b: S # T;`; without a colon the domain is empty.
-    Act(Span, Vec<Word>, Vec<SortTree>),
+    Act(Span, WordList, Vec<SortTree>),
     /// `proc P(x: S) = p;`
     Proc(Span, Word, Vec<VarGroup>, Box<ProcTree>),
     /// `init p;`
@@ -114,7 +116,7 @@ pub enum Decl {
 
 impl Decl {
     /// Names of sorts.
-    pub fn sorts_at(span: Span, names: Vec<Word>) -> Decl
+    pub fn sorts_at(span: Span, names: WordList) -> Decl
         ensures { plain_decl result ≡ sorts_decl span (map word_of names.items) }
     {
         Decl::Sorts(span, names)
@@ -152,7 +154,7 @@ impl Decl {
     pub fn cons_at(
         alloc: Global,
         span: Span,
-        names: Vec<Word>,
+        names: WordList,
         domain: Vec<SortTree>,
         sort: SortTree,
     ) -> Result<Decl, AllocFailed<SortTree>>
@@ -170,7 +172,7 @@ impl Decl {
     pub fn map_at(
         alloc: Global,
         span: Span,
-        names: Vec<Word>,
+        names: WordList,
         domain: Vec<SortTree>,
         sort: SortTree,
     ) -> Result<Decl, AllocFailed<SortTree>>
@@ -188,30 +190,24 @@ impl Decl {
     }
 
     /// An equation, with its condition.
-    ///
-    /// # Errors
-    ///
-    /// The equation again, where no memory is left.
     pub fn equation_at(
-        alloc: Global,
         span: Span,
         condition: Option<Box<DataTree>>,
         left: DataTree,
         right: DataTree,
-    ) -> Result<Decl, AllocFailed<EquationTree>>
-        ensures { IfOk result (λ tree. plain_decl tree ≡ equation_decl span (some_data condition) (plain_data left) (plain_data right)) }
+    ) -> Decl
+        ensures { plain_decl result ≡ equation_decl span (some_data condition) (plain_data left) (plain_data right) }
     {
         let equation = EquationTree {
             condition,
             left,
             right,
         };
-        let equation = Box::new(alloc, equation)?;
-        Ok(Decl::Equation(span, equation))
+        Decl::Equation(span, equation)
     }
 
     /// Actions.
-    pub fn act_at(span: Span, names: Vec<Word>, domain: Vec<SortTree>) -> Decl
+    pub fn act_at(span: Span, names: WordList, domain: Vec<SortTree>) -> Decl
         ensures { plain_decl result ≡ act_decl span (map word_of names.items) (map plain_sort domain.items) }
     {
         Decl::Act(span, names, domain)

@@ -13,6 +13,7 @@ mod signs;
 mod sort_tree;
 mod word;
 mod word_bytes;
+mod word_list;
 
 pub use copying::is_first_copied;
 pub use data_tree::{Application, Chain, DataTree, InfixSign, PrefixSign};
@@ -28,3 +29,4 @@ pub use signs::{infix_sign, prefix_sign, section_of_kind, sign_level};
 pub use sort_tree::SortTree;
 pub use word::{Span, Word, joined_spans, token_span};
 pub use word_bytes::WordBytes;
+pub use word_list::WordList;

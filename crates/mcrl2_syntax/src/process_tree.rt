@@ -10,6 +10,7 @@ ghost use Rattle.mcrl2_syntax.specs.ProcessTrees.{delta, acts, multi, call, with
 use crate::data_tree::DataTree;
 use crate::sort_tree::SortTree;
 use crate::word::{Span, Word};
+use crate::word_list::WordList;
 
 /// An action, or none.
 #[derive(Debug, Drop)]
@@ -72,12 +73,12 @@ pub struct NameSet {
     /// Where it stands.
     pub span: Span,
     /// The names.
-    pub names: Vec<Word>,
+    pub names: WordList,
 }
 
 impl NameSet {
     /// Names that act together, as `a|b`.
-    pub fn new(span: Span, names: Vec<Word>) -> NameSet
+    pub fn new(span: Span, names: WordList) -> NameSet
         ensures { name_set_of result ≡ record { span = span; names = map word_of names.items } }
     {
         NameSet { span, names }
@@ -110,14 +111,14 @@ pub struct CommRule {
     /// Where it stands.
     pub span: Span,
     /// The names.
-    pub names: Vec<Word>,
+    pub names: WordList,
     /// The name of the result.
     pub outcome: Word,
 }
 
 impl CommRule {
     /// Names that communicate, and their result, as `a|b -> c`.
-    pub fn new(span: Span, names: Vec<Word>, outcome: Word) -> CommRule
+    pub fn new(span: Span, names: WordList, outcome: Word) -> CommRule
         ensures { comm_rule_of result ≡ record { span = span; names = map word_of names.items; outcome = word_of outcome } }
     {
         CommRule {
@@ -134,14 +135,14 @@ pub struct VarGroup {
     /// Where it stands.
     pub span: Span,
     /// The names.
-    pub names: Vec<Word>,
+    pub names: WordList,
     /// The sort.
     pub sort: SortTree,
 }
 
 impl VarGroup {
     /// Variables of a sort, as `x, y: S`.
-    pub fn new(span: Span, names: Vec<Word>, sort: SortTree) -> VarGroup
+    pub fn new(span: Span, names: WordList, sort: SortTree) -> VarGroup
         ensures { var_group_of result ≡ record { span = span; names = map word_of names.items; sort = plain_sort sort } }
     {
         VarGroup { span, names, sort }

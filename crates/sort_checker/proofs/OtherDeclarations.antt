@@ -27,7 +27,7 @@ no_variables (decl.Act span ns ss) h = refl
 no_variables (decl.Proc span n gs p) h = refl
 no_variables (decl.Init span p) h = refl
 
-pub no_equation : (xs : Variables) (d : Decl) → ((span : Span) (e : Box EquationTree) → d ≡ decl.Equation span e → ⊥) → equation_under xs (declaration_of d) ≡ []
+pub no_equation : (xs : Variables) (d : Decl) → ((span : Span) (e : EquationTree) → d ≡ decl.Equation span e → ⊥) → equation_under xs (declaration_of d) ≡ []
 no_equation xs (decl.Sorts span ns) h = refl
 no_equation xs (decl.Alias span n s) h = refl
 no_equation xs (decl.Struct span n cs) h = refl

@@ -92,7 +92,7 @@ fn enter_group(
     ensures ready { OnOk result (IsReady sig.new pool.now tables.new scope.new) }
     ensures bound { OnOk result (EnterBehind sig.old scope.old variables.old.items (bare_group (var_group_of group.now)) sig.new scope.new variables.new.items) }
 {
-    if group.names.is_empty() {
+    if group.names.as_slice().is_empty() {
         return Ok(());
     }
     let sort = sort_number(sig, &group.sort)?;

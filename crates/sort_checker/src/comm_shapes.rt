@@ -203,7 +203,7 @@ fn rule_fits<'a>(sig: &'a Signature, table: &ActionTable<'a>, rule: &'a CommRule
     requires { GroupsActions sig.now sig.now.actions table.now.groups }
     ensures { result ≡ rule_fits (vocabulary_of sig.now) (rule_at rule.now) }
 {
-    match rule.names.first() {
+    match rule.names.as_slice().first() {
         Some(first) => fits_with(sig, table, rule, first.bytes.as_slice()),
         None => fits_everywhere(sig, table, rule),
     }
@@ -257,7 +257,7 @@ fn fits_at<'a>(
     requires sorts { All (λ s. s.0 < length sig.now.sorts) sorts.now }
     ensures { result ≡ rule_fits_at (vocabulary_of sig.now) (rule_at rule.now) (map (sort_under sig.now) sorts.now) }
 {
-    for name in &rule.names {
+    for name in rule.names.as_slice() {
         if !has_action(sig, table, name.bytes.as_slice(), sorts) {
             return true;
         }

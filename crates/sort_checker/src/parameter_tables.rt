@@ -155,7 +155,7 @@ fn add_group(
     let Some(sort) = sort_of(sig, tables, &group.sort)? else {
         return Ok(());
     };
-    for word in &group.names {
+    for word in group.names.as_slice() {
         let name = name_number(sig, word.bytes.as_slice());
         list.push(Parameter { name, sort })?;
     }

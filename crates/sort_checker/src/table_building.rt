@@ -43,7 +43,7 @@ fn add_group<'a>(
     let Some(sort) = sort_of(sig, tables, &group.sort)? else {
         return Ok(());
     };
-    for word in &group.names {
+    for word in group.names.as_slice() {
         let name = word.bytes.as_slice();
         let number = name_number(sig, name);
         list.push(Parameter { name, number, sort })?;

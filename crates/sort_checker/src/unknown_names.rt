@@ -340,7 +340,7 @@ fn leave_groups<'a>(scope: &mut ScopeNames<'a>, groups: &'a [VarGroup])
     ensures { scope.new ≡ take (length scope.old - length (names_of_groups groups.now)) scope.old }
 {
     for group in groups {
-        scope.leave(group.names.len());
+        scope.leave(group.names.as_slice().len());
     }
 }
 

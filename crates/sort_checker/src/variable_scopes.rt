@@ -141,7 +141,7 @@ fn leave_groups(scope: &mut VariableScope, groups: &[VarGroup])
     ensures { (g : Sig) (xs : Variables) → HasInScope g xs scope.old → HasInScope g (without (bare_variables (map var_group_of groups.now)) xs) scope.new }
 {
     for group in groups {
-        scope.leave(group.names.len());
+        scope.leave(group.names.as_slice().len());
     }
 }
 

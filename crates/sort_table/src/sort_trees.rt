@@ -111,7 +111,7 @@ fn add_constructors<'a>(
 fn add_group<'a>(list: &mut Vec<&'a SortTree>, group: &'a VarGroup) -> Result<(), NoMemory>
     ensures { OnOk result (expressions_of list.new.items ≡ expressions_of list.old.items ++ sorts_of_variables (bare_group (var_group_of group.now))) }
 {
-    for _name in &group.names {
+    for _name in group.names.as_slice() {
         list.push(&group.sort)?;
     }
     Ok(())

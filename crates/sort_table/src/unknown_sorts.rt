@@ -163,7 +163,7 @@ fn unknown_in_constructors<'a>(
 fn unknown_in_group<'a>(index: &SortIndex<'a>, group: &'a VarGroup) -> Option<&'a [u8]>
     ensures { option_map (λ name. name.now) result ≡ unknown_among (kinds_of_index index.now) (names_of_group group.now) }
 {
-    if group.names.is_empty() {
+    if group.names.as_slice().is_empty() {
         return None;
     }
     unknown_in_sort(index, &group.sort)

@@ -9,7 +9,7 @@ pub fn push_variables(out: &mut Vec<u8>, groups: &[VarGroup]) -> Result<(), Allo
     let mut front: &[u8] = b"";
     for group in groups {
         out.extend_from_slice(front)?;
-        push_names(out, &group.names, b", ")?;
+        push_names(out, group.names.as_slice(), b", ")?;
         out.extend_from_slice(b": ")?;
         push_sort(out, &group.sort)?;
         front = b", ";
@@ -62,7 +62,7 @@ fn push_sets(out: &mut Vec<u8>, sets: &[NameSet]) -> Result<(), AllocError> {
     let mut front: &[u8] = b"";
     for set in sets {
         out.extend_from_slice(front)?;
-        push_names(out, &set.names, b"|")?;
+        push_names(out, set.names.as_slice(), b"|")?;
         front = b", ";
     }
     Ok(())
@@ -86,7 +86,7 @@ fn push_rules(out: &mut Vec<u8>, rules: &[CommRule]) -> Result<(), AllocError> {
     let mut front: &[u8] = b"";
     for rule in rules {
         out.extend_from_slice(front)?;
-        push_names(out, &rule.names, b"|")?;
+        push_names(out, rule.names.as_slice(), b"|")?;
         out.extend_from_slice(b" -> ")?;
         push_word(out, &rule.outcome)?;
         front = b", ";

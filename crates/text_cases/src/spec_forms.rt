@@ -96,7 +96,7 @@ fn push_equation(out: &mut Vec<u8>, equation: &EquationTree) -> Result<(), Alloc
 /// A declaration.
 fn push_declaration(out: &mut Vec<u8>, tree: &Decl) -> Result<(), AllocError> {
     match tree {
-        Decl::Sorts(_, names) => push_names(out, names, b", "),
+        Decl::Sorts(_, names) => push_names(out, names.as_slice(), b", "),
         Decl::Alias(_, name, sort) => {
             push_word(out, name)?;
             out.extend_from_slice(b" = ")?;
@@ -107,12 +107,12 @@ fn push_declaration(out: &mut Vec<u8>, tree: &Decl) -> Result<(), AllocError> {
             push_constructors(out, constructors)
         }
         Decl::Cons(_, names, domain, sort) | Decl::Map(_, names, domain, sort) => {
-            push_functions(out, names, domain, sort)
+            push_functions(out, names.as_slice(), domain, sort)
         }
         Decl::Vars(_, groups) => push_variables(out, groups),
         Decl::Equation(_, equation) => push_equation(out, equation),
         Decl::Act(_, names, domain) => {
-            push_names(out, names, b", ")?;
+            push_names(out, names.as_slice(), b", ")?;
             push_domain(out, b": ", domain)
         }
         Decl::Proc(_, name, parameters, body) => {

@@ -33,11 +33,11 @@ pub enter_words-requires-clause-ready : goal.enter_words-requires-clause-ready
 enter_words-requires-clause-ready c = ready_with_lists c.args.sig.now c.args.pool.now c.args.tables.now c.args.scope.now c.sort_number.new.sig c.go_on.new.tables c.requires.ready c.sort_number.ensures.added c.in_ok-go_on.ensures
 
 pub enter_words-requires-clause-names : goal.enter_words-requires-clause-names
-enter_words-requires-clause-names c = subst (λ ws. AreNames (map word_of ws)) (sym c.as_slice.ensures.value) c.requires.group.0
+enter_words-requires-clause-names c = subst (λ ws. AreNames (map word_of ws)) (sym c.as_slice-2.ensures.value) c.requires.group.0
 
 pub enter_words-requires-clause-there : goal.enter_words-requires-clause-there
 enter_words-requires-clause-there c =
-    subst (λ ws. StandIn c.sort_number.new.sig (bare_names (map word_of ws))) (sym c.as_slice.ensures.value)
+    subst (λ ws. StandIn c.sort_number.new.sig (bare_names (map word_of ws))) (sym c.as_slice-2.ensures.value)
     (stand_still c.args.sig.now c.requires.ready.signature c.args.pool.now c.sort_number.new.sig (lists_alone c.args.sig.now c.args.pool.now c.sort_number.new.sig c.sort_number.ensures.added) (bare_names (map word_of c.args.group.now.names.items))
     (words_stand c.args.sig.now (bare_sort (plain_sort c.args.group.now.sort)) c.args.group.now.names.items c.requires.there))
 
@@ -57,6 +57,6 @@ returns-clause-bound c =
     on_ok_weaker c.enter_words.result
     (λ bound.
     enter_before c.args.sig.now c.requires.ready.signature c.args.pool.now c.sort_number.new.sig on c.enter_words.new.sig c.args.scope.now c.enter_words.new.scope c.args.variables.now.items c.enter_words.new.variables.items (words_at e c.args.group.now.names.items)
-    (subst (λ ws. EnterBehind c.sort_number.new.sig c.args.scope.now c.args.variables.now.items (words_at e ws) c.enter_words.new.sig c.enter_words.new.scope c.enter_words.new.variables.items) c.as_slice.ensures.value
+    (subst (λ ws. EnterBehind c.sort_number.new.sig c.args.scope.now c.args.variables.now.items (words_at e ws) c.enter_words.new.sig c.enter_words.new.scope c.enter_words.new.variables.items) c.as_slice-2.ensures.value
     (bound e (sorts_still c.args.sig.now c.requires.ready.signature c.args.pool.now c.sort_number.new.sig on e ∙ c.in_ok-sort.ensures.means))))
     c.enter_words.ensures.bound

@@ -12,5 +12,5 @@ use Rattle.sort_checker.proofs.comm_shapes.rule_fits.Goals as goal
 pub returns-in-Some : goal.returns-in-Some
 returns-in-Some c =
     c.fits_with.ensures
-    ∙ fits_by_name (vocabulary_of c.args.sig.now) (rule_at c.args.rule.now) c.as_slice.result.now
-    (subst (λ (n : Name). Contains (of_words c.args.rule.now.names.items) n) (sym c.as_slice.ensures.value) (first_among c.args.rule.now.names.items c.in-Some.first.now (c.in-Some.ensures.value ∙ ap (λ (ws : List Word). slice_get ws 0) c.deref.ensures.value)))
+    ∙ fits_by_name (vocabulary_of c.args.sig.now) (rule_at c.args.rule.now) c.as_slice-in-Some.result.now
+    (subst (λ (n : Name). Contains (of_words c.args.rule.now.names.items) n) (sym c.as_slice-in-Some.ensures.value) (first_among c.args.rule.now.names.items c.in-Some.first.now (c.in-Some.ensures.value ∙ ap (λ (ws : List Word). slice_get ws 0) c.as_slice.ensures.value)))

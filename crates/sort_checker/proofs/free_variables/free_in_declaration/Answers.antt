@@ -1,7 +1,6 @@
 use Rattle.std.proofs.Common.{List, map, sym, ap, ◌∙◌, subst}
 use Rattle.std.specs.List.{Contains, flat_map}
 use Rattle.mcrl2_syntax.specs.declared.declaration.Decl.{Decl}
-use Rattle.mcrl2_syntax.specs.declared.declaration.EquationTree.{EquationTree}
 use Rattle.mcrl2_syntax.specs.declared.process_tree.ProcTree.{ProcTree}
 use Rattle.mcrl2_syntax.specs.declared.process_tree.VarGroup.{VarGroup}
 use Rattle.mcrl2_syntax.specs.Declarations.{plain_decl}
@@ -10,9 +9,7 @@ use Rattle.mcrl2_syntax.specs.ProcessTrees.{plain_process}
 use Rattle.mcrl2_syntax.proofs.Lists.{all_front, all_back}
 use Rattle.sort_table.specs.DeclarationTrees.{declaration_of}
 use Rattle.sort_table.specs.Identifiers.{in_group, in_process}
-use Rattle.sort_checker.specs.Faults.{free_variable}
-use Rattle.sort_checker.specs.FreeTrees.{equation_part, free_in}
-use Rattle.sort_checker.specs.Parts.{scoped}
+use Rattle.sort_checker.specs.FreeTrees.{free_in}
 use Rattle.sort_checker.specs.ReadyTrees.{AreReadyGroups, AreReadyLeaves, IsReadyDeclaration, leaves_in}
 use Rattle.sort_checker.proofs.Firsts.{or_none, ok_then}
 use Rattle.sort_checker.proofs.ReadyLeaves.{groups_ready, process_ready}
@@ -31,7 +28,7 @@ free_in_process-requires-clause-process c =
     let texts = c.args.context.now.sig.now.texts in
     let ready = subst (λ (d : Decl). IsReadyDeclaration texts (plain_decl d)) c.in-Proc.is c.requires.ready in
     let gs = map var_group_of c.in-Proc.groups.items in
-    subst (λ (p : ProcTree). AreReadyLeaves texts (leaves_in (plain_process p))) (sym c.deref-in-Proc.ensures)
+    subst (λ (p : ProcTree). AreReadyLeaves texts (leaves_in (plain_process p))) (sym c.deref.ensures)
     (process_ready texts (plain_process c.in-Proc.process.value) ready.0.2 (all_back (Contains texts) (flat_map in_group gs) (in_process (plain_process c.in-Proc.process.value)) ready.1.1))
 
 pub free_in_process-requires-in-Init-clause-process : goal.free_in_process-requires-in-Init-clause-process
@@ -45,4 +42,4 @@ returns-in-Equation c =
     ok_then c.free_in_equation.result c.free_in_equation.ensures
     (λ found h v xs over has names.
     h v xs has names
-    ∙ (ap (λ (q : EquationTree). free_variable v (scoped xs (equation_part q))) c.deref.ensures ∙ (sym (or_none _) ∙ ap (λ (d : Decl). free_in v (record { variables = xs; declaration = declaration_of d })) (sym c.in-Equation.is))))
+    ∙ (sym (or_none _) ∙ ap (λ (d : Decl). free_in v (record { variables = xs; declaration = declaration_of d })) (sym c.in-Equation.is)))

@@ -32,12 +32,12 @@ returns-in_default-clause-means c =
 pub name_number-number-requires-clause-text : goal.name_number-number-requires-clause-text
 name_number-number-requires-clause-text c =
     subst IsUtf8 (sym c.as_slice-name.ensures.value)
-    (identifier_is_text (holds_at word_of IsName c.deref-word-items.result.now (subst (λ (ws : List Word). AreNames (map word_of ws)) (sym c.deref-word-items.ensures.value) c.requires.ready.0.0) c.loop-word.word-index c.word-item.result c.loop-word-test.true c.word-item.is))
+    (identifier_is_text (holds_at word_of IsName c.as_slice-word-items.result.now (subst (λ (ws : List Word). AreNames (map word_of ws)) (sym c.as_slice-word-items.ensures.value) c.requires.ready.0.0) c.loop-word.word-index c.word-item.result c.loop-word-test.true c.word-item.is))
 
 pub name_number-number-requires-clause-there : goal.name_number-number-requires-clause-there
 name_number-number-requires-clause-there c =
     subst (Contains c.args.sig.now.texts) (sym c.as_slice-name.ensures.value)
-    (holds_at word_of (λ (w : PlainWord). Contains c.args.sig.now.texts w.bytes) c.deref-word-items.result.now (subst (λ (ws : List Word). AllByRecursion (λ (w : PlainWord). Contains c.args.sig.now.texts w.bytes) (map word_of ws)) (sym c.deref-word-items.ensures.value) c.requires.ready.1)
+    (holds_at word_of (λ (w : PlainWord). Contains c.args.sig.now.texts w.bytes) c.as_slice-word-items.result.now (subst (λ (ws : List Word). AllByRecursion (λ (w : PlainWord). Contains c.args.sig.now.texts w.bytes) (map word_of ws)) (sym c.as_slice-word-items.ensures.value) c.requires.ready.1)
     c.loop-word.word-index c.word-item.result c.loop-word-test.true c.word-item.is)
 
 pub loop-word-preserved : goal.loop-word-preserved
@@ -45,7 +45,7 @@ loop-word-preserved c =
     let p : Parameter = record { name = c.as_slice-name.result; number = c.name_number-number.result; sort = c.in-Some.sort } in
     let s : Sort = flat_sort c.in-Some.sort in
     record {
-      means = appended_more (sorted_words s) (λ (w : Word). (w.bytes.items, s) ∷ []) (sorted_words_listed s) (map parameter_of c.args.list.now.items) (map parameter_of c.loop-word.list.items) (map parameter_of c.push.new.self.items) c.deref-word-items.result.now c.loop-word.word-index c.word-item.result
+      means = appended_more (sorted_words s) (λ (w : Word). (w.bytes.items, s) ∷ []) (sorted_words_listed s) (map parameter_of c.args.list.now.items) (map parameter_of c.loop-word.list.items) (map parameter_of c.push.new.self.items) c.as_slice-word-items.result.now c.loop-word.word-index c.word-item.result
           c.loop-word-test.true c.word-item.is c.loop-word.invariant.means
           (ap (map parameter_of) c.in_ok-push.ensures.items ∙ (map-append parameter_of c.loop-word.list.items (p ∷ [])
           ∙ ap (λ (n : Name). map parameter_of c.loop-word.list.items ++ (n, s) ∷ []) c.as_slice-name.ensures.value));
@@ -59,5 +59,5 @@ pub returns-clause-means : goal.returns-clause-means
 returns-clause-means c =
     c.loop-word.invariant.means
     ∙ ap (λ (ps : Parameters). map parameter_of c.args.list.now.items ++ ps)
-    (ap (sorted_words (flat_sort c.in-Some.sort)) (take_all c.loop-word.word-index c.deref-word-items.result.now c.loop-word-test.false ∙ c.deref-word-items.ensures.value)
+    (ap (sorted_words (flat_sort c.in-Some.sort)) (take_all c.loop-word.word-index c.as_slice-word-items.result.now c.loop-word-test.false ∙ c.as_slice-word-items.ensures.value)
     ∙ sym (all_alike (vocabulary_of c.args.sig.now).sort_names (bare_sort (plain_sort c.args.group.now.sort)) (flat_sort c.in-Some.sort) (sym c.in_ok-sort.ensures.means ∙ ap (option_map flat_sort) c.in-Some.is) (map word_of c.args.group.now.names.items)))

@@ -1,6 +1,5 @@
-use Rattle.std.proofs.Common.{List, ap, ap₂, sym, ◌∙◌}
+use Rattle.std.proofs.Common.{List, ap, sym, ◌∙◌}
 use Rattle.mcrl2_syntax.specs.declared.declaration.Decl.{Decl}
-use Rattle.mcrl2_syntax.specs.declared.declaration.EquationTree.{EquationTree}
 use Rattle.sort_table.specs.Expressions.{Name}
 use Rattle.sort_table.specs.DeclarationTrees.{declaration_of}
 use Rattle.sort_checker.specs.UnknownTrees.{unknown_in_equation, unknown_in}
@@ -11,6 +10,6 @@ use Rattle.sort_checker.proofs.unknown_names.unknown_in_declaration.Goals as goa
 pub returns-in-Equation : goal.returns-in-Equation
 returns-in-Equation c = λ v xs known scope.
     c.unknown_in_equation.ensures
-    ∙ (ap₂ (λ (sc : List Name) (q : EquationTree). unknown_in_equation c.args.known.now sc q) scope c.deref.ensures
-    ∙ (equation_unknown v xs c.args.known.now known c.in-Equation.equation.value
+    ∙ (ap (λ (sc : List Name). unknown_in_equation c.args.known.now sc c.in-Equation.equation) scope
+    ∙ (equation_unknown v xs c.args.known.now known c.in-Equation.equation
     ∙ (sym (or_none _) ∙ ap (λ (d : Decl). unknown_in v (record { variables = xs; declaration = declaration_of d })) (sym c.in-Equation.is))))

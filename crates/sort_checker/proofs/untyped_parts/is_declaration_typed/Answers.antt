@@ -1,7 +1,6 @@
 use Rattle.std.proofs.Common.{List, map, sym, ap, ◌∙◌, subst}
 use Rattle.std.specs.List.{Contains, flat_map}
 use Rattle.mcrl2_syntax.specs.declared.declaration.Decl.{Decl}
-use Rattle.mcrl2_syntax.specs.declared.declaration.EquationTree.{EquationTree}
 use Rattle.mcrl2_syntax.specs.declared.process_tree.ProcTree.{ProcTree}
 use Rattle.mcrl2_syntax.specs.declared.process_tree.VarGroup.{VarGroup}
 use Rattle.mcrl2_syntax.specs.declared.sort_tree.SortTree.{SortTree}
@@ -20,7 +19,7 @@ use Rattle.sort_table.specs.SignatureVocabularies.{vocabulary_of}
 use Rattle.sort_table.specs.Vocabularies.{sort_in}
 use Rattle.sort_checker.specs.Faults.{is_plain_sort}
 use Rattle.sort_checker.specs.ReadyTrees.{AreReadyGroups, AreReadyLeaves, IsReadyDeclaration, leaves_in}
-use Rattle.sort_checker.specs.TypedTrees.{are_parts_typed, is_equation}
+use Rattle.sort_checker.specs.TypedTrees.{are_parts_typed}
 use Rattle.sort_checker.proofs.Firsts.{ok_then}
 use Rattle.sort_checker.proofs.ReadyLeaves.{groups_ready, process_ready}
 use Rattle.sort_checker.proofs.TypedParts.{and_true, equation_told, result_told}
@@ -61,5 +60,4 @@ returns-in-Equation c =
     ok_then c.is_equation.result c.is_equation.ensures
     (λ b h v xs over inside.
     h
-    ∙ (ap (λ (q : EquationTree). is_equation c.args.context.now c.args.scope.now (bare_condition (some_data q.condition)) (bare_data (plain_data q.left)) (bare_data (plain_data q.right))) c.deref-in-Equation.ensures
-    ∙ (equation_told v xs c.args.context.now c.args.scope.now over inside (bare_condition (some_data c.in-Equation.equation.value.condition)) (bare_data (plain_data c.in-Equation.equation.value.left)) (bare_data (plain_data c.in-Equation.equation.value.right)) ∙ (sym (and_true _) ∙ ap (λ (d : Decl). are_parts_typed v (record { variables = xs; declaration = declaration_of d })) (sym c.in-Equation.is)))))
+    ∙ (equation_told v xs c.args.context.now c.args.scope.now over inside (bare_condition (some_data c.in-Equation.equation.condition)) (bare_data (plain_data c.in-Equation.equation.left)) (bare_data (plain_data c.in-Equation.equation.right)) ∙ (sym (and_true _) ∙ ap (λ (d : Decl). are_parts_typed v (record { variables = xs; declaration = declaration_of d })) (sym c.in-Equation.is))))

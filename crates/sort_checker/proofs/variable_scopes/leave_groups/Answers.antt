@@ -12,10 +12,9 @@ pub loop-group-preserved : goal.loop-group-preserved
 loop-group-preserved c = λ g xs inside.
     let before : Variables = of_groups (take c.loop-group.group-index c.args.groups.now) in
     let longer = group_length c.args.groups.now c.loop-group.group-index c.group-item.result c.loop-group-test.true c.group-item.is in
-    let told = c.len.ensures in
-    let held = c.group-item.result.names.ok.0 in
-    let many : length before + c.len.result ≡ length (of_groups (take (c.loop-group.group-index + 1) c.args.groups.now)) = omega (arith, longer, told, held) in
-    subst (λ (ys : Variables). HasInScope g ys c.leave.new.self) (fewer_again xs (length before) c.len.result ∙ ap (λ (n : ℕ). take (length xs - n) xs) many) (c.leave.ensures g (without before xs) (c.loop-group.invariant g xs inside))
+    let held = c.as_slice.ensures.len in
+    let many : length before + length c.as_slice.result.now ≡ length (of_groups (take (c.loop-group.group-index + 1) c.args.groups.now)) = omega (arith, longer, held) in
+    subst (λ (ys : Variables). HasInScope g ys c.leave.new.self) (fewer_again xs (length before) (length c.as_slice.result.now) ∙ ap (λ (n : ℕ). take (length xs - n) xs) many) (c.leave.ensures g (without before xs) (c.loop-group.invariant g xs inside))
 
 pub returns : goal.returns
 returns c = λ g xs inside. subst (λ (gs : List VarGroup). HasInScope g (without (of_groups gs) xs) c.loop-group.scope) (take_all c.loop-group.group-index c.args.groups.now c.loop-group-test.false) (c.loop-group.invariant g xs inside)

@@ -1,7 +1,6 @@
 use Rattle.std.proofs.Common.{◌≡◌, ◌++◌, ◌∷◌, [], List, map, sym, subst, ap, ◌∙◌}
 use Rattle.std.proofs.lemmas.List.{append-nil}
 use Rattle.mcrl2_syntax.specs.declared.declaration.Decl.{Decl}
-use Rattle.mcrl2_syntax.specs.declared.declaration.EquationTree.{EquationTree}
 use Rattle.mcrl2_syntax.specs.DataTrees.{plain_data}
 use Rattle.mcrl2_syntax.specs.Declarations.{plain_decl, some_data}
 use Rattle.mcrl2_syntax.specs.TreeWords.{IsDataOfWords, IsConditionOfWords}
@@ -28,22 +27,21 @@ returns-in_default c = record {
 }
 
 pub equation_of-requires-clause-condition : goal.equation_of-requires-clause-condition
-equation_of-requires-clause-condition c = subst (λ (t : EquationTree). IsConditionOfWords (some_data t.condition)) (sym c.deref.ensures) (subst (λ (d : Decl). IsReadyDeclaration c.args.sig.now.texts (plain_decl d)) c.in-Equation.is c.requires.words.1).0.0
+equation_of-requires-clause-condition c = (subst (λ (d : Decl). IsReadyDeclaration c.args.sig.now.texts (plain_decl d)) c.in-Equation.is c.requires.words.1).0.0
 
 pub equation_of-requires-clause-left : goal.equation_of-requires-clause-left
-equation_of-requires-clause-left c = subst (λ (t : EquationTree). IsDataOfWords (plain_data t.left)) (sym c.deref.ensures) (subst (λ (d : Decl). IsReadyDeclaration c.args.sig.now.texts (plain_decl d)) c.in-Equation.is c.requires.words.1).0.1
+equation_of-requires-clause-left c = (subst (λ (d : Decl). IsReadyDeclaration c.args.sig.now.texts (plain_decl d)) c.in-Equation.is c.requires.words.1).0.1
 
 pub equation_of-requires-clause-right : goal.equation_of-requires-clause-right
-equation_of-requires-clause-right c = subst (λ (t : EquationTree). IsDataOfWords (plain_data t.right)) (sym c.deref.ensures) (subst (λ (d : Decl). IsReadyDeclaration c.args.sig.now.texts (plain_decl d)) c.in-Equation.is c.requires.words.1).0.2
+equation_of-requires-clause-right c = (subst (λ (d : Decl). IsReadyDeclaration c.args.sig.now.texts (plain_decl d)) c.in-Equation.is c.requires.words.1).0.2
 
 pub equation_of-requires-clause-elaborates : goal.equation_of-requires-clause-elaborates
 equation_of-requires-clause-elaborates c =
-    subst (λ (t : EquationTree). CanElaborateEquations c.args.sig.now (written_equation c.args.item.before.now t ∷ [])) (sym c.deref.ensures)
-    (subst (λ (d : Decl). CanElaborateEquations c.args.sig.now (equation_under (variables_under c.args.item.before.now) (declaration_of d))) c.in-Equation.is c.requires.elaborates)
+    subst (λ (d : Decl). CanElaborateEquations c.args.sig.now (equation_under (variables_under c.args.item.before.now) (declaration_of d))) c.in-Equation.is c.requires.elaborates
 
 pub returns-clause-means : goal.returns-clause-means
 returns-clause-means c = λ v es over all.
     subst (λ (d : Decl). AreElaboratedEquations v c.equation_of.new.sig c.equation_of.new.pool (es ++ equation_under (variables_under c.args.item.before.now) (declaration_of d)) (map plain_equation c.push.new.self.items)) (sym c.in-Equation.is)
-    (equation_added v c.equation_of.new.sig c.equation_of.new.pool es (written_equation c.args.item.before.now c.in-Equation.tree.value) c.args.equations.now.items c.push.new.self.items c.in_ok-equation.equation
+    (equation_added v c.equation_of.new.sig c.equation_of.new.pool es (written_equation c.args.item.before.now c.in-Equation.tree) c.args.equations.now.items c.push.new.self.items c.in_ok-equation.equation
     (equations_on v c.args.sig.now c.args.pool.now c.equation_of.new.sig c.equation_of.new.pool c.equation_of.ensures.kept es (map plain_equation c.args.equations.now.items) all)
-    (subst (λ (t : EquationTree). IsElaboratedEquation v c.equation_of.new.sig c.equation_of.new.pool (written_equation c.args.item.before.now t) (plain_equation c.in_ok-equation.equation)) c.deref.ensures (c.in_ok-equation.ensures.means v over)) c.in_ok-push.ensures.items)
+    (c.in_ok-equation.ensures.means v over) c.in_ok-push.ensures.items)

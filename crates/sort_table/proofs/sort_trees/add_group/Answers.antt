@@ -12,7 +12,7 @@ pub returns : goal.returns
 returns c =
     let old = expressions_of c.args.list.now.items in
     let e = bare_sort (plain_sort c.args.group.now.sort) in
-    let names = c.deref-name-items.result.now in
+    let names = c.as_slice-name-items.result.now in
     let end : c.loop-name._name-index ≡ length names = omega (arith, c.loop-name-test.false, c.loop-name.auto._name-index-end) in
-    let whole : take c.loop-name._name-index names ≡ c.args.group.now.names.items = ap (λ (i : ℕ). take i names) end ∙ (take-length names ∙ c.deref-name-items.ensures.value) in
+    let whole : take c.loop-name._name-index names ≡ c.args.group.now.names.items = ap (λ (i : ℕ). take i names) end ∙ (take-length names ∙ c.as_slice-name-items.ensures.value) in
     c.loop-name.invariant ∙ (ap (λ (ws : List Word). old ++ map (λ (w : PlainWord). e) (map word_of ws)) whole ∙ ap (λ es. old ++ es) (group_sorts e c.args.group.now.names.items))

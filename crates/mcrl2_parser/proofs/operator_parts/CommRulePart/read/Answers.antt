@@ -14,8 +14,8 @@ returns-in_err-names-clause-only c = λ x r d s. let e = err_from_is_err_and c.f
     let g = communicates d in
     rw e.1 (e.2 ∙ c.in_err-names.ensures.only g.names _ g.read g.no_bar)
 
-pub returns-then-len-lt2-clause-only : goal.returns-then-len-lt2-clause-only
-returns-then-len-lt2-clause-only c = λ x r d s.
+pub returns-then-as_slice-lt2-clause-only : goal.returns-then-as_slice-lt2-clause-only
+returns-then-as_slice-lt2-clause-only c = λ x r d s.
     let g = communicates d in
     let same = c.in_ok-names.ensures.only g.names _ g.read g.no_bar in
     let few : length c.in_ok-names.names.items < 2 = grind (arith, common_steps) in
@@ -36,12 +36,12 @@ returns-in_err-outcome-clause-only c = λ x r d s.
 pub returns-clause-found : goal.returns-clause-found
 returns-clause-found c =
     let many : 2 ≤ length c.in_ok-names.names.items = grind (arith, common_steps) in
-    by_comm_rule c.new.ensures c.joined_spans-span.ensures (same_span word_span word_of c.names_span.ensures c.deref.ensures.value) c.in_ok-outcome-2.ensures.found (enough word_of c.in_ok-names.names.items many)
+    by_comm_rule c.new.ensures c.joined_spans-span.ensures (same_span word_span word_of c.names_span.ensures c.as_slice-2.ensures.value) c.in_ok-outcome-2.ensures.found (enough word_of c.in_ok-names.names.items many)
     c.in_ok-names.ensures.found c.in_ok-behind.ensures.found.0 c.in_ok-behind.ensures.found.1 c.in_ok-outcome.ensures.found.0 c.in_ok-outcome.ensures.found.1
 
 pub returns-clause-only : goal.returns-clause-only
 returns-clause-only c = λ x r d s.
     let many : 2 ≤ length c.in_ok-names.names.items = grind (arith, common_steps) in
     comm_rule_once
-    (by_comm_rule c.new.ensures c.joined_spans-span.ensures (same_span word_span word_of c.names_span.ensures c.deref.ensures.value) c.in_ok-outcome-2.ensures.found (enough word_of c.in_ok-names.names.items many)
+    (by_comm_rule c.new.ensures c.joined_spans-span.ensures (same_span word_span word_of c.names_span.ensures c.as_slice-2.ensures.value) c.in_ok-outcome-2.ensures.found (enough word_of c.in_ok-names.names.items many)
     c.in_ok-names.ensures.found c.in_ok-behind.ensures.found.0 c.in_ok-behind.ensures.found.1 c.in_ok-outcome.ensures.found.0 c.in_ok-outcome.ensures.found.1) d

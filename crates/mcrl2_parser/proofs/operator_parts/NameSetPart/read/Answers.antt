@@ -11,8 +11,8 @@ returns-in_err-names-clause-only c = λ x r d s. let e = err_from_is_err_and c.f
     rw e.1 (e.2 ∙ c.in_err-names.ensures.only g.names r g.read s)
 
 pub returns-clause-found : goal.returns-clause-found
-returns-clause-found c = by_name_set c.new.ensures (same_span word_span word_of c.names_span.ensures c.deref.ensures.value) c.in_ok-names.ensures.found
+returns-clause-found c = by_name_set c.new.ensures (same_span word_span word_of c.names_span.ensures c.as_slice.ensures.value) c.in_ok-names.ensures.found
 
 pub returns-clause-only : goal.returns-clause-only
 returns-clause-only c = λ x r d s. let g = named d in
-    name_set_only c.new.ensures (same_span word_span word_of c.names_span.ensures c.deref.ensures.value) g (c.in_ok-names.ensures.only g.names r g.read s)
+    name_set_only c.new.ensures (same_span word_span word_of c.names_span.ensures c.as_slice.ensures.value) g (c.in_ok-names.ensures.only g.names r g.read s)

@@ -25,11 +25,11 @@ returns-in_err-sort-clause-only c = λ g r d s. let e = err_from_is_err_and c.fr
 
 pub returns-clause-found : goal.returns-clause-found
 returns-clause-found c =
-    by_variables c.new.ensures c.joined_spans-span.ensures (same_span word_span word_of c.names_span.ensures c.deref.ensures.value) c.span.ensures c.in_ok-names.ensures.found c.in_ok-behind.ensures.found.0 c.in_ok-behind.ensures.found.1 c.in_ok-sort.ensures.found
+    by_variables c.new.ensures c.joined_spans-span.ensures (same_span word_span word_of c.names_span.ensures c.as_slice.ensures.value) c.span.ensures c.in_ok-names.ensures.found c.in_ok-behind.ensures.found.0 c.in_ok-behind.ensures.found.1 c.in_ok-sort.ensures.found
 
 pub returns-clause-only : goal.returns-clause-only
 returns-clause-only c = λ g r d s. var_group_once
-    (by_variables c.new.ensures c.joined_spans-span.ensures (same_span word_span word_of c.names_span.ensures c.deref.ensures.value) c.span.ensures c.in_ok-names.ensures.found c.in_ok-behind.ensures.found.0 c.in_ok-behind.ensures.found.1 c.in_ok-sort.ensures.found) d
+    (by_variables c.new.ensures c.joined_spans-span.ensures (same_span word_span word_of c.names_span.ensures c.as_slice.ensures.value) c.span.ensures c.in_ok-names.ensures.found c.in_ok-behind.ensures.found.0 c.in_ok-behind.ensures.found.1 c.in_ok-sort.ensures.found) d
 
 pub returns-clause-shorter : goal.returns-clause-shorter
 returns-clause-shorter c = variables_shorter c.args.tokens.now c.in_ok-names.ensures.shorter c.in_ok-behind.ensures.found.0 c.in_ok-sort.ensures.found
