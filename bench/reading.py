@@ -5,9 +5,10 @@ Run it from the top of the repository, after a build: bench/reading.py [speed|re
 Programs run as the launcher starts them, with memory in large pages that is kept. `speed` builds a program that reads a text up to
 its tree, by `lex` and `parse`, and prints one line for each text: its kind, size, the processor's seconds, bytes a second, peak
 memory in all and for each byte of the text, how many times the time of `wc -w` that was, and how many times that of the text of a
-quarter of its size. Each is run five times, in turn with `wc -w` and the other sizes, and the best time counts, since a machine that is
-shared is now faster, now slower. At last it names the kinds of 16 MiB that are above a bound: 25 times `wc -w`, 4.4 times the time
-of 4 MiB, 80 bytes a byte. `refusals` prints the same lines, without bounds, of the whole program, up to its refusal of the text.
+quarter of its size. Each is run five times, in rounds over all of them, next to `wc -w` on the same text, and the best time counts,
+since a machine that is shared is faster for some minutes, and then slower. At last it names the kinds of 16 MiB that are above a
+bound: 25 times `wc -w`, 4.4 times the time of 4 MiB, 80 bytes a byte. `refusals` prints the same lines, without bounds, of the whole
+program, up to its refusal of the text.
 The peak is never less than that of this script, which starts the program. `brackets` prints how many times longer 16 MiB take with
 990 brackets around. `names` linearises systems of many actions, whose names collide in tables of std with their fixed seed, or
 don't: it builds a program that searches such names. `stack` prints for each kind of nesting the least `ulimit -s` that texts of
@@ -27,6 +28,8 @@ from programs import build
 TOP = pathlib.Path(__file__).resolve().parent.parent
 PROGRAM = TOP / "crates" / "mcrl2lin" / "out" / "mcrl2lin"
 MIB = 1 << 20
+# How many MiB texts have.
+SIZES = (1, 4, 16)
 MIXED = b"act a, b_1: Nat; % a comment\nproc X(n: Nat) = (n <= 12) -> a(n + 1) . X(n = n + 1) <> b_1(0) . delta;\n"
 # What stands in front, what is repeated, and what stands behind.
 KINDS = {
@@ -184,27 +187,26 @@ def text_of(size, front, piece, behind):
     return (piece * (room // len(piece) + 1))[:size]
 
 
-def in_turns(commands, paths):
-    """The least seconds and the greatest memory of each command on each file."""
+def rounds(commands, path):
+    """The least seconds and the greatest memory of each command on each kind and size of text, in five rounds over all of them."""
     runs = {}
     for _ in range(5):
-        for path in paths:
-            for name, words in commands.items():
-                runs.setdefault((name, path), []).append(run(words, path))
-    return {pair: (min(seconds for seconds, _ in each), max(memory for _, memory in each)) for pair, each in runs.items()}
+        for kind, pieces in KINDS.items():
+            for size in SIZES:
+                path.write_bytes(text_of(size * MIB, *pieces))
+                for name, words in commands.items():
+                    runs.setdefault((name, kind, size), []).append(run(words, path))
+    return {key: (min(seconds for seconds, _ in each), max(memory for _, memory in each)) for key, each in runs.items()}
 
 
 def figures(command, path):
     """Prints the figures of all kinds; gives what is above the bounds."""
     above = []
-    paths = {size: path.with_suffix(f".{size}") for size in (1, 4, 16)}
-    for kind, pieces in KINDS.items():
-        for size, file in paths.items():
-            file.write_bytes(text_of(size * MIB, *pieces))
-        runs = in_turns({"reads": command, "counts": ["wc", "-w"]}, paths.values())
+    runs = rounds({"reads": command, "counts": ["wc", "-w"]}, path)
+    for kind in KINDS:
         before = None
-        for size, file in paths.items():
-            (seconds, memory), (words, _) = runs["reads", file], runs["counts", file]
+        for size in SIZES:
+            (seconds, memory), (words, _) = runs["reads", kind, size], runs["counts", kind, size]
             each = memory / 1024 / size
             times = seconds / words
             growth = seconds / before if before else 0.0

@@ -1,6 +1,5 @@
 -- What is built of tokens and trees from the left: a word begins a section, and at a `;` the next tree goes into the last one.
-use Rattle.std.proofs.Common.{◌≡◌, ℕ, Bool, true, false, Option, None, Some, List, [], ◌∷◌, ◌++◌, All, zero, suc, map, slice_index_or, slice_set, ◌≤◌, ◌<◌, ◌+◌, length, take, get_or, add-one, arith, refl, sym, ap, ◌∙◌, subst, append_assoc, append-nil}
-use Rattle.std.proofs.Math.Seq.{take-suc}
+use Rattle.std.proofs.Common.{◌≡◌, ℕ, Bool, true, false, Option, None, Some, List, [], ◌∷◌, ◌++◌, All, zero, suc, map, slice_index_or, slice_set, ◌+◌, length, arith, refl, sym, ap, ◌∙◌, subst, append_assoc, append-nil}
 use Rattle.std.proofs.lemmas.List.{map-append}
 use Rattle.std.proofs.lemmas.List.Elements.{All-head, All-tail}
 use Rattle.mcrl2_lexer.specs.declared.token.Token.{Token}
@@ -10,11 +9,31 @@ use Rattle.mcrl2_syntax.specs.declared.declaration.Section.{Section}
 use Rattle.mcrl2_syntax.specs.declared.declaration.SectionWord.{SectionWord}
 use Rattle.mcrl2_syntax.specs.Declarations.{PlainDecl, PlainSection, PlainSpec, plain_decl, section_of}
 use Rattle.mcrl2_syntax.specs.SpelledDeclarations.{section_word, IsInside, SpellsDecls, no_decls, more_decls, SpellsSections, no_sections, more_sections, SpellsSpec}
-use Rattle.mcrl2_parser.specs.Sections.{is_semicolon, declarations_in, lengthened, with_last, Built, having, past, past_all, Placed, begin_at, begin_in, put_in}
-use Rattle.mcrl2_parser.specs.declared.declaring.Declaration.{Declaration}
-use Rattle.mcrl2_parser.specs.Declarations.{declarations_of}
-use Rattle.mcrl2_parser.specs.Faults.{IsSpelled, AreSpelled, none_spelled}
-use Rattle.mcrl2_parser.proofs.SpelledByDeclarations.{outside_semicolon, pushed, all_read, made_spelled}
+use Rattle.mcrl2_parser.specs.Sections.{is_semicolon, declarations_in, lengthened, with_last, having}
+use Rattle.mcrl2_parser.proofs.SpelledByDeclarations.{outside_semicolon}
+
+-- ---- what tokens make of declarations: a word begins a section, and at a `;` the next declaration goes into the last one
+
+-- the sections so far, and the declarations that are left
+pub record Built : Type 0 where
+  pub sections : List PlainSection
+  pub left : List PlainDecl
+
+-- the next declaration goes into the last section
+abbrev pub with_next : List PlainSection → List PlainDecl → Built
+with_next sections [] = record { sections = sections; left = [] }
+with_next sections (tree ∷ left) = record { sections = with_last tree sections; left = left }
+
+-- behind one more token, which begins that section, if any, or is a `;`
+abbrev pub past : Option SectionWord → Bool → Token → Built → Built
+past (Some word) ends token built = record { sections = built.sections ++ having token word [] ∷ []; left = built.left }
+past None true token built = with_next built.sections built.left
+past None false token built = built
+
+-- behind all tokens
+abbrev pub past_all : List Token → Built → Built
+past_all [] built = built
+past_all (token ∷ tokens) built = past_all tokens (past (section_word token.kind) (is_semicolon token.kind) token built)
 
 past_inside : (front rest : List Token) (built : Built) → All IsInside front → past_all (front ++ rest) built ≡ past_all rest built
 past_inside [] rest built h = refl
@@ -74,84 +93,37 @@ nothing_filled tokens = record {
   ends = λ text spec others spelled e. ap (λ (x : List PlainDecl). past_all tokens (record { sections = []; left = x })) e ∙ past_sections [] spelled.all_sections;
 }
 
--- ---- up to the next `;`
--- a declaration goes where the next `;` stands, or there is none, and then no token is left
-data GoesOn (tree : PlainDecl) (tokens : List Token) (sections : List PlainSection) (begun : Placed) : Type 0 where
-  there : ((left : List PlainDecl) → past_all tokens (record { sections = sections; left = tree ∷ left }) ≡ past_all begun.rest (record { sections = with_last tree begun.sections; left = left }))
-      → GoesOn tree tokens sections begun
-  nowhere : ((left : List PlainDecl) → past_all tokens (record { sections = sections; left = tree ∷ left }) ≡ record { sections = begun.sections; left = tree ∷ left })
-      → GoesOn tree tokens sections begun
+-- a section's word begins one
+pub filled_word : {tokens rest : List Token} {trees : List PlainDecl} {sections made : List PlainSection} (t : Token) (word : SectionWord) → section_word t.kind ≡ Some word
+    → made ≡ sections ++ having t word [] ∷ [] → IsFilled tokens trees (t ∷ rest) sections → IsFilled tokens trees rest made
+filled_word {tokens = tokens} {rest = rest} {trees = trees} {sections = sections} t word e is filled =
+    subst (IsFilled tokens trees rest) (sym is)
+    (record { ends = λ text spec others spelled whole. sym (past_word t word rest sections others e) ∙ filled.ends text spec others spelled whole })
 
-goes_on : (tree : PlainDecl) (tokens : List Token) (sections : List PlainSection) → GoesOn tree tokens sections (begin_in tokens sections)
-goes_on tree [] sections = nowhere (λ left. refl)
-goes_on tree (token ∷ tokens) sections = by_token (section_word token.kind) (is_semicolon token.kind) refl refl (goes_on tree tokens)
-  where
-    with_left : List PlainDecl → Built
-    with_left left = record { sections = sections; left = tree ∷ left }
+-- at a `;` the next declaration goes into the last one
+pub filled_end : {tokens rest : List Token} {trees : List PlainDecl} {sections made : List PlainSection} (t : Token) (tree : PlainDecl) → section_word t.kind ≡ None → is_semicolon t.kind ≡ true
+    → made ≡ with_last tree sections → IsFilled tokens trees (t ∷ rest) sections → IsFilled tokens (trees ++ tree ∷ []) rest made
+filled_end {tokens = tokens} {rest = rest} {trees = trees} {sections = sections} t tree e f is filled =
+    let left : List PlainDecl → Built = λ others. record { sections = sections; left = tree ∷ others } in
+    let put : (others : List PlainDecl) → past_all (t ∷ rest) (left others) ≡ past_all rest (record { sections = with_last tree sections; left = others }) = λ others.
+    ap (λ (o : Option SectionWord). past_all rest (past o (is_semicolon t.kind) t (left others))) e ∙ ap (λ (b : Bool). past_all rest (past None b t (left others))) f in
+    subst (IsFilled tokens (trees ++ tree ∷ []) rest) (sym is)
+    (record { ends = λ text spec others spelled whole. sym (put others) ∙ filled.ends text spec (tree ∷ others) spelled (sym (append_assoc trees (tree ∷ []) others) ∙ whole) })
 
-    moved : (next : List PlainSection) (begun : Placed)
-        → ((left : List PlainDecl) → past (section_word token.kind) (is_semicolon token.kind) token (with_left left) ≡ record { sections = next; left = tree ∷ left })
-        → GoesOn tree tokens next begun → GoesOn tree (token ∷ tokens) sections begun
-    moved next begun e (there h) = there (λ left. ap (past_all tokens) (e left) ∙ h left)
-    moved next begun e (nowhere h) = nowhere (λ left. ap (past_all tokens) (e left) ∙ h left)
+-- another token does nothing
+pub filled_other : {tokens rest : List Token} {trees : List PlainDecl} {sections : List PlainSection} (t : Token) → section_word t.kind ≡ None → is_semicolon t.kind ≡ false
+    → IsFilled tokens trees (t ∷ rest) sections → IsFilled tokens trees rest sections
+filled_other {rest = rest} {sections = sections} t e f filled =
+    let left : List PlainDecl → Built = λ others. record { sections = sections; left = others } in
+    let same : (others : List PlainDecl) → past_all (t ∷ rest) (left others) ≡ past_all rest (left others) = λ others.
+    ap (λ (o : Option SectionWord). past_all rest (past o (is_semicolon t.kind) t (left others))) e ∙ ap (λ (b : Bool). past_all rest (past None b t (left others))) f in
+    record { ends = λ text spec others spelled whole. sym (same others) ∙ filled.ends text spec others spelled whole }
 
-    by_token : (o : Option SectionWord) (b : Bool) → section_word token.kind ≡ o → is_semicolon token.kind ≡ b
-        → ((s : List PlainSection) → GoesOn tree tokens s (begin_in tokens s)) → GoesOn tree (token ∷ tokens) sections (begin_at o b token tokens sections (begin_in tokens))
-    by_token (Some word) b e f rest =
-        moved (sections ++ having token word [] ∷ []) _ (λ left. ap (λ (o : Option SectionWord). past o (is_semicolon token.kind) token (with_left left)) e) (rest (sections ++ having token word [] ∷ []))
-    by_token None true e f rest =
-        there (λ left. ap (λ (o : Option SectionWord). past_all tokens (past o (is_semicolon token.kind) token (with_left left))) e
-        ∙ ap (λ (b : Bool). past_all tokens (past None b token (with_left left))) f)
-    by_token None false e f rest =
-        moved sections _ (λ left. ap (λ (o : Option SectionWord). past o (is_semicolon token.kind) token (with_left left)) e ∙ ap (λ (b : Bool). past None b token (with_left left)) f) (rest sections)
-
--- with one more declaration in its section
-pub one_filled : (tokens : List Token) (trees : List PlainDecl) (rest : List Token) (sections : List PlainSection) (tree : PlainDecl) (placed : Placed)
-    → IsFilled tokens trees rest sections → placed ≡ put_in tree rest sections → IsFilled tokens (trees ++ tree ∷ []) placed.rest placed.sections
-one_filled tokens trees rest sections tree placed so_far is =
-    subst (λ (p : Placed). IsFilled tokens (trees ++ tree ∷ []) p.rest p.sections) (sym is)
-    (record { ends = λ text spec others spelled e. by_place spec others (so_far.ends text spec (tree ∷ others) spelled (sym (append_assoc trees (tree ∷ []) others) ∙ e)) (goes_on tree rest sections) })
-  where
-    begun : Placed
-    begun = begin_in rest sections
-
-    by_place : (spec : PlainSpec) (others : List PlainDecl) → past_all rest (record { sections = sections; left = tree ∷ others }) ≡ record { sections = spec.sections; left = [] }
-        → GoesOn tree rest sections begun → past_all begun.rest (record { sections = with_last tree begun.sections; left = others }) ≡ record { sections = spec.sections; left = [] }
-    by_place spec others h (there put) = sym (put others) ∙ h
-    by_place spec others h (nowhere put) =
-        let never : tree ∷ others ≡ [] = ap (λ (b : Built). b.left) (sym (put others) ∙ h) in
-        cc
-
--- when all declarations are in their sections, what is built of the rest is what the tokens spell
-pub all_filled : (tokens : List Token) (trees : List PlainDecl) (rest : List Token) (sections made : List PlainSection) → IsFilled tokens trees rest sections
-    → record { sections = made; left = [] } ≡ past_all rest (record { sections = sections; left = [] })
-    → (text : List ℕ) (spec : PlainSpec) → SpellsSpec text spec tokens → trees ≡ declarations_in spec.sections → record { sections = made } ≡ spec
-all_filled tokens trees rest sections made filled is text spec spelled e =
-    ap (λ (b : Built). record { sections = b.sections }) (is ∙ filled.ends text spec [] spelled (append-nil trees ∙ e))
-
--- ---- the first declarations are read, and their trees stand in their sections
-pub record AreRead (text : List ℕ) (tokens : List Token) (front : List Declaration) (rest : List Token) (sections : List PlainSection) : Type 0 where
-  pub trees : List PlainDecl
-  pub spelled : AreSpelled text tokens front trees
-  pub filled : IsFilled tokens trees rest sections
-
-pub none_read : (text : List ℕ) (tokens : List Token) → AreRead text tokens [] tokens []
-none_read text tokens = record { trees = []; spelled = none_spelled; filled = nothing_filled tokens }
-
-pub one_read : {text : List ℕ} {tokens : List Token} (list : List Declaration) (i : ℕ) (d : Declaration) (tree : PlainDecl) (rest : List Token) (sections : List PlainSection) (placed : Placed)
-    → i < length list → AreRead text tokens (take i list) rest sections → IsSpelled text tokens (get_or list i d) tree → placed ≡ put_in tree rest sections
-    → AreRead text tokens (take (i + 1) list) placed.rest placed.sections
-one_read {text = text} {tokens = tokens} list i d tree rest sections placed inside so_far spelled is = record {
-  trees = so_far.trees ++ tree ∷ [];
-  spelled = rw (add-one, take-suc list i d inside) (pushed so_far.spelled spelled);
-  filled = one_filled tokens so_far.trees rest sections tree placed so_far.filled is;
-}
-
-pub made_of_read : {text : List ℕ} {tokens : List Token} {list : List Declaration} {i : ℕ} (rest : List Token) (sections made : List PlainSection) → list ≡ declarations_of tokens → length list ≤ i → i ≤ length list
-    → AreRead text tokens (take i list) rest sections → record { sections = made; left = [] } ≡ past_all rest (record { sections = sections; left = [] })
-    → SpellsSpec text (record { sections = made }) tokens
-made_of_read {text = text} {tokens = tokens} rest sections made all over under read is =
-    made_spelled (all_read all over under read.spelled) (all_filled tokens read.trees rest sections made read.filled is)
+-- when all declarations are in their sections, these are what the tokens spell
+pub all_filled : {tokens : List Token} {trees : List PlainDecl} {sections : List PlainSection} → IsFilled tokens trees [] sections
+    → (text : List ℕ) (spec : PlainSpec) → SpellsSpec text spec tokens → trees ≡ declarations_in spec.sections → record { sections = sections } ≡ spec
+all_filled {trees = trees} filled text spec spelled e =
+    ap (λ (b : Built). record { sections = b.sections }) (filled.ends text spec [] spelled (append-nil trees ∙ e))
 
 -- a section that has the declarations of another one and one more
 one_longer : (section made : Section) (tree : Decl) → made.span ≡ section.span → made.word ≡ section.word → made.declarations.items ≡ section.declarations.items ++ tree ∷ []

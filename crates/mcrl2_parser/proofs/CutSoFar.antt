@@ -9,7 +9,7 @@ use Rattle.mcrl2_syntax.specs.declared.declaration.SectionWord.{SectionWord}
 use Rattle.mcrl2_parser.specs.declared.declaring.Declaration.{Declaration}
 use Rattle.mcrl2_syntax.specs.SpelledDeclarations.{section_word}
 use Rattle.mcrl2_parser.specs.Sections.{is_semicolon}
-use Rattle.mcrl2_parser.specs.Declarations.{Parts, with_token, parts_of, Pieces, with_piece_token, pieces_of, left_over, of_pieces, of_part, of_sections, declarations_of, IsWithin}
+use Rattle.mcrl2_parser.specs.Declarations.{Parts, with_token, parts_of, Pieces, with_piece_token, pieces_of, listed, left_over, ended_at, section_past, start_past, of_pieces, of_part, of_sections, declarations_of, IsWithin}
 
 -- no token is a `;`
 abbrev pub HasNoEnd : List Token → Type 0
@@ -34,7 +34,7 @@ pub record CutSoFar (tokens : List Token) (list : List Declaration) (section : O
   pub whole : list ++ rest_of section start piece (parts_of (drop at tokens)) ≡ declarations_of tokens
   pub within : All (IsWithin (length tokens)) list
 
-drop_at : (tokens : List Token) (at : ℕ) (d : Token) → at < length tokens → drop at tokens ≡ get_or tokens at d ∷ drop (at + 1) tokens
+pub drop_at : (tokens : List Token) (at : ℕ) (d : Token) → at < length tokens → drop at tokens ≡ get_or tokens at d ∷ drop (at + 1) tokens
 drop_at tokens at d h = rw add-one (drop-cons tokens at d h)
 
 append_nil : {A : Type 0} → (xs : List A) → xs ++ [] ≡ xs
@@ -176,7 +176,7 @@ past_end : (tokens : List Token) (list : List Declaration) (section : Option Sec
 past_end tokens list None start at token so_far here inside plain some ends = absurd (cc)
 past_end tokens list (Some s) start at token so_far here inside plain some ends = past_end_of tokens list s start at token so_far here inside plain ends
 
-all_cut : (tokens : List Token) (list : List Declaration) (section : Option SectionWord) (start at : ℕ)
+pub all_cut : (tokens : List Token) (list : List Declaration) (section : Option SectionWord) (start at : ℕ)
     → CutSoFar tokens list section start at → drop at tokens ≡ [] → list ++ left_over section start at ≡ declarations_of tokens
 all_cut tokens list section start at so_far none =
     let same : rest_of section start so_far.piece (parts_of (drop at tokens)) ≡ left_over section start at =
@@ -220,6 +220,23 @@ pub at_other : {tokens : List Token} {ds es : List Declaration} {section next : 
     → IsPiece section (get_or tokens at d ∷ []) → es ≡ ds → next ≡ section → m ≡ start → CutSoFar tokens es next m (at + 1)
 at_other {tokens} {ds} {es} {section} {next} {start} {m} {at} d so_far inside plain free e f g =
     moved (past_plain tokens ds section start at (get_or tokens at d) so_far (drop_at tokens at d inside) (sym plain) free) e f g
+
+-- past one more token, whatever it is
+pub passed : {tokens : List Token} {ds es : List Declaration} (section : Option SectionWord) {next : Option SectionWord} {start m at : ℕ} (d : Token) (word : Option SectionWord) (ends : Bool)
+    → CutSoFar tokens ds section start at → at < length tokens → word ≡ section_word (get_or tokens at d).kind → ends ≡ is_semicolon (get_or tokens at d).kind
+    → es ≡ ds ++ ended_at word ends section start at → next ≡ section_past word section → m ≡ start_past word ends section start at → CutSoFar tokens es next m (at + 1)
+passed section d (Some word) ends so_far inside e f g h i = at_word word d so_far inside e g h i
+passed {tokens = tokens} {ds = ds} None {at = at} d None true so_far inside e f g h i = at_other d so_far inside e (piece_outside None (get_or tokens at d) refl) (g ∙ append_nil ds) h i
+passed {tokens = tokens} {ds = ds} None {at = at} d None false so_far inside e f g h i = at_other d so_far inside e (piece_outside None (get_or tokens at d) refl) (g ∙ append_nil ds) h i
+passed (Some s) d None true so_far inside e f g h i = at_end d so_far inside e refl f g h i
+passed {tokens = tokens} {ds = ds} (Some s) {at = at} d None false so_far inside e f g h i = at_other d so_far inside e (piece_inside (Some s) (get_or tokens at d) (sym f)) (g ∙ append_nil ds) h i
+
+-- a list with the declaration that was given, if any, behind its others
+pub with_given : (ds : List Declaration) {es xs : List Declaration} {o : Option Declaration} {d : Declaration} → es ≡ ds ++ d ∷ [] → o ≡ Some d → listed o ≡ xs → es ≡ ds ++ xs
+with_given ds e f g = e ∙ ap (λ (x : List Declaration). ds ++ x) (ap listed (sym f) ∙ g)
+
+pub with_none : (ds : List Declaration) {es xs : List Declaration} {o : Option Declaration} → es ≡ ds → o ≡ None → listed o ≡ xs → es ≡ ds ++ xs
+with_none ds e f g = e ∙ (sym (append_nil ds) ∙ ap (λ (x : List Declaration). ds ++ x) (ap listed (sym f) ∙ g))
 
 -- behind the last token nothing is left to cut
 pub cut_whole : {tokens : List Token} {ds es : List Declaration} {section : Option SectionWord} {start at : ℕ}

@@ -1,5 +1,6 @@
 pub mod CutSoFar
 pub mod Refused
+pub mod ReadSoFar
 pub mod SingleFaults
 pub mod Sorts
 pub mod Groups

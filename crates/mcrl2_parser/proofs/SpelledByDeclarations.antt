@@ -1,6 +1,5 @@
 -- Tokens whose declarations are all spelled spell a specification, and its declarations are their trees.
-use Rattle.std.proofs.Common.{◌≡◌, ℕ, suc, ◌+◌, Bool, true, false, Option, None, Some, List, [], ◌∷◌, ◌++◌, ◌-◌, All, if◌then◌else◌, nat_lt, length, take, drop, ◌≤◌, slice_range, refl, ap, sym, ◌∙◌, subst, append_assoc, arith}
-use Rattle.std.proofs.Math.Seq.{take-length}
+use Rattle.std.proofs.Common.{◌≡◌, ℕ, suc, ◌+◌, Bool, true, false, Option, None, Some, List, [], ◌∷◌, ◌++◌, ◌-◌, All, if◌then◌else◌, nat_lt, length, take, drop, slice_range, refl, ap, sym, ◌∙◌, subst, append_assoc, arith}
 use Rattle.std.proofs.lemmas.Bool.{lt-ltb, le-ltb}
 use Rattle.std.proofs.lemmas.Grind.{common_steps}
 use Rattle.std.proofs.lemmas.List.Elements.{All-nil, All-cons, All-head, All-tail}
@@ -316,13 +315,6 @@ pub pushed : {text : List ℕ} {all : List Token} {xs : List Declaration} {trees
     → AreSpelled text all (xs ++ x ∷ []) (trees ++ tree ∷ [])
 pushed none_spelled a = more_spelled a none_spelled
 pushed (more_spelled b h) a = more_spelled b (pushed h a)
-
--- all declarations are read
-pub all_read : {text : List ℕ} {tokens : List Token} {list : List Declaration} {i : ℕ} {trees : List PlainDecl} → list ≡ declarations_of tokens → length list ≤ i → i ≤ length list
-    → AreSpelled text tokens (take i list) trees → AreSpelled text tokens (declarations_of tokens) trees
-all_read {text = text} {tokens = tokens} {list = list} {i = i} {trees = trees} e over under h =
-    let last : i ≡ length list = omega arith in
-    subst (λ (x : List Declaration). AreSpelled text tokens x trees) (ap (λ (n : ℕ). take n list) last ∙ take-length list ∙ e) h
 
 -- what is made of the trees is what the tokens spell
 pub made_spelled : {text : List ℕ} {tokens : List Token} {trees : List PlainDecl} {made : PlainSpec} → AreSpelled text tokens (declarations_of tokens) trees

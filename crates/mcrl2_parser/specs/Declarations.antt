@@ -49,6 +49,29 @@ pieces_of (token ∷ tokens) = with_piece_token (is_semicolon token.kind) token 
 abbrev pub left_over : Option SectionWord → ℕ → ℕ → List Declaration
 left_over section start end = if nat_lt start end then record { section = section; start = start; end = end; is_ended = false } ∷ [] else []
 
+-- a declaration, or none
+abbrev pub listed : Option Declaration → List Declaration
+listed None = []
+listed (Some declaration) = declaration ∷ []
+
+-- What a token at a place ends: a section's word what is left over in front of it, and a `;` in a section a declaration.
+abbrev pub ended_at : Option SectionWord → Bool → Option SectionWord → ℕ → ℕ → List Declaration
+ended_at (Some word) ends section start at = left_over section start at
+ended_at None true (Some s) start at = record { section = Some s; start = start; end = at; is_ended = true } ∷ []
+ended_at None true None start at = []
+ended_at None false section start at = []
+
+-- the section behind that token, and where the next declaration begins
+abbrev pub section_past : Option SectionWord → Option SectionWord → Option SectionWord
+section_past (Some word) section = Some word
+section_past None section = section
+
+abbrev pub start_past : Option SectionWord → Bool → Option SectionWord → ℕ → ℕ → ℕ
+start_past (Some word) ends section start at = at + 1
+start_past None true (Some s) start at = at + 1
+start_past None true None start at = start
+start_past None false section start at = start
+
 -- The declarations of a section whose tokens begin at a place: one for each `;`, and maybe one behind the last.
 abbrev pub of_pieces : SectionWord → ℕ → List (List Token) → List Token → List Declaration
 of_pieces s at [] left = left_over (Some s) at (at + length left)

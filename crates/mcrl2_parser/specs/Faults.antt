@@ -49,6 +49,24 @@ is_init_section _ = false
 abbrev pub is_init : Declaration → Bool
 is_init declaration = is_init_section declaration.section
 
+-- the number of a declaration, where that is in an init section
+abbrev pub init_number : ℕ → Bool → List ℕ
+init_number number true = number ∷ []
+init_number number false = []
+
+-- the numbers of those in an init section, where the first has that number
+abbrev pub init_numbers : ℕ → List Declaration → List ℕ
+init_numbers number [] = []
+init_numbers number (declaration ∷ declarations) = init_number number (is_init declaration) ++ init_numbers (number + 1) declarations
+
+-- there isn't one number, and the fault tells the second one, if any
+abbrev pub IsNotOne : List ℕ → ParseFault → Type 0
+IsNotOne numbers NoInit = numbers ≡ []
+IsNotOne numbers (TwoInits d) = (first : ℕ) × (others : List ℕ) × (numbers ≡ first ∷ d ∷ others)
+IsNotOne numbers (Syntax d) = ⊥
+IsNotOne numbers (TooDeep d) = ⊥
+IsNotOne numbers NoMemory = ⊥
+
 -- Why one declaration of that number is refused. Want of memory is no fault of it.
 abbrev pub IsRefused : List ℕ → List Token → ℕ → Declaration → ParseFault → Type 0
 IsRefused text tokens number declaration (TooDeep d) = (d ≡ number) × (1000 < level_at tokens declaration)

@@ -1,6 +1,6 @@
 //! The declarations of a list of tokens.
-ghost use Rattle.std.specs.Prelude.{◌≡◌, ◌≤◌, ◌++◌, ◌∷◌, [], All, IfOk, OnOk, length};
-ghost use Rattle.mcrl2_parser.specs.Declarations.{declarations_of, left_over, IsWithin};
+ghost use Rattle.std.specs.Prelude.{◌≡◌, ◌<◌, None, All, IfOk, length};
+ghost use Rattle.mcrl2_parser.specs.Declarations.{listed, left_over, ended_at, section_past, start_past, declarations_of, IsWithin};
 
 use crate::sections::is_semicolon;
 use mcrl2_lexer::Token;
@@ -23,26 +23,73 @@ pub struct Declaration {
 }
 
 /// How many tokens a list may have: places in it are numbers of 32 bits.
-const MAX_LEN: usize = 4_294_967_295;
+pub(crate) const MAX_LEN: usize = 4_294_967_295;
 
-/// Takes the tokens from one place up to another as a declaration that no `;` ends, if there are any.
-fn push_left_over(
-    list: &mut Vec<Declaration>,
-    section: Option<SectionWord>,
-    start: u32,
-    end: u32,
-) -> Result<(), AllocError>
-    ensures { OnOk result (list.new.items ≡ list.old.items ++ left_over section start end) }
-{
-    if start < end {
-        list.push(Declaration {
-            section,
-            start,
+/// Where the declaration begins that stands behind the last one that has ended.
+#[derive(Clone, Copy, Debug, PartialEq, Eq)]
+pub(crate) struct Cut {
+    /// The section that it is in, and none in front of the first word of a section.
+    pub section: Option<SectionWord>,
+    /// The place of its first token in the list.
+    pub start: u32,
+}
+
+impl Cut {
+    /// In front of all tokens.
+    pub(crate) fn new() -> Cut
+        ensures { result ≡ record { section = None; start = 0 } }
+    {
+        Cut {
+            section: None,
+            start: 0,
+        }
+    }
+
+    /// The declaration that no `;` ends in front of that place, if tokens of one stand there.
+    pub(crate) fn left_over(self, end: u32) -> Option<Declaration>
+        ensures { listed result ≡ left_over self.section self.start end }
+    {
+        if self.start >= end {
+            return None;
+        }
+        Some(Declaration {
+            section: self.section,
+            start: self.start,
             end,
             is_ended: false,
-        })?;
+        })
     }
-    Ok(())
+
+    /// Goes past the token at that place, which may be a section's word or a `;`, and gives the declaration that it ends, if any.
+    pub(crate) fn pass(
+        &mut self,
+        at: u32,
+        word: Option<SectionWord>,
+        is_end: bool,
+    ) -> Option<Declaration>
+        requires { at < 4294967295 }
+        ensures ended { listed result ≡ ended_at word is_end self.old.section self.old.start at }
+        ensures section { self.new.section ≡ section_past word self.old.section }
+        ensures start { self.new.start ≡ start_past word is_end self.old.section self.old.start at }
+    {
+        if word.is_some() {
+            let left = self.left_over(at);
+            self.section = word;
+            self.start = at + 1;
+            return left;
+        }
+        if !is_end || self.section.is_none() {
+            return None;
+        }
+        let ended = Declaration {
+            section: self.section,
+            start: self.start,
+            end: at,
+            is_ended: true,
+        };
+        self.start = at + 1;
+        Some(ended)
+    }
 }
 
 /// The declarations of a list of tokens, in its order.
@@ -62,23 +109,15 @@ pub fn declarations(alloc: Global, tokens: &[Token]) -> Result<Vec<Declaration>,
         return Err(AllocError);
     }
     let mut list = Vec::new(alloc);
-    let mut section = None;
-    let mut start: u32 = 0;
+    let mut cut = Cut::new();
     for (at, token) in tokens.iter().enumerate() {
-        if let Some(next) = section_of_kind(token.kind) {
-            push_left_over(&mut list, section, start, at as u32)?;
-            section = Some(next);
-            start = at as u32 + 1;
-        } else if section.is_some() && is_semicolon(token.kind) {
-            list.push(Declaration {
-                section,
-                start,
-                end: at as u32,
-                is_ended: true,
-            })?;
-            start = at as u32 + 1;
+        let word = section_of_kind(token.kind);
+        if let Some(declaration) = cut.pass(at as u32, word, is_semicolon(token.kind)) {
+            list.push(declaration)?;
         }
     }
-    push_left_over(&mut list, section, start, tokens.len() as u32)?;
+    if let Some(left) = cut.left_over(tokens.len() as u32) {
+        list.push(left)?;
+    }
     Ok(list)
 }
