@@ -31,16 +31,16 @@ true_is s = ap bare_data (ap plain_data (sym (variants.rolls-True s)) ∙ fold-r
 pub false_is : (s : Span) → bare (variants.False s) ≡ word (codes "false") none
 false_is s = ap bare_data (ap plain_data (sym (variants.rolls-False s)) ∙ fold-roll-DataTree PlainData plain_data_step _)
 
-pub list_is : (s : Span) (ts : Vec DataTree Global) → bare (variants.List s ts) ≡ listed (bare_datas (datas_of (map plain_data ts.items)))
+pub list_is : (s : Span) (ts : Box (Vec DataTree Global)) → bare (variants.List s ts) ≡ listed (bare_datas (datas_of (map plain_data ts.value.items)))
 list_is s ts = ap bare_data (ap plain_data (sym (variants.rolls-List s ts)) ∙ fold-roll-DataTree PlainData plain_data_step _)
 
 pub apply_is : (s : Span) (a : Box (Application DataTree)) → bare (variants.Apply s a) ≡ word a.value.name.bytes.items (bare_datas (datas_of (map plain_data a.value.arguments.items)))
 apply_is s a = ap bare_data (ap plain_data (sym (variants.rolls-Apply s a)) ∙ fold-roll-DataTree PlainData plain_data_step _)
 
-pub and_is : (s : Span) (ts : Vec DataTree Global) → bare (variants.And s ts) ≡ to_the_right (codes "&&") (datas_of (map plain_data ts.items))
+pub and_is : (s : Span) (ts : Box (Vec DataTree Global)) → bare (variants.And s ts) ≡ to_the_right (codes "&&") (datas_of (map plain_data ts.value.items))
 and_is s ts = ap bare_data (ap plain_data (sym (variants.rolls-And s ts)) ∙ fold-roll-DataTree PlainData plain_data_step _)
 
-pub or_is : (s : Span) (ts : Vec DataTree Global) → bare (variants.Or s ts) ≡ to_the_right (codes "||") (datas_of (map plain_data ts.items))
+pub or_is : (s : Span) (ts : Box (Vec DataTree Global)) → bare (variants.Or s ts) ≡ to_the_right (codes "||") (datas_of (map plain_data ts.value.items))
 or_is s ts = ap bare_data (ap plain_data (sym (variants.rolls-Or s ts)) ∙ fold-roll-DataTree PlainData plain_data_step _)
 
 pub prefix_is : (s : Span) (sign : PrefixSign) (t : Box DataTree) → bare (variants.Prefix s sign t) ≡ one (prefix_text sign) (bare t.value)

@@ -59,7 +59,7 @@ expressions_tokens separator ds rest = datas_tokens separator (datas_of (map pla
 abbrev pub signed_tokens : common.List (InfixSign × DataTree) → common.List Copied → common.List Copied
 signed_tokens os rest = operands_tokens (operands_of (plain_operands os)) rest
 
-list_form : (s : Span) (ts : Vec DataTree Global) → plain_data (variants.List s ts) ≡ datas.listed s (datas_of (map plain_data ts.items))
+list_form : (s : Span) (ts : Box (Vec DataTree Global)) → plain_data (variants.List s ts) ≡ datas.listed s (datas_of (map plain_data ts.value.items))
 list_form s ts = ap plain_data (sym (variants.rolls-List s ts)) ∙ fold-roll-DataTree PlainData plain_data_step _
 
 apply_form : (s : Span) (a : Box (Application DataTree)) → plain_data (variants.Apply s a) ≡ datas.applied s (word_of a.value.name) (datas_of (map plain_data a.value.arguments.items))
@@ -78,7 +78,7 @@ product_form : (s : Span) (c : Box (Chain DataTree)) → plain_data (variants.Pr
 product_form s c = ap plain_data (sym (variants.rolls-Product s c)) ∙ fold-roll-DataTree PlainData plain_data_step _
 
 module _ {a b c d : common.List ℕ} {p q r s : Place} (x : DataTree) (span : Span) where
-  pub list_added : (ts : Vec DataTree Global) (items : common.List DataTree) → items ≡ ts.items → x ≡ variants.List span ts → AddsTokens a p b q (λ rest. left_bracket ∷ rest) → AddsTokens b q c r (expressions_tokens comma items)
+  pub list_added : (ts : Box (Vec DataTree Global)) (items : common.List DataTree) → items ≡ ts.value.items → x ≡ variants.List span ts → AddsTokens a p b q (λ rest. left_bracket ∷ rest) → AddsTokens b q c r (expressions_tokens comma items)
       → AddsTokens c r d s (λ rest. right_bracket ∷ rest) → AddsTokens a p d s (expression_tokens x)
   list_added ts items is e h k m = tokens_of data_tokens (ap plain_data e ∙ list_form span ts) (tokens_of (λ z rest. left_bracket ∷ expressions_tokens comma z (right_bracket ∷ rest)) (sym is) (tokens_both h (tokens_both k m)))
 

@@ -20,13 +20,17 @@ use Rattle.mcrl2_parser.specs.ProcessReading.{acted, SpellsMulti, multi_actions}
 pub by_tau : {text : List ℕ} {ts r : List Token} {t : Token} {a : PlainAction} {at : Span} → a ≡ tau_action at → at ≡ span_of t t → ts ≡ t ∷ r → t.kind ≡ Tau → SpellsAction text a ts r
 by_tau p i e h = rw (p, i, e) (action_tau h)
 
-pub by_bare : {text : List ℕ} {ts r : List Token} {t : Token} {a : PlainAction} {at : Span} {w : PlainWord} {ds : List DataTree} → a ≡ named_action at w (map plain_data ds) → ds ≡ [] → at ≡ span_of t t
-    → w ≡ token_word text t → ts ≡ t ∷ r → t.kind ≡ Identifier → SpellsAction text a ts r
-by_bare p n i w e h = rw (p, n, i, w, e) (action_name h)
+-- from the first byte of a name up to a place
+abbrev pub up_to : PlainWord → ℕ → Span
+up_to name end = record { start = name.span.start; end = end }
 
-pub by_applied : {text : List ℕ} {ts us vs ws r : List Token} {t u v : Token} {a : PlainAction} {at : Span} {w : PlainWord} {ds : List PlainData} → a ≡ named_action at w ds → at ≡ span_of t v
+pub by_bare : {text : List ℕ} {ts r : List Token} {t : Token} {a : PlainAction} {w : PlainWord} {ds : List DataTree} → a ≡ named_action (up_to w t.end) w (map plain_data ds) → ds ≡ []
+    → w ≡ token_word text t → ts ≡ t ∷ r → t.kind ≡ Identifier → SpellsAction text a ts r
+by_bare p n w e h = rw (p, n, w, e) (action_name h)
+
+pub by_applied : {text : List ℕ} {ts us vs ws r : List Token} {t u v : Token} {a : PlainAction} {w : PlainWord} {ds : List PlainData} → a ≡ named_action (up_to w v.end) w ds
     → w ≡ token_word text t → ts ≡ t ∷ us → t.kind ≡ Identifier → us ≡ u ∷ vs → u.kind ≡ LeftParen → SpellsItems text ds vs ws → ws ≡ v ∷ r → v.kind ≡ RightParen → SpellsAction text a ts r
-by_applied {text = text} {vs = vs} {ds = ds} p i w e h f k d g l = rw (p, i, w, e, f) (action_applied h k (subst (λ (x : List Token). SpellsItems text ds vs x) g d) l)
+by_applied {text = text} {vs = vs} {ds = ds} p w e h f k d g l = rw (p, w, e, f) (action_applied h k (subst (λ (x : List Token). SpellsItems text ds vs x) g d) l)
 
 pub no_action : {text : List ℕ} {ts r : List Token} {a : PlainAction} → (Begins Tau ts → ⊥) → (Begins Identifier ts → ⊥) → SpellsAction text a ts r → ⊥
 no_action tau name (action_tau h) = tau h
@@ -60,9 +64,9 @@ pub arguments : {text : List ℕ} {ts us vs r : List Token} {t u : Token} {a : P
     → SpellsAction text a ts r → Arguments text a t vs r
 arguments {r = r} {a = a} e h f k none d = arguments_of h k none (rw (e, f) at d)
 
-pub applied_only : {text : List ℕ} {vs ws q r : List Token} {t v : Token} {a b : PlainAction} {at : Span} {w : PlainWord} {ds : List PlainData} → a ≡ named_action at w ds → at ≡ span_of t v
+pub applied_only : {text : List ℕ} {vs ws q r : List Token} {t v : Token} {a b : PlainAction} {w : PlainWord} {ds : List PlainData} → a ≡ named_action (up_to w v.end) w ds
     → w ≡ token_word text t → ws ≡ v ∷ q → (g : Arguments text b t vs r) → (ds ≡ g.arguments) × (ws ≡ g.close ∷ r) → (a ≡ b) × (q ≡ r)
-applied_only p i w f g same = let signs = sym f ∙ same.1 in (rw (p, i, w, same.0, heads signs) g.whole, tails signs)
+applied_only p w f g same = let signs = sym f ∙ same.1 in (rw (p, w, same.0, heads signs) g.whole, tails signs)
 
 pub by_label : {text : List ℕ} {ts r : List Token} {l : PlainLabel} {actions : List PlainAction} {at : Span} → l ≡ record { span = at; actions = actions } → at ≡ spanned action_span actions
     → SpellsActions text actions ts r → SpellsLabel text l ts r

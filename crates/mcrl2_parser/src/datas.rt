@@ -114,13 +114,14 @@ fn listed<'a>(
         → MatchResult result (λ x. (plain_data x.0 ≡ d) × (x.1.now ≡ r)) (λ e. e ≡ Fault.NoMemory) }
 {
     if let Ok((close, rest)) = expect(tokens, Kind::RightBracket) {
-        let none = Vec::new(alloc);
-        return Ok((DataTree::list_at(token_span(opening, close), none), rest));
+        let span = token_span(opening, close);
+        let tree = DataTree::list_at(alloc, span, Vec::new(alloc))?;
+        return Ok((tree, rest));
     }
     let (elements, rest) = items(alloc, text, tokens)?;
     let (close, rest) = expect(rest, Kind::RightBracket)?;
-    let span = token_span(opening, close);
-    Ok((DataTree::list_at(span, elements), rest))
+    let tree = DataTree::list_at(alloc, token_span(opening, close), elements)?;
+    Ok((tree, rest))
 }
 
 // The expression in brackets that an opening bracket begins, and the rest.

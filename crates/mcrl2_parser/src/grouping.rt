@@ -164,7 +164,8 @@ fn and_of(
     }
     let span = operands_span(&first, &operands);
     let trees = operand_trees(alloc, first, operands)?;
-    Ok(DataTree::and_at(span, trees))
+    let tree = DataTree::and_at(alloc, span, trees)?;
+    Ok(tree)
 }
 
 // The operands of `||` as one chain, where there are further ones.
@@ -181,7 +182,8 @@ fn or_of(
     }
     let span = operands_span(&first, &operands);
     let trees = operand_trees(alloc, first, operands)?;
-    Ok(DataTree::or_at(span, trees))
+    let tree = DataTree::or_at(alloc, span, trees)?;
+    Ok(tree)
 }
 
 /// The first operand of a level and the further ones in one tree, as the level groups.

@@ -6,8 +6,10 @@ ghost use Rattle.mcrl2_lexer.specs.declared.token.Token.{Token};
 ghost use Rattle.mcrl2_syntax.specs.Words.{PlainWord, word_of, Begins, last_of, spanned};
 ghost use Rattle.mcrl2_syntax.specs.ProcessParts.{PlainAction, PlainAssignment, PlainVarGroup, PlainLabel, plain_action, action_span, assignment_of, var_group_of, label_of};
 ghost use Rattle.mcrl2_syntax.specs.ProcessTrees.{PlainProcess, plain_process};
-ghost use Rattle.mcrl2_syntax.specs.Follow.{Stops, NoAction};
+ghost use Rattle.mcrl2_syntax.specs.DataTrees.{PlainData, plain_data};
+ghost use Rattle.mcrl2_syntax.specs.Follow.{Stops, Closed, NoAction};
 ghost use Rattle.mcrl2_syntax.specs.SpelledWords.{SpellsName, SpellsList};
+ghost use Rattle.mcrl2_syntax.specs.SpelledData.{SpellsItems};
 ghost use Rattle.mcrl2_syntax.specs.SpelledLabels.{SpellsVarGroup, SpellsVars, SpellsAction, SpellsActions, SpellsLabel, SpellsAssignment, SpellsCall};
 ghost use Rattle.mcrl2_parser.specs.ProcessReading.{SpellsMulti};
 
@@ -18,8 +20,8 @@ use crate::reading::sort;
 use crate::words::{Fault, expect, word};
 use mcrl2_lexer::{Kind, Token};
 use mcrl2_syntax::{
-    ActionTree, Assignment, LabelTree, ProcTree, Span, VarGroup, Word, WordList, joined_spans,
-    token_span,
+    ActionTree, Assignment, DataList, LabelTree, ProcTree, Span, VarGroup, Word, WordList,
+    joined_spans, token_span,
 };
 use std::alloc::Global;
 
@@ -66,6 +68,25 @@ impl Part for VarGroup {
     }
 }
 
+// The arguments that a front of the tokens spells, and the rest.
+fn arguments<'a>(
+    alloc: Global,
+    text: &[u8],
+    tokens: &'a [Token],
+) -> Result<(DataList, &'a [Token]), Fault>
+    ensures shorter { IfOk result (λ x. length x.1.now < length tokens.now) }
+    ensures found { IfOk result (λ x. SpellsItems text.now (map plain_data x.0.items) tokens.now x.1.now) }
+    ensures only { (ds : List PlainData) (r : List Token) → SpellsItems text.now ds tokens.now r → Closed r
+        → MatchResult result (λ x. (map plain_data x.0.items ≡ ds) × (x.1.now ≡ r)) (λ e. e ≡ Fault.NoMemory) }
+{
+    let (first, rest) = data(alloc, text, tokens)?;
+    let Ok((_, behind)) = expect(rest, Kind::Comma) else {
+        return Ok((DataList::lone(alloc, first)?, rest));
+    };
+    let (others, rest) = items(alloc, text, behind)?;
+    Ok((DataList::led(alloc, first, others)?, rest))
+}
+
 /// `tau`, `a` or `a(d, e)`
 impl Part for ActionTree {
     ghost Plain = { PlainAction };
@@ -87,13 +108,12 @@ impl Part for ActionTree {
         let (token, rest) = expect(tokens, Kind::Identifier)?;
         let name = word(alloc, text, token)?;
         let Ok((_, inner)) = expect(rest, Kind::LeftParen) else {
-            let span = token_span(token, token);
-            return Ok((ActionTree::named_at(span, name, Vec::new(alloc)), rest));
+            let tree = ActionTree::named_to(token.end, name, DataList::none());
+            return Ok((tree, rest));
         };
-        let (arguments, behind) = items(alloc, text, inner)?;
+        let (arguments, behind) = arguments(alloc, text, inner)?;
         let (close, rest) = expect(behind, Kind::RightParen)?;
-        let span = token_span(token, close);
-        Ok((ActionTree::named_at(span, name, arguments), rest))
+        Ok((ActionTree::named_to(close.end, name, arguments), rest))
     }
 }
 
@@ -286,10 +306,11 @@ pub fn call<'a>(
     let name = word(alloc, text, token)?;
     if let Ok((close, rest)) = expect(inner, Kind::RightParen) {
         let span = token_span(token, close);
-        return Ok((ProcTree::call_at(span, name, Vec::new(alloc)), rest));
+        let tree = ProcTree::call_at(alloc, span, name, Vec::new(alloc))?;
+        return Ok((tree, rest));
     }
     let (assignments, behind) = list::<Assignment>(alloc, text, inner, Kind::Comma)?;
     let (close, rest) = expect(behind, Kind::RightParen)?;
-    let span = token_span(token, close);
-    Ok((ProcTree::call_at(span, name, assignments), rest))
+    let tree = ProcTree::call_at(alloc, token_span(token, close), name, assignments)?;
+    Ok((tree, rest))
 }

@@ -51,15 +51,15 @@ plain_data_step (open_.Name name) = named (word_of name)
 plain_data_step (open_.Numeral digits) = numeral (word_of digits)
 plain_data_step (open_.True span) = true_data span
 plain_data_step (open_.False span) = false_data span
-plain_data_step (open_.List span elements) = listed span (datas_of elements.items)
+plain_data_step (open_.List span elements) = listed span (datas_of elements.value.items)
 plain_data_step (open_.Apply span application) = applied span (word_of application.value.name) (datas_of application.value.arguments.items)
 plain_data_step (open_.Brackets span inner) = brackets span inner.value
 plain_data_step (open_.Prefix span sign inner) = prefix span sign inner.value
 plain_data_step (open_.Infix span sign left right) = binary span sign left.value right.value
 plain_data_step (open_.Sum span chain) = sum_chain span chain.value.first (operands_of chain.value.further.items)
 plain_data_step (open_.Product span chain) = product_chain span chain.value.first (operands_of chain.value.further.items)
-plain_data_step (open_.And span operands) = and_chain span (datas_of operands.items)
-plain_data_step (open_.Or span operands) = or_chain span (datas_of operands.items)
+plain_data_step (open_.And span operands) = and_chain span (datas_of operands.value.items)
+plain_data_step (open_.Or span operands) = or_chain span (datas_of operands.value.items)
 
 abbrev pub plain_data : DataTree → PlainData
 plain_data = fold-DataTree PlainData plain_data_step

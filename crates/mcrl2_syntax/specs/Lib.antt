@@ -5,6 +5,8 @@ pub mod WordLists
 pub mod Words
 pub mod SortTrees
 pub mod DataTrees
+pub mod ListedData
+pub mod DataLists
 pub mod ProcessParts
 pub mod ProcessTrees
 pub mod Declarations

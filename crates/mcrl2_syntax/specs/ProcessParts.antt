@@ -20,7 +20,7 @@ pub data PlainAction : Type 0 where
 
 abbrev pub plain_action : ActionTree → PlainAction
 plain_action (Tau span) = tau_action span
-plain_action (Named span name arguments) = named_action span (word_of name) (map plain_data arguments.items)
+plain_action (Named end name arguments) = named_action (record { start = name.span.start; end = end }) (word_of name) (map plain_data arguments.items)
 
 -- where the action stands
 abbrev pub action_span : PlainAction → Span

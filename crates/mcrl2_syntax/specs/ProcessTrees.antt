@@ -41,7 +41,7 @@ abbrev pub plain_process_step : ProcTree-F PlainProcess → PlainProcess
 plain_process_step (open_.Delta span) = delta span
 plain_process_step (open_.Action action) = acts (plain_action action)
 plain_process_step (open_.Multi span actions) = multi span (map plain_action actions.items)
-plain_process_step (open_.Call span name assignments) = call span (word_of name) (map assignment_of assignments.items)
+plain_process_step (open_.Call span name assignments) = call span (word_of name) (map assignment_of assignments.value.items)
 plain_process_step (open_.Brackets span inner) = within span inner.value
 plain_process_step (open_.Allow span sets inner) = allow span (map name_set_of sets.items) inner.value
 plain_process_step (open_.Block span names inner) = block span (map word_of names.items) inner.value

@@ -81,7 +81,7 @@ pub struct Chain<T: Drop> {
 
 /// A data expression.
 ///
-/// What takes more room than a word or a list stands in a box, so that each name of a long text takes little.
+/// What takes more room than a word stands in a box, so that each name of a long text takes little.
 #[derive(Debug, Drop)]
 pub enum DataTree {
     /// `x`
@@ -93,7 +93,7 @@ pub enum DataTree {
     /// `false`
     False(Span),
     /// `[d, e]`
-    List(Span, Vec<DataTree>),
+    List(Span, Box<Vec<DataTree>>),
     /// `f(d, e)`
     Apply(Span, Box<Application<DataTree>>),
     /// `(d)`
@@ -107,9 +107,9 @@ pub enum DataTree {
     /// `d * e . f`
     Product(Span, Box<Chain<DataTree>>),
     /// `d && e`
-    And(Span, Vec<DataTree>),
+    And(Span, Box<Vec<DataTree>>),
     /// `d || e`
-    Or(Span, Vec<DataTree>),
+    Or(Span, Box<Vec<DataTree>>),
 }
 
 impl DataTree {
@@ -142,10 +142,19 @@ impl DataTree {
     }
 
     /// A list of elements.
-    pub fn list_at(span: Span, elements: Vec<DataTree>) -> DataTree
-        ensures { plain_data result ≡ listed span (datas_of (map plain_data elements.items)) }
+    ///
+    /// # Errors
+    ///
+    /// The elements again, where no memory is left.
+    pub fn list_at(
+        alloc: Global,
+        span: Span,
+        elements: Vec<DataTree>,
+    ) -> Result<DataTree, AllocFailed<Vec<DataTree>>>
+        ensures { IfOk result (λ tree. plain_data tree ≡ listed span (datas_of (map plain_data elements.items))) }
     {
-        DataTree::List(span, elements)
+        let elements = Box::new(alloc, elements)?;
+        Ok(DataTree::List(span, elements))
     }
 
     /// A name with arguments.
@@ -232,17 +241,35 @@ impl DataTree {
     }
 
     /// Operands of `&&`, to be read from the right.
-    pub fn and_at(span: Span, operands: Vec<DataTree>) -> DataTree
-        ensures { plain_data result ≡ and_chain span (datas_of (map plain_data operands.items)) }
+    ///
+    /// # Errors
+    ///
+    /// The operands again, where no memory is left.
+    pub fn and_at(
+        alloc: Global,
+        span: Span,
+        operands: Vec<DataTree>,
+    ) -> Result<DataTree, AllocFailed<Vec<DataTree>>>
+        ensures { IfOk result (λ tree. plain_data tree ≡ and_chain span (datas_of (map plain_data operands.items))) }
     {
-        DataTree::And(span, operands)
+        let operands = Box::new(alloc, operands)?;
+        Ok(DataTree::And(span, operands))
     }
 
     /// Operands of `||`, to be read from the right.
-    pub fn or_at(span: Span, operands: Vec<DataTree>) -> DataTree
-        ensures { plain_data result ≡ or_chain span (datas_of (map plain_data operands.items)) }
+    ///
+    /// # Errors
+    ///
+    /// The operands again, where no memory is left.
+    pub fn or_at(
+        alloc: Global,
+        span: Span,
+        operands: Vec<DataTree>,
+    ) -> Result<DataTree, AllocFailed<Vec<DataTree>>>
+        ensures { IfOk result (λ tree. plain_data tree ≡ or_chain span (datas_of (map plain_data operands.items))) }
     {
-        DataTree::Or(span, operands)
+        let operands = Box::new(alloc, operands)?;
+        Ok(DataTree::Or(span, operands))
     }
 
     /// Where the expression stands.

@@ -5,6 +5,7 @@
 #![tactic(auto)]
 
 mod copying;
+mod data_list;
 mod data_tree;
 mod declaration;
 mod laws;
@@ -16,6 +17,7 @@ mod word_bytes;
 mod word_list;
 
 pub use copying::is_first_copied;
+pub use data_list::DataList;
 pub use data_tree::{Application, Chain, DataTree, InfixSign, PrefixSign};
 pub use declaration::{Constructor, Decl, EquationTree, Field, Section, SectionWord, Spec};
 pub use laws::{

@@ -1,24 +1,26 @@
 //! Process terms, actions and labels.
 
-ghost use Rattle.std.specs.Prelude.{◌≡◌, map};
+ghost use Rattle.std.specs.Prelude.{◌≡◌, IfOk, map};
 ghost use Rattle.mcrl2_syntax.specs.Words.{word_of};
 ghost use Rattle.mcrl2_syntax.specs.SortTrees.{plain_sort};
 ghost use Rattle.mcrl2_syntax.specs.DataTrees.{plain_data};
 ghost use Rattle.mcrl2_syntax.specs.ProcessParts.{tau_action, named_action, plain_action, action_span, assignment_of, name_set_of, renaming_of, comm_rule_of, var_group_of, label_of};
 ghost use Rattle.mcrl2_syntax.specs.ProcessTrees.{delta, acts, multi, call, within, allow, block, hide, rename, comm, sequence, sum, when, either, parallel, choice, processes_of, plain_process, process_span};
 
+use crate::data_list::DataList;
 use crate::data_tree::DataTree;
 use crate::sort_tree::SortTree;
 use crate::word::{Span, Word};
 use crate::word_list::WordList;
+use std::alloc::{AllocFailed, Global};
 
 /// An action, or none.
 #[derive(Debug, Drop)]
 pub enum ActionTree {
     /// `tau`
     Tau(Span),
-    /// `a` or `a(d, e)`; without brackets there are no arguments.
-    Named(Span, Word, Vec<DataTree>),
+    /// `a` or `a(d, e)`, and the place behind its last byte; without brackets there are no arguments.
+    Named(u32, Word, DataList),
 }
 
 impl ActionTree {
@@ -29,11 +31,11 @@ impl ActionTree {
         ActionTree::Tau(span)
     }
 
-    /// A name with arguments.
-    pub fn named_at(span: Span, name: Word, arguments: Vec<DataTree>) -> ActionTree
-        ensures { plain_action result ≡ named_action span (word_of name) (map plain_data arguments.items) }
+    /// A name with arguments, up to that place.
+    pub fn named_to(end: u32, name: Word, arguments: DataList) -> ActionTree
+        ensures { plain_action result ≡ named_action (record { start = name.span.start; end = end }) (word_of name) (map plain_data arguments.items) }
     {
-        ActionTree::Named(span, name, arguments)
+        ActionTree::Named(end, name, arguments)
     }
 
     /// Where the action stands.
@@ -42,7 +44,10 @@ impl ActionTree {
     {
         match self {
             ActionTree::Tau(span) => *span,
-            ActionTree::Named(span, _, _) => *span,
+            ActionTree::Named(end, name, _) => Span {
+                start: name.span.start,
+                end: *end,
+            },
         }
     }
 }
@@ -177,7 +182,7 @@ pub enum ProcTree {
     /// `a|b(d)`
     Multi(Span, Vec<ActionTree>),
     /// `P()` or `P(x = d)`
-    Call(Span, Word, Vec<Assignment>),
+    Call(Span, Word, Box<Vec<Assignment>>),
     /// `(p)`
     Brackets(Span, Box<ProcTree>),
     /// `allow({a|b}, p)`
@@ -227,10 +232,20 @@ impl ProcTree {
     }
 
     /// A call with assignments.
-    pub fn call_at(span: Span, name: Word, assignments: Vec<Assignment>) -> ProcTree
-        ensures { plain_process result ≡ call span (word_of name) (map assignment_of assignments.items) }
+    ///
+    /// # Errors
+    ///
+    /// The assignments again, where no memory is left.
+    pub fn call_at(
+        alloc: Global,
+        span: Span,
+        name: Word,
+        assignments: Vec<Assignment>,
+    ) -> Result<ProcTree, AllocFailed<Vec<Assignment>>>
+        ensures { IfOk result (λ tree. plain_process tree ≡ call span (word_of name) (map assignment_of assignments.items)) }
     {
-        ProcTree::Call(span, name, assignments)
+        let assignments = Box::new(alloc, assignments)?;
+        Ok(ProcTree::Call(span, name, assignments))
     }
 
     /// A process in brackets.

@@ -7,10 +7,9 @@ use Rattle.std.proofs.lemmas.Option.{none-some, same_Some, slice_get-map, slice_
 use Rattle.std.proofs.lemmas.List.{map-append}
 use Rattle.std.proofs.lemmas.Simd.{map-map}
 use Rattle.std.proofs.lemmas.List.Elements.{All-append, All-nil, All-cons}
-use Rattle.mcrl2_syntax.specs.declared.data_tree.DataTree.{DataTree}
 use Rattle.mcrl2_syntax.specs.declared.process_tree.ActionTree.{ActionTree}
+use Rattle.mcrl2_syntax.specs.ListedData.{ListedData}
 use Rattle.mcrl2_syntax.specs.declared.process_tree.ActionTree.TheVariants as trees
-use Rattle.mcrl2_syntax.specs.declared.word.Span.{Span}
 use Rattle.mcrl2_syntax.specs.declared.word.Word.{Word}
 use Rattle.mcrl2_syntax.specs.DataTrees.{plain_data}
 use Rattle.mcrl2_syntax.specs.ProcessParts.{plain_action}
@@ -228,8 +227,8 @@ module _ (v : FullVocabulary) (s : Scope) (x : Name) (es : List Expression) (g :
   no_call_found _ e (the_call k ps ts f a stands) is = cc
 
 -- ---- trees of actions
-pub named_bare : (span : Span) (w : Word) (ds : Vec DataTree Global) → bare_action (plain_action (trees.Named span w ds)) ≡ act w.bytes.items (bare_trees ds.items)
-named_bare span w ds = ap (act w.bytes.items) (map-map bare_data plain_data ds.items)
+pub named_bare : (end : ℕ) (w : Word) (ds : ListedData) → bare_action (plain_action (trees.Named end w ds)) ≡ act w.bytes.items (bare_trees ds.items)
+named_bare end w ds = ap (act w.bytes.items) (map-map bare_data plain_data ds.items)
 
 module _ (v : Vocabulary) (s : Scope) (ts : List ActionTree) (i : ℕ) (t : ActionTree) (inside : i < length ts) (at : t ≡ get_or ts i t) where
   more_trees : map bare_action (map plain_action (take (i + 1) ts)) ≡ map bare_action (map plain_action (take i ts)) ++ bare_action (plain_action t) ∷ []
@@ -253,9 +252,9 @@ module _ (v : Vocabulary) (s : Scope) (ts : List ActionTree) (i : ℕ) (t : Acti
       label_has v s (map bare_action (map plain_action ts)) i x es m
       (slice_get-map bare_action (map plain_action ts) i ∙ (ap (option_map bare_action) (slice_get-map plain_action ts i ∙ ap (option_map plain_action) (slice_get_read ts (length ts) i t refl inside at)) ∙ ap (λ (b : Action). Some b) is)) e
 
-pub tau_bare : (t : ActionTree) → ((span : Span) (w : Word) (ds : Vec DataTree Global) → t ≡ trees.Named span w ds → ⊥) → bare_action (plain_action t) ≡ tau
+pub tau_bare : (t : ActionTree) → ((end : ℕ) (w : Word) (ds : ListedData) → t ≡ trees.Named end w ds → ⊥) → bare_action (plain_action t) ≡ tau
 tau_bare (trees.Tau span) other = refl
-tau_bare (trees.Named span w ds) other = absurd (other span w ds refl)
+tau_bare (trees.Named end w ds) other = absurd (other end w ds refl)
 
 pub single_bare : (ts : List ActionTree) → length ts ≡ 1 → (t : ActionTree) → t ≡ get_or ts 0 t → map bare_action (map plain_action ts) ≡ bare_action (plain_action t) ∷ []
 single_bare [] one t at = let never : ⊥ = omega (arith, one) in absurd never

@@ -43,7 +43,7 @@ pub multi_plain : (tree : ProcTree) (span : Span) (actions : Vec ActionTree) (as
 multi_plain tree span actions as_ is e =
     ap plain_process is ∙ (ap plain_process (sym (forms.rolls-Multi span actions)) ∙ (fold-roll-ProcTree PlainProcess plain_process_step _ ∙ ap (λ (xs : List ActionTree). trees.multi span (map plain_action xs)) (sym e)))
 
-pub call_plain : (tree : ProcTree) (span : Span) (name : Word) (assignments : Vec Assignment) (ds : List Assignment) → tree ≡ forms.Call span name assignments → ds ≡ assignments.items → plain_process tree ≡ trees.call span (word_of name) (map assignment_of ds)
+pub call_plain : (tree : ProcTree) (span : Span) (name : Word) (assignments : Box (Vec Assignment)) (ds : List Assignment) → tree ≡ forms.Call span name assignments → ds ≡ assignments.value.items → plain_process tree ≡ trees.call span (word_of name) (map assignment_of ds)
 call_plain tree span name assignments ds is e =
     ap plain_process is
     ∙ (ap plain_process (sym (forms.rolls-Call span name assignments)) ∙ (fold-roll-ProcTree PlainProcess plain_process_step _ ∙ ap (λ (xs : List Assignment). trees.call span (word_of name) (map assignment_of xs)) (sym e)))
@@ -129,7 +129,7 @@ action_same tree a is = ap bare_process (action_plain tree a is)
 pub multi_same : (tree : ProcTree) (span : Span) (actions : Vec ActionTree) (as_ : List ActionTree) → tree ≡ forms.Multi span actions → as_ ≡ actions.items → bare_one tree ≡ bare.acts (map bare_action (map plain_action as_))
 multi_same tree span actions as_ is e = ap bare_process (multi_plain tree span actions as_ is e)
 
-pub call_same : (tree : ProcTree) (span : Span) (name : Word) (assignments : Vec Assignment) (ds : List Assignment) → tree ≡ forms.Call span name assignments → ds ≡ assignments.items → bare_one tree ≡ bare.call name.bytes.items (map assigned_value ds)
+pub call_same : (tree : ProcTree) (span : Span) (name : Word) (assignments : Box (Vec Assignment)) (ds : List Assignment) → tree ≡ forms.Call span name assignments → ds ≡ assignments.value.items → bare_one tree ≡ bare.call name.bytes.items (map assigned_value ds)
 call_same tree span name assignments ds is e = ap bare_process (call_plain tree span name assignments ds is e) ∙ call_bare span name ds
 
 pub brackets_same : (tree : ProcTree) (span : Span) (inner : Box ProcTree) (p : ProcTree) → tree ≡ forms.Brackets span inner → p ≡ inner.value → bare_one tree ≡ bare_one p

@@ -23,6 +23,7 @@ fn push_action(out: &mut Vec<u8>, action: &ActionTree) -> Result<(), AllocError>
         ActionTree::Tau(_) => out.extend_from_slice(b"tau"),
         ActionTree::Named(_, name, arguments) => {
             push_word(out, name)?;
+            let arguments = arguments.as_slice();
             if !arguments.is_empty() {
                 out.push(b'(')?;
                 push_items(out, arguments)?;

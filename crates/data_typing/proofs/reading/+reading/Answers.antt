@@ -1,5 +1,6 @@
 use Rattle.std.proofs.Common.{List, [], ◌∷◌, length, refl, sym, subst, ap, ◌∙◌, arith}
-use Rattle.std.specs.Prelude.{codes}
+use Rattle.std.specs.Prelude.{Vec, codes}
+use Rattle.std.specs.Global.{Global}
 use Rattle.std.proofs.lemmas.Result.{IfOk-weaker}
 use Rattle.data_theory.specs.IdTerms.{symbol_under}
 use Rattle.mcrl2_lexer.specs.Words.{decimal}
@@ -38,7 +39,7 @@ pub read-returns-in_ok-parts-in-List-clause-stands : goal.read-returns-in_ok-par
 read-returns-in_ok-parts-in-List-clause-stands t c =
     IfOk-weaker c.add_list.result _ _
     (λ at k. subst (Stands (symbol_under c.args.context.now.sig.now) (meaning_in c.args.context.now.sig.now c.args.context.now.scope.now) c.add_list.new.nodes.items at)
-    (ap (λ (ts : List DataTree). listed (expressions_of (bare_trees ts))) c.as_slice-in-List.ensures.value ∙ ap listed (sym (datas_are c.in-List.elements.items)) ∙ sym (ap (λ (u : DataTree). bare_data (plain_data u)) c.in-List.is ∙ list_is c.in-List.field-0 c.in-List.elements))
+    (ap (λ (ts : List DataTree). listed (expressions_of (bare_trees ts))) (c.as_slice-in-List.ensures.value ∙ ap (λ (ts : Vec DataTree Global). ts.items) c.deref.ensures) ∙ ap listed (sym (datas_are c.in-List.elements.value.items)) ∙ sym (ap (λ (u : DataTree). bare_data (plain_data u)) c.in-List.is ∙ list_is c.in-List.field-0 c.in-List.elements))
     (k (symbol_under c.args.context.now.sig.now) (meaning_in c.args.context.now.sig.now c.args.context.now.scope.now) (bare_trees c.as_slice-in-List.result.now) c.in_ok-parts-in-List.ensures.stand)) c.add_list.ensures.stands
 
 pub read-returns-in_ok-parts-in-Prefix-clause-stands : goal.read-returns-in_ok-parts-in-Prefix-clause-stands
@@ -123,8 +124,8 @@ read-returns-in_ok-parts-in-Apply-clause-stands t c =
     read_by (symbol_under c.args.context.now.sig.now) (meaning_in c.args.context.now.sig.now c.args.context.now.scope.now) c.read_all-in-Apply.new.nodes.items c.add_word.new.nodes.items c.in_ok-parts-in-Apply.parts.items (bare_trees c.as_slice-arguments.result.now) c.in_ok-parts-in-Apply.ensures.stand
     (λ ds. word c.text_of-word.result.now (expressions_of ds)) c.add_word.result c.add_word.ensures.stands (bare_data (plain_data c.args.tree.now))
     (ap (λ n. word n (expressions_of (bare_trees c.as_slice-arguments.result.now))) c.text_of-word.ensures
-    ∙ ap (λ (a : Application DataTree). word a.name.bytes.items (expressions_of (bare_trees c.as_slice-arguments.result.now))) c.deref.ensures
-    ∙ ap (λ (ts : List DataTree). word c.in-Apply.application.value.name.bytes.items (expressions_of (bare_trees ts))) (c.as_slice-arguments.ensures.value ∙ ap (λ (a : Application DataTree). a.arguments.items) c.deref-in-Apply.ensures)
+    ∙ ap (λ (a : Application DataTree). word a.name.bytes.items (expressions_of (bare_trees c.as_slice-arguments.result.now))) c.deref-in-Apply.ensures
+    ∙ ap (λ (ts : List DataTree). word c.in-Apply.application.value.name.bytes.items (expressions_of (bare_trees ts))) (c.as_slice-arguments.ensures.value ∙ ap (λ (a : Application DataTree). a.arguments.items) c.deref-in-Apply-2.ensures)
     ∙ ap (word c.in-Apply.application.value.name.bytes.items) (sym (datas_are c.in-Apply.application.value.arguments.items)) ∙ sym (ap (λ (u : DataTree). bare_data (plain_data u)) c.in-Apply.is ∙ apply_is c.in-Apply.field-0 c.in-Apply.application))
 
 pub read-returns-in_ok-at-in-Sum-clause-stands : goal.read-returns-in_ok-at-in-Sum-clause-stands
@@ -140,13 +141,13 @@ pub read-returns-in-And-clause-stands : goal.read-returns-in-And-clause-stands
 read-returns-in-And-clause-stands t c =
     IfOk-weaker c.read_joined.result _ _
     (λ at k. subst (Stands (symbol_under c.args.context.now.sig.now) (meaning_in c.args.context.now.sig.now c.args.context.now.scope.now) c.read_joined.new.nodes.items at)
-    (ap (λ (ts : List DataTree). joined (codes "&&") (bare_trees ts)) c.as_slice-in-And.ensures.value ∙ sym (joined_are (codes "&&") c.in-And.operands.items) ∙ sym (ap (λ (u : DataTree). bare_data (plain_data u)) c.in-And.is ∙ and_is c.in-And.field-0 c.in-And.operands)) k) c.read_joined.ensures.stands
+    (ap (λ (ts : List DataTree). joined (codes "&&") (bare_trees ts)) (c.as_slice-in-And.ensures.value ∙ ap (λ (ts : Vec DataTree Global). ts.items) c.deref-in-And.ensures) ∙ sym (joined_are (codes "&&") c.in-And.operands.value.items) ∙ sym (ap (λ (u : DataTree). bare_data (plain_data u)) c.in-And.is ∙ and_is c.in-And.field-0 c.in-And.operands)) k) c.read_joined.ensures.stands
 
 pub read-returns-in-Or-clause-stands : goal.read-returns-in-Or-clause-stands
 read-returns-in-Or-clause-stands t c =
     IfOk-weaker c.read_joined-in-Or.result _ _
     (λ at k. subst (Stands (symbol_under c.args.context.now.sig.now) (meaning_in c.args.context.now.sig.now c.args.context.now.scope.now) c.read_joined-in-Or.new.nodes.items at)
-    (ap (λ (ts : List DataTree). joined (codes "||") (bare_trees ts)) c.as_slice-in-Or.ensures.value ∙ sym (joined_are (codes "||") c.in-Or.operands.items) ∙ sym (ap (λ (u : DataTree). bare_data (plain_data u)) c.in-Or.is ∙ or_is c.in-Or.field-0 c.in-Or.operands)) k) c.read_joined-in-Or.ensures.stands
+    (ap (λ (ts : List DataTree). joined (codes "||") (bare_trees ts)) (c.as_slice-in-Or.ensures.value ∙ ap (λ (ts : Vec DataTree Global). ts.items) c.deref-in-Or.ensures) ∙ sym (joined_are (codes "||") c.in-Or.operands.value.items) ∙ sym (ap (λ (u : DataTree). bare_data (plain_data u)) c.in-Or.is ∙ or_is c.in-Or.field-0 c.in-Or.operands)) k) c.read_joined-in-Or.ensures.stands
 
 pub read_joined-join-requires-clause-below : goal.read_joined-join-requires-clause-below
 read_joined-join-requires-clause-below t c =

@@ -79,24 +79,24 @@ data-returns-clause-only t c = λ d r l s.
     data_only c.in_ok-first.ensures.only c.in_ok-operands.ensures.only (data_found c.in_ok-tree.ensures.tree c.in_ok-first.ensures.found c.in_ok-operands.ensures.found) d r l s
 
 pub listed-returns-in-Ok-clause-found : goal.listed-returns-in-Ok-clause-found
-listed-returns-in-Ok-clause-found t c = by_empty (c.list_at.ensures ∙ ap (λ (x : List DataTree). listed c.token_span.result (datas_of (map plain_data x))) c.new-none.ensures.items) c.token_span.ensures c.requires c.in-Ok.ensures.found.0 c.in-Ok.ensures.found.1
+listed-returns-in-Ok-clause-found t c = by_empty (c.in_ok-tree.ensures ∙ ap (λ (x : List DataTree). listed c.token_span-span.result (datas_of (map plain_data x))) c.new.ensures.items) c.token_span-span.ensures c.requires c.in-Ok.ensures.found.0 c.in-Ok.ensures.found.1
 
 pub listed-returns-in-Ok-clause-only : goal.listed-returns-in-Ok-clause-only
-listed-returns-in-Ok-clause-only t c = λ d r u. empty_only (c.list_at.ensures ∙ ap (λ (x : List DataTree). listed c.token_span.result (datas_of (map plain_data x))) c.new-none.ensures.items) c.token_span.ensures c.requires c.in-Ok.ensures.found.0 c.in-Ok.ensures.found.1 d r u
+listed-returns-in-Ok-clause-only t c = λ d r u. empty_only (c.in_ok-tree.ensures ∙ ap (λ (x : List DataTree). listed c.token_span-span.result (datas_of (map plain_data x))) c.new.ensures.items) c.token_span-span.ensures c.requires c.in-Ok.ensures.found.0 c.in-Ok.ensures.found.1 d r u
 
 pub listed-returns-in_err-elements-clause-only : goal.listed-returns-in_err-elements-clause-only
-listed-returns-in_err-elements-clause-only t c = λ d r u. let p = err_from_is_err_and c.from_residual.result c.from_residual.ensures.1 in
+listed-returns-in_err-elements-clause-only t c = λ d r u. let p = err_from_is_err_and c.from_residual-in_err-elements.result c.from_residual-in_err-elements.ensures.1 in
     rw p.1 (p.2 ∙ list_fault _ c.requires (c.in_default.ensures.none refl) c.in_err-elements.ensures.only d r u)
 
 pub listed-returns-in_err-close-clause-only : goal.listed-returns-in_err-close-clause-only
 listed-returns-in_err-close-clause-only t c = λ d r u. absurd (list_unclosed c.requires (c.in_default.ensures.none refl) c.in_ok-elements.ensures.only (c.in_err-close.ensures.none refl) d r u)
 
 pub listed-returns-clause-found : goal.listed-returns-clause-found
-listed-returns-clause-found t c = by_list c.list_at-2.ensures c.token_span-span.ensures c.requires c.in_ok-elements.ensures.found c.in_ok-close.ensures.found.0 c.in_ok-close.ensures.found.1
+listed-returns-clause-found t c = by_list c.in_ok-tree-2.ensures c.token_span.ensures c.requires c.in_ok-elements.ensures.found c.in_ok-close.ensures.found.0 c.in_ok-close.ensures.found.1
 
 pub listed-returns-clause-only : goal.listed-returns-clause-only
 listed-returns-clause-only t c = λ d r u.
-    list_only c.list_at-2.ensures c.token_span-span.ensures c.requires (c.in_default.ensures.none refl) c.in_ok-elements.ensures.only c.in_ok-close.ensures.found.0 d r u
+    list_only c.in_ok-tree-2.ensures c.token_span.ensures c.requires (c.in_default.ensures.none refl) c.in_ok-elements.ensures.only c.in_ok-close.ensures.found.0 d r u
 
 pub named-returns-in_default-clause-found : goal.named-returns-in_default-clause-found
 named-returns-in_default-clause-found t c = by_name c.name_at.ensures c.in_ok-name_word.ensures.found c.requires

@@ -13,12 +13,12 @@ pub returns-in_err-inner-clause-only : goal.returns-in_err-inner-clause-only
 returns-in_err-inner-clause-only c = λ p r d. absurd (no_paren c.in_ok-token.ensures.found.0 (c.in_err-inner.ensures.none refl) d)
 
 pub returns-in-Ok-clause-found : goal.returns-in-Ok-clause-found
-returns-in-Ok-clause-found c = by_empty c.call_at.ensures c.new.ensures.items c.token_span-span.ensures c.in_ok-name.ensures.found c.in_ok-token.ensures.found.0 c.in_ok-token.ensures.found.1 c.in_ok-inner.ensures.found.0 c.in_ok-inner.ensures.found.1
+returns-in-Ok-clause-found c = by_empty c.in_ok-tree.ensures c.new.ensures.items c.token_span-span.ensures c.in_ok-name.ensures.found c.in_ok-token.ensures.found.0 c.in_ok-token.ensures.found.1 c.in_ok-inner.ensures.found.0 c.in_ok-inner.ensures.found.1
     c.in-Ok.ensures.found.0 c.in-Ok.ensures.found.1
 
 pub returns-in-Ok-clause-only : goal.returns-in-Ok-clause-only
 returns-in-Ok-clause-only c = λ p r d. call_once
-    (by_empty c.call_at.ensures c.new.ensures.items c.token_span-span.ensures c.in_ok-name.ensures.found c.in_ok-token.ensures.found.0 c.in_ok-token.ensures.found.1 c.in_ok-inner.ensures.found.0 c.in_ok-inner.ensures.found.1
+    (by_empty c.in_ok-tree.ensures c.new.ensures.items c.token_span-span.ensures c.in_ok-name.ensures.found c.in_ok-token.ensures.found.0 c.in_ok-token.ensures.found.1 c.in_ok-inner.ensures.found.0 c.in_ok-inner.ensures.found.1
     c.in-Ok.ensures.found.0 c.in-Ok.ensures.found.1) d
 
 pub list-requires : goal.list-requires
@@ -36,10 +36,10 @@ returns-in_err-close-clause-only c = λ p r d.
     absurd (c.in_err-close.ensures.none refl (moved RightParen (sym same.1) a.is_close))
 
 pub returns-clause-found : goal.returns-clause-found
-returns-clause-found c = by_assigns c.call_at-2.ensures c.token_span-span-2.ensures c.in_ok-name.ensures.found c.in_ok-token.ensures.found.0 c.in_ok-token.ensures.found.1 c.in_ok-inner.ensures.found.0 c.in_ok-inner.ensures.found.1
+returns-clause-found c = by_assigns c.in_ok-tree-2.ensures c.token_span.ensures c.in_ok-name.ensures.found c.in_ok-token.ensures.found.0 c.in_ok-token.ensures.found.1 c.in_ok-inner.ensures.found.0 c.in_ok-inner.ensures.found.1
     c.in_ok-assignments.ensures.found c.in_ok-close.ensures.found.0 c.in_ok-close.ensures.found.1
 
 pub returns-clause-only : goal.returns-clause-only
 returns-clause-only c = λ p r d. call_once
-    (by_assigns c.call_at-2.ensures c.token_span-span-2.ensures c.in_ok-name.ensures.found c.in_ok-token.ensures.found.0 c.in_ok-token.ensures.found.1 c.in_ok-inner.ensures.found.0 c.in_ok-inner.ensures.found.1
+    (by_assigns c.in_ok-tree-2.ensures c.token_span.ensures c.in_ok-name.ensures.found c.in_ok-token.ensures.found.0 c.in_ok-token.ensures.found.1 c.in_ok-inner.ensures.found.0 c.in_ok-inner.ensures.found.1
     c.in_ok-assignments.ensures.found c.in_ok-close.ensures.found.0 c.in_ok-close.ensures.found.1) d

@@ -1,4 +1,6 @@
 use Rattle.std.proofs.Common.{ap, ◌∙◌}
+use Rattle.std.specs.Prelude.{Vec}
+use Rattle.std.specs.Global.{Global}
 use Rattle.std.proofs.lemmas.Result.{on_ok_weaker}
 use Rattle.mcrl2_syntax.specs.declared.data_tree.Application.{Application}
 use Rattle.mcrl2_syntax.specs.declared.data_tree.Chain.{Chain}
@@ -9,12 +11,12 @@ use Rattle.lps_printer.proofs.copied_tokens.CopiedText.+data.Goals as goal
 
 pub data-returns-in_ok-datas-in-List : goal.data-returns-in_ok-datas-in-List
 data-returns-in_ok-datas-in-List t c =
-    on_ok_weaker c.token-in-List-2.result (λ p. list_added c.args.tree.now c.in-List.field-0 c.in-List.elements c.as_slice-in-List.result.now c.as_slice-in-List.ensures.value c.in-List.is c.in_ok-token-in-List.ensures c.in_ok-datas-in-List.ensures p) c.token-in-List-2.ensures
+    on_ok_weaker c.token-in-List-2.result (λ p. list_added c.args.tree.now c.in-List.field-0 c.in-List.elements c.as_slice-in-List.result.now (c.as_slice-in-List.ensures.value ∙ ap (λ (x : Vec DataTree Global). x.items) c.deref.ensures) c.in-List.is c.in_ok-token-in-List.ensures c.in_ok-datas-in-List.ensures p) c.token-in-List-2.ensures
 
 pub data-returns-in_ok-datas-in-Apply : goal.data-returns-in_ok-datas-in-Apply
 data-returns-in_ok-datas-in-Apply t c =
-    on_ok_weaker c.token-in-Apply-3.result (λ p. apply_added c.args.tree.now c.in-Apply.field-0 c.in-Apply.application c.as_slice-in-Apply.result.now c.as_slice-in-Apply-2.result.now (c.as_slice-in-Apply.ensures.value ∙ ap (λ (x : Application DataTree). x.name.bytes.items) c.deref.ensures)
-    (c.as_slice-in-Apply-2.ensures.value ∙ ap (λ (x : Application DataTree). x.arguments.items) c.deref-in-Apply.ensures) c.in-Apply.is c.in_ok-token-in-Apply.ensures c.in_ok-token-in-Apply-2.ensures c.in_ok-datas-in-Apply.ensures p) c.token-in-Apply-3.ensures
+    on_ok_weaker c.token-in-Apply-3.result (λ p. apply_added c.args.tree.now c.in-Apply.field-0 c.in-Apply.application c.as_slice-in-Apply.result.now c.as_slice-in-Apply-2.result.now (c.as_slice-in-Apply.ensures.value ∙ ap (λ (x : Application DataTree). x.name.bytes.items) c.deref-in-Apply.ensures)
+    (c.as_slice-in-Apply-2.ensures.value ∙ ap (λ (x : Application DataTree). x.arguments.items) c.deref-in-Apply-2.ensures) c.in-Apply.is c.in_ok-token-in-Apply.ensures c.in_ok-token-in-Apply-2.ensures c.in_ok-datas-in-Apply.ensures p) c.token-in-Apply-3.ensures
 
 pub data-returns-in_ok-data-in-Brackets : goal.data-returns-in_ok-data-in-Brackets
 data-returns-in_ok-data-in-Brackets t c =
