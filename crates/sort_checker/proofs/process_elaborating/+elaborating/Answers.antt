@@ -34,11 +34,11 @@ use Rattle.sort_checker.proofs.process_elaborating.+elaborating.Goals as goal
 
 pub process_of-call_by_name-requires-clause-elaborates : goal.process_of-call_by_name-requires-clause-elaborates
 process_of-call_by_name-requires-clause-elaborates t c =
-    subst (CanElaborate c.args.sig.now c.args.processes.now c.args.scope.now) (call_same c.args.tree.now c.in-Call.field-0 c.in-Call.name c.in-Call.values c.as_slice-values.result.now c.in-Call.is (c.as_slice-values.ensures.value ∙ ap (λ (v : Vec Assignment Global). v.items) c.deref-in-Call.ensures)) c.requires.elaborates
+    subst (CanElaborate c.args.sig.now c.args.processes.now c.args.scope.now) (call_same c.args.tree.now c.in-Call.field-0 c.in-Call.name c.in-Call.values c.as_slice-values.result.now c.in-Call.is (c.as_slice-values.ensures.value ∙ ap (λ (v : Vec Assignment Global). v.items) c.deref.ensures)) c.requires.elaborates
 
 pub process_of-returns-in-Call-clause-means : goal.process_of-returns-in-Call-clause-means
 process_of-returns-in-Call-clause-means t c =
-    subst (λ p. IfOk c.call_by_name.result (λ made. (v : FullVocabulary) (variables : Scope) → Sees c.args.sig.now c.args.processes.now c.args.scope.now v variables → IsElaborated v variables p c.call_by_name.new.sig c.call_by_name.new.pool (code.plain_process made))) (sym (call_same c.args.tree.now c.in-Call.field-0 c.in-Call.name c.in-Call.values c.as_slice-values.result.now c.in-Call.is (c.as_slice-values.ensures.value ∙ ap (λ (v : Vec Assignment Global). v.items) c.deref-in-Call.ensures))) c.call_by_name.ensures.means
+    subst (λ p. IfOk c.call_by_name.result (λ made. (v : FullVocabulary) (variables : Scope) → Sees c.args.sig.now c.args.processes.now c.args.scope.now v variables → IsElaborated v variables p c.call_by_name.new.sig c.call_by_name.new.pool (code.plain_process made))) (sym (call_same c.args.tree.now c.in-Call.field-0 c.in-Call.name c.in-Call.values c.as_slice-values.result.now c.in-Call.is (c.as_slice-values.ensures.value ∙ ap (λ (v : Vec Assignment Global). v.items) c.deref.ensures))) c.call_by_name.ensures.means
 
 pub process_of-returns-in-Delta-clause-kept : goal.process_of-returns-in-Delta-clause-kept
 process_of-returns-in-Delta-clause-kept t c =
