@@ -6,11 +6,11 @@ use Rattle.data_theory.specs.Terms.{Sort, Term}
 use Rattle.data_theory.specs.Provable.{reflexive, symmetric, transitive}
 use Rattle.process_terms.specs.Theories.{Theory}
 use Rattle.process_terms.specs.Labels.{Label, AgreeInOrder}
-use Rattle.process_terms.specs.Processes.{Around, Table, Process, delta, act, choice, seq, cond, sum, call, merge, around, Definition, close, BodyOf, the_body}
-use Rattle.process_terms.specs.Steps.{Outcome, ended, goes_on, before, beside, within, Step, by_act, by_left, by_right, by_seq, by_true, by_false, by_sum, by_call, by_left_alone, by_right_alone, by_both, by_around}
+use Rattle.process_terms.specs.Processes.{Around, Start, Table, Process, delta, act, choice, seq, cond, sum, call, merge, starting, around, Definition, close, BodyOf, the_body}
+use Rattle.process_terms.specs.Steps.{Outcome, ended, goes_on, before, beside, within, Step, by_act, by_left, by_right, by_seq, by_true, by_false, by_sum, by_call, by_left_alone, by_right_alone, by_both, by_left_first, by_both_first, by_around}
 use Rattle.process_terms.proofs.AgreeingLabels.{equals_refl, equals_sym, agree_refl, agree_sym, agree_trans, agree_append}
 use Rattle.process_terms.proofs.OperatorLemmas.{passes_along}
-use Rattle.bisim_laws.specs.Sameness.{EqualData, equal_delta, equal_act, equal_choice, equal_seq, equal_cond, equal_sum, equal_call, equal_merge, equal_around, Alike, by_data, by_body, turned, joined_up, seq_regrouped, merge_regrouped, alike_choice, alike_seq, alike_cond, alike_sum, alike_merge, alike_around}
+use Rattle.bisim_laws.specs.Sameness.{EqualData, equal_delta, equal_act, equal_choice, equal_seq, equal_cond, equal_sum, equal_call, equal_merge, equal_starting, equal_around, Alike, by_data, by_body, turned, joined_up, seq_regrouped, merge_regrouped, alike_choice, alike_seq, alike_cond, alike_sum, alike_merge, alike_starting, alike_around}
 use Rattle.bisim_laws.specs.Bisimulations.{Lands, both_end, both_go_on, Answer, Bisimulation}
 use Rattle.bisim_laws.proofs.PuttingEqualData.{bodies_equal, tables_refl, tables_sym}
 
@@ -24,6 +24,7 @@ data_refl th (cond c p q) = equal_cond reflexive (data_refl th p) (data_refl th 
 data_refl th (sum s f) = equal_sum (λ t. data_refl th (f t))
 data_refl th (call d x ts) = equal_call (tables_refl th d) (equals_refl th ts)
 data_refl th (merge p q) = equal_merge (data_refl th p) (data_refl th q)
+data_refl th (starting o p q) = equal_starting (data_refl th p) (data_refl th q)
 data_refl th (around o p) = equal_around (data_refl th p)
 
 pub data_sym : {th : Theory} {p q : Process} → EqualData th p q → EqualData th q p
@@ -35,6 +36,7 @@ data_sym (equal_cond e h k) = equal_cond (symmetric e) (data_sym h) (data_sym k)
 data_sym (equal_sum h) = equal_sum (λ t. data_sym (h t))
 data_sym (equal_call k e) = equal_call (tables_sym k) (equals_sym e)
 data_sym (equal_merge h k) = equal_merge (data_sym h) (data_sym k)
+data_sym (equal_starting h k) = equal_starting (data_sym h) (data_sym k)
 data_sym (equal_around h) = equal_around (data_sym h)
 
 -- ---- where outcomes land
@@ -88,6 +90,13 @@ data_answers (by_both s t) q (equal_merge h k) =
     let a = data_answers s _ h in
     let b = data_answers t _ k in
     record { label = _; outcome = _; step = by_both a.step b.step; agree = agree_append a.agree b.agree; lands = lands_beside (λ x x' y y' h k. equal_merge h k) a.lands b.lands }
+data_answers (by_left_first s) q (equal_starting h k) =
+    let a = data_answers s _ h in
+    record { label = a.label; outcome = _; step = by_left_first a.step; agree = a.agree; lands = lands_beside (λ x x' y y' h k. equal_merge h k) a.lands (both_go_on k) }
+data_answers (by_both_first s t) q (equal_starting h k) =
+    let a = data_answers s _ h in
+    let b = data_answers t _ k in
+    record { label = _; outcome = _; step = by_both_first a.step b.step; agree = agree_append a.agree b.agree; lands = lands_beside (λ x x' y y' h k. equal_merge h k) a.lands b.lands }
 data_answers (by_around {o = o} s f) q (equal_around h) =
     let a = data_answers s _ h in
     let g = passes_along f a.agree in
@@ -160,6 +169,15 @@ through_merge f h g k m r (by_both s t) =
     let a = f _ _ s in
     let b = g _ _ t in
     record { label = _; outcome = _; step = by_both a.step b.step; agree = agree_append a.agree b.agree; lands = lands_beside (λ x x' y y' h k. alike_merge h k) a.lands b.lands }
+
+through_starting : {th : Theory} {o : Start} {p p' q q' : Process} → AnswersAlike th p p' → AnswersAlike th q q' → Alike th q q' → AnswersAlike th (starting o p q) (starting o p' q')
+through_starting f g k m r (by_left_first s) =
+    let a = f m _ s in
+    record { label = a.label; outcome = _; step = by_left_first a.step; agree = a.agree; lands = lands_beside (λ x x' y y' h k. alike_merge h k) a.lands (both_go_on k) }
+through_starting f g k m r (by_both_first s t) =
+    let a = f _ _ s in
+    let b = g _ _ t in
+    record { label = _; outcome = _; step = by_both_first a.step b.step; agree = agree_append a.agree b.agree; lands = lands_beside (λ x x' y y' h k. alike_merge h k) a.lands b.lands }
 
 through_around : {th : Theory} {o : Around} {p p' : Process} → AnswersAlike th p p' → AnswersAlike th (around o p) (around o p')
 through_around {o = o} f m r (by_around s i) =
@@ -242,6 +260,10 @@ mutual_of (alike_merge h k) =
     let a = mutual_of h in
     let b = mutual_of k in
     record { forth = through_merge a.forth h b.forth k; back = through_merge a.back (turned h) b.back (turned k) }
+mutual_of (alike_starting h k) =
+    let a = mutual_of h in
+    let b = mutual_of k in
+    record { forth = through_starting a.forth b.forth k; back = through_starting a.back b.back (turned k) }
 mutual_of (alike_around h) = let a = mutual_of h in record { forth = through_around a.forth; back = through_around a.back }
 
 pub alike_answers : (th : Theory) (p q : Process) (m : Label) (r : Outcome) → Alike th p q → Step th p m r → Answer th (Alike th) q m r

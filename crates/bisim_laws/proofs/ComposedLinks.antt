@@ -1,15 +1,15 @@
 -- Links compose.
 use Rattle.process_terms.specs.Theories.{Theory}
 use Rattle.process_terms.specs.Labels.{Label}
-use Rattle.process_terms.specs.Processes.{Around, Process, merge, around}
-use Rattle.process_terms.specs.Steps.{Outcome, beside, within, Step, by_left_alone, by_right_alone, by_both, by_around}
+use Rattle.process_terms.specs.Processes.{Around, Start, Process, merge, starting, around}
+use Rattle.process_terms.specs.Steps.{Outcome, beside, within, Step, by_left_alone, by_right_alone, by_both, by_left_first, by_both_first, by_around}
 use Rattle.process_terms.proofs.AgreeingLabels.{agree_trans, agree_append}
 use Rattle.process_terms.proofs.OperatorLemmas.{passes_along}
 use Rattle.bisim_laws.specs.Sameness.{Alike, turned, joined_up}
-use Rattle.bisim_laws.specs.Bisimulations.{Lands, both_end, both_go_on, Answer, Answers, Flipped, Bisimulation, Joined, joined, Sides, both_sides, left_side, right_side, AroundBoth, around_both, UpTo, up_to, Progress}
-use Rattle.bisim_laws.specs.Links.{Same, Then, Product, Beside, Wrapped, Under, Form, Regular, Stack, Dropped, Solved}
-use Rattle.bisim_laws.specs.LinkLaws.{SameIsGood, ThenIsGood, BesideIsGood, UnderIsGood, UpToSameIsEnough}
-use Rattle.bisim_laws.proofs.AlikeProcesses.{answer_weaken, alike_answers, alike_bisimulation}
+use Rattle.bisim_laws.specs.Bisimulations.{Lands, both_end, both_go_on, Answer, Answers, Flipped, Bisimulation, Joined, joined, Sides, both_sides, left_side, right_side, SidesBegun, before_first, after_first, AroundBoth, around_both, UpTo, up_to, Progress}
+use Rattle.bisim_laws.specs.Links.{Same, Then, Product, Beside, Started, Begun, Wrapped, Under, Form, Regular, Stack, Dropped, Solved, Held, Phased, Sealed}
+use Rattle.bisim_laws.specs.LinkLaws.{SameIsGood, ThenIsGood, BesideIsGood, BegunIsGood, UnderIsGood, UpToSameIsEnough}
+use Rattle.bisim_laws.proofs.AlikeProcesses.{lands_weaken, answer_weaken, alike_answers, alike_bisimulation}
 
 -- ---- one relation after another
 lands_joined : {R S : Process → Process → Type 0} {r s t : Outcome} → Lands R r s → Lands S s t → Lands (Joined R S) r t
@@ -74,6 +74,35 @@ sides_bisimulation {th} {R} {S} f g = record {
   back = λ p q m r h s. answer_weaken sides_flip (sides_answers {R = Flipped R} {S = Flipped S} f.back g.back p q m r (sides_unflip p q h) s);
 }
 
+-- ---- an operator between the sides, before the first step
+starting_answers : {th : Theory} {R S : Process → Process → Type 0} (o : Start) → Answers th R R → Answers th S S → (p p' q q' : Process) → R p p' → S q q' → (m : Label) (r : Outcome) → Step th (starting o p q) m r
+    → Answer th (SidesBegun o R S) (starting o p' q') m r
+starting_answers o f g p p' q q' h k m r (by_left_first s) =
+    let a = f p p' _ _ h s in
+    record { label = a.label; outcome = _; step = by_left_first a.step; agree = a.agree; lands = lands_weaken (λ x y j. after_first j) (lands_sides a.lands (both_go_on k)) }
+starting_answers o f g p p' q q' h k m r (by_both_first s t) =
+    let a = f p p' _ _ h s in
+    let b = g q q' _ _ k t in
+    record { label = _; outcome = _; step = by_both_first a.step b.step; agree = agree_append a.agree b.agree; lands = lands_weaken (λ x y j. after_first j) (lands_sides a.lands b.lands) }
+
+begun_answers : {th : Theory} {R S : Process → Process → Type 0} (o : Start) → Answers th R R → Answers th S S → Answers th (SidesBegun o R S) (SidesBegun o R S)
+begun_answers o f g p q m r (before_first h k) s = starting_answers o f g _ _ _ _ h k m r s
+begun_answers o f g p q m r (after_first h) s = answer_weaken (λ x y k. after_first k) (sides_answers f g p q m r h s)
+
+begun_flip : {R S : Process → Process → Type 0} (o : Start) (p q : Process) → SidesBegun o (Flipped R) (Flipped S) p q → Flipped (SidesBegun o R S) p q
+begun_flip o p q (before_first h k) = before_first h k
+begun_flip o p q (after_first h) = after_first (sides_flip p q h)
+
+begun_unflip : {R S : Process → Process → Type 0} (o : Start) (p q : Process) → Flipped (SidesBegun o R S) p q → SidesBegun o (Flipped R) (Flipped S) p q
+begun_unflip o p q (before_first h k) = before_first h k
+begun_unflip o p q (after_first h) = after_first (sides_unflip p q h)
+
+pub begun_bisimulation : {th : Theory} {R S : Process → Process → Type 0} (o : Start) → Bisimulation th R → Bisimulation th S → Bisimulation th (SidesBegun o R S)
+begun_bisimulation {th} {R} {S} o f g = record {
+  forth = begun_answers o f.forth g.forth;
+  back = λ p q m r h s. answer_weaken (begun_flip o) (begun_answers {R = Flipped R} {S = Flipped S} o f.back g.back p q m r (begun_unflip o p q h) s);
+}
+
 -- ---- under an operator
 lands_around : {R : Process → Process → Type 0} (o : Around) {r s : Outcome} → Lands R r s → Lands (AroundBoth o R) (within o r) (within o s)
 lands_around o both_end = both_end
@@ -136,6 +165,9 @@ then_good th k l p z q g h = record { starts = joined g.starts h.starts; follows
 pub beside_good : BesideIsGood
 beside_good th a b l j k p x q y r f g h = record { starts = joined (both_sides f.starts g.starts) h.starts; follows = joined_bisimulation (sides_bisimulation f.follows g.follows) h.follows }
 
+pub begun_good : BegunIsGood
+begun_good th o a b l j k p x q y r f g h = record { starts = joined (before_first f.starts g.starts) h.starts; follows = joined_bisimulation (begun_bisimulation o f.follows g.follows) h.follows }
+
 pub under_good : UnderIsGood
 under_good th o l k j p x r f h = record { starts = joined (around_both f.starts) h.starts; follows = joined_bisimulation (around_bisimulation o f.follows) h.follows }
 
@@ -144,6 +176,8 @@ up_to_enough th Same i f = absurd i
 up_to_enough th (Then k l) i f = absurd i
 up_to_enough th (Product a b l) i f = up_to_bisimulation f
 up_to_enough th (Beside a b l j k) i f = absurd i
+up_to_enough th (Started o a b l) i f = up_to_bisimulation f
+up_to_enough th (Begun o a b l j k) i f = absurd i
 up_to_enough th (Wrapped o l k) i f = up_to_bisimulation f
 up_to_enough th (Under o l k j) i f = absurd i
 up_to_enough th (Form d pieces form) i f = up_to_bisimulation f
@@ -151,3 +185,6 @@ up_to_enough th (Regular form c l) i f = up_to_bisimulation f
 up_to_enough th (Stack form names c l) i f = up_to_bisimulation f
 up_to_enough th (Dropped fates l k) i f = up_to_bisimulation f
 up_to_enough th (Solved l k) i f = up_to_bisimulation f
+up_to_enough th (Held inv l k) i f = up_to_bisimulation f
+up_to_enough th (Phased b l k) i f = up_to_bisimulation f
+up_to_enough th (Sealed b l k j) i f = absurd i

@@ -10,3 +10,5 @@ pub mod Regrouping
 pub mod EqualFiring
 pub mod SideBySide
 pub mod AlikeFiring
+pub mod TerminatingLinks
+pub mod RunsWithTerminate

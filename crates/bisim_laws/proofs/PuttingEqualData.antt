@@ -7,9 +7,9 @@ use Rattle.data_theory.specs.Environments.{Environment, term_in, bound}
 use Rattle.data_theory.proofs.EqualityLemmas.{put_equal}
 use Rattle.process_terms.specs.Theories.{Theory, Equal, Equals, no_terms, more_terms}
 use Rattle.process_terms.specs.Labels.{Label, put_label, equal_args, AgreeInOrder, both_silent, next_agree}
-use Rattle.process_terms.specs.Processes.{Body, written_delta, written_act, written_choice, written_seq, written_cond, written_sum, written_call, written_merge, written_around, Definition, Table, Process, close, BodyOf, the_body}
+use Rattle.process_terms.specs.Processes.{Body, written_delta, written_act, written_choice, written_seq, written_cond, written_sum, written_call, written_merge, written_starting, written_around, Definition, Table, Process, close, BodyOf, the_body}
 use Rattle.process_terms.proofs.AgreeingLabels.{equals_sym, agree_sym}
-use Rattle.bisim_laws.specs.Sameness.{SameBody, same_delta, same_act, same_choice, same_seq, same_cond, same_sum, same_call, same_merge, same_around, SameDefinition, both_missing, both_there, SameTables, EqualData, equal_delta, equal_act, equal_choice, equal_seq, equal_cond, equal_sum, equal_call, equal_merge, equal_around}
+use Rattle.bisim_laws.specs.Sameness.{SameBody, same_delta, same_act, same_choice, same_seq, same_cond, same_sum, same_call, same_merge, same_starting, same_around, SameDefinition, both_missing, both_there, SameTables, EqualData, equal_delta, equal_act, equal_choice, equal_seq, equal_cond, equal_sum, equal_call, equal_merge, equal_starting, equal_around}
 
 -- bindings of the same variables to provably equal terms
 pub data EqualBindings (th : Theory) : Environment → Environment → Type 0 where
@@ -41,6 +41,7 @@ body_refl th d e h (written_cond c p q) = same_cond (term_equal th d e h c) (bod
 body_refl th d e h (written_sum x p) = same_sum (λ t. body_refl th (record { var = x.var; term = t } ∷ d) (record { var = x.var; term = t } ∷ e) (one_binding reflexive h) p)
 body_refl th d e h (written_call x ts) = same_call (terms_equal th d e h ts)
 body_refl th d e h (written_merge p q) = same_merge (body_refl th d e h p) (body_refl th d e h q)
+body_refl th d e h (written_starting o p q) = same_starting (body_refl th d e h p) (body_refl th d e h q)
 body_refl th d e h (written_around o p) = same_around (body_refl th d e h p)
 
 pub closed_equal : {th : Theory} {d d' : Table} → SameTables th d d' → {e f : Environment} {p q : Body} → SameBody th e p f q → EqualData th (close d e p) (close d' f q)
@@ -52,6 +53,7 @@ closed_equal k (same_cond c h i) = equal_cond c (closed_equal k h) (closed_equal
 closed_equal k (same_sum h) = equal_sum (λ t. closed_equal k (h t))
 closed_equal k (same_call h) = equal_call k h
 closed_equal k (same_merge h i) = equal_merge (closed_equal k h) (closed_equal k i)
+closed_equal k (same_starting h i) = equal_starting (closed_equal k h) (closed_equal k i)
 closed_equal k (same_around h) = equal_around (closed_equal k h)
 
 pub bound_equal : {th : Theory} {ts us : List Term} (xs : List ℕ) → Equals th ts us → EqualBindings th (bound xs ts) (bound xs us)
@@ -101,6 +103,7 @@ body_sym (same_cond c h i) = same_cond (symmetric c) (body_sym h) (body_sym i)
 body_sym (same_sum h) = same_sum (λ t. body_sym (h t))
 body_sym (same_call h) = same_call (equals_sym h)
 body_sym (same_merge h i) = same_merge (body_sym h) (body_sym i)
+body_sym (same_starting h i) = same_starting (body_sym h) (body_sym i)
 body_sym (same_around h) = same_around (body_sym h)
 
 definition_sym : {th : Theory} {f g : Option Definition} → SameDefinition th f g → SameDefinition th g f

@@ -15,7 +15,8 @@ use Rattle.bisim_laws.specs.LinearProcesses.{variables, sorts}
 use Rattle.bisim_laws.specs.BaseStates.{one_piece, more_pieces, along_one_list, GreibachCall, IsCall, is_call, Piece, StandsFor, stands_for}
 use Rattle.bisim_laws.specs.Compositions.{LeftOver, nothing_left_over, pieces_left_over, PieceAnswer}
 use Rattle.bisim_laws.specs.Links.{Form, IsGood}
-use Rattle.bisim_laws.specs.LinkChecks.{BracketsDoNotCount, without_arguments, straddling, straddling_form, straddling_pieces, after_a, PiecesMayStraddleABracket}
+use Rattle.bisim_laws.specs.Terminations.{without_arguments}
+use Rattle.bisim_laws.specs.LinkChecks.{BracketsDoNotCount, straddling, straddling_form, straddling_pieces, after_a, PiecesMayStraddleABracket}
 use Rattle.bisim_laws.proofs.AlikeProcesses.{alike_refl, one_body}
 use Rattle.bisim_laws.proofs.PieceByPiece.{pieces_enough}
 

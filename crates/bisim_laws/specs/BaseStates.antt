@@ -1,10 +1,10 @@
 -- The base relations of links: which states of a process a linear process has, before what is the same counts as equal.
 use Rattle.std.specs.Prelude.{◌≡◌, ℕ, ◌+◌, Bool, true, false, List, [], ◌∷◌, ◌++◌, length, Option, Some, None, slice_get, pos}
 use Rattle.std.specs.List.{AllByRecursion}
-use Rattle.data_theory.specs.Terms.{Sort, boolean, positive, named, Term, numeral, application, function}
-use Rattle.data_theory.specs.Environments.{bound, terms_of}
+use Rattle.data_theory.specs.Terms.{Sort, boolean, positive, named, Term, numeral, application, function, put}
+use Rattle.data_theory.specs.Environments.{bound, term_in, terms_of}
 use Rattle.process_terms.specs.Theories.{Theory, Equal, Equals, IsTrue, IsFalse, IsOfSort, AreOfSorts}
-use Rattle.process_terms.specs.Processes.{Around, Bound, Body, Table, Process, seq, call, around, close}
+use Rattle.process_terms.specs.Processes.{Around, Start, Bound, Body, Table, Process, seq, call, starting, around, close}
 use Rattle.process_terms.specs.Steps.{Outcome, ended, goes_on, beside}
 use Rattle.bisim_laws.specs.LinearProcesses.{Linear, variables, sorts, state_of, reading}
 
@@ -32,6 +32,15 @@ pub data SideAt (th : Theory) (a : Side) : Outcome → List Term → Type 0 wher
 -- two sides of which at least one is running, with the state that has the columns of both
 pub data ProductState (th : Theory) (a b : Side) (l : Linear) : Process → Process → Type 0 where
   product_state : {r s : Outcome} {ts us : List Term} {p : Process} → SideAt th a r ts → SideAt th b s us → beside r s ≡ goes_on p → ProductState th a b l p (state_of l (ts ++ us))
+
+-- ---- a product whose first step is of one kind
+-- The last column says whether the first step is still to come. Until then both sides are running, and the operator stands
+-- between them. Afterwards they are two sides of a product.
+pub data StartedState (th : Theory) (o : Start) (a b : Side) (l : Linear) : Process → Process → Type 0 where
+  at_first : {p q : Process} {ts us : List Term} {f : Term} → SideAt th a (goes_on p) ts → SideAt th b (goes_on q) us → IsOfSort th boolean f → IsTrue th f
+      → StartedState th o a b l (starting o p q) (state_of l ((ts ++ us) ++ (f ∷ [])))
+  begun : {r s : Outcome} {ts us : List Term} {f : Term} {p : Process} → SideAt th a r ts → SideAt th b s us → IsOfSort th boolean f → IsFalse th f → beside r s ≡ goes_on p
+      → StartedState th o a b l p (state_of l ((ts ++ us) ++ (f ∷ [])))
 
 -- ---- an operator around a linear process
 -- with the state of the process that was made for it
@@ -136,3 +145,29 @@ pub data DroppedState (th : Theory) (fates : List Fate) (l k : Linear) : Process
 -- ---- sums that are solved
 pub data SolvedState (th : Theory) (l k : Linear) : Process → Process → Type 0 where
   solved_state : {ts us : List Term} → AreOfSorts th (sorts l.params) ts → AreOfSorts th (sorts k.params) us → Equals th ts us → SolvedState th l k (state_of l ts) (state_of k us)
+
+-- ---- a phase
+-- Where the linear process k is sealed it has one more parameter, the phase. That is 1 up to the end and 2 behind it, and 3 once
+-- the last step is done. Without a phase k is l.
+abbrev pub up_to_the_end : Term
+up_to_the_end = number_of 0
+
+abbrev pub behind_the_end : Term
+behind_the_end = number_of 1
+
+abbrev pub all_is_done : Term
+all_is_done = number_of 2
+
+pub data SealedState (th : Theory) : Bool → Linear → Linear → Process → Process → Type 0 where
+  with_phase : {l k : Linear} {ts : List Term} {t : Term} → AreOfSorts th (sorts l.params) ts → IsOfSort th positive t → Equal th t up_to_the_end → SealedState th true l k (state_of l ts) (state_of k (ts ++ t ∷ []))
+  without_phase : {l k : Linear} {ts : List Term} → AreOfSorts th (sorts l.params) ts → SealedState th false l k (state_of l ts) (state_of k ts)
+
+-- the states that are paired with the end
+pub data SealedEnd (th : Theory) : Bool → Linear → Linear → Process → Type 0 where
+  in_phase_two : {l k : Linear} {t : Term} (ts : List Term) → AreOfSorts th (sorts l.params) ts → IsOfSort th positive t → Equal th t behind_the_end → SealedEnd th true l k (state_of k (ts ++ t ∷ []))
+
+-- ---- an invariant
+-- provably equal arguments of which the invariant, a term over the parameters, is provably true
+pub data HeldState (th : Theory) (invariant : Term) (l k : Linear) : Process → Process → Type 0 where
+  held_state : {ts us : List Term} → AreOfSorts th (sorts l.params) ts → AreOfSorts th (sorts k.params) us → Equals th ts us → IsTrue th (put (term_in (bound (variables l.params) ts)) invariant)
+      → HeldState th invariant l k (state_of l ts) (state_of k us)

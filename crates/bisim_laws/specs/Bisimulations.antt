@@ -1,7 +1,7 @@
 -- Strong bisimulation, and relations that are made of others.
 use Rattle.process_terms.specs.Theories.{Theory}
 use Rattle.process_terms.specs.Labels.{Label, AgreeInOrder}
-use Rattle.process_terms.specs.Processes.{Around, Process, merge, around}
+use Rattle.process_terms.specs.Processes.{Around, Start, Process, merge, starting, around}
 use Rattle.process_terms.specs.Steps.{Outcome, ended, goes_on, Step}
 use Rattle.bisim_laws.specs.Sameness.{Alike}
 
@@ -10,17 +10,24 @@ pub data Lands (R : Process → Process → Type 0) : Outcome → Outcome → Ty
   both_end : Lands R ended ended
   both_go_on : {p q : Process} → R p q → Lands R (goes_on p) (goes_on q)
 
--- q has a step that answers one by m to r
-pub record Answer (th : Theory) (R : Process → Process → Type 0) (q : Process) (m : Label) (r : Outcome) : Type 0 where
+-- q has a step that answers one by m to r, where L says which outcomes may face each other
+pub record Reply (th : Theory) (L : Outcome → Outcome → Type 0) (q : Process) (m : Label) (r : Outcome) : Type 0 where
   pub label : Label
   pub outcome : Outcome
   pub step : Step th q label outcome
   pub agree : AgreeInOrder th m label
-  pub lands : Lands R r outcome
+  pub lands : L r outcome
 
--- of paired states each step of the first one is answered by the second one, into states of S
+-- of paired states each step of the first one is answered by the second one
+abbrev pub Replies : Theory → (Process → Process → Type 0) → (Outcome → Outcome → Type 0) → Type 0
+Replies th R L = (p q : Process) (m : Label) (r : Outcome) → R p q → Step th p m r → Reply th L q m r
+
+-- into states of S, or both end
+abbrev pub Answer : Theory → (Process → Process → Type 0) → Process → Label → Outcome → Type 0
+Answer th S = Reply th (Lands S)
+
 abbrev pub Answers : Theory → (Process → Process → Type 0) → (Process → Process → Type 0) → Type 0
-Answers th R S = (p q : Process) (m : Label) (r : Outcome) → R p q → Step th p m r → Answer th S q m r
+Answers th R S = Replies th R (Lands S)
 
 -- a relation with its sides exchanged
 abbrev pub Flipped : (Process → Process → Type 0) → Process → Process → Type 0
@@ -39,6 +46,11 @@ pub data Sides (R S : Process → Process → Type 0) : Process → Process → 
   both_sides : {p p' q q' : Process} → R p p' → S q q' → Sides R S (merge p q) (merge p' q')
   left_side : {p p' : Process} → R p p' → Sides R S p p'
   right_side : {q q' : Process} → S q q' → Sides R S q q'
+
+-- the operator between the sides, before the first step, and afterwards what `Sides` pairs
+pub data SidesBegun (o : Start) (R S : Process → Process → Type 0) : Process → Process → Type 0 where
+  before_first : {p p' q q' : Process} → R p p' → S q q' → SidesBegun o R S (starting o p q) (starting o p' q')
+  after_first : {p q : Process} → Sides R S p q → SidesBegun o R S p q
 
 -- the operator around both
 pub data AroundBoth (o : Around) (R : Process → Process → Type 0) : Process → Process → Type 0 where

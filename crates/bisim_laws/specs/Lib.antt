@@ -1,8 +1,11 @@
 pub mod Sameness
 pub mod Bisimulations
+pub mod Terminations
+pub mod Runs
 pub mod LinearProcesses
 pub mod BaseStates
 pub mod Links
+pub mod TerminatingRuns
 pub mod Compositions
 pub mod LinkLaws
 pub mod LinkChecks

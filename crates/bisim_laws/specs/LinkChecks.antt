@@ -5,10 +5,11 @@ use Rattle.process_terms.specs.Names.{Name}
 use Rattle.process_terms.specs.Theories.{Theory, AreOfSorts}
 use Rattle.process_terms.specs.Labels.{Action, Label}
 use Rattle.process_terms.specs.Processes.{Bound, written_act, written_choice, written_seq, written_sum, written_call, Table, Process, delta, act, seq, call, merge, close}
-use Rattle.process_terms.specs.Steps.{Outcome, goes_on, Step}
+use Rattle.process_terms.specs.Steps.{Outcome, ended, goes_on, Step}
+use Rattle.bisim_laws.specs.Terminations.{without_arguments, terminate_label}
 use Rattle.bisim_laws.specs.LinearProcesses.{Linear, sorts, state_of, IsLinear, IsWellSorted}
 use Rattle.bisim_laws.specs.BaseStates.{Piece, kept}
-use Rattle.bisim_laws.specs.Links.{Link, Same, Form, Dropped, Solved, Pairs, IsGood}
+use Rattle.bisim_laws.specs.Links.{Link, Same, Form, Dropped, Solved, Pairs, IsGood, IsGoodWithTerminate}
 
 -- a process that can do something has no good link with `delta`
 abbrev pub NothingDoneIsNoAnswer : Type 0
@@ -25,6 +26,23 @@ NothingPairedIsNotGood = (th : Theory) (l : Link) (p q : Process) → ((x y : Pr
 -- there are such links: one that keeps a parameter which isn't there
 abbrev pub AMissingParameterPairsNothing : Type 0
 AMissingParameterPairsNothing = (th : Theory) (l : Linear) → l.params ≡ [] → (p q : Process) → Pairs th (Dropped (kept ∷ []) l l) p q → ⊥
+
+-- ---- what no link that is good with `Terminate` can pair
+-- a process that ends
+abbrev pub WhatEndsIsNotGoodWithTerminate : Type 0
+WhatEndsIsNotGoodWithTerminate = (th : Theory) (l : Link) (p q : Process) (m : Label) → IsGoodWithTerminate th l p q → Step th q m ended → ⊥
+
+-- `a` with `a . delta`: without the action `Terminate` the other one stops
+abbrev pub StoppingIsNotTerminating : Type 0
+StoppingIsNotTerminating = (th : Theory) (l : Link) (a : Label) → IsGoodWithTerminate th l (act a) (seq (act a) delta) → ⊥
+
+-- `proc X = Terminate . X`
+abbrev pub again_and_again : Table
+again_and_again = record { params = []; body = written_seq (written_act terminate_label) (written_call 0 []) } ∷ []
+
+-- `a` with `a . X`: the other one terminates again and again
+abbrev pub TerminatingAgainIsNotTerminating : Type 0
+TerminatingAgainIsNotTerminating = (th : Theory) (l : Link) (a : Label) → IsGoodWithTerminate th l (act a) (seq (act a) (call again_and_again 0 [])) → ⊥
 
 -- ---- `Same` doesn't look at the names of variables
 -- `proc P(x: S) = a(x)`, for any x
@@ -45,9 +63,6 @@ NamesOfSumsDoNotCount = (th : Theory) (a : Action) (x y : Bound) → x.sort ≡ 
 abbrev pub BracketsDoNotCount : Type 0
 BracketsDoNotCount =
     (th : Theory) (p q r : Process) → Pairs th Same (seq (seq p q) r) (seq p (seq q r)) × Pairs th Same (merge (merge p q) r) (merge p (merge q r))
-
-abbrev pub without_arguments : Name → Label
-without_arguments a = record { name = a; sorts = []; args = [] } ∷ []
 
 -- `proc X = (a . Y . b + d) . c . X; Y = e;`
 abbrev pub straddling : Name → Name → Name → Name → Name → Table

@@ -1,16 +1,17 @@
 -- What the laws of links say.
-use Rattle.std.specs.Prelude.{◌≡◌, ℕ, List, ◌++◌, Option, Some, Contains}
+use Rattle.std.specs.Prelude.{◌≡◌, ℕ, Bool, List, ◌++◌, Option, Some, Contains}
 use Rattle.data_theory.specs.Terms.{Sort, Term}
 use Rattle.data_theory.specs.Environments.{Environment, term_in, Agree}
 use Rattle.process_terms.specs.Theories.{Theory, Equal, Equals, AreOfSorts}
 use Rattle.process_terms.specs.Labels.{Label, put_label, AgreeInOrder}
-use Rattle.process_terms.specs.Processes.{Around, Bound, Table, Process, call, merge, around}
+use Rattle.process_terms.specs.Processes.{Around, Start, Bound, Table, Process, call, merge, starting, around}
 use Rattle.process_terms.specs.Steps.{Outcome, Step}
 use Rattle.bisim_laws.specs.Bisimulations.{Bisimulation, Progress}
+use Rattle.bisim_laws.specs.Terminations.{TerminatingBisimulation, TerminatingProgress}
 use Rattle.bisim_laws.specs.LinearProcesses.{Summand, Linear, variables, sorts, linear_table, state_of, WritesLinear, IsSummand, IsLinear, IsWellSorted, put_next, NextEquals, outcome_in, outcome_of, Does, Fires}
 use Rattle.bisim_laws.specs.BaseStates.{Side, IsCall, Piece, StandsFor}
 use Rattle.bisim_laws.specs.Compositions.{PiecesAnswer}
-use Rattle.bisim_laws.specs.Links.{Link, Same, Then, Product, Beside, Wrapped, Under, Form, IsBase, States, Pairs, IsGood}
+use Rattle.bisim_laws.specs.Links.{Link, Same, Then, Product, Beside, Started, Begun, Wrapped, Under, Form, Phased, Sealed, IsBase, States, Pairs, IsGood, EndStates, PairsEnd, IsGoodWithTerminate}
 
 -- ---- links
 abbrev pub SameIsGood : Type 0
@@ -25,6 +26,11 @@ BesideIsGood =
     (th : Theory) (a b : Side) (l : Linear) (j k : Link) (p x q y r : Process) → IsGood th j p x → IsGood th k q y → IsGood th (Product a b l) (merge x y) r
     → IsGood th (Beside a b l j k) (merge p q) r
 
+abbrev pub BegunIsGood : Type 0
+BegunIsGood =
+    (th : Theory) (o : Start) (a b : Side) (l : Linear) (j k : Link) (p x q y r : Process) → IsGood th j p x → IsGood th k q y → IsGood th (Started o a b l) (starting o x y) r
+    → IsGood th (Begun o a b l j k) (starting o p q) r
+
 abbrev pub UnderIsGood : Type 0
 UnderIsGood =
     (th : Theory) (o : Around) (l k : Linear) (j : Link) (p x r : Process) → IsGood th j p x → IsGood th (Wrapped o l k) (around o x) r
@@ -33,6 +39,20 @@ UnderIsGood =
 -- where the steps from the states of a base link are answered up to what is the same, its relation is a bisimulation
 abbrev pub UpToSameIsEnough : Type 0
 UpToSameIsEnough = (th : Theory) (l : Link) → IsBase l → Progress th (States th l) → Bisimulation th (Pairs th l)
+
+-- ---- links that are good with `Terminate`
+-- what is good behind one keeps it so
+abbrev pub ThenIsGoodWithTerminate : Type 0
+ThenIsGoodWithTerminate = (th : Theory) (k l : Link) (p z q : Process) → IsGoodWithTerminate th k p z → IsGood th l z q → IsGoodWithTerminate th (Then k l) p q
+
+-- from a good part and a base relation that is good with `Terminate`
+abbrev pub SealedIsGoodWithTerminate : Type 0
+SealedIsGoodWithTerminate =
+    (th : Theory) (b : Bool) (l k : Linear) (j : Link) (p x q : Process) → IsGood th j p x → IsGoodWithTerminate th (Phased b l k) x q → IsGoodWithTerminate th (Sealed b l k j) p q
+
+abbrev pub UpToSameIsEnoughWithTerminate : Type 0
+UpToSameIsEnoughWithTerminate =
+    (th : Theory) (b : Bool) (l k : Linear) → TerminatingProgress th (States th (Phased b l k)) (EndStates th (Phased b l k)) → TerminatingBisimulation th (Pairs th (Phased b l k)) (PairsEnd th (Phased b l k))
 
 -- ---- linear processes
 -- a step of a state is a firing, and comes to what the firing's next arguments say

@@ -4,7 +4,7 @@ use Rattle.data_theory.specs.Terms.{Sort, Term, put}
 use Rattle.data_theory.specs.Environments.{Environment, term_in, bound}
 use Rattle.process_terms.specs.Theories.{Theory, Equal, Equals}
 use Rattle.process_terms.specs.Labels.{Label, put_label, AgreeInOrder}
-use Rattle.process_terms.specs.Processes.{Around, Body, written_delta, written_act, written_choice, written_seq, written_cond, written_sum, written_call, written_merge, written_around, Definition, Table, Process, delta, act, choice, seq, cond, sum, call, merge, around, BodyOf}
+use Rattle.process_terms.specs.Processes.{Around, Start, Body, written_delta, written_act, written_choice, written_seq, written_cond, written_sum, written_call, written_merge, written_starting, written_around, Definition, Table, Process, delta, act, choice, seq, cond, sum, call, merge, starting, around, BodyOf}
 
 -- what is written, each under its own environment: the same up to provably equal data; the variables that a sum binds may differ
 pub data SameBody (th : Theory) : Environment → Body → Environment → Body → Type 0 where
@@ -17,6 +17,7 @@ pub data SameBody (th : Theory) : Environment → Body → Environment → Body 
       → SameBody th d (written_sum (record { var = x; sort = s }) p) e (written_sum (record { var = y; sort = s }) q)
   same_call : {d e : Environment} {x : ℕ} {ts us : List Term} → Equals th (map (put (term_in d)) ts) (map (put (term_in e)) us) → SameBody th d (written_call x ts) e (written_call x us)
   same_merge : {d e : Environment} {p p' q q' : Body} → SameBody th d p e p' → SameBody th d q e q' → SameBody th d (written_merge p q) e (written_merge p' q')
+  same_starting : {d e : Environment} {o : Start} {p p' q q' : Body} → SameBody th d p e p' → SameBody th d q e q' → SameBody th d (written_starting o p q) e (written_starting o p' q')
   same_around : {d e : Environment} {o : Around} {p p' : Body} → SameBody th d p e p' → SameBody th d (written_around o p) e (written_around o p')
 
 -- definitions with as many parameters that give the same for provably equal arguments; the names of the parameters may differ
@@ -37,6 +38,7 @@ pub data EqualData (th : Theory) : Process → Process → Type 0 where
   equal_sum : {s : Sort} {f g : Term → Process} → ((t : Term) → EqualData th (f t) (g t)) → EqualData th (sum s f) (sum s g)
   equal_call : {d e : Table} {x : ℕ} {ts us : List Term} → SameTables th d e → Equals th ts us → EqualData th (call d x ts) (call e x us)
   equal_merge : {p p' q q' : Process} → EqualData th p p' → EqualData th q q' → EqualData th (merge p q) (merge p' q')
+  equal_starting : {o : Start} {p p' q q' : Process} → EqualData th p p' → EqualData th q q' → EqualData th (starting o p q) (starting o p' q')
   equal_around : {o : Around} {p p' : Process} → EqualData th p p' → EqualData th (around o p) (around o p')
 
 -- The same where a call and its body count as equal, and where the brackets in a chain of `.` or of `||` don't count: the least
@@ -53,4 +55,5 @@ pub data Alike (th : Theory) : Process → Process → Type 0 where
   alike_cond : {c : Term} {p p' q q' : Process} → Alike th p p' → Alike th q q' → Alike th (cond c p q) (cond c p' q')
   alike_sum : {s : Sort} {f g : Term → Process} → ((t : Term) → Alike th (f t) (g t)) → Alike th (sum s f) (sum s g)
   alike_merge : {p p' q q' : Process} → Alike th p p' → Alike th q q' → Alike th (merge p q) (merge p' q')
+  alike_starting : {o : Start} {p p' q q' : Process} → Alike th p p' → Alike th q q' → Alike th (starting o p q) (starting o p' q')
   alike_around : {o : Around} {p p' : Process} → Alike th p p' → Alike th (around o p) (around o p')

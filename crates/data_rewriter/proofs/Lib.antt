@@ -31,3 +31,4 @@ pub mod Markings
 pub mod HeadNumbers
 pub mod LaterData
 pub mod Simple
+pub mod Enough

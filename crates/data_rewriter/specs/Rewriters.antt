@@ -3,7 +3,10 @@ use Rattle.std.specs.Prelude.{◌≡◌, ◌≢◌, ◌≤◌, ◌+◌, ℕ, Lis
 use Rattle.data_theory.specs.declared.ids.TermId.{TermId}
 use Rattle.data_theory.specs.Equations.{trueᵗ, falseᵗ}
 use Rattle.data_theory.specs.Provable.{Equation}
-use Rattle.data_theory.specs.Rewriting.{GoesTo, ChainOfMoreThan}
+use Rattle.data_theory.specs.Terms.{Sort}
+use Rattle.data_theory.specs.Declarations.{HasSort}
+use Rattle.data_theory.specs.Rewriting.{GoesTo, ChainOfMoreThan, AreSorts}
+use Rattle.data_theory.specs.Fuel.{enough_for}
 use Rattle.data_theory.specs.Signature.{Sig}
 use Rattle.data_theory.specs.IdData.{data_meant}
 use Rattle.data_theory.specs.IdTrees.{Tree}
@@ -52,3 +55,14 @@ IsTruthOf sig ts t Yes = term_at sig ts t ≡ trueᵗ
 IsTruthOf sig ts t No = term_at sig ts t ≡ falseᵗ
 IsTruthOf sig ts t (Stuck u) = (u ≡ t) × (term_at sig ts t ≢ trueᵗ) × (term_at sig ts t ≢ falseᵗ)
 IsTruthOf sig ts t (Spent u) = ⊥
+
+-- the rewriting has come to its end
+abbrev pub IsFinished : Normal → Type 0
+IsFinished (Done u) = Unit {0}
+IsFinished (SpentAt u) = ⊥
+
+-- where no equation is written and the fuel is enough for a well-sorted term, closed or not, rewriting ends
+abbrev pub EndsWithEnough : Sig → List Tree → TermId → ℕ → Normal → Type 0
+EndsWithEnough sig ts t fuel r =
+    (vs : List Sort) → AreSorts (data_meant sig) vs → (s : Sort) → HasSort (data_meant sig) vs (term_at sig ts t) s
+    → enough_for (term_at sig ts t) ≤ fuel → IsFinished r

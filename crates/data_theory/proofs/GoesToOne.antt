@@ -52,18 +52,18 @@ mutual
 
 module _ (g : Data) (own : List Equation) (covered : (q : Equation) → Contains own q → IsCovered q) where
   -- two terms and two numbers that are the same
-  record Same (u v : Term) (n m : ℕ) : Type 0 where
-    term : u ≡ v
-    uses : n ≡ m
+  pub record Same (u v : Term) (n m : ℕ) : Type 0 where
+    pub term : u ≡ v
+    pub uses : n ≡ m
 
-  record SameAll (us vs : Terms) (n m : ℕ) : Type 0 where
-    terms : us ≡ vs
-    uses : n ≡ m
+  pub record SameAll (us vs : Terms) (n m : ℕ) : Type 0 where
+    pub terms : us ≡ vs
+    pub uses : n ≡ m
 
-  record SameApplication (c d r s : Term) (x y : ℕ) : Type 0 where
-    condition : c ≡ d
-    right : r ≡ s
-    charge : x ≡ y
+  pub record SameApplication (c d r s : Term) (x y : ℕ) : Type 0 where
+    pub condition : c ≡ d
+    pub right : r ≡ s
+    pub charge : x ≡ y
 
   some_inside : {q p : Equation} → ◌≡◌ {A = Option Equation} (Some q) (Some p) → q ≡ p
   some_inside {q} e = ap (inside q) e
@@ -86,7 +86,7 @@ module _ (g : Data) (own : List Equation) (covered : (q : Equation) → Contains
       let c' = c ∙ ap (λ (x : Equation). put e x.condition) same in
       record { condition = c'; right = r ∙ ap (λ (x : Equation). put e x.right) same; charge = ap charge_of c' }
 
-  applies_alike : {k : ℕ} {t c d r s : Term} {x y : ℕ} → Applies g own k t c r x → Applies g own k t d s y → SameApplication c d r s x y
+  pub applies_alike : {k : ℕ} {t c d r s : Term} {x y : ℕ} → Applies g own k t c r x → Applies g own k t d s y → SameApplication c d r s x y
   applies_alike {k} (a_line a e) (a_line b f) = record { condition = condition_at a b k e f; right = right_at a b k e f; charge = refl }
   applies_alike {k} (a_line a e) (an_equation i d p q h) = absurd (let l = place_below a k e in omega (arith, q, l))
   applies_alike {k} (an_equation i d p q h) (a_line a e) = absurd (let l = place_below a k e in omega (arith, q, l))
@@ -95,11 +95,11 @@ module _ (g : Data) (own : List Equation) (covered : (q : Equation) → Contains
       let same : q ≡ r = some_inside (sym p ∙ (ap (slice_get own) same_place ∙ p')) in
       equations_same d e (read_contains own i q p) same h h'
 
-  decides_at : (f : Symbol) (b d : Term) (us ts : Terms) → b ≡ d → FirstDecides f (more b ts) → FirstDecides f (more d us)
+  pub decides_at : (f : Symbol) (b d : Term) (us ts : Terms) → b ≡ d → FirstDecides f (more b ts) → FirstDecides f (more d us)
   decides_at f b d us ts p e = subst (λ x. LooksFirst f × IsTruthValue x) p e
 
   mutual
-    goes_alike : {t u v : Term} {n m : ℕ} → GoesTo g own t u n → GoesTo g own t v m → Same u v n m
+    pub goes_alike : {t u v : Term} {n m : ℕ} → GoesTo g own t u n → GoesTo g own t v m → Same u v n m
     goes_alike a_variable a_variable = record { term = refl; uses = refl }
     goes_alike a_numeral a_numeral = record { term = refl; uses = refl }
     goes_alike an_unknown an_unknown = record { term = refl; uses = refl }
@@ -118,7 +118,7 @@ module _ (g : Data) (own : List Equation) (covered : (q : Equation) → Contains
         let q = root_alike r s' in
         record { term = q.term; uses = λ i. p.uses i + q.uses i }
 
-    arguments_alike : {ts us vs : Terms} {n m : ℕ} → ArgumentsGoTo g own ts us n → ArgumentsGoTo g own ts vs m → SameAll us vs n m
+    pub arguments_alike : {ts us vs : Terms} {n m : ℕ} → ArgumentsGoTo g own ts us n → ArgumentsGoTo g own ts vs m → SameAll us vs n m
     arguments_alike no_arguments no_arguments = record { terms = refl; uses = refl }
     arguments_alike (an_argument a rest) (an_argument h hs) =
         let p = goes_alike a h in
@@ -129,7 +129,7 @@ module _ (g : Data) (own : List Equation) (covered : (q : Equation) → Contains
     root_alike merged merged = record { term = refl; uses = refl }
     root_alike (tries a) (tries h) = equations_alike a h
 
-    condition_alike : {c d b : Term} {n m : ℕ} → ConditionGoesTo g own c d n → ConditionGoesTo g own c b m → Same d b n m
+    pub condition_alike : {c d b : Term} {n m : ℕ} → ConditionGoesTo g own c d n → ConditionGoesTo g own c b m → Same d b n m
     condition_alike (without_condition _) (without_condition _) = record { term = refl; uses = refl }
     condition_alike (without_condition e) (with_condition n _) = absurd (n e)
     condition_alike (with_condition n _) (without_condition e) = absurd (n e)

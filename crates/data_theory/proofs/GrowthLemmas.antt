@@ -9,7 +9,7 @@ use Rattle.data_theory.specs.EqualityLaws.{Grows, AreAmong, GrowthKeepsDerivatio
 use Rattle.data_theory.proofs.WellSorted.{function_within, sort_within}
 
 module _ (g h : Data) (grows : Grows g h) where
-  function_in_grown : (k : ℕ) → k < length g.functions → function_at h k ≡ function_at g k
+  pub function_in_grown : (k : ℕ) → k < length g.functions → function_at h k ≡ function_at g k
   function_in_grown k l = ap (λ fs. get_or fs k (record { arguments = []; result = boolean; role = mapping })) grows.functions ∙ get_or_append_left g.functions grows.new_functions (record { arguments = []; result = boolean; role = mapping }) k l
 
   construction_in_grown : (d : ℕ) → d < length g.sorts → sort_at h d ≡ sort_at g d

@@ -18,6 +18,11 @@ pub mod GoesToIsEqual
 pub mod SameSorts
 pub mod NoNewVariable
 pub mod NormalForms
+pub mod ChainLengths
+pub mod Potentials
+pub mod PotentialLines
+pub mod Refusals
+pub mod EnoughFuel
 pub mod PlaceLemmas
 pub mod IndexLemmas
 pub mod IdLemmas

@@ -11,6 +11,7 @@ pub mod Environments
 pub mod EnvironmentLaws
 pub mod Examples
 pub mod Rewriting
+pub mod Fuel
 pub mod Names
 pub mod SortLaws
 pub mod Whole

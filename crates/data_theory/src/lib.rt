@@ -13,6 +13,7 @@ mod declaring;
 pub mod environments;
 pub mod equality;
 pub mod examples;
+pub mod fuel;
 mod functions;
 pub mod growth;
 mod ids;

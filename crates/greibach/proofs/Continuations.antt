@@ -7,7 +7,7 @@ use Rattle.data_theory.specs.Terms.{Term, put}
 use Rattle.data_theory.specs.Environments.{Environment, term_in, bound, bound_variables, Agree, AreDistinct}
 use Rattle.data_theory.proofs.PlaceLemmas.{contains_read}
 use Rattle.process_terms.specs.Theories.{Theory, AreOfSorts}
-use Rattle.process_terms.specs.Processes.{Body, written_delta, written_act, written_choice, written_seq, written_cond, written_sum, written_call, written_merge, written_around, Process, seq, call, close}
+use Rattle.process_terms.specs.Processes.{Body, written_delta, written_act, written_choice, written_seq, written_cond, written_sum, written_call, written_merge, written_starting, written_around, Process, seq, call, close}
 use Rattle.process_terms.specs.Steps.{Outcome, ended}
 use Rattle.bisim_laws.specs.LinearProcesses.{variables, sorts, AreDeclared, reading}
 use Rattle.bisim_laws.specs.Sameness.{Alike, by_data, by_body, turned, alike_seq}
@@ -115,6 +115,7 @@ module _ (th : Theory) (t : Text) (number : Place → ℕ) (form : List Unfolded
   onward_continues o f e has path (written_cond c q1 q2) rs p sorted_body n = rest_continues o f e has _ rs p n
   onward_continues o f e has path (written_sum x q) rs p sorted_body n = rest_continues o f e has _ rs p n
   onward_continues o f e has path (written_merge q1 q2) rs p sorted_body n = absurd sorted_body
+  onward_continues o f e has path (written_starting start q1 q2) rs p sorted_body n = absurd sorted_body
   onward_continues o f e has path (written_around op q) rs p sorted_body n = absurd sorted_body
 
   -- what is left after a label that ends

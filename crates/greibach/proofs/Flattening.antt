@@ -2,7 +2,7 @@
 use Rattle.std.proofs.Common.{◌≡◌, List, [], ◌∷◌, ◌++◌, true, false, refl, sym, ◌∙◌, subst, append_assoc}
 use Rattle.data_theory.specs.Environments.{Environment}
 use Rattle.process_terms.specs.Theories.{Theory}
-use Rattle.process_terms.specs.Processes.{Body, written_delta, written_act, written_choice, written_seq, written_cond, written_sum, written_call, written_merge, written_around, Table, Process, seq, close, seq_of}
+use Rattle.process_terms.specs.Processes.{Body, written_delta, written_act, written_choice, written_seq, written_cond, written_sum, written_call, written_merge, written_starting, written_around, Table, Process, seq, close, seq_of}
 use Rattle.process_terms.specs.Steps.{Outcome, ended, goes_on, before}
 use Rattle.bisim_laws.specs.Sameness.{Alike, turned, joined_up, seq_regrouped, alike_seq}
 use Rattle.bisim_laws.specs.Bisimulations.{Lands, both_end, both_go_on}
@@ -26,6 +26,7 @@ some_factor path (written_cond c p q) rest = record { first = _; others = rest; 
 some_factor path (written_sum x p) rest = record { first = _; others = rest; is = refl }
 some_factor path (written_call x ts) rest = record { first = _; others = rest; is = refl }
 some_factor path (written_merge p q) rest = record { first = _; others = rest; is = refl }
+some_factor path (written_starting start p q) rest = record { first = _; others = rest; is = refl }
 some_factor path (written_around o p) rest = record { first = _; others = rest; is = refl }
 
 -- the factors one after another, as a closed process
@@ -57,6 +58,7 @@ flat th d e path (written_cond c p q) rest = alike_refl th _
 flat th d e path (written_sum x p) rest = alike_refl th _
 flat th d e path (written_call x ts) rest = alike_refl th _
 flat th d e path (written_merge p q) rest = alike_refl th _
+flat th d e path (written_starting start p q) rest = alike_refl th _
 flat th d e path (written_around o p) rest = alike_refl th _
 
 -- an outcome, and then a rest

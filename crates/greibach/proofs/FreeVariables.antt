@@ -14,7 +14,7 @@ use Rattle.term_pool.specs.HeadTrees.{tree_at, IsIn, AreIn}
 use Rattle.term_pool.proofs.Lists.{contains_none, contains_cons, contains_head, contains_tail}
 use Rattle.process_terms.specs.PlainProcesses.{PlainAction}
 use Rattle.process_terms.specs.Meanings.{Entries, term_at, label_of, bound_at}
-use Rattle.process_terms.specs.Processes.{Body, written_delta, written_act, written_choice, written_seq, written_cond, written_sum, written_call, written_merge, written_around}
+use Rattle.process_terms.specs.Processes.{Body, written_delta, written_act, written_choice, written_seq, written_cond, written_sum, written_call, written_merge, written_starting, written_around}
 use Rattle.lps_core.specs.TreeSummands.{IsActionIn}
 use Rattle.greibach.specs.Places.{Path, Factor, factors}
 use Rattle.greibach.specs.ComponentForms.{occurs, occurs_in, occurs_in_label, occurs_free, free_in}
@@ -140,6 +140,7 @@ any_factors v path (written_cond c p q) = or_false (occurs v c || (occurs_free v
 any_factors v path (written_sum x p) = or_false (not (x.var == v) && occurs_free v p)
 any_factors v path (written_call x ts) = or_false (occurs_in v (terms_of ts))
 any_factors v path (written_merge p q) = or_false (occurs_free v p || occurs_free v q)
+any_factors v path (written_starting start p q) = or_false (occurs_free v p || occurs_free v q)
 any_factors v path (written_around o p) = or_false (occurs_free v p)
 
 -- those in scope that occur free are those that are needed

@@ -5,7 +5,7 @@ use Rattle.data_theory.specs.Declarations.{Data}
 use Rattle.data_theory.specs.Environments.{terms_of}
 use Rattle.data_theory.specs.EqualityLaws.{Grows}
 use Rattle.data_theory.proofs.GrowthLemmas.{growth_keeps_sorts}
-use Rattle.process_terms.specs.Processes.{Body, written_delta, written_act, written_choice, written_seq, written_cond, written_sum, written_call, written_merge, written_around}
+use Rattle.process_terms.specs.Processes.{Body, written_delta, written_act, written_choice, written_seq, written_cond, written_sum, written_call, written_merge, written_starting, written_around}
 use Rattle.bisim_laws.specs.LinearProcesses.{variables, sorts}
 use Rattle.lps_core.proofs.GrowingData.{terms_grown}
 use Rattle.greibach.specs.Places.{Place, Text, IsSortedBody}
@@ -23,6 +23,7 @@ module _ (g h : Data) (w : Grows g h) (t : Text) where
   body_grown xs (written_sum x p) k = (k.0, body_grown (x.var ∷ xs) p k.1)
   body_grown xs (written_call x ts) k = let c = k.1 in (k.0, (c.0, c.1, terms_grown g h w t.variables (terms_of ts) (sorts c.0.params) c.2, c.3))
   body_grown xs (written_merge p q) k = k
+  body_grown xs (written_starting start p q) k = k
   body_grown xs (written_around o p) k = k
 
   pub definitions_grown : HasDefinitions g t → HasDefinitions h t

@@ -11,7 +11,7 @@ use Rattle.data_theory.specs.Declarations.{Data, Declares, HasSort, HaveSorts}
 use Rattle.data_theory.specs.Environments.{Environment, term_in, bound, bound_variables, terms_of, IsOver, AreOver}
 use Rattle.data_theory.proofs.EnvironmentLemmas.{contains_nothing, contains_cases, bound_are_the_parameters}
 use Rattle.process_terms.specs.Labels.{Action, Label, put_label}
-use Rattle.process_terms.specs.Processes.{Bound, Body, written_delta, written_act, written_choice, written_seq, written_cond, written_sum, written_call, written_merge, written_around}
+use Rattle.process_terms.specs.Processes.{Bound, Body, written_delta, written_act, written_choice, written_seq, written_cond, written_sum, written_call, written_merge, written_starting, written_around}
 use Rattle.bisim_laws.specs.LinearProcesses.{variables, sorts, LabelIsOver, no_action_left, action_over, AreDeclared, reading}
 use Rattle.bisim_laws.specs.BaseStates.{Piece}
 use Rattle.bisim_laws.proofs.Firing.{contains_first, contains_later, contains_none, contains_cases as bound_cases}
@@ -144,6 +144,7 @@ module _ (g : Data) (t : Text) (w : Written) (answered : Term → Type 0) (stack
   onward_made own e k f (written_cond d p q) fs s v h c i = rest_made own e k (f ∷ fs) h c i
   onward_made own e k f (written_sum x p) fs s v h c i = rest_made own e k (f ∷ fs) h c i
   onward_made own e k f (written_merge p q) fs s v h c i = rest_made own e k (f ∷ fs) h c i
+  onward_made own e k f (written_starting start p q) fs s v h c i = rest_made own e k (f ∷ fs) h c i
   onward_made own e k f (written_around d p) fs s v h c i = rest_made own e k (f ∷ fs) h c i
 
   pieces_made : (own : ℕ) (e : Environment) → HasMadeTerms o ps all e → (rest : List Factor) → ((r : Factor) → In r rest → IsSortedBody g t (bound_variables e) r.body) → AreWritten w rest → HasPieces t own (bound_variables e) rest

@@ -23,7 +23,7 @@ use Rattle.process_terms.specs.declared.processes.Proc.TheVariants as procs
 use Rattle.process_terms.specs.PlainProcesses.{PlainDefinition, PlainProcess, processes_of, plain_process, PlainComponent, call_of, term_of, plain_definition}
 use Rattle.process_terms.specs.declared.definitions.ProcDef.{ProcDef}
 use Rattle.process_terms.specs.PlainProcesses.{cond as cond_of, sum as sum_of}
-use Rattle.proc_unfold.proofs.ProcessSteps.{choice_step, seq_step, cond_step, sum_step, merge_step}
+use Rattle.proc_unfold.proofs.ProcessSteps.{choice_step, seq_step, cond_step, sum_step, merge_step, sync_step}
 use Rattle.lps_core.specs.Fitting.{IsVariable}
 use Rattle.lps_core.proofs.Members.{all_from}
 use Rattle.proc_unfold.specs.FittingModels.{TermFits, ProcessFits, ProcessesFit}
@@ -55,6 +55,13 @@ module _ (g : Sig) (ts : List Tree) (ds : List PlainDefinition) (scope : List Va
     variables = h.variables;
     among = h.among;
     fit = subst (λ l. ProcessesFit g ts ds h.variables (processes_of (map plain_process l))) (sym e) (subst (ProcessFits g ts ds h.variables) (ap plain_process is ∙ merge_step parts) h.fits);
+  }
+
+  pub sync_fits : (p : Proc) (parts : Vec Proc Global) (items : List Proc) → p ≡ procs.Sync parts → items ≡ parts.items → FitsInScope g ts ds scope (plain_process p) → FitInScope g ts ds scope (processes_of (map plain_process items))
+  sync_fits p parts items is e h = record {
+    variables = h.variables;
+    among = h.among;
+    fit = subst (λ l. ProcessesFit g ts ds h.variables (processes_of (map plain_process l))) (sym e) (subst (ProcessFits g ts ds h.variables) (ap plain_process is ∙ sync_step parts) h.fits);
   }
 
   pub cond_fits : (p q r : Proc) (c : TermId) (then other : Box Proc) → p ≡ procs.Cond c then other → q ≡ then.value → r ≡ other.value → FitsInScope g ts ds scope (plain_process p) → FitsInScope g ts ds scope (cond_of c (plain_process q) (plain_process r))

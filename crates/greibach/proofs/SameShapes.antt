@@ -7,7 +7,7 @@ use Rattle.data_theory.specs.Terms.{put}
 use Rattle.data_theory.specs.Equations.{ !ᵗ◌}
 use Rattle.data_theory.specs.Declarations.{Data}
 use Rattle.data_theory.specs.Environments.{Environment, term_in, bound}
-use Rattle.process_terms.specs.Processes.{Body, written_delta, written_act, written_choice, written_seq, written_cond, written_sum, written_call, written_merge, written_around}
+use Rattle.process_terms.specs.Processes.{Body, written_delta, written_act, written_choice, written_seq, written_cond, written_sum, written_call, written_merge, written_starting, written_around}
 use Rattle.bisim_laws.specs.LinearProcesses.{variables}
 use Rattle.bisim_laws.specs.BaseStates.{Piece}
 use Rattle.greibach.specs.Places.{Path, Place, whole, Factor, Text, factors_at, factors_from, follow, body_of_owner, body_among}
@@ -34,6 +34,7 @@ onward_places_at t u o d e f (written_seq p q) fs = refl
 onward_places_at t u o d e f (written_cond c p q) fs = refl
 onward_places_at t u o d e f (written_sum x p) fs = refl
 onward_places_at t u o d e f (written_merge p q) fs = refl
+onward_places_at t u o d e f (written_starting start p q) fs = refl
 onward_places_at t u o d e f (written_around c p) fs = refl
 
 onward_places : (t u : Text) (o : ℕ) (d e : Environment) (rest : List Factor) → place_list (onward t o d rest) ≡ place_list (onward u o e rest)

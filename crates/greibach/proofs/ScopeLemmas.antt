@@ -8,7 +8,7 @@ use Rattle.data_theory.specs.Terms.{Term, Terms, variable, numeral, unknown, app
 use Rattle.data_theory.specs.Declarations.{Data, Declares}
 use Rattle.data_theory.specs.Environments.{terms_of, IsOver, AreOver, AreDistinct}
 use Rattle.process_terms.specs.Labels.{Label}
-use Rattle.process_terms.specs.Processes.{Bound, Body, written_delta, written_act, written_choice, written_seq, written_cond, written_sum, written_call, written_merge, written_around}
+use Rattle.process_terms.specs.Processes.{Bound, Body, written_delta, written_act, written_choice, written_seq, written_cond, written_sum, written_call, written_merge, written_starting, written_around}
 use Rattle.bisim_laws.specs.LinearProcesses.{variables, AreDeclared, LabelIsOver, no_action_left, action_over}
 use Rattle.bisim_laws.proofs.Firing.{contains_first, contains_later, contains_cases, contains_none}
 use Rattle.lps_core.proofs.OverVariables.{distinct_append}
@@ -54,6 +54,7 @@ sorted_closed g t xs (written_sum x p) h v e =
     ⊎_elim (λ q. absurd (not_true (x.var == v) k.0 (subst (λ z. (x.var == z) ≡ true) q (test_equal x.var)))) (λ i. i) (contains_cases x.var v xs (sorted_closed g t (x.var ∷ xs) p h.1 v k.1))
 sorted_closed g t xs (written_call x ts) h v e = all_closed xs (terms_of ts) h.0 v e
 sorted_closed g t xs (written_merge p q) h v e = absurd h
+sorted_closed g t xs (written_starting start p q) h v e = absurd h
 sorted_closed g t xs (written_around o p) h v e = absurd h
 
 -- ---- over other variables, among them those that occur
@@ -97,6 +98,7 @@ sorted_moved g t xs ys (written_sum x p) f h = (
     other v i e q n = contains_later x.var v ys (⊎_elim (λ s. absurd (n s)) (λ j. f v j (both_hold (not (x.var == v)) (occurs_free v p) (ap not q) e)) (contains_cases x.var v xs i))
 sorted_moved g t xs ys (written_call x ts) f h = (all_moved xs ys (terms_of ts) f h.0, h.1)
 sorted_moved g t xs ys (written_merge p q) f h = absurd h
+sorted_moved g t xs ys (written_starting start p q) f h = absurd h
 sorted_moved g t xs ys (written_around o p) f h = absurd h
 
 pub binds_moved : (xs ys : List ℕ) (b : Body) → ((v : ℕ) → Contains ys v → Contains xs v) → BindsAnew xs b → BindsAnew ys b
@@ -111,6 +113,7 @@ binds_moved xs ys (written_sum x p) f h = (
 )
 binds_moved xs ys (written_call x ts) f h = tt
 binds_moved xs ys (written_merge p q) f h = (binds_moved xs ys p f h.0, binds_moved xs ys q f h.1)
+binds_moved xs ys (written_starting start p q) f h = (binds_moved xs ys p f h.0, binds_moved xs ys q f h.1)
 binds_moved xs ys (written_around o p) f h = binds_moved xs ys p f h
 
 -- ---- factors
@@ -126,6 +129,7 @@ factors_sorted g t xs path (written_cond c p q) h f i = tell g t xs path (writte
 factors_sorted g t xs path (written_sum x p) h f i = tell g t xs path (written_sum x p) h f i
 factors_sorted g t xs path (written_call x ts) h f i = tell g t xs path (written_call x ts) h f i
 factors_sorted g t xs path (written_merge p q) h f i = absurd h
+factors_sorted g t xs path (written_starting start p q) h f i = absurd h
 factors_sorted g t xs path (written_around o p) h f i = absurd h
 
 -- ---- what is well sorted at a place, over the variables in scope

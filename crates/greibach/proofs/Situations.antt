@@ -9,7 +9,7 @@ use Rattle.data_theory.specs.Declarations.{Data, Declares, HasSort, HaveSorts}
 use Rattle.data_theory.specs.Environments.{Environment, term_in, bound, bound_variables, terms_of, AreOver, Agree, AreDistinct}
 use Rattle.data_theory.proofs.EnvironmentLemmas.{contains_first, contains_later, contains_cases, bound_are_the_parameters, putting_in_goes_through_lists}
 use Rattle.process_terms.specs.Theories.{Theory, AreOfSorts}
-use Rattle.process_terms.specs.Processes.{Bound, Body, written_delta, written_act, written_choice, written_seq, written_cond, written_sum, written_call, written_merge, written_around, Process, close, BodyOf, the_body}
+use Rattle.process_terms.specs.Processes.{Bound, Body, written_delta, written_act, written_choice, written_seq, written_cond, written_sum, written_call, written_merge, written_starting, written_around, Process, close, BodyOf, the_body}
 use Rattle.bisim_laws.specs.LinearProcesses.{variables, sorts, AreDeclared, reading}
 use Rattle.bisim_laws.specs.BaseStates.{Piece}
 use Rattle.bisim_laws.proofs.Firing.{read_now, read_later, bound_reads, contains_first as bound_first, contains_later as bound_later}
@@ -39,6 +39,7 @@ factors_sorted g t xs path (written_sum x p) h r (there i) = elim i [ ]
 factors_sorted g t xs path (written_call x ts) h _ here = h
 factors_sorted g t xs path (written_call x ts) h r (there i) = elim i [ ]
 factors_sorted g t xs path (written_merge p q) h _ i = absurd h
+factors_sorted g t xs path (written_starting start p q) h _ i = absurd h
 factors_sorted g t xs path (written_around o p) h _ i = absurd h
 
 -- ---- terms of sorts

@@ -18,7 +18,7 @@ use Rattle.data_theory.specs.WholeSignatures.{IsSignature}
 use Rattle.data_theory.specs.IdData.{data_meant}
 use Rattle.data_theory.specs.IdTrees.{Tree}
 use Rattle.data_theory.specs.IdTerms.{sort_under, variable_sorts}
-use Rattle.process_terms.specs.PlainProcesses.{PlainAction, PlainProcess, PlainProcesses, PlainDefinition, delta, act, call, choice, seq, cond, sum, merge, around, no_processes, more_processes}
+use Rattle.process_terms.specs.PlainProcesses.{PlainAction, PlainProcess, PlainProcesses, PlainDefinition, delta, act, call, choice, seq, cond, sum, merge, left_merge, sync, around, no_processes, more_processes}
 use Rattle.process_terms.specs.Processes.{Body, choice_of, seq_of, sums_around}
 use Rattle.process_terms.specs.Meanings.{Entries, ReadsOnly, bound_at, term_at, label_of, body_of, bodies_of}
 use Rattle.process_terms.specs.SignatureEntries.{entries_of, BothGrow}
@@ -37,7 +37,7 @@ use Rattle.bisim_laws.proofs.Firing.{contains_first, contains_later, contains_ca
 use Rattle.greibach.specs.Places.{Text, IsSortedBody, CallIsSorted}
 use Rattle.greibach.specs.ComponentForms.{piece_of}
 use Rattle.greibach.proofs.GrownFits.{term_grows, terms_grow, action_grows, variables_grow}
-use Rattle.greibach.proofs.ReadTables.{merged_parallel}
+use Rattle.greibach.proofs.ReadTables.{merged_parallel, synced_parallel}
 use Rattle.greibach.proofs.ScopeLemmas.{over_moved, all_moved}
 
 reads_over : (e : Entries) (xs : List VarId) (ids : List TermId) → All (ReadsOnly e xs) ids → AreOver (numbers_of xs) (terms_of (map (term_at e) ids))
@@ -122,6 +122,8 @@ module _ (g h : Sig) (ts us : List Tree) (sg : IsSignature g) (sh : IsSignature 
         (λ all u. body_sorted (zs ++ xs) all p k.1 (λ v i. u v (⊎_elim inl (λ j. inr (w v j)) (Contains-append_cases (numbers_of zs) (numbers_of xs) v (subst (λ l. Contains l v) (map-append (λ (z : VarId). z.0) zs xs) i))))
         (λ j. n (around_parallel zs (body_of (entries_of h us) p) j)) (λ x i. c x (subst (λ l. Contains l x) (sym (around_calls zs (body_of (entries_of h us) p))) i)))
     body_sorted xs ys (merge ps) k w n c = merge_sorted xs ys ps k w n c
+    body_sorted xs ys (left_merge p q) k w n c = absurd (n tt)
+    body_sorted xs ys (sync ps) k w n c = sync_sorted xs ys ps k w n c
     body_sorted xs ys (around o p) k w n c = absurd (n tt)
 
     choice_sorted : (xs : List VarId) (ys : List ℕ) (ps : PlainProcesses) → ProcessesFit g ts ds xs ps → ((v : ℕ) → Contains (numbers_of xs) v → Contains ys v) → (HasParallel (choice_of (bodies_of (entries_of h us) ps)) → ⊥) → AreCalls (Contains t.reached) (choice_of (bodies_of (entries_of h us) ps)) → IsSortedBody (data_meant h) t ys (choice_of (bodies_of (entries_of h us) ps))
@@ -144,3 +146,8 @@ module _ (g h : Sig) (ts us : List Tree) (sg : IsSignature g) (sh : IsSignature 
     merge_sorted xs ys no_processes k w n c = tt
     merge_sorted xs ys (more_processes p no_processes) k w n c = body_sorted xs ys p k.0 w n c
     merge_sorted xs ys (more_processes p (more_processes q ps)) k w n c = absurd (n (merged_parallel (body_of (entries_of h us) p) (body_of (entries_of h us) q) (bodies_of (entries_of h us) ps)))
+
+    sync_sorted : (xs : List VarId) (ys : List ℕ) (ps : PlainProcesses) → ProcessesFit g ts ds xs ps → ((v : ℕ) → Contains (numbers_of xs) v → Contains ys v) → (HasParallel (body_of (entries_of h us) (sync ps)) → ⊥) → AreCalls (Contains t.reached) (body_of (entries_of h us) (sync ps)) → IsSortedBody (data_meant h) t ys (body_of (entries_of h us) (sync ps))
+    sync_sorted xs ys no_processes k w n c = tt
+    sync_sorted xs ys (more_processes p no_processes) k w n c = body_sorted xs ys p k.0 w n c
+    sync_sorted xs ys (more_processes p (more_processes q ps)) k w n c = absurd (n (synced_parallel (body_of (entries_of h us) p) (body_of (entries_of h us) q) (bodies_of (entries_of h us) ps)))

@@ -10,7 +10,7 @@ use Rattle.data_theory.proofs.EnvironmentLemmas.{contains_first, contains_later,
 use Rattle.process_terms.specs.Theories.{Theory, Equal, Equals}
 use Rattle.process_terms.proofs.AgreeingLabels.{agree_refl, equals_refl}
 use Rattle.process_terms.specs.Labels.{Label, put_label, AgreeInOrder}
-use Rattle.process_terms.specs.Processes.{Body, written_delta, written_act, written_choice, written_seq, written_cond, written_sum, written_call, written_merge, written_around}
+use Rattle.process_terms.specs.Processes.{Body, written_delta, written_act, written_choice, written_seq, written_cond, written_sum, written_call, written_merge, written_starting, written_around}
 use Rattle.bisim_laws.specs.LinearProcesses.{LabelIsOver, no_action_left, action_over, reading}
 use Rattle.bisim_laws.specs.Sameness.{SameBody, same_delta, same_act, same_choice, same_seq, same_cond, same_sum, same_call}
 use Rattle.bisim_laws.proofs.Firing.{label_along}
@@ -83,6 +83,7 @@ sorted_more g t xs ys w (written_cond c p q) h = (over_more xs ys w c h.0, h.1, 
 sorted_more g t xs ys w (written_sum x p) h = (h.0, sorted_more g t (x.var ∷ xs) (x.var ∷ ys) (within_one_more x.var xs ys w) p h.1)
 sorted_more g t xs ys w (written_call x ts) h = (all_over_more xs ys w (terms_of ts) h.0, h.1)
 sorted_more g t xs ys w (written_merge p q) h = h
+sorted_more g t xs ys w (written_starting start p q) h = h
 sorted_more g t xs ys w (written_around o p) h = h
 
 pub environment_more : (xs ys : List ℕ) → Within xs ys → (e : Environment) → EnvironmentIsOver xs e → EnvironmentIsOver ys e
@@ -117,4 +118,5 @@ body_along th t xs d e g (written_sum x p) h =
     same_sum (λ u. body_along th t (x.var ∷ xs) (record { var = x.var; term = u } ∷ d) (record { var = x.var; term = u } ∷ e) (agree_first x.var u xs d e g) p h.1)
 body_along th t xs d e g (written_call x ts) h = same_call (same_terms th (agreeing_give_the_same_terms xs (term_in d) (term_in e) g ts h.0))
 body_along th t xs d e g (written_merge p q) h = absurd h
+body_along th t xs d e g (written_starting start p q) h = absurd h
 body_along th t xs d e g (written_around o p) h = absurd h

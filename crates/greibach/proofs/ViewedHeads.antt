@@ -19,7 +19,7 @@ use Rattle.greibach.proofs.ViewPaths.{all_both}
 use Rattle.process_terms.specs.PlainProcesses.{PlainAction}
 use Rattle.process_terms.specs.Labels.{put_label}
 use Rattle.process_terms.specs.Communication.{conjunction_of}
-use Rattle.process_terms.specs.Processes.{Bound, Body, written_delta, written_act, written_choice, written_seq, written_cond, written_sum, written_call, written_merge, written_around, seq_of}
+use Rattle.process_terms.specs.Processes.{Bound, Body, written_delta, written_act, written_choice, written_seq, written_cond, written_sum, written_call, written_merge, written_starting, written_around, seq_of}
 use Rattle.process_terms.specs.Meanings.{Entries, bound_at, term_at, label_of}
 use Rattle.bisim_laws.specs.LinearProcesses.{variables, reading}
 use Rattle.bisim_laws.specs.BaseStates.{Piece}
@@ -51,6 +51,7 @@ first_unfolds t o xs path (written_cond c p q) fs u = u
 first_unfolds t o xs path (written_sum x p) fs u = u
 first_unfolds t o xs path (written_call x ts) fs u = u
 first_unfolds t o xs path (written_merge p q) fs u = u
+first_unfolds t o xs path (written_starting start p q) fs u = u
 first_unfolds t o xs path (written_around a p) fs u = u
 
 same_some : {A : Type 0} {x y : A} → Some x ≡ Some y → x ≡ y

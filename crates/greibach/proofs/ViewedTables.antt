@@ -16,7 +16,7 @@ use Rattle.data_theory.specs.IdTrees.{Tree}
 use Rattle.term_pool.specs.HeadTrees.{IsIn, AreIn}
 use Rattle.term_pool.proofs.Lists.{contains_none, contains_cons, contains_head, contains_tail}
 use Rattle.process_terms.specs.PlainProcesses.{PlainAction}
-use Rattle.process_terms.specs.Processes.{Bound, Body, written_delta, written_act, written_choice, written_seq, written_cond, written_sum, written_call, written_merge, written_around}
+use Rattle.process_terms.specs.Processes.{Bound, Body, written_delta, written_act, written_choice, written_seq, written_cond, written_sum, written_call, written_merge, written_starting, written_around}
 use Rattle.process_terms.specs.Meanings.{Entries, bound_at, term_at, label_of}
 use Rattle.bisim_laws.specs.LinearProcesses.{variables}
 use Rattle.lps_core.specs.TreeSummands.{IsActionIn, numbers_of}
@@ -94,6 +94,7 @@ first_deeper o xs path (written_cond c p q) fs = ([], sym (append-nil path))
 first_deeper o xs path (written_sum x p) fs = ([], sym (append-nil path))
 first_deeper o xs path (written_call x ts) fs = ([], sym (append-nil path))
 first_deeper o xs path (written_merge p q) fs = ([], sym (append-nil path))
+first_deeper o xs path (written_starting start p q) fs = ([], sym (append-nil path))
 first_deeper o xs path (written_around a p) fs = ([], sym (append-nil path))
 
 longer_than_none : (path : Path) (s : Bool) (d : Path) → (path ++ s ∷ []) ++ d ≡ [] → ⊥

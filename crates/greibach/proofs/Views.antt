@@ -4,7 +4,7 @@ use Rattle.std.proofs.lemmas.List.{length-append}
 use Rattle.data_theory.specs.declared.ids.ProcId.{ProcId}
 use Rattle.data_theory.specs.declared.ids.VarId.{VarId}
 use Rattle.data_theory.specs.IdTrees.{Tree}
-use Rattle.process_terms.specs.Processes.{Bound, Body, written_delta, written_act, written_choice, written_seq, written_cond, written_sum, written_call, written_merge, written_around}
+use Rattle.process_terms.specs.Processes.{Bound, Body, written_delta, written_act, written_choice, written_seq, written_cond, written_sum, written_call, written_merge, written_starting, written_around}
 use Rattle.process_terms.specs.Meanings.{Entries, bound_at, term_at, label_of}
 use Rattle.greibach.specs.Places.{Path, Place, Factor, factors, Text, body_of_owner, follow}
 use Rattle.greibach.specs.ComponentForms.{scope_at, params_of_owner}
@@ -39,6 +39,7 @@ first_view o xs path (written_cond c p q) rest = view_at o xs path (written_cond
 first_view o xs path (written_sum x p) rest = view_at o xs path (written_sum x p) rest
 first_view o xs path (written_call x ts) rest = view_at o xs path (written_call x ts) rest
 first_view o xs path (written_merge p q) rest = view_at o xs path (written_merge p q) rest
+first_view o xs path (written_starting start p q) rest = view_at o xs path (written_starting start p q) rest
 first_view o xs path (written_around a p) rest = view_at o xs path (written_around a p) rest
 
 pub begins_with_first : (o : ℕ) (xs : List Bound) (path : Path) (b : Body) (rest : List Factor) → factors path b ++ rest ≡ first_factor (first_view o xs path b rest) ∷ (first_view o xs path b rest).others
@@ -50,6 +51,7 @@ begins_with_first o xs path (written_cond c p q) rest = refl
 begins_with_first o xs path (written_sum x p) rest = refl
 begins_with_first o xs path (written_call x ts) rest = refl
 begins_with_first o xs path (written_merge p q) rest = refl
+begins_with_first o xs path (written_starting start p q) rest = refl
 begins_with_first o xs path (written_around a p) rest = refl
 
 -- ---- what stands around
@@ -62,6 +64,7 @@ first_owner o xs path (written_cond c p q) rest = (refl, refl, refl)
 first_owner o xs path (written_sum x p) rest = (refl, refl, refl)
 first_owner o xs path (written_call x ts) rest = (refl, refl, refl)
 first_owner o xs path (written_merge p q) rest = (refl, refl, refl)
+first_owner o xs path (written_starting start p q) rest = (refl, refl, refl)
 first_owner o xs path (written_around a p) rest = (refl, refl, refl)
 
 -- what follows in the body of the owner, from this path on

@@ -4,7 +4,7 @@ use Rattle.std.specs.Prelude.{Contains}
 use Rattle.std.proofs.lemmas.List.Elements.{Contains-append_left, Contains-append_right}
 use Rattle.data_theory.specs.Terms.{Sort, Term}
 use Rattle.process_terms.specs.PlainProcesses.{PlainDefinition, PlainComponent, call_of, term_of}
-use Rattle.process_terms.specs.Processes.{Bound, Body, written_delta, written_act, written_choice, written_seq, written_cond, written_sum, written_call, written_merge, written_around}
+use Rattle.process_terms.specs.Processes.{Bound, Body, written_delta, written_act, written_choice, written_seq, written_cond, written_sum, written_call, written_merge, written_starting, written_around}
 use Rattle.process_terms.specs.Meanings.{Entries, table_of, body_of, component_body}
 use Rattle.bisim_laws.specs.BaseStates.{Piece}
 use Rattle.bisim_laws.proofs.Firing.{contains_none}
@@ -78,6 +78,7 @@ module _ (w : Written) where
   factors_written path (written_sum x p) h = one_written path (written_sum x p) h
   factors_written path (written_call x ts) h = one_written path (written_call x ts) h
   factors_written path (written_merge p q) h = one_written path (written_merge p q) h
+  factors_written path (written_starting start p q) h = one_written path (written_starting start p q) h
   factors_written path (written_around o p) h = one_written path (written_around o p) h
 
   pub more_written : (path : Path) (b : Body) (rest : List Factor) → IsWritten b → AreWritten rest → AreWritten (factors path b ++ rest)
@@ -98,6 +99,7 @@ module _ (w : Written) where
   follow_written path (written_act m) rest (s ∷ down) h k = λ r i. elim i [ ]
   follow_written path (written_call x ts) rest (s ∷ down) h k = λ r i. elim i [ ]
   follow_written path (written_merge p q) rest (s ∷ down) h k = λ r i. elim i [ ]
+  follow_written path (written_starting start p q) rest (s ∷ down) h k = λ r i. elim i [ ]
   follow_written path (written_around o p) rest (s ∷ down) h k = λ r i. elim i [ ]
 
   -- what stands at a place

@@ -10,7 +10,7 @@ use Rattle.data_theory.specs.IdData.{data_meant}
 use Rattle.data_theory.specs.IdTrees.{Tree}
 use Rattle.process_terms.specs.Labels.{Action, Label}
 use Rattle.process_terms.specs.PlainProcesses.{PlainDefinition, PlainModel, PlainComponent, call_of, term_of}
-use Rattle.process_terms.specs.Processes.{Bound, Body, written_delta, written_act, written_choice, written_seq, written_cond, written_sum, written_call, written_merge, written_around, call, close, seq_of}
+use Rattle.process_terms.specs.Processes.{Bound, Body, written_delta, written_act, written_choice, written_seq, written_cond, written_sum, written_call, written_merge, written_starting, written_around, call, close, seq_of}
 use Rattle.process_terms.specs.Meanings.{Entries, bound_at, term_at, body_of, table_of, component_body}
 use Rattle.process_terms.specs.SignatureEntries.{entries_of}
 use Rattle.bisim_laws.specs.LinearProcesses.{sorts}
@@ -47,6 +47,7 @@ occurs_free v (written_cond c p q) = occurs v c || (occurs_free v p || occurs_fr
 occurs_free v (written_sum x p) = not (x.var == v) && occurs_free v p
 occurs_free v (written_call x ts) = occurs_in v (terms_of ts)
 occurs_free v (written_merge p q) = occurs_free v p || occurs_free v q
+occurs_free v (written_starting start p q) = occurs_free v p || occurs_free v q
 occurs_free v (written_around o p) = occurs_free v p
 
 -- the variables in scope at a path, in the order of their binding

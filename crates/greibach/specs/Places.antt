@@ -3,7 +3,7 @@ use Rattle.std.specs.Prelude.{◌≡◌, ℕ, zero, suc, List, [], ◌∷◌, �
 use Rattle.data_theory.specs.Terms.{Sort, boolean, Term}
 use Rattle.data_theory.specs.Declarations.{Data, Declares, HasSort, HaveSorts}
 use Rattle.data_theory.specs.Environments.{terms_of, IsOver, AreOver}
-use Rattle.process_terms.specs.Processes.{Body, written_delta, written_act, written_choice, written_seq, written_cond, written_sum, written_call, written_merge, written_around, Definition, Table}
+use Rattle.process_terms.specs.Processes.{Body, written_delta, written_act, written_choice, written_seq, written_cond, written_sum, written_call, written_merge, written_starting, written_around, Definition, Table}
 use Rattle.bisim_laws.specs.LinearProcesses.{variables, sorts, LabelIsOver}
 use Rattle.bisim_laws.specs.BaseStates.{Piece}
 
@@ -35,6 +35,7 @@ factors path (written_cond c p q) = record { path = path; body = written_cond c 
 factors path (written_sum x p) = record { path = path; body = written_sum x p } ∷ []
 factors path (written_call x ts) = record { path = path; body = written_call x ts } ∷ []
 factors path (written_merge p q) = record { path = path; body = written_merge p q } ∷ []
+factors path (written_starting start p q) = record { path = path; body = written_starting start p q } ∷ []
 factors path (written_around o p) = record { path = path; body = written_around o p } ∷ []
 
 abbrev pub bodies : List Factor → List Body
@@ -69,6 +70,7 @@ IsSortedBody g t xs (written_cond c p q) = IsOver xs c × HasSort g t.variables 
 IsSortedBody g t xs (written_sum x p) = Declares t.variables x.var x.sort × IsSortedBody g t (x.var ∷ xs) p
 IsSortedBody g t xs (written_call x ts) = AreOver xs (terms_of ts) × CallIsSorted g t x ts
 IsSortedBody g t xs (written_merge p q) = ⊥
+IsSortedBody g t xs (written_starting start p q) = ⊥
 IsSortedBody g t xs (written_around o p) = ⊥
 
 -- ---- what stands at a place

@@ -4,7 +4,7 @@ use Rattle.data_theory.specs.Environments.{AreDistinct}
 use Rattle.process_terms.specs.PlainProcesses.{PlainModel, PlainComponent}
 use Rattle.process_terms.specs.Meanings.{Entries, table_of, component_body}
 use Rattle.proc_unfold.specs.Parallel.{IsSequential}
-use Rattle.process_terms.specs.Processes.{Body, written_delta, written_act, written_choice, written_seq, written_cond, written_sum, written_call, written_merge, written_around, Definition, Table}
+use Rattle.process_terms.specs.Processes.{Body, written_delta, written_act, written_choice, written_seq, written_cond, written_sum, written_call, written_merge, written_starting, written_around, Definition, Table}
 
 -- over these variables, no sum binds one that is in scope
 abbrev pub BindsAnew : List ℕ → Body → Type 0
@@ -16,6 +16,7 @@ BindsAnew xs (written_cond c p q) = BindsAnew xs p × BindsAnew xs q
 BindsAnew xs (written_sum x p) = (Contains xs x.var → ⊥) × BindsAnew (x.var ∷ xs) p
 BindsAnew xs (written_call x ts) = Unit {0}
 BindsAnew xs (written_merge p q) = BindsAnew xs p × BindsAnew xs q
+BindsAnew xs (written_starting start p q) = BindsAnew xs p × BindsAnew xs q
 BindsAnew xs (written_around o p) = BindsAnew xs p
 
 -- the parameters differ

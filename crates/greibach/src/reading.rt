@@ -5,7 +5,7 @@ ghost use Rattle.std.specs.List.{All, Contains};
 ghost use Rattle.data_theory.specs.declared.ids.VarId.{VarId};
 ghost use Rattle.data_theory.specs.Complete.{BeginsWith};
 ghost use Rattle.term_pool.specs.HeadTrees.{AreIn};
-ghost use Rattle.process_terms.specs.PlainProcesses.{plain_component, plain_definition, plain_label, plain_model, plain_process, processes_of, act, call, choice, cond, delta, merge, seq, sum, more_processes, no_processes};
+ghost use Rattle.process_terms.specs.PlainProcesses.{plain_component, plain_definition, plain_label, plain_model, plain_process, processes_of, act, call, choice, cond, delta, merge, sync, seq, sum, more_processes, no_processes};
 ghost use Rattle.greibach.specs.PlacesInCode.{PlainEntry, plain_entry, plain_part, plain_place, plain_places};
 ghost use Rattle.greibach.specs.OccurringVariables.{label_terms, params_at, rest_params, those_among};
 ghost use Rattle.lps_core.specs.Fitting.{IsVariable};
@@ -255,6 +255,27 @@ fn read_merge<'a>(
     read_delta(source, reader, rest)
 }
 
+/// Reads the operand of a `|` that has only one. Without operands it does nothing.
+#[cycle(read)]
+fn read_sync<'a>(
+    source: Source<'_, 'a>,
+    reader: &mut Reader<'a>,
+    parts: &'a [Proc],
+    rest: Option<usize>,
+) -> Result<usize, NoMemory>
+    requires fits { CanReadAll source reader.old (processes_of (map plain_process parts.now)) }
+    requires so_far { IsReading source reader.old }
+    requires rest { RestIsRead reader.old rest }
+    ensures scope { OnOk result (reader.new.scope.items ≡ reader.old.scope.items) }
+    ensures read { IfOk result (λ n. ReadsOn source.entry reader.old reader.new reader.old.scope.items n) }
+    ensures reads { IfOk result (λ n. ReadsAs source.entry reader.old reader.new reader.old.scope.items (sync (processes_of (map plain_process parts.now))) rest n) }
+{
+    if parts.len() == 1 {
+        return read(source, reader, &parts[0], rest);
+    }
+    read_delta(source, reader, rest)
+}
+
 /// Reads the operand of a sum, with the sum's variables in scope.
 #[cycle(read)]
 fn read_sum<'a>(
@@ -342,6 +363,7 @@ fn read<'a>(
         ),
         Proc::Sum(vars, part) => read_sum(source, reader, vars.as_slice(), part, rest),
         Proc::Merge(parts) => read_merge(source, reader, parts.as_slice(), rest),
+        Proc::Sync(parts) => read_sync(source, reader, parts.as_slice(), rest),
         _ => read_delta(source, reader, rest),
     }
 }

@@ -3,13 +3,13 @@ use Rattle.std.proofs.Common.{◌≡◌, ◌<◌, ◌+◌, ℕ, List, [], ◌∷
 use Rattle.std.proofs.lemmas.Result.{on_ok_weaker}
 use Rattle.std.specs.Result.{OnOk}
 use Rattle.std.proofs.lemmas.List.{append-nil, map-append, append_assoc, take_more}
-use Rattle.process_terms.specs.Processes.{Bound, Body, written_merge, choice_of, seq_of, merged_with, merge_of, sums_around}
+use Rattle.process_terms.specs.Processes.{Bound, Body, both_at_once, written_merge, written_starting, choice_of, seq_of, merged_with, merge_of, synced_with, sync_of, sums_around}
 use Rattle.process_terms.specs.declared.processes.Proc.{Proc}
-use Rattle.process_terms.specs.declared.processes.Proc.TheVariants.{Cond, rolls-Cond}
+use Rattle.process_terms.specs.declared.processes.Proc.TheVariants.{Cond, rolls-Cond, Left, rolls-Left}
 use Rattle.process_terms.specs.declared.processes.Proc.TheFolds.{fold-roll-Proc}
 use Rattle.data_theory.specs.declared.ids.TermId.{TermId}
 use Rattle.std.specs.Global.{Box}
-use Rattle.process_terms.specs.PlainProcesses.{PlainProcess, PlainProcesses, delta, act, call, choice, seq, cond, sum, merge, around, no_processes, more_processes, processes_of, plain_process, plain_process_step}
+use Rattle.process_terms.specs.PlainProcesses.{PlainProcess, PlainProcesses, delta, act, call, choice, seq, cond, sum, merge, left_merge, sync, around, no_processes, more_processes, processes_of, plain_process, plain_process_step}
 use Rattle.process_terms.specs.Meanings.{Entries, body_of, bodies_of, bound_at}
 use Rattle.guard_check.specs.declared.calls.Extent.{Extent}
 use Rattle.guard_check.specs.declared.calls.Extent.TheVariants.{Everywhere, BeforeActions}
@@ -53,6 +53,8 @@ mutual
   same_calls n g (cond c p q) = λ i. same_calls n g p i ++ same_calls n g q i
   same_calls n g (sum xs p) = same_calls n g p ∙ sym (sums_calls n (map (bound_at g) xs) (body_of g p))
   same_calls n g (merge ps) = merge_calls n g ps
+  same_calls n g (left_merge p q) = λ i. same_calls n g p i ++ same_calls n g q i
+  same_calls n g (sync ps) = sync_calls n g ps
   same_calls n g (around o p) = same_calls n g p
 
   choice_calls : (n : Extent) (g : Entries) (ps : PlainProcesses) → all_calls n ps ≡ calls n (choice_of (bodies_of g ps))
@@ -67,6 +69,14 @@ mutual
   merged_calls : (n : Extent) (g : Entries) (q : Body) (ps : PlainProcesses) → calls n q ++ all_calls n ps ≡ calls n (merged_with q (bodies_of g ps))
   merged_calls n g q no_processes = append-nil (calls n q)
   merged_calls n g q (more_processes p ps) = sym (append_assoc (calls n q) (plain_calls n p) (all_calls n ps)) ∙ ((λ i. (calls n q ++ same_calls n g p i) ++ all_calls n ps) ∙ merged_calls n g (written_merge q (body_of g p)) ps)
+
+  sync_calls : (n : Extent) (g : Entries) (ps : PlainProcesses) → all_calls n ps ≡ calls n (sync_of (bodies_of g ps))
+  sync_calls n g no_processes = refl
+  sync_calls n g (more_processes p ps) = (λ i. same_calls n g p i ++ all_calls n ps) ∙ synced_calls n g (body_of g p) ps
+
+  synced_calls : (n : Extent) (g : Entries) (q : Body) (ps : PlainProcesses) → calls n q ++ all_calls n ps ≡ calls n (synced_with q (bodies_of g ps))
+  synced_calls n g q no_processes = append-nil (calls n q)
+  synced_calls n g q (more_processes p ps) = sym (append_assoc (calls n q) (plain_calls n p) (all_calls n ps)) ∙ ((λ i. (calls n q ++ same_calls n g p i) ++ all_calls n ps) ∙ synced_calls n g (written_starting both_at_once q (body_of g p)) ps)
 
   chain_calls : (g : Entries) (ps : PlainProcesses) → all_calls Everywhere ps ≡ calls Everywhere (seq_of (bodies_of g ps))
   chain_calls g no_processes = refl
@@ -89,3 +99,15 @@ pub both_walked : {T E : Type 0} (r : Result T E) (n : Extent) (p : Proc) (c : T
     → mid ≡ start ++ plain_calls n (plain_process q) → OnOk r (end ≡ mid ++ plain_calls n (plain_process q')) → OnOk r (end ≡ start ++ plain_calls n (plain_process p))
 both_walked r n p c then other q q' start mid end is e f h k =
     on_ok_weaker r (λ j. appended start mid end _ _ h j ∙ ap (λ l. start ++ l) ((λ i. plain_calls n (plain_process (e i)) ++ plain_calls n (plain_process (f i))) ∙ sym (ap (λ q. plain_calls n (plain_process q)) is ∙ cond_calls n c then other))) k
+
+left_step : (p q : Box Proc) → plain_process (Left p q) ≡ left_merge (plain_process p.value) (plain_process q.value)
+left_step p q = ap plain_process (sym (rolls-Left p q)) ∙ fold-roll-Proc PlainProcess plain_process_step _
+
+pub left_calls : (n : Extent) (p q : Box Proc) → plain_calls n (plain_process (Left p q)) ≡ plain_calls n (plain_process p.value) ++ plain_calls n (plain_process q.value)
+left_calls n p q = ap (plain_calls n) (left_step p q)
+
+-- both sides of a `||_` are walked
+pub left_walked : {T E : Type 0} (r : Result T E) (n : Extent) (p : Proc) (first second : Box Proc) (q q' : Proc) (start mid end : List ℕ) → p ≡ Left first second → q ≡ first.value → q' ≡ second.value
+    → mid ≡ start ++ plain_calls n (plain_process q) → OnOk r (end ≡ mid ++ plain_calls n (plain_process q')) → OnOk r (end ≡ start ++ plain_calls n (plain_process p))
+left_walked r n p first second q q' start mid end is e f h k =
+    on_ok_weaker r (λ j. appended start mid end _ _ h j ∙ ap (λ l. start ++ l) ((λ i. plain_calls n (plain_process (e i)) ++ plain_calls n (plain_process (f i))) ∙ sym (ap (λ q. plain_calls n (plain_process q)) is ∙ left_calls n first second))) k

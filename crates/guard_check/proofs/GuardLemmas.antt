@@ -4,7 +4,7 @@ use Rattle.std.specs.List.{Contains}
 use Rattle.std.proofs.lemmas.List.Elements.{Contains-append_left, Contains-append_right, Contains-append_cases}
 use Rattle.graphs.specs.Graphs.{IsPath}
 use Rattle.graphs.proofs.Searches.{path_on}
-use Rattle.process_terms.specs.Processes.{Body, written_delta, written_act, written_choice, written_seq, written_cond, written_sum, written_call, written_merge, written_around, Table}
+use Rattle.process_terms.specs.Processes.{Body, written_delta, written_act, written_choice, written_seq, written_cond, written_sum, written_call, written_merge, written_starting, written_around, Table}
 use Rattle.guard_check.specs.declared.calls.Extent.{Extent}
 use Rattle.guard_check.specs.declared.calls.Extent.TheVariants.{Everywhere, BeforeActions}
 use Rattle.guard_check.specs.Calls.{calls, Calls, Leads, Reaches}
@@ -26,6 +26,7 @@ leads_is_call (written_cond c p q) y h = both_sides (calls BeforeActions p) (cal
 leads_is_call (written_sum x p) y h = leads_is_call p y h
 leads_is_call (written_call x ts) y h = h
 leads_is_call (written_merge p q) y h = both_sides (calls BeforeActions p) (calls BeforeActions q) (calls Everywhere p) (calls Everywhere q) y (leads_is_call p y) (leads_is_call q y) h
+leads_is_call (written_starting o p q) y h = both_sides (calls BeforeActions p) (calls BeforeActions q) (calls Everywhere p) (calls Everywhere q) y (leads_is_call p y) (leads_is_call q y) h
 leads_is_call (written_around o p) y h = leads_is_call p y h
 
 pub counts_is_call : (n : Extent) (p : Body) (y : ℕ) → Contains (calls n p) y → Contains (calls Everywhere p) y

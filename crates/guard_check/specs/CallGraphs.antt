@@ -3,7 +3,7 @@ use Rattle.std.specs.Prelude.{◌≡◌, ◌↔◌, ℕ, Bool, List, [], ◌∷�
 use Rattle.std.specs.Global.{Vec}
 use Rattle.graphs.specs.Graphs.{HasEdge, IsGraph, IsMarked}
 use Rattle.process_terms.specs.declared.definitions.ProcDef.{ProcDef}
-use Rattle.process_terms.specs.PlainProcesses.{PlainProcess, PlainProcesses, delta, act, call, choice, seq, cond, sum, merge, around, no_processes, more_processes, PlainModel, plain_definition}
+use Rattle.process_terms.specs.PlainProcesses.{PlainProcess, PlainProcesses, delta, act, call, choice, seq, cond, sum, merge, left_merge, sync, around, no_processes, more_processes, PlainModel, plain_definition}
 use Rattle.process_terms.specs.Meanings.{Entries, table_of, body_of}
 use Rattle.process_terms.specs.Processes.{Definition}
 use Rattle.guard_check.specs.declared.calls.Extent.{Extent}
@@ -21,6 +21,8 @@ abbrev mutual
   plain_calls n (cond c p q) = plain_calls n p ++ plain_calls n q
   plain_calls n (sum xs p) = plain_calls n p
   plain_calls n (merge ps) = all_calls n ps
+  plain_calls n (left_merge p q) = plain_calls n p ++ plain_calls n q
+  plain_calls n (sync ps) = all_calls n ps
   plain_calls n (around o p) = plain_calls n p
 
   -- of all operands

@@ -1,7 +1,7 @@
 -- The calls of process terms, and the names that they reach and lead to.
 use Rattle.std.specs.Prelude.{◌≡◌, ◌⊎◌, ℕ, List, [], ◌∷◌, ◌++◌, Some, slice_get, Contains}
 use Rattle.graphs.specs.Graphs.{IsPath}
-use Rattle.process_terms.specs.Processes.{Body, written_delta, written_act, written_choice, written_seq, written_cond, written_sum, written_call, written_merge, written_around, Definition, Table}
+use Rattle.process_terms.specs.Processes.{Body, written_delta, written_act, written_choice, written_seq, written_cond, written_sum, written_call, written_merge, written_starting, written_around, Definition, Table}
 use Rattle.guard_check.specs.declared.calls.Extent.{Extent}
 use Rattle.guard_check.specs.declared.calls.Extent.TheVariants.{Everywhere, BeforeActions}
 
@@ -21,6 +21,7 @@ calls n (written_cond c p q) = calls n p ++ calls n q
 calls n (written_sum x p) = calls n p
 calls n (written_call x ts) = x ∷ []
 calls n (written_merge p q) = calls n p ++ calls n q
+calls n (written_starting o p q) = calls n p ++ calls n q
 calls n (written_around o p) = calls n p
 
 -- y is called in the body of x

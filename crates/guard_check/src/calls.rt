@@ -40,7 +40,9 @@ fn add_calls(extent: Extent, process: &Proc, found: &mut Vec<usize>) -> Result<(
     match process {
         Proc::Delta | Proc::Act(_) => Ok(()),
         Proc::Call(callee, _) => Ok(found.push(callee.0)?),
-        Proc::Choice(parts) | Proc::Merge(parts) => add_all_calls(extent, parts, found),
+        Proc::Choice(parts) | Proc::Merge(parts) | Proc::Sync(parts) => {
+            add_all_calls(extent, parts, found)
+        }
         Proc::Seq(parts) => match extent {
             Extent::Everywhere => add_all_calls(extent, parts, found),
             Extent::BeforeActions => match parts.first() {
@@ -51,6 +53,10 @@ fn add_calls(extent: Extent, process: &Proc, found: &mut Vec<usize>) -> Result<(
         Proc::Cond(_, then, other) => {
             add_calls(extent, then, found)?;
             add_calls(extent, other, found)
+        }
+        Proc::Left(first, second) => {
+            add_calls(extent, first, found)?;
+            add_calls(extent, second, found)
         }
         Proc::Sum(_, part)
         | Proc::Allow(_, part)

@@ -21,12 +21,11 @@ use Rattle.bisim_laws.specs.LinearProcesses.{Linear, state_of}
 use Rattle.bisim_laws.specs.Links.{Link, Then, Dropped, Solved}
 use Rattle.bisim_laws.proofs.ComposedLinks.{then_good}
 use Rattle.lps_core.specs.Fitting.{Fits}
-use Rattle.lps_core.specs.GoingOn.{IsGoodOver}
+use Rattle.lps_core.specs.GoingOn.{IsGoodOver, IsGoodWith}
 use Rattle.lps_core.specs.PlainLinears.{PlainLinear, linear_of, initial_of, linear_state}
 use Rattle.lps_core.proofs.Staying.{what_fits_stays}
 use Rattle.lps_parelm.proofs.WholeElimination.{fits_on}
 use Rattle.lps_sumelm.specs.Simplified.{IsAnswer}
-use Rattle.lps_sumelm.specs.SolvedLinears.{IsGoodWith}
 use Rattle.lps_printer.specs.EmptyEquations.{empty_equations}
 use Rattle.lps_printer.specs.PrintedLinears.{IsPrinted}
 use Rattle.lin_driver.specs.Eliminated.{IsEliminated, IsPrintedLeft}

@@ -17,12 +17,13 @@ use Rattle.bisim_laws.specs.LinearProcesses.{state_of}
 use Rattle.bisim_laws.specs.Links.{Solved}
 use Rattle.lps_core.specs.declared.linears.Linear.{Linear}
 use Rattle.lps_core.specs.Fitting.{Fits}
+use Rattle.lps_core.specs.GoingOn.{IsGoodWith}
 use Rattle.lps_core.specs.PlainLinears.{PlainLinear, plain_linear, linear_of, initial_of, linear_state}
 use Rattle.lps_core.proofs.Staying.{what_fits_stays}
 use Rattle.lps_parelm.specs.Needed.{IsWithoutTheUnneeded}
 use Rattle.lps_constelm.specs.Eliminating.{IsWithoutConstants}
 use Rattle.lps_sumelm.specs.Simplified.{EachTermIs, IsAnswer}
-use Rattle.lps_sumelm.specs.SolvedLinears.{IsGoodWith, SolvingIsGood}
+use Rattle.lps_sumelm.specs.SolvedLinears.{SolvingIsGood}
 use Rattle.lps_sumelm.specs.Solving.{IsSolvedSummand}
 use Rattle.lps_sumelm.specs.SolvingLaws.{HasNoSolution, HasNoUnused}
 use Rattle.lps_sumelm.proofs.WholeProcess.{each_along}

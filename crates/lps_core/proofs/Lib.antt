@@ -21,3 +21,11 @@ pub mod FunctionNames
 pub mod StayingFits
 pub mod NamedLinears
 pub mod NamingLoops
+pub mod SealedLinears
+pub mod SolvableParts
+pub mod ClosedTerms
+pub mod SealingLoops
+pub mod AddedPhase
+pub mod SortedTrees
+pub mod SealedInCode
+pub mod DoneSealing

@@ -10,4 +10,7 @@ pub mod TreeConditions
 pub mod MeantConditions
 pub mod Naming
 pub mod CanonicalConditions
+pub mod Sealing
+pub mod SealedTrees
+pub mod Solutions
 pub mod MadeTerms

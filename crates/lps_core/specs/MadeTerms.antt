@@ -16,7 +16,7 @@ use Rattle.term_pool.specs.ConstructorValues.{ConstructorValue, IsFirstValue}
 use Rattle.term_pool.specs.Constants.{tree_with, constant_of, sorts_in_need, DeclaresConstants}
 use Rattle.process_terms.specs.Labels.{Action, Label}
 use Rattle.process_terms.specs.Communication.{conjunction_of}
-use Rattle.process_terms.specs.Processes.{Around, allow, block, hide, rename, comm, Bound, Body, written_delta, written_act, written_choice, written_seq, written_cond, written_sum, written_call, written_merge, written_around, Table}
+use Rattle.process_terms.specs.Processes.{Around, allow, block, hide, rename, comm, Bound, Body, written_delta, written_act, written_choice, written_seq, written_cond, written_sum, written_call, written_merge, written_starting, written_around, Table}
 use Rattle.process_terms.specs.SignatureEntries.{entries_of}
 use Rattle.bisim_laws.specs.LinearProcesses.{Summand, Linear, variables, sorts, AreDeclared}
 use Rattle.lps_core.specs.Conditions.{parts}
@@ -60,6 +60,7 @@ written_in (written_cond c p q) = both_written (record { sums = []; conditions =
 written_in (written_sum x p) = both_written (record { sums = x.sort ∷ []; conditions = []; action_arguments = []; call_arguments = []; communicates = false }) (written_in p)
 written_in (written_call i ts) = record { sums = []; conditions = []; action_arguments = []; call_arguments = ts; communicates = false }
 written_in (written_merge p q) = both_written (written_in p) (written_in q)
+written_in (written_starting o p q) = both_written (written_in p) (written_in q)
 written_in (written_around o p) = both_written (record { sums = []; conditions = []; action_arguments = []; call_arguments = []; communicates = is_comm o }) (written_in p)
 
 -- by its definitions and its `init`

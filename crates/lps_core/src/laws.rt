@@ -43,3 +43,23 @@ pub fn conditions_mean_conditions()
     ensures parts { PartsMeanParts }
     ensures chains { ChainsMeanChains }
 {}
+
+ghost use Rattle.lps_core.specs.Sealing.{NeverEndingIsGood, SealedBehindALink, SealedIsGood, SealedIsLinear, SealedIsSorted, SealedNeverEnds};
+
+/// Sealed linear processes.
+pub fn sealed_processes_never_end()
+    ensures never { SealedNeverEnds }
+    ensures linear { SealedIsLinear }
+    ensures sorted { SealedIsSorted }
+    ensures good { SealedIsGood }
+    ensures behind { SealedBehindALink }
+    ensures staying { NeverEndingIsGood }
+{}
+
+ghost use Rattle.lps_core.specs.Solutions.{WhatGivesNothingIsNotSolvable, WhatIsGivenIsSolvable};
+
+/// Which parts of a condition give a term for a variable.
+pub fn parts_are_solvable()
+    ensures given { WhatIsGivenIsSolvable }
+    ensures nothing { WhatGivesNothingIsNotSolvable }
+{}

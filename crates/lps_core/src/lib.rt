@@ -9,6 +9,7 @@ pub mod laws;
 mod linears;
 mod moving;
 mod naming;
+mod sealing;
 
 pub use conditions::{conjoined, parts_of};
 pub use linears::{Linear, Summand};
@@ -17,3 +18,4 @@ pub use naming::{
     add_variable_names, fresh_from, has_name, name_all, name_sums, put_next, signature_stands,
     used_names,
 };
+pub use sealing::seal;

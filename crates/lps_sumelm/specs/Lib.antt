@@ -1,4 +1,3 @@
-pub mod Solutions
 pub mod Simplified
 pub mod Solving
 pub mod SolvingLaws

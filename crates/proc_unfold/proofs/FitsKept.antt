@@ -12,7 +12,7 @@ use Rattle.data_theory.specs.IdTreeSorts.{HasTreeSort, HaveTreeSorts}
 use Rattle.data_theory.specs.IdTerms.{term_under}
 use Rattle.term_pool.specs.HeadTrees.{IsIn, AreIn}
 use Rattle.term_pool.specs.Pools.{Extends}
-use Rattle.process_terms.specs.PlainProcesses.{PlainAction, PlainProcess, PlainProcesses, delta, act, call, choice, seq, cond, sum, merge, around, no_processes, more_processes, PlainDefinition, PlainModel}
+use Rattle.process_terms.specs.PlainProcesses.{PlainAction, PlainProcess, PlainProcesses, delta, act, call, choice, seq, cond, sum, merge, left_merge, sync, around, no_processes, more_processes, PlainDefinition, PlainModel}
 use Rattle.process_terms.specs.Meanings.{ReadsOnly, term_at}
 use Rattle.process_terms.specs.SignatureEntries.{entries_of}
 use Rattle.lps_core.specs.TreeSummands.{numbers_of}
@@ -60,6 +60,8 @@ module _ (g : Sig) (ts us : List Tree) (e : Extends ts us) where
       process_kept xs (cond c p q) h = (term_kept xs _ c h.0, process_kept xs p h.1, process_kept xs q h.2)
       process_kept xs (sum ys p) h = (h.0, process_kept (ys ++ xs) p h.1)
       process_kept xs (merge ps) h = processes_kept xs ps h
+      process_kept xs (left_merge p q) h = (process_kept xs p h.0, process_kept xs q h.1)
+      process_kept xs (sync ps) h = processes_kept xs ps h
       process_kept xs (around o p) h = (h.0, process_kept xs p h.1)
 
       processes_kept : (xs : List VarId) (ps : PlainProcesses) → ProcessesFit g ts ds xs ps → ProcessesFit g us ds xs ps

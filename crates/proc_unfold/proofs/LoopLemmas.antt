@@ -17,7 +17,7 @@ use Rattle.guard_check.specs.CallGraphs.{plain_calls}
 use Rattle.guard_check.proofs.CallLemmas.{same_calls}
 use Rattle.proc_unfold.specs.ParallelTests.{has_one, has_two, has_parallel, any_parallel, none_marked, is_outside, all_outside, is_sequential}
 use Rattle.proc_unfold.specs.ParallelMarks.{MarksBoth}
-use Rattle.proc_unfold.proofs.ProcessSteps.{choice_step, seq_step, merge_step}
+use Rattle.proc_unfold.proofs.ProcessSteps.{choice_step, seq_step, merge_step, sync_step}
 
 -- ---- operands with a parallel operator
 two_are : (ps : List Proc) → 2 ≤ length ps → has_two (processes_of (map plain_process ps)) ≡ true
@@ -35,6 +35,12 @@ merge_parallel p parts is l = ap (λ q. has_parallel (plain_process q)) is ∙ (
 
 pub short_merge : (p : Proc) (parts : Vec Proc Global) → p ≡ procs.Merge parts → length parts.items < 2 → has_parallel (plain_process p) ≡ any_parallel (processes_of (map plain_process parts.items))
 short_merge p parts is l = ap (λ q. has_parallel (plain_process q)) is ∙ (ap has_parallel (merge_step parts) ∙ ap (λ b. b || any_parallel (processes_of (map plain_process parts.items))) (two_are_not parts.items l))
+
+pub sync_parallel : (p : Proc) (parts : Vec Proc Global) → p ≡ procs.Sync parts → 2 ≤ length parts.items → has_parallel (plain_process p) ≡ true
+sync_parallel p parts is l = ap (λ q. has_parallel (plain_process q)) is ∙ (ap has_parallel (sync_step parts) ∙ ap (λ b. b || any_parallel (processes_of (map plain_process parts.items))) (two_are parts.items l))
+
+pub short_sync : (p : Proc) (parts : Vec Proc Global) → p ≡ procs.Sync parts → length parts.items < 2 → has_parallel (plain_process p) ≡ any_parallel (processes_of (map plain_process parts.items))
+short_sync p parts is l = ap (λ q. has_parallel (plain_process q)) is ∙ (ap has_parallel (sync_step parts) ∙ ap (λ b. b || any_parallel (processes_of (map plain_process parts.items))) (two_are_not parts.items l))
 
 none_before : (p : PlainProcess) (b : Bool) → has_parallel p ≡ false → b ≡ false → (has_parallel p || b) ≡ false
 none_before p b e f = (λ i. e i || b) ∙ f
@@ -165,3 +171,7 @@ not_sequential marks p e = sym (ap (λ b. b && none_marked marks (plain_calls Ev
 
 pub if_ok_turned : {E : Type 0} (r : Result Bool E) (a b : Bool) → a ≡ b → IfOk r (λ x. x ≡ a) → IfOk r (λ x. x ≡ b)
 if_ok_turned r a b e h = IfOk-weaker r (λ x. x ≡ a) (λ x. x ≡ b) (λ x i. i ∙ e) h
+
+pub both_outside : (a b : Bool) → (a && b) ≡ true → (a ≡ true) × (b ≡ true)
+both_outside true b e = (refl, e)
+both_outside false b e = cc

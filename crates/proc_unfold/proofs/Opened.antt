@@ -30,7 +30,7 @@ use Rattle.term_pool.specs.HeadTrees.{tree_at, trees_at, IsIn, AreIn}
 use Rattle.term_pool.specs.Bindings.{listed_terms}
 use Rattle.term_pool.specs.TermSorts.{HaveVariableSorts}
 use Rattle.process_terms.specs.Theories.{Theory}
-use Rattle.process_terms.specs.Processes.{Body, written_call, merged_with, merge_of, Table}
+use Rattle.process_terms.specs.Processes.{Body, written_call, merged_with, merge_of, synced_with, sync_of, Table}
 use Rattle.process_terms.specs.PlainProcesses.{PlainProcess, PlainProcesses, call, no_processes, more_processes, PlainDefinition, PlainModel}
 use Rattle.process_terms.specs.Meanings.{Entries, ReadsOnly, term_at, body_of, bodies_of, definition_of, table_of}
 use Rattle.process_terms.specs.SignatureEntries.{entries_of}
@@ -46,12 +46,12 @@ use Rattle.lps_core.proofs.Staying.{term_is}
 use Rattle.lps_core.proofs.Members.{all_at}
 use Rattle.proc_unfold.specs.Parallel.{IsParallelName, IsSequential}
 use Rattle.proc_unfold.specs.ParallelTests.{none_marked, is_sequential}
-use Rattle.proc_unfold.specs.Unfolding.{Unfolds, kept, opened, merged, under as unfolds_under}
+use Rattle.proc_unfold.specs.Unfolding.{Unfolds, kept, opened, merged, begun, under as unfolds_under}
 use Rattle.proc_unfold.specs.Networks.{PlainNetwork, PlainNetworks, network_body, network_bodies, AllComponents, AllComponentsOfEach}
 use Rattle.proc_unfold.specs.PutTerms.{IsPutIn, put_call}
 use Rattle.proc_unfold.specs.FittingModels.{TermsFit, CallFits, ProcessFits, ProcessesFit, DefinitionFits, ModelFits}
 use Rattle.proc_unfold.specs.Unfolded.{IsComponentOf}
-use Rattle.proc_unfold.specs.Opening.{Opens, AllOpen, term_kept, call_kept, call_opened, beside, one_choice, one_step, no_sum, within, none_open, more_open}
+use Rattle.proc_unfold.specs.Opening.{Opens, AllOpen, term_kept, call_kept, call_opened, beside, one_choice, one_step, first_alone, together, no_sum, within, none_open, more_open}
 use Rattle.proc_unfold.proofs.ParallelLemmas.{sequential_tells}
 use Rattle.proc_unfold.proofs.PutBodies.{env_of, IsFixed, AreFixedOrOpen, through_first, terms_mean, put_same}
 use Rattle.proc_unfold.proofs.PutFits.{Covers, put_calls, put_parallel, terms_fit, put_fits}
@@ -68,6 +68,14 @@ merged_unfolds h (more_unfold i k) = merged_unfolds (merged h i) k
 merge_unfolds : {th : Theory} {d : Table} {e : Environment} {ps ns : List Body} → AllUnfold th d e ps ns → Unfolds th d e (merge_of ps) (merge_of ns)
 merge_unfolds none_unfold = kept (λ h. h, λ x i is. none_contained x i) same_delta
 merge_unfolds (more_unfold h k) = merged_unfolds h k
+
+synced_unfolds : {th : Theory} {d : Table} {e : Environment} {p n : Body} {ps ns : List Body} → Unfolds th d e p n → AllUnfold th d e ps ns → Unfolds th d e (synced_with p ps) (synced_with n ns)
+synced_unfolds h none_unfold = h
+synced_unfolds h (more_unfold i k) = synced_unfolds (begun h i) k
+
+sync_unfolds : {th : Theory} {d : Table} {e : Environment} {ps ns : List Body} → AllUnfold th d e ps ns → Unfolds th d e (sync_of ps) (sync_of ns)
+sync_unfolds none_unfold = kept (λ h. h, λ x i is. none_contained x i) same_delta
+sync_unfolds (more_unfold h k) = synced_unfolds h k
 
 -- ---- what is reached
 path_reached : (d : Table) (p : Body) (y : ℕ) (xs : List ℕ) (x : ℕ) → Reaches d p y → IsPath (Calls Everywhere d) y xs x → Reaches d p x
@@ -186,6 +194,8 @@ module _ (s : Sig) (stands : IsSignature s) (ts : List Tree) where
       opens_unfolds th (one_step {ps = no_processes} one h) xs b k = cc
       opens_unfolds th (one_step {ps = more_processes p no_processes} one (more_open h none_open)) xs b k = opens_unfolds th h xs b k.0
       opens_unfolds th (one_step {ps = more_processes p (more_processes q ps)} one h) xs b k = cc
+      opens_unfolds th (first_alone h i) xs b k = begun (opens_unfolds th h xs b k.0) (opens_unfolds th i xs b k.1)
+      opens_unfolds th (together h) xs b k = sync_unfolds (all_unfold th h xs b k)
       opens_unfolds th (no_sum h) xs b k = opens_unfolds th h xs b k.1
       opens_unfolds th (within h) xs b k = unfolds_under (opens_unfolds th h xs b k.1)
 
@@ -234,6 +244,9 @@ module _ (s : Sig) (stands : IsSignature s) (ts : List Tree) (m : PlainModel) (f
     opens_components (beside h) xs b k r = all_components h xs b k r
     opens_components (one_choice one h) xs b k r = all_components h xs b k r
     opens_components (one_step one h) xs b k r = all_components h xs b k r
+    opens_components (first_alone {p = p} {q = q} h i) xs b k r =
+        (opens_components h xs b k.0 (λ x j. r x (Contains-append_left (plain_calls Everywhere p) (plain_calls Everywhere q) x j)), opens_components i xs b k.1 (λ x j. r x (Contains-append_right (plain_calls Everywhere p) (plain_calls Everywhere q) x j)))
+    opens_components (together h) xs b k r = all_components h xs b k r
     opens_components (no_sum h) xs b k r = opens_components h xs b k.1 r
     opens_components (within h) xs b k r = opens_components h xs b k.1 r
 

@@ -3,8 +3,8 @@ use Rattle.std.proofs.Common.{◌≡◌, ◌⊎◌, inl, inr, Bool, true, false,
 use Rattle.std.specs.List.{Contains}
 use Rattle.graphs.specs.Graphs.{IsMarked}
 use Rattle.graphs.proofs.Marks.{none_contained}
-use Rattle.process_terms.specs.Processes.{Bound, Body, written_choice, written_seq, written_merge, chain_of, merged_with, merge_of, sums_around}
-use Rattle.process_terms.specs.PlainProcesses.{PlainProcess, PlainProcesses, delta, act, call, choice, seq, cond, sum, merge, around, no_processes, more_processes}
+use Rattle.process_terms.specs.Processes.{Bound, Body, both_at_once, written_choice, written_seq, written_merge, written_starting, chain_of, merged_with, merge_of, synced_with, sync_of, sums_around}
+use Rattle.process_terms.specs.PlainProcesses.{PlainProcess, PlainProcesses, delta, act, call, choice, seq, cond, sum, merge, left_merge, sync, around, no_processes, more_processes}
 use Rattle.process_terms.specs.Meanings.{Entries, body_of, bodies_of, bound_at}
 use Rattle.guard_check.specs.declared.calls.Extent.TheVariants.{Everywhere}
 use Rattle.guard_check.specs.CallGraphs.{plain_calls}
@@ -46,6 +46,10 @@ merged_parallel : (q : Body) (qs : List Body) → HasParallel q → HasParallel 
 merged_parallel q [] h = h
 merged_parallel q (r ∷ rs) h = merged_parallel (written_merge q r) rs tt
 
+synced_parallel : (q : Body) (qs : List Body) → HasParallel q → HasParallel (synced_with q qs)
+synced_parallel q [] h = h
+synced_parallel q (r ∷ rs) h = synced_parallel (written_starting both_at_once q r) rs tt
+
 sums_parallel : (xs : List Bound) (p : Body) → HasParallel p → HasParallel (sums_around xs p)
 sums_parallel [] p h = h
 sums_parallel (x ∷ xs) p h = sums_parallel xs p h
@@ -65,6 +69,8 @@ module _ (g : Entries) where
     parallel_tells (cond c p q) e = elim (either_true (has_parallel p) (has_parallel q) e) [ inl h ↦ inl (parallel_tells p h) | inr h ↦ inr (parallel_tells q h) ]
     parallel_tells (sum xs p) e = sums_parallel (map (bound_at g) xs) (body_of g p) (parallel_tells p e)
     parallel_tells (merge ps) e = merge_tells ps e
+    parallel_tells (left_merge p q) e = tt
+    parallel_tells (sync ps) e = sync_tells ps e
     parallel_tells (around o p) e = tt
 
     chain_tells : (op : Body → Body → Body) → ((p q : Body) → HasParallel p ⊎ HasParallel q → HasParallel (op p q)) → (ps : PlainProcesses) → any_parallel ps ≡ true → HasParallel (chain_of op (bodies_of g ps))
@@ -77,6 +83,11 @@ module _ (g : Entries) where
     merge_tells (more_processes p no_processes) e = elim (either_true (has_parallel p) false e) [ inl h ↦ parallel_tells p h | inr h ↦ cc ]
     merge_tells (more_processes p (more_processes q ps)) e = merged_parallel (written_merge (body_of g p) (body_of g q)) (bodies_of g ps) tt
 
+    sync_tells : (ps : PlainProcesses) → (has_two ps || any_parallel ps) ≡ true → HasParallel (sync_of (bodies_of g ps))
+    sync_tells no_processes e = cc
+    sync_tells (more_processes p no_processes) e = elim (either_true (has_parallel p) false e) [ inl h ↦ parallel_tells p h | inr h ↦ cc ]
+    sync_tells (more_processes p (more_processes q ps)) e = synced_parallel (written_starting both_at_once (body_of g p) (body_of g q)) (bodies_of g ps) tt
+
   mutual
     pub parallel_told : (p : PlainProcess) → HasParallel (body_of g p) → has_parallel p ≡ true
     parallel_told delta h = absurd h
@@ -87,6 +98,8 @@ module _ (g : Entries) where
     parallel_told (cond c p q) h = elim h [ inl i ↦ left_true (has_parallel p) (has_parallel q) (parallel_told p i) | inr i ↦ right_true (has_parallel p) (has_parallel q) (parallel_told q i) ]
     parallel_told (sum xs p) h = parallel_told p (parallel_summed (map (bound_at g) xs) (body_of g p) h)
     parallel_told (merge ps) h = merge_told ps h
+    parallel_told (left_merge p q) h = refl
+    parallel_told (sync ps) h = sync_told ps h
     parallel_told (around o p) h = refl
 
     chain_told : (op : Body → Body → Body) → ((p q : Body) → HasParallel (op p q) → HasParallel p ⊎ HasParallel q) → (ps : PlainProcesses) → HasParallel (chain_of op (bodies_of g ps)) → any_parallel ps ≡ true
@@ -101,6 +114,11 @@ module _ (g : Entries) where
     merge_told no_processes h = absurd h
     merge_told (more_processes p no_processes) h = left_true (has_parallel p) false (parallel_told p h)
     merge_told (more_processes p (more_processes q ps)) h = refl
+
+    sync_told : (ps : PlainProcesses) → HasParallel (sync_of (bodies_of g ps)) → (has_two ps || any_parallel ps) ≡ true
+    sync_told no_processes h = absurd h
+    sync_told (more_processes p no_processes) h = left_true (has_parallel p) false (parallel_told p h)
+    sync_told (more_processes p (more_processes q ps)) h = refl
 
 -- ---- marked names
 none_tells : (marks : List Bool) (xs : List ℕ) → none_marked marks xs ≡ true → (x : ℕ) → Contains xs x → IsMarked marks x → ⊥
@@ -130,6 +148,10 @@ module _ (g : Entries) (marks : List Bool) where
   merged_outside q [] h = h
   merged_outside q (r ∷ rs) h = (merged_outside (written_merge q r) rs h).0
 
+  synced_outside : (q : Body) (qs : List Body) → IsOutsideBut (IsMarked marks) (synced_with q qs) → IsOutsideBut (IsMarked marks) q
+  synced_outside q [] h = h
+  synced_outside q (r ∷ rs) h = (synced_outside (written_starting both_at_once q r) rs h).0
+
   mutual
     pub outside_tells : (p : PlainProcess) → is_outside marks p ≡ true → IsOutsideBut (IsMarked marks) (body_of g p)
     outside_tells delta e = tt
@@ -146,11 +168,18 @@ module _ (g : Entries) (marks : List Bool) where
     outside_tells (sum (x ∷ xs) p) e = sequential_tells (sum (x ∷ xs) p) e
     outside_tells (merge no_processes) e = tt
     outside_tells (merge (more_processes p ps)) e = let parts = both_true (is_outside marks p) (all_outside marks ps) e in merge_outside (body_of g p) (outside_tells p parts.0) ps parts.1
+    outside_tells (left_merge p q) e = let parts = both_true (is_outside marks p) (is_outside marks q) e in (outside_tells p parts.0, outside_tells q parts.1)
+    outside_tells (sync no_processes) e = tt
+    outside_tells (sync (more_processes p ps)) e = let parts = both_true (is_outside marks p) (all_outside marks ps) e in sync_outside (body_of g p) (outside_tells p parts.0) ps parts.1
     outside_tells (around o p) e = outside_tells p e
 
     merge_outside : (q : Body) → IsOutsideBut (IsMarked marks) q → (ps : PlainProcesses) → all_outside marks ps ≡ true → IsOutsideBut (IsMarked marks) (merged_with q (bodies_of g ps))
     merge_outside q h no_processes e = h
     merge_outside q h (more_processes p ps) e = let parts = both_true (is_outside marks p) (all_outside marks ps) e in merge_outside (written_merge q (body_of g p)) (h, outside_tells p parts.0) ps parts.1
+
+    sync_outside : (q : Body) → IsOutsideBut (IsMarked marks) q → (ps : PlainProcesses) → all_outside marks ps ≡ true → IsOutsideBut (IsMarked marks) (synced_with q (bodies_of g ps))
+    sync_outside q h no_processes e = h
+    sync_outside q h (more_processes p ps) e = let parts = both_true (is_outside marks p) (all_outside marks ps) e in sync_outside (written_starting both_at_once q (body_of g p)) (h, outside_tells p parts.0) ps parts.1
 
   mutual
     pub outside_told : (p : PlainProcess) → IsOutsideBut (IsMarked marks) (body_of g p) → is_outside marks p ≡ true
@@ -168,8 +197,15 @@ module _ (g : Entries) (marks : List Bool) where
     outside_told (sum (x ∷ xs) p) h = sequential_told (sum (x ∷ xs) p) h
     outside_told (merge no_processes) h = refl
     outside_told (merge (more_processes p ps)) h = are_true (is_outside marks p) (all_outside marks ps) (outside_told p (merged_outside (body_of g p) (bodies_of g ps) h)) (others_outside (body_of g p) ps h)
+    outside_told (left_merge p q) h = are_true (is_outside marks p) (is_outside marks q) (outside_told p h.0) (outside_told q h.1)
+    outside_told (sync no_processes) h = refl
+    outside_told (sync (more_processes p ps)) h = are_true (is_outside marks p) (all_outside marks ps) (outside_told p (synced_outside (body_of g p) (bodies_of g ps) h)) (synced_others (body_of g p) ps h)
     outside_told (around o p) h = outside_told p h
 
     others_outside : (q : Body) (ps : PlainProcesses) → IsOutsideBut (IsMarked marks) (merged_with q (bodies_of g ps)) → all_outside marks ps ≡ true
     others_outside q no_processes h = refl
     others_outside q (more_processes p ps) h = are_true (is_outside marks p) (all_outside marks ps) (outside_told p (merged_outside (written_merge q (body_of g p)) (bodies_of g ps) h).1) (others_outside (written_merge q (body_of g p)) ps h)
+
+    synced_others : (q : Body) (ps : PlainProcesses) → IsOutsideBut (IsMarked marks) (synced_with q (bodies_of g ps)) → all_outside marks ps ≡ true
+    synced_others q no_processes h = refl
+    synced_others q (more_processes p ps) h = are_true (is_outside marks p) (all_outside marks ps) (outside_told p (synced_outside (written_starting both_at_once q (body_of g p)) (bodies_of g ps) h).1) (synced_others (written_starting both_at_once q (body_of g p)) ps h)

@@ -17,16 +17,16 @@ use Rattle.term_pool.specs.HeadTrees.{tree_at, trees_at, IsIn, AreIn}
 use Rattle.term_pool.specs.Bindings.{listed, listed_terms}
 use Rattle.process_terms.specs.Theories.{Theory, Equal, Equals}
 use Rattle.process_terms.specs.Labels.{Label, put_label, AgreeInOrder}
-use Rattle.process_terms.specs.Processes.{Body, written_choice, written_seq, chain_of, merged_with, merge_of, sums_around}
+use Rattle.process_terms.specs.Processes.{Body, written_choice, written_seq, chain_of, merged_with, merge_of, synced_with, sync_of, sums_around}
 use Rattle.process_terms.specs.PlainProcesses.{PlainAction, PlainProcess, PlainProcesses}
 use Rattle.process_terms.specs.Meanings.{Entries, term_at, bound_at, label_of, body_of, bodies_of}
 use Rattle.process_terms.specs.SignatureEntries.{entries_of}
 use Rattle.process_terms.proofs.AgreeingLabels.{equals_refl, agree_refl}
-use Rattle.bisim_laws.specs.Sameness.{SameBody, same_delta, same_act, same_choice, same_seq, same_cond, same_sum, same_call, same_merge, same_around}
+use Rattle.bisim_laws.specs.Sameness.{SameBody, same_delta, same_act, same_choice, same_seq, same_cond, same_sum, same_call, same_merge, same_starting, same_around}
 use Rattle.lps_core.specs.TreeSummands.{numbers_of, meant_action}
 use Rattle.lps_core.proofs.Staying.{term_is, terms_are}
 use Rattle.lps_core.proofs.MeantTrees.{Means, put_pointwise, put_means, puts_mean, label_means, label_read}
-use Rattle.proc_unfold.specs.PutTerms.{is_among, without, ArePut, IsTermPut, IsLabelPut, IsPutIn, ArePutIn, put_delta, put_act, put_call, put_choice, put_seq, put_cond, put_sum, put_merge, put_around, none_put, more_put}
+use Rattle.proc_unfold.specs.PutTerms.{is_among, without, ArePut, IsTermPut, IsLabelPut, IsPutIn, ArePutIn, put_delta, put_act, put_call, put_choice, put_seq, put_cond, put_sum, put_merge, put_left, put_sync, put_around, none_put, more_put}
 
 -- ---- environments
 abbrev pub env_of : Entries → List (VarId × TermId) → Environment
@@ -152,6 +152,14 @@ merge_same : {th : Theory} {d e : Environment} {ps qs : List Body} → AllSame t
 merge_same none_same = same_delta
 merge_same (more_same h k) = merged_same h k
 
+synced_same : {th : Theory} {d e : Environment} {p q : Body} {ps qs : List Body} → SameBody th d p e q → AllSame th d e ps qs → SameBody th d (synced_with p ps) e (synced_with q qs)
+synced_same h none_same = h
+synced_same h (more_same i k) = synced_same (same_starting h i) k
+
+sync_same : {th : Theory} {d e : Environment} {ps qs : List Body} → AllSame th d e ps qs → SameBody th d (sync_of ps) e (sync_of qs)
+sync_same none_same = same_delta
+sync_same (more_same h k) = synced_same h k
+
 -- a sum binds the same term on both sides
 sums_same : (th : Theory) (g : Entries) (xs : List VarId) (e : Environment) → AreFixedOrOpen e → ((v : ℕ) → Contains (numbers_of xs) v → term_in e v ≡ variable v) → (p q : Body)
     → ((d r : Environment) → Through r e d → SameBody th d p r q) → (d r : Environment) → ThroughBut (numbers_of xs) r e d → SameBody th d (sums_around (map (bound_at g) xs) p) r (sums_around (map (bound_at g) xs) q)
@@ -212,6 +220,8 @@ module _ (s : Sig) (table : IsTable s) (ts : List Tree) where
           sums_same th g xs (env_of g (without xs by)) (fixed_without g xs by f) (λ v i. elim (read_without g xs by v) [ inl bound ↦ bound.1 | inr free ↦ absurd (free.0 i) ]) (body_of g p) (body_of g q)
           (λ d' r' t'. put_same h (listed_without ts xs by w) (fixed_without g xs by f) d' r' t') d r (through_without g xs by r d t)
       put_same (put_merge h) w f d r t = merge_same (all_same h w f d r t)
+      put_same (put_left h k) w f d r t = same_starting (put_same h w f d r t) (put_same k w f d r t)
+      put_same (put_sync h) w f d r t = sync_same (all_same h w f d r t)
       put_same (put_around h) w f d r t = same_around (put_same h w f d r t)
 
       all_same : {by : List (VarId × TermId)} {ps qs : PlainProcesses} → ArePutIn ts by ps qs → AreIn ts (listed_terms by) → AreFixedOrOpen (env_of g by) → (d r : Environment) → Through r (env_of g by) d → AllSame th d r (bodies_of g ps) (bodies_of g qs)

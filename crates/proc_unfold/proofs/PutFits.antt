@@ -26,7 +26,7 @@ use Rattle.lps_core.specs.TreeSummands.{IsActionIn, TreeAction, trees_of_action,
 use Rattle.lps_core.proofs.OverVariables.{over_more, put_over}
 use Rattle.lps_core.proofs.NamedLinears.{first_functions}
 use Rattle.proc_unfold.specs.ParallelTests.{has_two, has_parallel, any_parallel}
-use Rattle.proc_unfold.specs.PutTerms.{is_among, without, ArePut, IsTermPut, IsLabelPut, IsPutIn, ArePutIn, put_delta, put_act, put_call, put_choice, put_seq, put_cond, put_sum, put_merge, put_around, none_put, more_put}
+use Rattle.proc_unfold.specs.PutTerms.{is_among, without, ArePut, IsTermPut, IsLabelPut, IsPutIn, ArePutIn, put_delta, put_act, put_call, put_choice, put_seq, put_cond, put_sum, put_merge, put_left, put_sync, put_around, none_put, more_put}
 use Rattle.proc_unfold.specs.FittingModels.{TermFits, TermsFit, ActionFits, ProcessFits, ProcessesFit}
 use Rattle.proc_unfold.proofs.PutBodies.{env_of, read_without, listed_without, term_means, terms_mean}
 
@@ -41,6 +41,8 @@ mutual
   put_calls (put_cond c h k) = λ i. put_calls h i ++ put_calls k i
   put_calls (put_sum h) = put_calls h
   put_calls (put_merge h) = all_put_calls h
+  put_calls (put_left h k) = λ i. put_calls h i ++ put_calls k i
+  put_calls (put_sync h) = all_put_calls h
   put_calls (put_around h) = put_calls h
 
   all_put_calls : {ts : List Tree} {by : List (VarId × TermId)} {ps qs : PlainProcesses} → ArePutIn ts by ps qs → all_calls Everywhere qs ≡ all_calls Everywhere ps
@@ -62,6 +64,8 @@ mutual
   put_parallel (put_cond c h k) = λ i. put_parallel h i || put_parallel k i
   put_parallel (put_sum h) = put_parallel h
   put_parallel (put_merge h) = λ i. two_put h i || any_put_parallel h i
+  put_parallel (put_left h k) = refl
+  put_parallel (put_sync h) = λ i. two_put h i || any_put_parallel h i
   put_parallel (put_around h) = refl
 
   any_put_parallel : {ts : List Tree} {by : List (VarId × TermId)} {ps qs : PlainProcesses} → ArePutIn ts by ps qs → any_parallel qs ≡ any_parallel ps
@@ -147,6 +151,8 @@ module _ (s : Sig) (stands : IsSignature s) (ts : List Tree) where
       put_fits (put_cond {by = by} {c = id} {d = made} put k l) own sorted xs ys c h = (term_fits by own sorted xs ys c _ id made put h.0, put_fits k own sorted xs ys c h.1, put_fits l own sorted xs ys c h.2)
       put_fits (put_sum {by = by} {xs = zs} k) own sorted xs ys c h = (h.0, put_fits k (listed_without ts zs by own) (sorted_without zs by sorted) (zs ++ xs) (zs ++ ys) (covers_without xs ys zs by c) h.1)
       put_fits (put_merge k) own sorted xs ys c h = all_put_fit k own sorted xs ys c h
+      put_fits (put_left k l) own sorted xs ys c h = (put_fits k own sorted xs ys c h.0, put_fits l own sorted xs ys c h.1)
+      put_fits (put_sync k) own sorted xs ys c h = all_put_fit k own sorted xs ys c h
       put_fits (put_around k) own sorted xs ys c h = (h.0, put_fits k own sorted xs ys c h.1)
 
       all_put_fit : {by : List (VarId × TermId)} {ps qs : PlainProcesses} → ArePutIn ts by ps qs → AreIn ts (listed_terms by) → HaveVariableSorts s ts by → (xs ys : List VarId) → Covers xs ys by → ProcessesFit s ts ds xs ps → ProcessesFit s ts ds ys qs

@@ -13,11 +13,11 @@ use Rattle.term_pool.specs.Pools.{Extends}
 use Rattle.process_terms.specs.declared.labels.Label.{Label}
 use Rattle.process_terms.specs.declared.processes.Proc.{Proc}
 use Rattle.process_terms.specs.declared.processes.Proc.TheVariants as procs
-use Rattle.process_terms.specs.PlainProcesses.{PlainAround, PlainProcess, PlainProcesses, delta, act, call, choice, seq, cond, sum, merge, around, no_processes, more_processes, processes_of, plain_label, plain_process}
+use Rattle.process_terms.specs.PlainProcesses.{PlainAround, PlainProcess, PlainProcesses, delta, act, call, choice, seq, cond, sum, merge, left_merge, sync, around, no_processes, more_processes, processes_of, plain_label, plain_process}
 use Rattle.lps_core.specs.TreeSummands.{IsActionIn, trees_of_label, put_actions}
 use Rattle.lps_core.proofs.PoolTrees.{extends_on, tree_kept, all_in_kept, trees_kept, listed_kept, put_along, args_along, actions_in_kept, actions_kept, actions_along}
-use Rattle.proc_unfold.specs.PutTerms.{IsProcessIn, AreProcessesIn, without, ArePut, IsTermPut, IsPutIn, ArePutIn, put_delta, put_act, put_call, put_choice, put_seq, put_cond, put_sum, put_merge, put_around, none_put, more_put, PutsTerms, PutsIn, PutsAllIn}
-use Rattle.proc_unfold.proofs.ProcessSteps.{delta_step, act_step, call_step, choice_step, seq_step, cond_step, sum_step, merge_step}
+use Rattle.proc_unfold.specs.PutTerms.{IsProcessIn, AreProcessesIn, without, ArePut, IsTermPut, IsPutIn, ArePutIn, put_delta, put_act, put_call, put_choice, put_seq, put_cond, put_sum, put_merge, put_left, put_sync, put_around, none_put, more_put, PutsTerms, PutsIn, PutsAllIn}
+use Rattle.proc_unfold.proofs.ProcessSteps.{delta_step, act_step, call_step, choice_step, seq_step, cond_step, sum_step, merge_step, left_step, sync_step}
 
 -- ---- ids of the pool stay so
 mutual
@@ -30,6 +30,8 @@ mutual
   process_kept ts us e (cond c p q) h = ((tree_kept ts us c e h.0).1, process_kept ts us e p h.1, process_kept ts us e q h.2)
   process_kept ts us e (sum xs p) h = process_kept ts us e p h
   process_kept ts us e (merge ps) h = processes_kept ts us e ps h
+  process_kept ts us e (left_merge p q) h = (process_kept ts us e p h.0, process_kept ts us e q h.1)
+  process_kept ts us e (sync ps) h = processes_kept ts us e ps h
   process_kept ts us e (around o p) h = process_kept ts us e p h
 
   pub processes_kept : (ts us : List Tree) → Extends ts us → (ps : PlainProcesses) → AreProcessesIn ts ps → AreProcessesIn us ps
@@ -107,6 +109,18 @@ module _ (new : List Tree) (by : List (VarId × TermId)) where
       → PutsIn new by (plain_process p) (plain_process (procs.Merge made))
   merge_put p parts made ps is e h =
       at_parts (ap plain_process is ∙ merge_step parts) (merge_step made) (λ ts k. put_merge (subst (λ l. ArePutIn ts by (processes_of (map plain_process l)) (processes_of (map plain_process made.items))) e (h.later ts k)))
+
+  pub sync_put : (p : Proc) (parts made : Vec Proc Global) (ps : List Proc) → p ≡ procs.Sync parts → ps ≡ parts.items → PutsAllIn new by (processes_of (map plain_process ps)) (processes_of (map plain_process made.items))
+      → PutsIn new by (plain_process p) (plain_process (procs.Sync made))
+  sync_put p parts made ps is e h =
+      at_parts (ap plain_process is ∙ sync_step parts) (sync_step made) (λ ts k. put_sync (subst (λ l. ArePutIn ts by (processes_of (map plain_process l)) (processes_of (map plain_process made.items))) e (h.later ts k)))
+
+  pub left_put : (mid : List Tree) (p : Proc) (first second made made' : Box Proc) (q r : Proc) → p ≡ procs.Left first second → q ≡ first.value → r ≡ second.value → Extends mid new
+      → PutsIn mid by (plain_process q) (plain_process made.value) → PutsIn new by (plain_process r) (plain_process made'.value) → PutsIn new by (plain_process p) (plain_process (procs.Left made made'))
+  left_put mid p first second made made' q r is e f grow i k =
+      at_parts (ap plain_process is ∙ left_step first second) (left_step made made') (λ ts j. put_left
+      (subst (λ z. IsPutIn ts by (plain_process z) (plain_process made.value)) e (i.later ts (extends_on mid new ts grow j)))
+      (subst (λ z. IsPutIn ts by (plain_process z) (plain_process made'.value)) f (k.later ts j)))
 
   pub cond_put : (first mid : List Tree) (p : Proc) (c d : TermId) (then other made made' : Box Proc) (q r : Proc) → p ≡ procs.Cond c then other → q ≡ then.value → r ≡ other.value → Extends first mid → Extends mid new
       → PutsTerm first by c d → PutsIn mid by (plain_process q) (plain_process made.value) → PutsIn new by (plain_process r) (plain_process made'.value) → PutsIn new by (plain_process p) (plain_process (procs.Cond d made made'))

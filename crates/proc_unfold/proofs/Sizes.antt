@@ -7,8 +7,8 @@ use Rattle.data_theory.specs.declared.ids.TermId.{TermId}
 use Rattle.process_terms.specs.declared.definitions.ProcDef.{ProcDef}
 use Rattle.process_terms.specs.declared.processes.Proc.{Proc}
 use Rattle.process_terms.specs.declared.processes.Proc.TheVariants as procs
-use Rattle.process_terms.specs.PlainProcesses.{PlainAround, PlainProcess, PlainProcesses, delta, act, call, choice, seq, cond, sum, merge, around, no_processes, more_processes, processes_of, plain_process}
-use Rattle.proc_unfold.proofs.ProcessSteps.{choice_step, seq_step, cond_step, sum_step, merge_step}
+use Rattle.process_terms.specs.PlainProcesses.{PlainAround, PlainProcess, PlainProcesses, delta, act, call, choice, seq, cond, sum, merge, left_merge, sync, around, no_processes, more_processes, processes_of, plain_process}
+use Rattle.proc_unfold.proofs.ProcessSteps.{choice_step, seq_step, cond_step, sum_step, merge_step, left_step, sync_step}
 
 mutual
   pub nodes : PlainProcess → ℕ
@@ -20,6 +20,8 @@ mutual
   nodes (cond c p q) = 1 + (nodes p + nodes q)
   nodes (sum xs p) = 1 + nodes p
   nodes (merge ps) = 1 + all_nodes ps
+  nodes (left_merge p q) = 1 + (nodes p + nodes q)
+  nodes (sync ps) = 1 + all_nodes ps
   nodes (around o p) = 1 + nodes p
 
   pub all_nodes : PlainProcesses → ℕ
@@ -50,6 +52,14 @@ seq_nodes ps = refl
 merge_nodes : (ps : PlainProcesses) → nodes (merge ps) ≡ 1 + all_nodes ps
 unfolding nodes
 merge_nodes ps = refl
+
+left_nodes : (p q : PlainProcess) → nodes (left_merge p q) ≡ 1 + (nodes p + nodes q)
+unfolding nodes
+left_nodes p q = refl
+
+sync_nodes : (ps : PlainProcesses) → nodes (sync ps) ≡ 1 + all_nodes ps
+unfolding nodes
+sync_nodes ps = refl
 
 more_nodes : (p : PlainProcess) (ps : PlainProcesses) → all_nodes (more_processes p ps) ≡ nodes p + all_nodes ps
 unfolding all_nodes
@@ -97,6 +107,24 @@ merged_smaller p parts items is e =
     let whole : nodes (plain_process p) ≡ 1 + all_nodes (processes_of (map plain_process parts.items)) = ap nodes (ap plain_process is ∙ merge_step parts) ∙ merge_nodes (processes_of (map plain_process parts.items)) in
     let same : all_nodes (processes_of (map plain_process items)) ≡ all_nodes (processes_of (map plain_process parts.items)) = ap (λ l. all_nodes (processes_of (map plain_process l))) e in
     omega (arith, whole, same)
+
+pub synced_smaller : (p : Proc) (parts : Vec Proc Global) (items : List Proc) → p ≡ procs.Sync parts → items ≡ parts.items → all_nodes (processes_of (map plain_process items)) < nodes (plain_process p)
+synced_smaller p parts items is e =
+    let whole : nodes (plain_process p) ≡ 1 + all_nodes (processes_of (map plain_process parts.items)) = ap nodes (ap plain_process is ∙ sync_step parts) ∙ sync_nodes (processes_of (map plain_process parts.items)) in
+    let same : all_nodes (processes_of (map plain_process items)) ≡ all_nodes (processes_of (map plain_process parts.items)) = ap (λ l. all_nodes (processes_of (map plain_process l))) e in
+    omega (arith, whole, same)
+
+pub first_smaller : (p q : Proc) (first second : Box Proc) → p ≡ procs.Left first second → q ≡ first.value → nodes (plain_process q) < nodes (plain_process p)
+first_smaller p q first second is e =
+    let whole : nodes (plain_process p) ≡ 1 + (nodes (plain_process first.value) + nodes (plain_process second.value)) = ap nodes (ap plain_process is ∙ left_step first second) ∙ left_nodes (plain_process first.value) (plain_process second.value) in
+    let part : nodes (plain_process q) ≡ nodes (plain_process first.value) = ap (λ r. nodes (plain_process r)) e in
+    omega (arith, whole, part)
+
+pub second_smaller : (p q : Proc) (first second : Box Proc) → p ≡ procs.Left first second → q ≡ second.value → nodes (plain_process q) < nodes (plain_process p)
+second_smaller p q first second is e =
+    let whole : nodes (plain_process p) ≡ 1 + (nodes (plain_process first.value) + nodes (plain_process second.value)) = ap nodes (ap plain_process is ∙ left_step first second) ∙ left_nodes (plain_process first.value) (plain_process second.value) in
+    let part : nodes (plain_process q) ≡ nodes (plain_process second.value) = ap (λ r. nodes (plain_process r)) e in
+    omega (arith, whole, part)
 
 pub operand_no_larger : (ps : List Proc) (k : ℕ) (p : Proc) → k < length ps → p ≡ get_or ps k p → nodes (plain_process p) ≤ all_nodes (processes_of (map plain_process ps))
 operand_no_larger [] k p l e = absurd (omega (arith, l))

@@ -9,7 +9,7 @@ use Rattle.data_theory.specs.Signature.{Sig}
 use Rattle.data_theory.specs.IdTrees.{Tree}
 use Rattle.graphs.proofs.Marks.{only_one, none_contained}
 use Rattle.process_terms.specs.Processes.{Definition}
-use Rattle.process_terms.specs.PlainProcesses.{PlainProcess, PlainProcesses, delta, act, call, choice, seq, cond, sum, merge, around, no_processes, more_processes, PlainDefinition, PlainModel}
+use Rattle.process_terms.specs.PlainProcesses.{PlainProcess, PlainProcesses, delta, act, call, choice, seq, cond, sum, merge, left_merge, sync, around, no_processes, more_processes, PlainDefinition, PlainModel}
 use Rattle.process_terms.specs.Meanings.{Entries, table_of, definition_of}
 use Rattle.guard_check.specs.declared.calls.Extent.TheVariants.{Everywhere}
 use Rattle.guard_check.specs.Calls.{calls}
@@ -39,6 +39,8 @@ module _ (g : Sig) (ts : List Tree) (ds : List PlainDefinition) where
     fits_in xs (cond c p q) h = (h.0.term.within, fits_in xs p h.1, fits_in xs q h.2)
     fits_in xs (sum ys p) h = fits_in (ys ++ xs) p h.1
     fits_in xs (merge ps) h = all_fit_in xs ps h
+    fits_in xs (left_merge p q) h = (fits_in xs p h.0, fits_in xs q h.1)
+    fits_in xs (sync ps) h = all_fit_in xs ps h
     fits_in xs (around o p) h = fits_in xs p h.1
 
     all_fit_in : (xs : List VarId) (ps : PlainProcesses) → ProcessesFit g ts ds xs ps → AreProcessesIn ts ps
@@ -55,6 +57,8 @@ module _ (g : Sig) (ts : List Tree) (ds : List PlainDefinition) where
     fits_calls xs (cond c p q) h x i = ⊎_elim (λ j. fits_calls xs p h.1 x j) (λ j. fits_calls xs q h.2 x j) (Contains-append_cases (plain_calls Everywhere p) (plain_calls Everywhere q) x i)
     fits_calls xs (sum ys p) h x i = fits_calls (ys ++ xs) p h.1 x i
     fits_calls xs (merge ps) h x i = all_fit_calls xs ps h x i
+    fits_calls xs (left_merge p q) h x i = ⊎_elim (λ j. fits_calls xs p h.0 x j) (λ j. fits_calls xs q h.1 x j) (Contains-append_cases (plain_calls Everywhere p) (plain_calls Everywhere q) x i)
+    fits_calls xs (sync ps) h x i = all_fit_calls xs ps h x i
     fits_calls xs (around o p) h x i = fits_calls xs p h.1 x i
 
     all_fit_calls : (xs : List VarId) (ps : PlainProcesses) → ProcessesFit g ts ds xs ps → (x : ℕ) → Contains (all_calls Everywhere ps) x → x < length ds

@@ -5,7 +5,7 @@ use Rattle.std.specs.Option.{option_map}
 use Rattle.std.proofs.lemmas.Option.{slice_get-map, slice_get-get_or, slice_get_within}
 use Rattle.graphs.specs.Graphs.{IsMarked}
 use Rattle.graphs.proofs.Marks.{same_or_not}
-use Rattle.process_terms.specs.Processes.{Body, written_delta, written_act, written_choice, written_seq, written_cond, written_sum, written_call, written_merge, written_around, Definition}
+use Rattle.process_terms.specs.Processes.{Body, written_delta, written_act, written_choice, written_seq, written_cond, written_sum, written_call, written_merge, written_starting, written_around, Definition}
 use Rattle.process_terms.specs.declared.definitions.ProcDef.{ProcDef}
 use Rattle.process_terms.specs.PlainProcesses.{PlainDefinition, PlainProcess, PlainModel, plain_definition}
 use Rattle.process_terms.specs.Meanings.{Entries, table_of, body_of}
@@ -31,6 +31,7 @@ outside_fewer P Q f (written_cond c p q) h = sequential_fewer P Q f (written_con
 outside_fewer P Q f (written_sum x p) h = sequential_fewer P Q f (written_sum x p) h
 outside_fewer P Q f (written_call x ts) h = tt
 outside_fewer P Q f (written_merge p q) h = (outside_fewer P Q f p h.0, outside_fewer P Q f q h.1)
+outside_fewer P Q f (written_starting o p q) h = (outside_fewer P Q f p h.0, outside_fewer P Q f q h.1)
 outside_fewer P Q f (written_around o p) h = outside_fewer P Q f p h
 
 true_or_false : (b : Bool) → (b ≡ true) ⊎ (b ≡ false)

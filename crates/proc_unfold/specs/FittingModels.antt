@@ -9,7 +9,7 @@ use Rattle.data_theory.specs.Table.{bool_sort}
 use Rattle.data_theory.specs.Signature.{Sig}
 use Rattle.data_theory.specs.WholeSignatures.{IsSignature}
 use Rattle.data_theory.specs.IdTrees.{Tree}
-use Rattle.process_terms.specs.PlainProcesses.{PlainAction, PlainProcess, PlainProcesses, delta, act, call, choice, seq, cond, sum, merge, around, no_processes, more_processes, PlainDefinition, PlainModel, PlainComponent, call_of, term_of}
+use Rattle.process_terms.specs.PlainProcesses.{PlainAction, PlainProcess, PlainProcesses, delta, act, call, choice, seq, cond, sum, merge, left_merge, sync, around, no_processes, more_processes, PlainDefinition, PlainModel, PlainComponent, call_of, term_of}
 use Rattle.process_terms.specs.Meanings.{HasAround, ReadsOnly}
 use Rattle.process_terms.specs.SignatureEntries.{entries_of}
 use Rattle.lps_core.specs.Fitting.{IsTermOf, AreTermsOf, IsActionOf, IsVariable, sort_of_variable}
@@ -45,6 +45,8 @@ abbrev mutual
   ProcessFits g ts ds xs (cond c p q) = TermFits g ts xs bool_sort c × ProcessFits g ts ds xs p × ProcessFits g ts ds xs q
   ProcessFits g ts ds xs (sum ys p) = All (IsVariable g) ys × ProcessFits g ts ds (ys ++ xs) p
   ProcessFits g ts ds xs (merge ps) = ProcessesFit g ts ds xs ps
+  ProcessFits g ts ds xs (left_merge p q) = ProcessFits g ts ds xs p × ProcessFits g ts ds xs q
+  ProcessFits g ts ds xs (sync ps) = ProcessesFit g ts ds xs ps
   ProcessFits g ts ds xs (around o p) = HasAround (entries_of g ts) o × ProcessFits g ts ds xs p
 
   pub ProcessesFit : Sig → List Tree → List PlainDefinition → List VarId → PlainProcesses → Type 0

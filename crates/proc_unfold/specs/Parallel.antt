@@ -1,10 +1,10 @@
 -- Parallel operators, and where they may stand.
 use Rattle.std.specs.Prelude.{◌≡◌, ◌⊎◌, ℕ, Some, slice_get, Contains}
-use Rattle.process_terms.specs.Processes.{Body, written_delta, written_act, written_choice, written_seq, written_cond, written_sum, written_call, written_merge, written_around, Definition, Table}
+use Rattle.process_terms.specs.Processes.{Body, written_delta, written_act, written_choice, written_seq, written_cond, written_sum, written_call, written_merge, written_starting, written_around, Definition, Table}
 use Rattle.guard_check.specs.declared.calls.Extent.TheVariants.{Everywhere}
 use Rattle.guard_check.specs.Calls.{calls, Calls, By, Reaches}
 
--- `||`, `allow`, `block`, `hide`, `rename` and `comm` are parallel
+-- `||`, `||_`, `|` between processes, `allow`, `block`, `hide`, `rename` and `comm` are parallel
 abbrev pub HasParallel : Body → Type 0
 HasParallel written_delta = ⊥
 HasParallel (written_act m) = ⊥
@@ -14,6 +14,7 @@ HasParallel (written_cond c p q) = HasParallel p ⊎ HasParallel q
 HasParallel (written_sum x p) = HasParallel p
 HasParallel (written_call x ts) = ⊥
 HasParallel (written_merge p q) = Unit {0}
+HasParallel (written_starting o p q) = Unit {0}
 HasParallel (written_around o p) = Unit {0}
 
 -- the body of x has a parallel operator
@@ -42,6 +43,7 @@ IsOutsideBut Parallel (written_cond c p q) = IsSequentialBut Parallel (written_c
 IsOutsideBut Parallel (written_sum x p) = IsSequentialBut Parallel (written_sum x p)
 IsOutsideBut Parallel (written_call x ts) = Unit {0}
 IsOutsideBut Parallel (written_merge p q) = IsOutsideBut Parallel p × IsOutsideBut Parallel q
+IsOutsideBut Parallel (written_starting o p q) = IsOutsideBut Parallel p × IsOutsideBut Parallel q
 IsOutsideBut Parallel (written_around o p) = IsOutsideBut Parallel p
 
 abbrev pub IsSequential : Table → Body → Type 0

@@ -1,7 +1,7 @@
 -- Where parallelism stands, as tests over process terms in code and marks of the parallel names.
 use Rattle.std.specs.Prelude.{Bool, true, false, not, ◌&&◌, ◌||◌, if◌then◌else◌, ℕ, List, [], ◌∷◌, slice_index_or}
 use Rattle.std.specs.List.{list_all}
-use Rattle.process_terms.specs.PlainProcesses.{PlainProcess, PlainProcesses, delta, act, call, choice, seq, cond, sum, merge, around, no_processes, more_processes}
+use Rattle.process_terms.specs.PlainProcesses.{PlainProcess, PlainProcesses, delta, act, call, choice, seq, cond, sum, merge, left_merge, sync, around, no_processes, more_processes}
 use Rattle.guard_check.specs.declared.calls.Extent.TheVariants.{Everywhere}
 use Rattle.guard_check.specs.CallGraphs.{plain_calls}
 
@@ -26,6 +26,8 @@ abbrev mutual
   has_parallel (cond c p q) = has_parallel p || has_parallel q
   has_parallel (sum xs p) = has_parallel p
   has_parallel (merge ps) = has_two ps || any_parallel ps
+  has_parallel (left_merge p q) = true
+  has_parallel (sync ps) = has_two ps || any_parallel ps
   has_parallel (around o p) = true
 
   pub any_parallel : PlainProcesses → Bool
@@ -50,6 +52,8 @@ abbrev mutual
   is_outside marks (sum [] p) = is_outside marks p
   is_outside marks (sum (x ∷ xs) p) = is_sequential marks (sum (x ∷ xs) p)
   is_outside marks (merge ps) = all_outside marks ps
+  is_outside marks (left_merge p q) = is_outside marks p && is_outside marks q
+  is_outside marks (sync ps) = all_outside marks ps
   is_outside marks (around o p) = is_outside marks p
 
   pub all_outside : List Bool → PlainProcesses → Bool

@@ -8,7 +8,7 @@ use Rattle.data_theory.specs.IdTrees.{Tree, put_tree}
 use Rattle.term_pool.specs.HeadTrees.{tree_at, trees_at, IsIn, AreIn}
 use Rattle.term_pool.specs.Bindings.{listed}
 use Rattle.term_pool.specs.Pools.{Extends}
-use Rattle.process_terms.specs.PlainProcesses.{PlainAction, PlainAround, PlainProcess, PlainProcesses, delta, act, call, choice, seq, cond, sum, merge, around, no_processes, more_processes}
+use Rattle.process_terms.specs.PlainProcesses.{PlainAction, PlainAround, PlainProcess, PlainProcesses, delta, act, call, choice, seq, cond, sum, merge, left_merge, sync, around, no_processes, more_processes}
 use Rattle.lps_core.specs.TreeSummands.{IsActionIn, trees_of_label, put_actions}
 
 -- the ids of the terms are those of the pool
@@ -22,6 +22,8 @@ abbrev mutual
   IsProcessIn ts (cond c p q) = IsIn ts c × IsProcessIn ts p × IsProcessIn ts q
   IsProcessIn ts (sum xs p) = IsProcessIn ts p
   IsProcessIn ts (merge ps) = AreProcessesIn ts ps
+  IsProcessIn ts (left_merge p q) = IsProcessIn ts p × IsProcessIn ts q
+  IsProcessIn ts (sync ps) = AreProcessesIn ts ps
   IsProcessIn ts (around o p) = IsProcessIn ts p
 
   pub AreProcessesIn : List Tree → PlainProcesses → Type 0
@@ -64,6 +66,8 @@ mutual
     put_cond : {by : List (VarId × TermId)} {c d : TermId} {p q r s : PlainProcess} → IsTermPut ts by c d → IsPutIn ts by p r → IsPutIn ts by q s → IsPutIn ts by (cond c p q) (cond d r s)
     put_sum : {by : List (VarId × TermId)} {xs : List VarId} {p q : PlainProcess} → IsPutIn ts (without xs by) p q → IsPutIn ts by (sum xs p) (sum xs q)
     put_merge : {by : List (VarId × TermId)} {ps qs : PlainProcesses} → ArePutIn ts by ps qs → IsPutIn ts by (merge ps) (merge qs)
+    put_left : {by : List (VarId × TermId)} {p q r s : PlainProcess} → IsPutIn ts by p r → IsPutIn ts by q s → IsPutIn ts by (left_merge p q) (left_merge r s)
+    put_sync : {by : List (VarId × TermId)} {ps qs : PlainProcesses} → ArePutIn ts by ps qs → IsPutIn ts by (sync ps) (sync qs)
     put_around : {by : List (VarId × TermId)} {o : PlainAround} {p q : PlainProcess} → IsPutIn ts by p q → IsPutIn ts by (around o p) (around o q)
 
   pub data ArePutIn (ts : List Tree) : List (VarId × TermId) → PlainProcesses → PlainProcesses → Type 0 where

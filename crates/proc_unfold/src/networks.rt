@@ -25,6 +25,10 @@ pub enum Network {
     Leaf(Component),
     /// `p || q || r`, which means `(p || q) || r`
     Merge(Vec<Network>),
+    /// `p ||_ q`
+    Left(Box<Network>, Box<Network>),
+    /// `p | q | r`, which means `(p | q) | r`
+    Sync(Vec<Network>),
     /// An operator around a network.
     Op(NetOp, Box<Network>),
 }

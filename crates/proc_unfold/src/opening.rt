@@ -104,6 +104,8 @@ impl Opening<'_> {
             | Proc::Cond(..)
             | Proc::Sum(..)
             | Proc::Merge(_)
+            | Proc::Left(..)
+            | Proc::Sync(_)
             | Proc::Allow(..)
             | Proc::Block(..)
             | Proc::Hide(..)
@@ -188,6 +190,29 @@ impl Opening<'_> {
     {
         let network = self.open(alloc, pool, part, rank, by)?;
         Ok(Network::Op(op, Box::new(alloc, network)?))
+    }
+
+    #[cycle(open)]
+    fn open_boxed(
+        &self,
+        alloc: Global,
+        pool: &mut Pool,
+        part: &Proc,
+        rank: usize,
+        by: &[(VarId, TermId)],
+    ) -> Result<Box<Network>, NoMemory>
+        requires bodies { HasReadyBodies (plain_model self.now.model.now) self.now.found.now pool.old.trees }
+        requires listed { AreIn pool.old.trees (listed_terms by.now) }
+        requires within { IsProcessIn pool.old.trees (plain_process part.now) }
+        requires outside { is_outside self.now.found.now.parallel.items (plain_process part.now) ≡ true }
+        requires reached { AreReached (plain_model self.now.model.now) self.now.found.now (plain_calls Everywhere (plain_process part.now)) }
+        requires below { AreBelow self.now.found.now rank (plain_calls Everywhere (plain_process part.now)) }
+        ensures kept { Extends pool.old.trees pool.new.trees }
+        ensures constants { pool.new.constants ≡ pool.old.constants }
+        ensures opens { IfOk result (λ made. OpensTo (plain_model self.now.model.now) self.now.found.now pool.new.trees by.now (plain_process part.now) made.value) }
+    {
+        let network = self.open(alloc, pool, part, rank, by)?;
+        Ok(Box::new(alloc, network)?)
     }
 
     /// The component that is a process term without parallelism.
@@ -280,6 +305,11 @@ impl Opening<'_> {
                 let op = NetOp::Comm(set.copy(alloc)?);
                 self.open_under(alloc, pool, part, op, rank, by)
             }
+            Proc::Left(first, second) => Ok(Network::Left(
+                self.open_boxed(alloc, pool, first, rank, by)?,
+                self.open_boxed(alloc, pool, second, rank, by)?,
+            )),
+            Proc::Sync(parts) => Ok(Network::Sync(self.open_all(alloc, pool, parts, rank, by)?)),
         }
     }
 

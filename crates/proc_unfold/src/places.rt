@@ -20,6 +20,8 @@ pub fn has_parallel(process: &Proc) -> bool
         Proc::Cond(_, then, other) => has_parallel(then) || has_parallel(other),
         Proc::Sum(_, part) => has_parallel(part),
         Proc::Merge(parts) => parts.len() >= 2 || any_parallel(parts),
+        Proc::Sync(parts) => parts.len() >= 2 || any_parallel(parts),
+        Proc::Left(..) => true,
         Proc::Allow(..) | Proc::Block(..) | Proc::Hide(..) | Proc::Rename(..) | Proc::Comm(..) =>
             true,
     }
@@ -90,6 +92,14 @@ pub fn is_outside(alloc: Global, process: &Proc, marks: &[bool]) -> Result<bool,
             }
         }
         Proc::Merge(parts) => all_outside(alloc, parts, marks),
+        Proc::Sync(parts) => all_outside(alloc, parts, marks),
+        Proc::Left(first, second) => {
+            if is_outside(alloc, first, marks)? {
+                is_outside(alloc, second, marks)
+            } else {
+                Ok(false)
+            }
+        }
         Proc::Allow(_, part)
         | Proc::Block(_, part)
         | Proc::Hide(_, part)

@@ -166,5 +166,10 @@ pub fn put_in(
             )
         }
         Proc::Comm(set, part) => { put_under(alloc, pool, part, NetOp::Comm(set.copy(alloc)?), by) }
+        Proc::Left(first, second) => Ok(Proc::Left(
+            put_boxed(alloc, pool, first, by)?,
+            put_boxed(alloc, pool, second, by)?,
+        )),
+        Proc::Sync(parts) => Ok(Proc::Sync(put_in_all(alloc, pool, parts, by)?)),
     }
 }

@@ -54,11 +54,13 @@ fn depth_of(process: &Proc, depths: &[usize]) -> usize {
     match process {
         Proc::Delta | Proc::Act(_) => 1,
         Proc::Call(callee, _) => depths.get(callee.0).copied().unwrap_or(0).max(1),
-        Proc::Choice(parts) | Proc::Seq(parts) | Proc::Merge(parts) => depth_of_parts(
-            parts, depths,
-        ),
+        Proc::Choice(parts) | Proc::Seq(parts) | Proc::Merge(parts) | Proc::Sync(parts) =>
+            depth_of_parts(parts, depths),
         Proc::Cond(_, then, other) => depth_of(then, depths)
             .max(depth_of(other, depths))
+            .saturating_add(1),
+        Proc::Left(first, second) => depth_of(first, depths)
+            .max(depth_of(second, depths))
             .saturating_add(1),
         Proc::Sum(_, part)
         | Proc::Allow(_, part)

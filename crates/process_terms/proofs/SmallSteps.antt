@@ -8,9 +8,9 @@ use Rattle.process_terms.specs.Names.{Name}
 use Rattle.process_terms.specs.Theories.{Theory, IsTrue, IsFalse, IsOfSort, AllTrue, none_left, true_and_more}
 use Rattle.process_terms.specs.Labels.{Action, Label, Inserted, at_front, further, Permuted, nothing_left, one_placed}
 use Rattle.process_terms.specs.Communication.{Rule, Split, all_split, to_first, to_second, no_more_actions, one_more_action, IsGroup, group_equalities, conjunction_of, Grouped, all_grouped, stays, joins, NoneFurther}
-use Rattle.process_terms.specs.Processes.{Process, act, seq, sum, merge}
-use Rattle.process_terms.specs.Steps.{Outcome, ended, goes_on, Step, by_act, by_seq, by_sum, by_left_alone, by_right_alone, by_both, by_around, silent_allowed, communicated}
-use Rattle.process_terms.specs.WorkedSteps.{DeltaDoesNothing, TwoActionsSideBySide, with_argument, two_joined, EqualDataJoin, UnequalDataStay, UnknownDataDoNothing, SilenceIsAllowed, SumTakesEveryTerm, EndingGoesOn}
+use Rattle.process_terms.specs.Processes.{left_alone, both_at_once, Process, act, seq, sum, merge, starting}
+use Rattle.process_terms.specs.Steps.{Outcome, ended, goes_on, Step, by_act, by_seq, by_sum, by_left_alone, by_right_alone, by_both, by_left_first, by_both_first, by_around, silent_allowed, communicated}
+use Rattle.process_terms.specs.WorkedSteps.{DeltaDoesNothing, TwoActionsSideBySide, LeftGoesFirst, BothGoFirst, with_argument, two_joined, EqualDataJoin, UnequalDataStay, UnknownDataDoNothing, SilenceIsAllowed, SumTakesEveryTerm, EndingGoesOn}
 use Rattle.process_terms.proofs.PermutedLists.{permuted_refl}
 
 pub delta_none : DeltaDoesNothing
@@ -37,6 +37,22 @@ side_by_side th a b m r = (
       (λ e. same_step th (merge (act a) (act b)) m (a ++ b) r ended e.0 e.1 (by_both by_act by_act))
       h)
       h,
+)
+
+-- ---- a first step of one kind
+left_forth : (th : Theory) (a b m : Label) (r : Outcome) → Step th (starting left_alone (act a) (act b)) m r → (m ≡ a) × (r ≡ goes_on (act b))
+left_forth th a b m r (by_left_first by_act) = (refl, refl)
+
+pub left_first : LeftGoesFirst
+left_first th a b m r = (left_forth th a b m r, λ e. same_step th (starting left_alone (act a) (act b)) m a r (goes_on (act b)) e.0 e.1 (by_left_first by_act))
+
+both_forth : (th : Theory) (a b m : Label) (p q : Process) (r : Outcome) → Step th (starting both_at_once (seq (act a) p) (seq (act b) q)) m r → (m ≡ a ++ b) × (r ≡ goes_on (merge p q))
+both_forth th a b m p q r (by_both_first (by_seq by_act) (by_seq by_act)) = (refl, refl)
+
+pub both_first : BothGoFirst
+both_first th a b m p q r = (
+  both_forth th a b m p q r,
+  λ e. same_step th (starting both_at_once (seq (act a) p) (seq (act b) q)) m (a ++ b) r (goes_on (merge p q)) e.0 e.1 (by_both_first (by_seq by_act) (by_seq by_act)),
 )
 
 -- ---- communication of two actions

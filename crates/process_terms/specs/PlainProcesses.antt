@@ -64,6 +64,8 @@ mutual
     cond : TermId → PlainProcess → PlainProcess → PlainProcess
     sum : List VarId → PlainProcess → PlainProcess
     merge : PlainProcesses → PlainProcess
+    left_merge : PlainProcess → PlainProcess → PlainProcess
+    sync : PlainProcesses → PlainProcess
     around : PlainAround → PlainProcess → PlainProcess
 
   pub data PlainProcesses : Type 0 where
@@ -84,6 +86,8 @@ plain_process_step (open_.Seq parts) = seq (processes_of parts.items)
 plain_process_step (open_.Cond c p q) = cond c p.value q.value
 plain_process_step (open_.Sum xs p) = sum xs.items p.value
 plain_process_step (open_.Merge parts) = merge (processes_of parts.items)
+plain_process_step (open_.Left p q) = left_merge p.value q.value
+plain_process_step (open_.Sync parts) = sync (processes_of parts.items)
 plain_process_step (open_.Allow sets p) = around (allow (items_of_each sets.items)) p.value
 plain_process_step (open_.Block names p) = around (block names.items) p.value
 plain_process_step (open_.Hide names p) = around (hide names.items) p.value

@@ -19,6 +19,11 @@ pub data Around : Type 0 where
   rename : List Renaming → Around
   comm : List Rule → Around
 
+-- what the first step of two processes side by side is: one of the left process alone, `p ||_ q`, or one of both, `p | q`
+pub data Start : Type 0 where
+  left_alone : Start
+  both_at_once : Start
+
 -- a variable that a `sum` or a parameter list binds, with its sort
 pub record Bound : Type 0 where
   pub var : ℕ
@@ -34,6 +39,7 @@ pub data Body : Type 0 where
   written_sum : Bound → Body → Body
   written_call : ℕ → List Term → Body
   written_merge : Body → Body → Body
+  written_starting : Start → Body → Body → Body
   written_around : Around → Body → Body
 
 pub record Definition : Type 0 where
@@ -53,6 +59,7 @@ pub data Process : Type 0 where
   sum : Sort → (Term → Process) → Process
   call : Table → ℕ → List Term → Process
   merge : Process → Process → Process
+  starting : Start → Process → Process → Process
   around : Around → Process → Process
 
 -- what is written, under a table and an environment
@@ -65,6 +72,7 @@ close d e (written_cond c p q) = cond (put (term_in e) c) (close d e p) (close d
 close d e (written_sum x p) = sum x.sort (λ t. close d (record { var = x.var; term = t } ∷ e) p)
 close d e (written_call x ts) = call d x (map (put (term_in e)) ts)
 close d e (written_merge p q) = merge (close d e p) (close d e q)
+close d e (written_starting o p q) = starting o (close d e p) (close d e q)
 close d e (written_around o p) = around o (close d e p)
 
 -- the body of a call, with its arguments for the parameters; there is none where the table has no such place, or where the
@@ -93,6 +101,15 @@ merged_with p (q ∷ qs) = merged_with (written_merge p q) qs
 abbrev pub merge_of : List Body → Body
 merge_of [] = written_delta
 merge_of (p ∷ ps) = merged_with p ps
+
+-- `|` nests to the left
+abbrev pub synced_with : Body → List Body → Body
+synced_with p [] = p
+synced_with p (q ∷ qs) = synced_with (written_starting both_at_once p q) qs
+
+abbrev pub sync_of : List Body → Body
+sync_of [] = written_delta
+sync_of (p ∷ ps) = synced_with p ps
 
 abbrev pub sums_around : List Bound → Body → Body
 sums_around [] p = p

@@ -6,7 +6,7 @@ use Rattle.data_theory.specs.Equations.{equals}
 use Rattle.process_terms.specs.Names.{Name}
 use Rattle.process_terms.specs.Theories.{Theory, IsTrue, IsFalse, IsConsistent, IsOfSort}
 use Rattle.process_terms.specs.Labels.{Action, Label}
-use Rattle.process_terms.specs.Processes.{allow, comm, Process, delta, act, seq, sum, merge, around}
+use Rattle.process_terms.specs.Processes.{allow, comm, left_alone, both_at_once, Process, delta, act, seq, sum, merge, starting, around}
 use Rattle.process_terms.specs.Steps.{Outcome, ended, goes_on, within, Step}
 
 -- `delta` does nothing
@@ -18,6 +18,16 @@ abbrev pub TwoActionsSideBySide : Type 0
 TwoActionsSideBySide =
     (th : Theory) (a b m : Label) (r : Outcome)
     → (Step th (merge (act a) (act b)) m r ↔ (((m ≡ a) × (r ≡ goes_on (act b))) ⊎ (((m ≡ b) × (r ≡ goes_on (act a))) ⊎ ((m ≡ a ++ b) × (r ≡ ended)))))
+
+-- `a ||_ b` does a and goes on with b, and nothing else
+abbrev pub LeftGoesFirst : Type 0
+LeftGoesFirst = (th : Theory) (a b m : Label) (r : Outcome) → (Step th (starting left_alone (act a) (act b)) m r ↔ ((m ≡ a) × (r ≡ goes_on (act b))))
+
+-- `(a . p) | (b . q)` does a|b and goes on with `p || q`, and nothing else
+abbrev pub BothGoFirst : Type 0
+BothGoFirst =
+    (th : Theory) (a b m : Label) (p q : Process) (r : Outcome)
+    → (Step th (starting both_at_once (seq (act a) p) (seq (act b) q)) m r ↔ ((m ≡ a ++ b) × (r ≡ goes_on (merge p q))))
 
 -- ---- `comm({x|y -> z}, x(t)|y(u))`
 abbrev pub with_argument : Name → Sort → Term → Action

@@ -28,6 +28,10 @@ pub enum Proc {
     Sum(Vec<VarId>, Box<Proc>),
     /// `p || q || r`, which means `(p || q) || r`
     Merge(Vec<Proc>),
+    /// `p ||_ q`
+    Left(Box<Proc>, Box<Proc>),
+    /// `p | q | r` where it isn't one label, which means `(p | q) | r`
+    Sync(Vec<Proc>),
     /// `allow({a, b|c}, p)`
     Allow(Vec<Vec<NameId>>, Box<Proc>),
     /// `block({a, b}, p)`
@@ -94,6 +98,11 @@ impl Proc {
                 copy_boxed(alloc, part)?,
             )),
             Proc::Merge(parts) => Ok(Proc::Merge(copy_all(alloc, parts)?)),
+            Proc::Left(first, second) => Ok(Proc::Left(
+                copy_boxed(alloc, first)?,
+                copy_boxed(alloc, second)?,
+            )),
+            Proc::Sync(parts) => Ok(Proc::Sync(copy_all(alloc, parts)?)),
             Proc::Allow(sets, part) => Ok(Proc::Allow(
                 copy_sets(alloc, sets)?,
                 copy_boxed(alloc, part)?,

@@ -1,6 +1,6 @@
 //! Steps of small processes, as checks of the definitions. The functions do nothing.
 
-ghost use Rattle.process_terms.specs.WorkedSteps.{DeltaDoesNothing, EndingGoesOn, EqualDataJoin, SilenceIsAllowed, SomeDataAreUnknown, SumTakesEveryTerm, TwoActionsSideBySide, UnequalDataStay, UnknownDataDoNothing};
+ghost use Rattle.process_terms.specs.WorkedSteps.{BothGoFirst, DeltaDoesNothing, EndingGoesOn, EqualDataJoin, LeftGoesFirst, SilenceIsAllowed, SomeDataAreUnknown, SumTakesEveryTerm, TwoActionsSideBySide, UnequalDataStay, UnknownDataDoNothing};
 
 /// `delta` does nothing.
 pub fn delta_does_nothing()
@@ -10,6 +10,12 @@ pub fn delta_does_nothing()
 /// `a || b` does a, b and a|b, and nothing else.
 pub fn two_actions_side_by_side()
     ensures { TwoActionsSideBySide }
+{}
+
+/// `a ||_ b` does a and goes on with b, and `(a . p) | (b . q)` does a|b and goes on with `p || q`. Neither does anything else.
+pub fn first_steps_are_told()
+    ensures left { LeftGoesFirst }
+    ensures both { BothGoFirst }
 {}
 
 /// `comm({x|y -> z}, x(t)|y(u))` does `z(t)` where t and u are provably equal, `x(t)|y(u)` where they are provably unequal, and

@@ -40,13 +40,13 @@ ends_put e None None w = elim w [ ]
 ends_put e None (Some f) w = EndsWith.flagged
 ends_put e (Some ts) f w = EndsWith.need_no_flag
 
-stands : {th : Theory} (vs : List Sort) (a : Side) → IsSide th.declared vs a → {r r' : Outcome} {cs cs' : List Term} {m : Label} → Moves th a r cs m r' cs' → SideAt th a r' cs'
+pub stands : {th : Theory} (vs : List Sort) (a : Side) → IsSide th.declared vs a → {r r' : Outcome} {cs cs' : List Term} {m : Label} → Moves th a r cs m r' cs' → SideAt th a r' cs'
 stands {th} vs a ok (moves ts fs {m = m} o l k p f) =
     stands_at th a ts fs o l k p (subst (λ z. EndsWith z a.flag) (sym f.does.onward) (ends_put f.environment f.summand.next a.flag (ok.ends f.summand f.among)))
     (λ us q. firings_keep th vs a.process ts us m ok.linear ok.sorted l (subst (λ z. Fires th a.process ts m z) q f))
 
 -- a step of the state, where there is one
-abbrev StepOf : Theory → Outcome → Label → Outcome → Type 0
+abbrev pub StepOf : Theory → Outcome → Label → Outcome → Type 0
 StepOf th ended m q = ⊥
 StepOf th (goes_on p) m q = Step th p m q
 
@@ -71,7 +71,7 @@ module _ (th : Theory) (sane : IsConsistent th) (vs : List Sort) (a b : Side) (o
   one_right ended (moves us gs {m = m} o l k p f) = subst (λ z. Step th (state_of b.process us) m z) (sym (ended_beside (outcome_of b.process o))) (fire th b.process us m o ok.right.linear f)
   one_right (goes_on q) (moves us gs {m = m} o l k p f) = by_right_alone (fire th b.process us m o ok.right.linear f)
 
-  joint_step : {r r' s s' : Outcome} {cs cs' ds ds' : List Term} {m : Label} → Joint th a b r cs s ds m r' cs' s' ds' → StepOf th (beside r s) m (beside r' s')
+  pub joint_step : {r r' s s' : Outcome} {cs cs' ds ds' : List Term} {m : Label} → Joint th a b r cs s ds m r' cs' s' ds' → StepOf th (beside r s) m (beside r' s')
   joint_step (on_left {s = s} v) = one_left s v
   joint_step (on_right {r = r} v) = one_right r v
   joint_step (on_both (moves ts fs {m = m} o l k p f) (moves us gs {m = n} q l' k' p' f')) = by_both (fire th a.process ts m o ok.left.linear f) (fire th b.process us n q ok.right.linear f')
@@ -82,25 +82,25 @@ module _ (th : Theory) (sane : IsConsistent th) (vs : List Sort) (a b : Side) (o
   joint_fires h k (on_right v) = can_right th sane vs a b ok h v
   joint_fires h k (on_both v w) = can_both th sane vs a b ok v w
 
-  joint_stands : {r r' s s' : Outcome} {cs cs' ds ds' : List Term} {m : Label} → SideAt th a r cs → SideAt th b s ds → Joint th a b r cs s ds m r' cs' s' ds' → SideAt th a r' cs' × SideAt th b s' ds'
+  pub joint_stands : {r r' s s' : Outcome} {cs cs' ds ds' : List Term} {m : Label} → SideAt th a r cs → SideAt th b s ds → Joint th a b r cs s ds m r' cs' s' ds' → SideAt th a r' cs' × SideAt th b s' ds'
   joint_stands h k (on_left v) = (stands vs a ok.left v, k)
   joint_stands h k (on_right v) = (h, stands vs b ok.right v)
   joint_stands h k (on_both v w) = (stands vs a ok.left v, stands vs b ok.right w)
 
   -- a step is a joint move
-  data SideBySide (r : Outcome) (cs : List Term) (s : Outcome) (ds : List Term) (m : Label) : Outcome → Type 0 where
+  pub data SideBySide (r : Outcome) (cs : List Term) (s : Outcome) (ds : List Term) (m : Label) : Outcome → Type 0 where
     side_by_side : {r' s' : Outcome} {cs' ds' : List Term} → Joint th a b r cs s ds m r' cs' s' ds' → SideBySide r cs s ds m (beside r' s')
 
   side_along : {r s q q' : Outcome} {cs ds : List Term} {m : Label} → q ≡ q' → SideBySide r cs s ds m q → SideBySide r cs s ds m q'
   side_along {r} {s} {q} {q'} {cs} {ds} {m} e h = subst (λ z. SideBySide r cs s ds m z) e h
 
-  left_moves : {ts fs : List Term} {m : Label} {q : Outcome} → AreOfSorts th (sorts a.process.params) ts → AreOfSorts th (flag_sorts a.flag) fs → FlagSays th false fs → Step th (state_of a.process ts) m q
+  pub left_moves : {ts fs : List Term} {m : Label} {q : Outcome} → AreOfSorts th (sorts a.process.params) ts → AreOfSorts th (flag_sorts a.flag) fs → FlagSays th false fs → Step th (state_of a.process ts) m q
       → (cs' : List Term) × Moves th a (goes_on (state_of a.process ts)) (ts ++ fs) m q cs'
   left_moves {ts} {fs} {m} {q} l k p st =
       let f = fired th a.process ts m q ok.left.linear st in
       (moved ts fs f.0, subst (λ z. Moves th a (goes_on (state_of a.process ts)) (ts ++ fs) m z (moved ts fs f.0)) (sym f.1.1) (moves ts fs f.0 l k p f.1.0))
 
-  right_moves : {us gs : List Term} {m : Label} {q : Outcome} → AreOfSorts th (sorts b.process.params) us → AreOfSorts th (flag_sorts b.flag) gs → FlagSays th false gs → Step th (state_of b.process us) m q
+  pub right_moves : {us gs : List Term} {m : Label} {q : Outcome} → AreOfSorts th (sorts b.process.params) us → AreOfSorts th (flag_sorts b.flag) gs → FlagSays th false gs → Step th (state_of b.process us) m q
       → (ds' : List Term) × Moves th b (goes_on (state_of b.process us)) (us ++ gs) m q ds'
   right_moves {us} {gs} {m} {q} l k p st =
       let f = fired th b.process us m q ok.right.linear st in
@@ -113,7 +113,7 @@ module _ (th : Theory) (sane : IsConsistent th) (vs : List Sort) (a b : Side) (o
   merge_step l k p l' k' p' (by_right_alone st) = side_by_side (on_right (right_moves l' k' p' st).1)
   merge_step l k p l' k' p' (by_both st st') = side_by_side (on_both (left_moves l k p st).1 (right_moves l' k' p' st').1)
 
-  step_joint : {r s q : Outcome} {cs ds : List Term} {m : Label} → SideAt th a r cs → SideAt th b s ds → StepOf th (beside r s) m q → SideBySide r cs s ds m q
+  pub step_joint : {r s q : Outcome} {cs ds : List Term} {m : Label} → SideAt th a r cs → SideAt th b s ds → StepOf th (beside r s) m q → SideBySide r cs s ds m q
   step_joint (running ts fs l k p) (running us gs l' k' p') st = merge_step l k p l' k' p' st
   step_joint {q = q} (running ts fs l k p) (over us gs l' k' p') st = side_along (beside_ended q) (side_by_side (on_left (left_moves l k p st).1))
   step_joint {q = q} (over ts fs l k p) (running us gs l' k' p') st = side_along (ended_beside q) (side_by_side (on_right (right_moves l' k' p' st).1))
@@ -168,7 +168,7 @@ module _ (th : Theory) (sane : IsConsistent th) (vs : List Sort) (a b : Side) (o
   product_bisimulation = up_to_bisimulation product_progress
 
 -- ---- where it starts
-first_says : (th : Theory) (f : Option ℕ) → AreOfSorts th (flag_sorts f) (first_flag f) × FlagSays th false (first_flag f)
+pub first_says : (th : Theory) (f : Option ℕ) → AreOfSorts th (flag_sorts f) (first_flag f) × FlagSays th false (first_flag f)
 first_says th None = (tt, no_flag)
 first_says th (Some f) = (((tt, tt, refl, refl), tt), not_ended reflexive)
 

@@ -2,7 +2,6 @@
 use Rattle.std.proofs.Common.{◌≡◌, ℕ, Bool, true, false, List, [], ◌++◌, map, length, refl, sym, ap, ap₂, ◌∙◌, subst, ⊎_elim, Option, Some, None}
 use Rattle.std.proofs.lemmas.List.{map-append}
 use Rattle.std.proofs.lemmas.List.Elements.{Contains-append_left, Contains-append_right, Contains-append_cases}
-use Rattle.std.specs.Prelude.{flat_map}
 use Rattle.data_theory.specs.Terms.{Sort, Term, put}
 use Rattle.data_theory.specs.Provable.{symmetric, transitive}
 use Rattle.data_theory.specs.Environments.{Environment, term_in, bound, Apart}
@@ -22,6 +21,7 @@ use Rattle.lps_core.proofs.Environments.{Agrees, agrees_flip, agrees_chain, agre
 use Rattle.lps_core.proofs.Shapes.{summand_is, condition_more}
 use Rattle.lps_core.proofs.OverVariables.{within_both, within_front, within_back, variables_front, variables_back}
 use Rattle.summand_expander.specs.Product.{flag_of, columns, running_part, lone, own_first, own_last, pair, product, Separate}
+use Rattle.summand_expander.specs.FirstSteps.{left_summands, right_summands, both_summands}
 use Rattle.summand_expander.proofs.OneSide.{FlagKnown, says_running, running_says, moved, ends, out, out_swap, alone_sums, alone_does, alone_can, put_together}
 use Rattle.summand_expander.proofs.Whole.{left_fits, right_fits, pair_left, pair_right, pair_flags, all_declared}
 
@@ -82,6 +82,46 @@ ends_after l e (Some ts) = refl
 
 joint_label : {th : Theory} {a b : Side} {r r' s s' : Outcome} {cs cs' ds ds' : List Term} {m n : Label} → n ≡ m → Joint th a b r cs s ds n r' cs' s' ds' → Joint th a b r cs s ds m r' cs' s' ds'
 joint_label {th} {a} {b} {r} {r'} {s} {s'} {cs} {cs'} {ds} {ds'} e j = subst (λ l. Joint th a b r cs s ds l r' cs' s' ds') e j
+
+-- the summands of the product by kinds
+abbrev pub lefts : Side → Side → Linear
+lefts a b = record { params = columns a ++ columns b; summands = left_summands a b }
+
+abbrev pub rights : Side → Side → Linear
+rights a b = record { params = columns a ++ columns b; summands = right_summands a b }
+
+abbrev pub boths : Side → Side → Linear
+boths a b = record { params = columns a ++ columns b; summands = both_summands a b }
+
+-- what a firing of each kind comes from
+pub record LeftComes (th : Theory) (a b : Side) (r : Outcome) (cs : List Term) (s : Outcome) (ds : List Term) (m : Label) (o : Option (List Term)) : Type 0 where
+  pub r' : Outcome
+  pub cs' : List Term
+  pub move : Moves th a r cs m r' cs'
+  pub next : o ≡ out (ended_after r') (ended_after s) (cs' ++ ds)
+
+pub record RightComes (th : Theory) (a b : Side) (r : Outcome) (cs : List Term) (s : Outcome) (ds : List Term) (m : Label) (o : Option (List Term)) : Type 0 where
+  pub s' : Outcome
+  pub ds' : List Term
+  pub move : Moves th b s ds m s' ds'
+  pub next : o ≡ out (ended_after r) (ended_after s') (cs ++ ds')
+
+pub record BothCome (th : Theory) (a b : Side) (r : Outcome) (cs : List Term) (s : Outcome) (ds : List Term) (m : Label) (o : Option (List Term)) : Type 0 where
+  pub m' : Label
+  pub n' : Label
+  pub r' : Outcome
+  pub cs' : List Term
+  pub s' : Outcome
+  pub ds' : List Term
+  pub left : Moves th a r cs m' r' cs'
+  pub right : Moves th b s ds n' s' ds'
+  pub label : m ≡ m' ++ n'
+  pub next : o ≡ out (ended_after r') (ended_after s') (cs' ++ ds')
+
+-- a firing of some summands is one of more summands
+pub fires_more : {th : Theory} {params : List Bound} {ss : List Summand} (rs : List Summand) {ts : List Term} {m : Label} {o : Option (List Term)} → ((y : Summand) → In y ss → In y rs)
+    → Fires th (record { params = params; summands = ss }) ts m o → Fires th (record { params = params; summands = rs }) ts m o
+fires_more {ss = ss} rs w f = record { summand = f.summand; among = in_contains (w f.summand (contains_in ss f.among)); environment = f.environment; reads = f.reads; bound = f.bound; does = f.does }
 
 -- what the product's firing comes from
 pub record Comes (th : Theory) (a b : Side) (r : Outcome) (cs : List Term) (s : Outcome) (ds : List Term) (m : Label) (o : Option (List Term)) : Type 0 where
@@ -158,7 +198,7 @@ module _ (th : Theory) (sane : IsConsistent th) (vs : List Sort) (a b : Side) (o
     read_sides : (e : Environment) → read e all ≡ cs ++ ds → (read e (columns a) ≡ cs) × (read e (columns b) ≡ ds)
     read_sides e h = split_read e (columns a) (columns b) cs ds (side_long left) h
 
-    comes_left : (m : Label) (o : Option (List Term)) (e : Environment) (x y : Summand) → read e all ≡ cs ++ ds → In x a.process.summands → In y (lone own_first a b x) → AreBound th y.sums e → Does th y e m o → Comes th a b r cs s ds m o
+    comes_left : (m : Label) (o : Option (List Term)) (e : Environment) (x y : Summand) → read e all ≡ cs ++ ds → In x a.process.summands → In y (lone own_first a b x) → AreBound th y.sums e → Does th y e m o → LeftComes th a b r cs s ds m o
     comes_left m o e x y h i j w d =
         let c = read_sides e h in
         let w' : AreBound th x.sums e = subst (λ z. AreBound th z e) (alone_sums own_first a (as_terms (columns b)) x x.next b.flag y j) w in
@@ -167,30 +207,26 @@ module _ (th : Theory) (sane : IsConsistent th) (vs : List Sort) (a b : Side) (o
         record {
           r' = outcome_of a.process (put_next e x.next);
           cs' = moved (read e a.process.params) (read e (flag_of a.flag)) (put_next e x.next);
-          s' = s;
-          ds' = ds;
-          joint = on_left (side_moves sane e x m left c.0 k.running i w' (record { holds = k.holds; label = d.label ∙ ap (λ l. put_label e l) k.label; onward = refl }));
+          move = side_moves sane e x m left c.0 k.running i w' (record { holds = k.holds; label = d.label ∙ ap (λ l. put_label e l) k.label; onward = refl });
           next = d.onward ∙ k.next ∙ ap₂ (λ u v. out u (ended_after s) (moved (read e a.process.params) (read e (flag_of a.flag)) (put_next e x.next) ++ v)) (sym (ends_after a.process e x.next)) (put_variables e (columns b) ∙ c.1);
         }
 
-    comes_right : (m : Label) (o : Option (List Term)) (e : Environment) (x y : Summand) → read e all ≡ cs ++ ds → In x b.process.summands → In y (lone own_last b a x) → AreBound th y.sums e → Does th y e m o → Comes th a b r cs s ds m o
+    comes_right : (m : Label) (o : Option (List Term)) (e : Environment) (x y : Summand) → read e all ≡ cs ++ ds → In x b.process.summands → In y (lone own_last b a x) → AreBound th y.sums e → Does th y e m o → RightComes th a b r cs s ds m o
     comes_right m o e x y h i j w d =
         let c = read_sides e h in
         let w' : AreBound th x.sums e = subst (λ z. AreBound th z e) (alone_sums own_last b (as_terms (columns a)) x x.next a.flag y j) w in
         let has = scoped cs ds (side_sorted left) (side_sorted right) e h x.sums (right_fits th.declared vs a b ok x i).declared w' in
         let k = alone_does th sane vs (variables x.sums ++ variables all) e has own_last (λ e us ts. map-append (put (term_in e)) ts us) b (right_known x.sums) (as_terms (columns a)) x.sums x.condition (right_condition x i) x.label x.next a.flag (ended_after r) y (left_known x.sums) (side_says e left c.0) j d.holds in
         record {
-          r' = r;
-          cs' = cs;
           s' = outcome_of b.process (put_next e x.next);
           ds' = moved (read e b.process.params) (read e (flag_of b.flag)) (put_next e x.next);
-          joint = on_right (side_moves sane e x m right c.1 k.running i w' (record { holds = k.holds; label = d.label ∙ ap (λ l. put_label e l) k.label; onward = refl }));
+          move = side_moves sane e x m right c.1 k.running i w' (record { holds = k.holds; label = d.label ∙ ap (λ l. put_label e l) k.label; onward = refl });
           next = d.onward ∙ k.next
               ∙ ap₂ (λ u v. out u (ended_after r) (v ++ moved (read e b.process.params) (read e (flag_of b.flag)) (put_next e x.next))) (sym (ends_after b.process e x.next)) (put_variables e (columns a) ∙ c.0)
               ∙ out_swap (ended_after (outcome_of b.process (put_next e x.next))) (ended_after r) (cs ++ moved (read e b.process.params) (read e (flag_of b.flag)) (put_next e x.next));
         }
 
-    comes_both : (m : Label) (o : Option (List Term)) (e : Environment) (x y : Summand) → read e all ≡ cs ++ ds → In x a.process.summands → In y b.process.summands → AreBound th (x.sums ++ y.sums) e → Does th (pair a b x y) e m o → Comes th a b r cs s ds m o
+    comes_both : (m : Label) (o : Option (List Term)) (e : Environment) (x y : Summand) → read e all ≡ cs ++ ds → In x a.process.summands → In y b.process.summands → AreBound th (x.sums ++ y.sums) e → Does th (pair a b x y) e m o → BothCome th a b r cs s ds m o
     comes_both m o e x y h i j w d =
         let c = read_sides e h in
         let one_bound : AreBound th x.sums e = λ z q. w z (Contains-append_left x.sums y.sums z q) in
@@ -200,25 +236,51 @@ module _ (th : Theory) (sane : IsConsistent th) (vs : List Sort) (a b : Side) (o
         let first = side_moves sane e x (put_label e x.label) left c.0 u.0 i one_bound (record { holds = u.2; label = refl; onward = refl }) in
         let second = side_moves sane e y (put_label e y.label) right c.1 u.1 j two_bound (record { holds = u.3; label = refl; onward = refl }) in
         record {
+          m' = put_label e x.label;
+          n' = put_label e y.label;
           r' = _;
           cs' = _;
           s' = _;
           ds' = _;
-          joint = joint_label (sym (d.label ∙ map-append (put_action e) x.label y.label)) (on_both first second);
+          left = first;
+          right = second;
+          label = d.label ∙ map-append (put_action e) x.label y.label;
           next = d.onward ∙ put_together e a b x.next y.next
               ∙ ap₂ (λ u v. out u v (moved (read e a.process.params) (read e (flag_of a.flag)) (put_next e x.next) ++ moved (read e b.process.params) (read e (flag_of b.flag)) (put_next e y.next))) (sym (ends_after a.process e x.next)) (sym (ends_after b.process e y.next));
         }
 
+    pub lefts_come : (m : Label) (o : Option (List Term)) → Fires th (lefts a b) (cs ++ ds) m o → LeftComes th a b r cs s ds m o
+    lefts_come m o f = let k = in_each (lone own_first a b) a.process.summands (contains_in (lefts a b).summands f.among) in comes_left m o f.environment k.0 f.summand f.reads k.1 k.2 f.bound f.does
+
+    pub rights_come : (m : Label) (o : Option (List Term)) → Fires th (rights a b) (cs ++ ds) m o → RightComes th a b r cs s ds m o
+    rights_come m o f = let k = in_each (lone own_last b a) b.process.summands (contains_in (rights a b).summands f.among) in comes_right m o f.environment k.0 f.summand f.reads k.1 k.2 f.bound f.does
+
+    pub boths_come : (m : Label) (o : Option (List Term)) → Fires th (boths a b) (cs ++ ds) m o → BothCome th a b r cs s ds m o
+    boths_come m o f =
+        let k = in_each (λ x. map (pair a b x) b.process.summands) a.process.summands (contains_in (boths a b).summands f.among) in
+        let l = in_map (pair a b k.0) b.process.summands k.2 in
+        comes_both m o f.environment k.0 l.0 f.reads k.1 l.1 (subst (λ z. AreBound th z.sums f.environment) l.2 f.bound) (subst (λ z. Does th z f.environment m o) l.2 f.does)
+
+    pub of_left : {m : Label} {o : Option (List Term)} → LeftComes th a b r cs s ds m o → Comes th a b r cs s ds m o
+    of_left c = record { r' = c.r'; cs' = c.cs'; s' = s; ds' = ds; joint = on_left c.move; next = c.next }
+
+    pub of_right : {m : Label} {o : Option (List Term)} → RightComes th a b r cs s ds m o → Comes th a b r cs s ds m o
+    of_right c = record { r' = r; cs' = cs; s' = c.s'; ds' = c.ds'; joint = on_right c.move; next = c.next }
+
+    pub of_both : {m : Label} {o : Option (List Term)} → BothCome th a b r cs s ds m o → Comes th a b r cs s ds m o
+    of_both c = record { r' = c.r'; cs' = c.cs'; s' = c.s'; ds' = c.ds'; joint = joint_label (sym c.label) (on_both c.left c.right); next = c.next }
+
     pub comes : (m : Label) (o : Option (List Term)) → Fires th (product a b) (cs ++ ds) m o → Comes th a b r cs s ds m o
     comes m o f = ⊎_elim
-        (λ i. let k = in_each (lone own_first a b) a.process.summands i in comes_left m o f.environment k.0 f.summand f.reads k.1 k.2 f.bound f.does)
+        (λ i. of_left (lefts_come m o (alone (lefts a b) i)))
         (λ i. ⊎_elim
-        (λ j. let k = in_each (lone own_last b a) b.process.summands j in comes_right m o f.environment k.0 f.summand f.reads k.1 k.2 f.bound f.does)
-        (λ j. let k = in_each (λ x. map (pair a b x) b.process.summands) a.process.summands j in
-        let l = in_map (pair a b k.0) b.process.summands k.2 in
-        comes_both m o f.environment k.0 l.0 f.reads k.1 l.1 (subst (λ z. AreBound th z.sums f.environment) l.2 f.bound) (subst (λ z. Does th z f.environment m o) l.2 f.does))
-        (in_append (flat_map (lone own_last b a) b.process.summands) (flat_map (λ x. map (pair a b x) b.process.summands) a.process.summands) i))
-        (in_append (flat_map (lone own_first a b) a.process.summands) (flat_map (lone own_last b a) b.process.summands ++ flat_map (λ x. map (pair a b x) b.process.summands) a.process.summands) (contains_in (product a b).summands f.among))
+        (λ j. of_right (rights_come m o (alone (rights a b) j)))
+        (λ j. of_both (boths_come m o (alone (boths a b) j)))
+        (in_append (rights a b).summands (boths a b).summands i))
+        (in_append (lefts a b).summands ((rights a b).summands ++ (boths a b).summands) (contains_in (product a b).summands f.among))
+      where
+        alone : (l : Linear) → In f.summand l.summands → Fires th (record { params = columns a ++ columns b; summands = l.summands }) (cs ++ ds) m o
+        alone l i = record { summand = f.summand; among = in_contains i; environment = f.environment; reads = f.reads; bound = f.bound; does = f.does }
 
   -- ---- and what it can do
   -- the parameters of a side, read in two environments
@@ -231,8 +293,8 @@ module _ (th : Theory) (sane : IsConsistent th) (vs : List Sort) (a b : Side) (o
   front_reads : (xs : List Bound) (e d : Environment) → Apart (variables xs) (variables all) → read (front xs e d) all ≡ read d all
   front_reads xs e d n = read_same (front xs e d) d all (agrees_flip (behind_agrees xs e d (variables all) n))
 
-  pub can_left : {r s r' : Outcome} {cs ds cs' : List Term} {m : Label} → SideAt th b s ds → Moves th a r cs m r' cs' → Fires th (product a b) (cs ++ ds) m (out (ended_after r') (ended_after s) (cs' ++ ds))
-  can_left {s = s} {ds = ds} {m = m} right (moves ts fs o l k p f) =
+  pub left_fires : {r s r' : Outcome} {cs ds cs' : List Term} {m : Label} → SideAt th b s ds → Moves th a r cs m r' cs' → Fires th (lefts a b) (cs ++ ds) m (out (ended_after r') (ended_after s) (cs' ++ ds))
+  left_fires {s = s} {ds = ds} {m = m} right (moves ts fs o l k p f) =
       let x = f.summand in
       let i = contains_in a.process.summands f.among in
       let fit = left_fits th.declared vs a b ok x i in
@@ -249,7 +311,7 @@ module _ (th : Theory) (sane : IsConsistent th) (vs : List Sort) (a b : Side) (o
       let y = alone_can th sane vs (variables x.sums ++ variables all) e has own_first (λ e us ts. map-append (put (term_in e)) us ts) a (left_known x.sums) (as_terms (columns b)) x.sums x.condition (left_condition x i) x.label x.next b.flag (ended_after s) (right_known x.sums) (subst (λ z. FlagSays th false z) (sym w.1) p) (side_says e right c.1) g.holds in
       record {
         summand = y.summand;
-        among = in_contains (append_front (flat_map (lone own_first a b) a.process.summands) _ (each_in (lone own_first a b) i y.among));
+        among = in_contains (each_in (lone own_first a b) i y.among);
         environment = e;
         reads = h;
         bound = subst (λ z. AreBound th z e) (sym y.sums) bounds;
@@ -263,8 +325,8 @@ module _ (th : Theory) (sane : IsConsistent th) (vs : List Sort) (a b : Side) (o
         };
       }
 
-  pub can_right : {r s s' : Outcome} {cs ds ds' : List Term} {m : Label} → SideAt th a r cs → Moves th b s ds m s' ds' → Fires th (product a b) (cs ++ ds) m (out (ended_after r) (ended_after s') (cs ++ ds'))
-  can_right {r = r} {cs = cs} {m = m} left (moves us gs o l k p f) =
+  pub right_fires : {r s s' : Outcome} {cs ds ds' : List Term} {m : Label} → SideAt th a r cs → Moves th b s ds m s' ds' → Fires th (rights a b) (cs ++ ds) m (out (ended_after r) (ended_after s') (cs ++ ds'))
+  right_fires {r = r} {cs = cs} {m = m} left (moves us gs o l k p f) =
       let x = f.summand in
       let i = contains_in b.process.summands f.among in
       let fit = right_fits th.declared vs a b ok x i in
@@ -281,7 +343,7 @@ module _ (th : Theory) (sane : IsConsistent th) (vs : List Sort) (a b : Side) (o
       let y = alone_can th sane vs (variables x.sums ++ variables all) e has own_last (λ e us ts. map-append (put (term_in e)) ts us) b (right_known x.sums) (as_terms (columns a)) x.sums x.condition (right_condition x i) x.label x.next a.flag (ended_after r) (left_known x.sums) (subst (λ z. FlagSays th false z) (sym w.1) p) (side_says e left c.0) g.holds in
       record {
         summand = y.summand;
-        among = in_contains (append_back (flat_map (lone own_first a b) a.process.summands) (append_front (flat_map (lone own_last b a) b.process.summands) _ (each_in (lone own_last b a) i y.among)));
+        among = in_contains (each_in (lone own_last b a) i y.among);
         environment = e;
         reads = h;
         bound = subst (λ z. AreBound th z e) (sym y.sums) bounds;
@@ -296,8 +358,8 @@ module _ (th : Theory) (sane : IsConsistent th) (vs : List Sort) (a b : Side) (o
         };
       }
 
-  pub can_both : {r s r' s' : Outcome} {cs ds cs' ds' : List Term} {m n : Label} → Moves th a r cs m r' cs' → Moves th b s ds n s' ds' → Fires th (product a b) (cs ++ ds) (m ++ n) (out (ended_after r') (ended_after s') (cs' ++ ds'))
-  can_both {m = m} {n = n} (moves ts fs o l k p f) (moves us gs q l' k' p' f') =
+  pub both_fire : {r s r' s' : Outcome} {cs ds cs' ds' : List Term} {m n : Label} → Moves th a r cs m r' cs' → Moves th b s ds n s' ds' → Fires th (boths a b) (cs ++ ds) (m ++ n) (out (ended_after r') (ended_after s') (cs' ++ ds'))
+  both_fire {m = m} {n = n} (moves ts fs o l k p f) (moves us gs q l' k' p' f') =
       let x = f.summand in
       let y = f'.summand in
       let i = contains_in a.process.summands f.among in
@@ -321,7 +383,7 @@ module _ (th : Theory) (sane : IsConsistent th) (vs : List Sort) (a b : Side) (o
       let has = scoped (ts ++ fs) (us ++ gs) own own' e h (x.sums ++ y.sums) (λ z u. ⊎_elim (λ v. fit.declared z v) (λ v. fit'.declared z v) (Contains-append_cases x.sums y.sums z u)) bounds in
       record {
         summand = pair a b x y;
-        among = in_contains (append_back (flat_map (lone own_first a b) a.process.summands) (append_back (flat_map (lone own_last b a) b.process.summands) (each_in (λ z. map (pair a b z) b.process.summands) i (map_in (pair a b x) j))));
+        among = in_contains (each_in (λ z. map (pair a b z) b.process.summands) i (map_in (pair a b x) j));
         environment = e;
         reads = h;
         bound = bounds;
@@ -334,3 +396,12 @@ module _ (th : Theory) (sane : IsConsistent th) (vs : List Sort) (a b : Side) (o
               ∙ sym (put_together e a b x.next y.next);
         };
       }
+
+  pub can_left : {r s r' : Outcome} {cs ds cs' : List Term} {m : Label} → SideAt th b s ds → Moves th a r cs m r' cs' → Fires th (product a b) (cs ++ ds) m (out (ended_after r') (ended_after s) (cs' ++ ds))
+  can_left right v = fires_more (product a b).summands (λ y i. append_front (lefts a b).summands ((rights a b).summands ++ (boths a b).summands) i) (left_fires right v)
+
+  pub can_right : {r s s' : Outcome} {cs ds ds' : List Term} {m : Label} → SideAt th a r cs → Moves th b s ds m s' ds' → Fires th (product a b) (cs ++ ds) m (out (ended_after r) (ended_after s') (cs ++ ds'))
+  can_right left v = fires_more (product a b).summands (λ y i. append_back (lefts a b).summands (append_front (rights a b).summands (boths a b).summands i)) (right_fires left v)
+
+  pub can_both : {r s r' s' : Outcome} {cs ds cs' ds' : List Term} {m n : Label} → Moves th a r cs m r' cs' → Moves th b s ds n s' ds' → Fires th (product a b) (cs ++ ds) (m ++ n) (out (ended_after r') (ended_after s') (cs' ++ ds'))
+  can_both v w = fires_more (product a b).summands (λ y i. append_back (lefts a b).summands (append_back (rights a b).summands i)) (both_fire v w)

@@ -19,3 +19,7 @@ pub mod Separating
 pub mod Endings
 pub mod MadeProducts
 pub mod DifferentNames
+pub mod StartedGroups
+pub mod FirstSteps
+pub mod NewestVariable
+pub mod MadeFirstSteps

@@ -45,6 +45,7 @@ use Rattle.summand_expander.specs.Product.{flag_of, columns, first_flag, first_c
 use Rattle.summand_expander.specs.Renewing.{renewed, KeepsApart}
 use Rattle.summand_expander.specs.Renewals.{IsFlag, GivesWay, all_sums, HasVariable, IsRenewedLinear}
 use Rattle.summand_expander.specs.SideFits.{FitsWithNames, IsFlagOf}
+use Rattle.summand_expander.specs.WholeFirstSteps.{HasSides}
 use Rattle.summand_expander.specs.WholeProducts.{can_end, renewed_number, side_of_linear, AreProductSummands, first_flag_id, AreFirstTerms, HaveDifferentNames, IsProduct, IsGoodProduct}
 use Rattle.summand_expander.proofs.DifferentNames.{all_names_differ}
 use Rattle.summand_expander.proofs.Endings.{can_stop, product_stops, meant_stops, renewed_stops}
@@ -111,6 +112,7 @@ pub record ProductDone (g h : Sig) (us : List Tree) (l r p : PlainLinear) : Type
   pub fits : Fits h us p
   pub made : IsProduct g h us l r p
   pub good : IsGoodProduct h us l r p
+  pub sides : HasSides h us l r p
   pub ends : can_end p ≡ (can_end l && can_end r)
   pub names : HaveDifferentNames g l.params → HaveDifferentNames g r.params → HaveDifferentNames h p.params
 
@@ -333,6 +335,17 @@ module _ (g0 g1 g2 g3 : Sig) (t0 t1 t2 t3 : List Tree) (l r k p : PlainLinear) (
             let good = good_for_same th con (variable_sorts g3) A B (apart th.declared on.grows) ts us h q (state_of L ts) (state_of R us) (alike_refl th (state_of L ts)) same in
             subst (λ z. IsGood th (Product A B z) (merge (state_of L ts) (state_of R us)) (state_of z (initial_of (entries_of g3 t3) p))) (sym linear_is)
             (subst (λ z. IsGood th (Product A B (product A B)) (merge (state_of L ts) (state_of R us)) (state_of (product A B) z)) (sym (initial_is ∙ ap (λ z. first_columns A ts ++ (z ++ first_flag B.flag)) init_same)) good);
+      };
+      sides = record {
+        left = A;
+        right = B;
+        separate = apart;
+        linear = linear_is;
+        initial = initial_is ∙ ap (λ ts. first_columns A (initial_of (entries_of g3 t3) l) ++ (ts ++ first_flag B.flag)) init_same;
+        left_is = refl;
+        left_closed = l3.closed;
+        right_closed = subst (λ z. HaveSorts (data_meant g3) [] (terms_of z) (sorts K.params)) init_same k3.closed;
+        same = λ th. subst (λ z. Pairs th Same (state_of R (initial_of (entries_of g3 t3) r)) (state_of z (initial_of (entries_of g3 t3) r))) (sym k_means) (renewed_same th R r3.linear (renewed_number os ns) k_apart (initial_of (entries_of g3 t3) r));
       };
       names = λ d e. subst (HaveDifferentNames g3) (sym (params ∙ ap (λ ks. (l.params ++ option_to_list lf) ++ (ks ++ option_to_list rf)) is.params)) (all_names_differ g0 g1 g2 g3 t0 t0 l r lf rf os ns (can_end l) (can_end r) fl0 fr0 fr1 one way given.new two d e);
       ends =

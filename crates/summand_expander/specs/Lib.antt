@@ -7,3 +7,5 @@ pub mod Frames
 pub mod Renewals
 pub mod WholeProducts
 pub mod SideFits
+pub mod FirstSteps
+pub mod WholeFirstSteps

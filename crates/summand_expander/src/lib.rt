@@ -11,6 +11,8 @@ mod products;
 mod renewal;
 mod renewed;
 mod sides;
+mod starts;
 mod summands;
 
 pub use products::product;
+pub use starts::{Start, product_from};

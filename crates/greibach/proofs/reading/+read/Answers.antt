@@ -2,15 +2,15 @@ use Rattle.std.proofs.Common.{◌≡◌, ◌∙◌, ◌+◌, ◌-◌, ◌<◌, �
 use Rattle.std.specs.List.{Contains}
 use Rattle.lps_core.specs.TreeSummands.{numbers_of}
 use Rattle.process_terms.specs.PlainProcesses.{plain_process, sum}
-use Rattle.proc_unfold.proofs.Sizes.{nodes, then_smaller, other_smaller, choices_smaller, steps_smaller, summed_smaller, merged_smaller, operand_no_larger}
+use Rattle.proc_unfold.proofs.Sizes.{nodes, then_smaller, other_smaller, choices_smaller, steps_smaller, summed_smaller, merged_smaller, synced_smaller, operand_no_larger}
 use Rattle.greibach.specs.FittingPlaces.{IsThere, FitsInScope, ReadsFittingly, HasRead}
 use Rattle.greibach.specs.Readings.{definitions_in, places_in}
 use Rattle.greibach.proofs.ReadPlaces.{begins_itself, begins_then, among_front, there_grown, rest_wider, needed_items, rest_in_items, params_items, read_then}
 use Rattle.std.proofs.lemmas.List.{take_all, length-map, append-nil}
 use Rattle.greibach.specs.Readings.{ReadsTerm}
 use Rattle.greibach.specs.TableReadings.{AreNeededIn}
-use Rattle.greibach.proofs.ReadTables.{ReadsRow, row_none, row_pushed, needed_alone, needed_one_more, needed_grown, operand_there, choice_reads, cond_reads, merge_reads, drop_all, steps_from, last_step, step_before, sum_before}
-use Rattle.greibach.proofs.ReadParts.{choice_fits, merge_fits, seq_fits, cond_fits, sum_fits, part_fits, inside_fits, larger_left, larger_right, larger_below, taken_front, taken_again, choosing_none, choosing_more, choice_ok, cond_ok, more_variables, sum_on}
+use Rattle.greibach.proofs.ReadTables.{ReadsRow, row_none, row_pushed, needed_alone, needed_one_more, needed_grown, operand_there, choice_reads, cond_reads, merge_reads, sync_reads, drop_all, steps_from, last_step, step_before, sum_before}
+use Rattle.greibach.proofs.ReadParts.{choice_fits, merge_fits, sync_fits, seq_fits, cond_fits, sum_fits, part_fits, inside_fits, larger_left, larger_right, larger_below, taken_front, taken_again, choosing_none, choosing_more, choice_ok, cond_ok, more_variables, sum_on}
 use Rattle.greibach.proofs.reading.+read.Goals as goal
 
 pub read-read_choice-requires : goal.read-read_choice-requires
@@ -333,5 +333,30 @@ read_sum-returns-clause-reads t c =
 pub read_merge-returns-clause-reads : goal.read_merge-returns-clause-reads
 read_merge-returns-clause-reads t c =
     merge_reads c.args.source.pool.now.trees c.read_delta.result (places_in c.args.reader.now) (places_in c.read_delta.new.reader) c.args.reader.now.reached.keys c.read_delta.new.reader.reached.keys c.args.reader.now.scope.items c.args.rest (map plain_process c.args.parts.now)
+    (λ one. let l = length-map c.args.parts.now plain_process in c.if-parts-eq1.false (omega (arith, one, l)))
+    c.read_delta.ensures.reads
+
+pub read-read_sync-requires : goal.read-read_sync-requires
+read-read_sync-requires t c = (
+  omega (arith, synced_smaller c.args.process.now c.in-Sync.parts c.as_slice-in-Sync.result.now c.in-Sync.is c.as_slice-in-Sync.ensures.value, c.decreases),
+  (
+    sync_fits c.args.source.sig.now c.args.source.pool.now.trees (definitions_in c.args.source) c.args.reader.now.scope.items c.args.process.now c.in-Sync.parts c.as_slice-in-Sync.result.now c.in-Sync.is c.as_slice-in-Sync.ensures.value c.requires.fits,
+    (c.requires.so_far, c.requires.rest),
+  ),
+)
+
+pub read_sync-read-requires : goal.read_sync-read-requires
+read_sync-read-requires t c =
+    let l : 0 < length c.args.parts.now = omega arith in (
+      omega (arith, operand_no_larger c.args.parts.now 0 c.index-parts-0.result l c.index-parts-0.is, c.decreases),
+      (
+        part_fits c.args.source.sig.now c.args.source.pool.now.trees (definitions_in c.args.source) c.args.reader.now.scope.items c.args.parts.now 0 c.index-parts-0.result l c.index-parts-0.is c.requires.fits,
+        (c.requires.so_far, c.requires.rest),
+      ),
+    )
+
+pub read_sync-returns-clause-reads : goal.read_sync-returns-clause-reads
+read_sync-returns-clause-reads t c =
+    sync_reads c.args.source.pool.now.trees c.read_delta.result (places_in c.args.reader.now) (places_in c.read_delta.new.reader) c.args.reader.now.reached.keys c.read_delta.new.reader.reached.keys c.args.reader.now.scope.items c.args.rest (map plain_process c.args.parts.now)
     (λ one. let l = length-map c.args.parts.now plain_process in c.if-parts-eq1.false (omega (arith, one, l)))
     c.read_delta.ensures.reads

@@ -19,6 +19,9 @@ decreases-read_choice l = 3 * all_nodes (processes_of (map plain_process l.parts
 abbrev pub decreases-read_merge : goal.decreases-read_merge
 decreases-read_merge l = 3 * all_nodes (processes_of (map plain_process l.parts.now)) + 1
 
+abbrev pub decreases-read_sync : goal.decreases-read_sync
+decreases-read_sync l = 3 * all_nodes (processes_of (map plain_process l.parts.now)) + 1
+
 abbrev pub decreases-read_sum : goal.decreases-read_sum
 decreases-read_sum l = 3 * nodes (plain_process l.part.now) + 1
 

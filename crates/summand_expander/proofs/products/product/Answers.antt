@@ -54,6 +54,9 @@ returns-clause-made c = (done c).made
 pub returns-clause-bisimilar : goal.returns-clause-bisimilar
 returns-clause-bisimilar c = (done c).good
 
+pub returns-clause-sides : goal.returns-clause-sides
+returns-clause-sides c = (done c).sides
+
 pub returns-clause-ends : goal.returns-clause-ends
 returns-clause-ends c = sym (plain_ends c.in_ok-summands.summands.items) ∙ (done c).ends ∙ ap₂ (λ x y. x && y) (plain_ends c.args.left.now.summands.items) (plain_ends c.args.right.now.summands.items)
 

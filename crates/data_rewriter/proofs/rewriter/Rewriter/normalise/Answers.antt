@@ -1,5 +1,6 @@
-use Rattle.std.proofs.Common.{sym, ◌∙◌}
+use Rattle.std.proofs.Common.{[], sym, ◌∙◌}
 use Rattle.data_rewriter.proofs.StateMoves.{tables_kept}
+use Rattle.data_rewriter.proofs.Enough.{enough_ends}
 use Rattle.data_rewriter.proofs.Keeping.{stored_says, said_is_stored}
 use Rattle.data_rewriter.proofs.rewriter.Rewriter.normalise.Goals as goal
 
@@ -67,3 +68,6 @@ returns-in_default-normal-clause-fits g c = λ sig own fits term. record {
 
 pub returns-in_default-normal-clause-pairs : goal.returns-in_default-normal-clause-pairs
 returns-in_default-normal-clause-pairs g c = λ sig own fits term covered. (c.in_ok-normal.ensures.pairs sig own fits.tables fits.stored term.within covered).0
+
+pub returns-in_default-normal-clause-enough : goal.returns-in_default-normal-clause-enough
+returns-in_default-normal-clause-enough g c = λ sig fits term. enough_ends sig c.args.pool.now.trees c.run.new.pool.trees c.args.term c.args.fuel.now c.run.new.fuel c.in_ok-normal.normal fits.tables.signs.signature (c.in_ok-normal.ensures.says sig [] fits.tables fits.stored term.within)

@@ -3,6 +3,7 @@ use Rattle.std.specs.Prelude.{slice_index}
 use Rattle.std.proofs.lemmas.Result.{IfOk-weaker}
 use Rattle.std.proofs.lemmas.Bool.Decides.{Decides-eqb}
 use Rattle.std.specs.List.{Contains}
+use Rattle.std.proofs.lemmas.List.Elements.{Contains-append_left, Contains-append_right}
 use Rattle.std.proofs.lemmas.List.{length-map}
 use Rattle.std.proofs.lemmas.Option.{slice_get-get_or, get_or_from_slice_get}
 use Rattle.term_pool.specs.HeadTrees.{AreIn}
@@ -14,13 +15,13 @@ use Rattle.guard_check.specs.CallGraphs.{plain_calls, all_calls}
 use Rattle.lps_core.proofs.PoolTrees.{extends_itself, extends_on, all_in_kept}
 use Rattle.proc_unfold.specs.PutTerms.{IsProcessIn, AreProcessesIn}
 use Rattle.proc_unfold.specs.Opening.{EntersFully, AreBelow, OpensTo}
-use Rattle.proc_unfold.proofs.Sizes.{nodes, deepest, body_depth, rank_falls, summed_smaller, around_smaller, choices_smaller, steps_smaller, merged_smaller, operand_no_larger}
+use Rattle.proc_unfold.proofs.Sizes.{nodes, deepest, body_depth, rank_falls, summed_smaller, around_smaller, choices_smaller, steps_smaller, merged_smaller, synced_smaller, first_smaller, second_smaller, operand_no_larger}
 use Rattle.proc_unfold.proofs.PuttingLemmas.{process_kept, part_in, terms_put}
 use Rattle.proc_unfold.proofs.WithinLemmas.{definition_at}
-use Rattle.proc_unfold.proofs.OpeningLemmas.{bodies_kept, body_opens, all_open_none, all_open_more, under_opens, call_opens, choice_opens, seq_opens, merge_opens, sum_opens, no_variables, part_outside, part_calls}
+use Rattle.proc_unfold.proofs.OpeningLemmas.{bodies_kept, body_opens, all_open_none, all_open_more, under_opens, call_opens, choice_opens, seq_opens, merge_opens, sync_opens, left_opens, sum_opens, no_variables, part_outside, part_calls}
 use Rattle.proc_unfold.specs.ParallelTests.{is_outside, all_outside}
-use Rattle.proc_unfold.proofs.LoopLemmas.{choice_of_one, choice_of_others, seq_of_one, seq_of_others}
-use Rattle.proc_unfold.proofs.ProcessSteps.{call_step, choice_step, seq_step, merge_step, allow_step, block_step, hide_step, rename_step, comm_step}
+use Rattle.proc_unfold.proofs.LoopLemmas.{choice_of_one, choice_of_others, seq_of_one, seq_of_others, both_outside}
+use Rattle.proc_unfold.proofs.ProcessSteps.{call_step, choice_step, seq_step, merge_step, left_step, sync_step, allow_step, block_step, hide_step, rename_step, comm_step}
 use Rattle.proc_unfold.proofs.opening.Opening.+open.Goals as goal
 
 pub open-open_settled-requires : goal.open-open_settled-requires
@@ -360,3 +361,83 @@ open_settled-returns-then-is_empty-clause-opens t c =
 pub open_settled-returns-in_ok-open_all-in-Merge-clause-opens : goal.open_settled-returns-in_ok-open_all-in-Merge-clause-opens
 open_settled-returns-in_ok-open_all-in-Merge-clause-opens t c =
     merge_opens (plain_model c.args.self.now.model.now) c.args.self.now.found.now c.open_all-in-Merge.new.pool.trees c.args.by.now c.args.process.now c.in-Merge.parts c.deref-in-Merge.result.now c.in_ok-open_all-in-Merge.field-0 c.in-Merge.is c.deref-in-Merge.ensures.value c.in_ok-open_all-in-Merge.ensures.opens
+
+pub open_settled-open_all-requires-in-Sync : goal.open_settled-open_all-requires-in-Sync
+open_settled-open_all-requires-in-Sync t c =
+    let is = ap plain_process c.in-Sync.is ∙ sync_step c.in-Sync.parts in
+    let same = ap (λ l. all_calls Everywhere (processes_of (map plain_process l))) c.deref-in-Sync.ensures.value ∙ sym (ap (plain_calls Everywhere) is) in (
+      omega (arith, synced_smaller c.args.process.now c.in-Sync.parts c.deref-in-Sync.result.now c.in-Sync.is c.deref-in-Sync.ensures.value, c.decreases),
+      (
+        c.requires.bodies,
+        (
+          c.requires.listed,
+          (
+            subst (λ l. AreProcessesIn c.args.pool.now.trees (processes_of (map plain_process l))) (sym c.deref-in-Sync.ensures.value) (subst (IsProcessIn c.args.pool.now.trees) is c.requires.within),
+            (
+              ap (λ l. all_outside c.args.self.now.found.now.parallel.items (processes_of (map plain_process l))) c.deref-in-Sync.ensures.value ∙ (sym (ap (is_outside c.args.self.now.found.now.parallel.items) is) ∙ c.requires.outside),
+              (
+                λ x i. c.requires.reached x (subst (λ l. Contains l x) same i),
+                λ x i marked. c.requires.below x (subst (λ l. Contains l x) same i) marked,
+              ),
+            ),
+          ),
+        ),
+      ),
+    )
+
+pub open_settled-open_boxed-requires : goal.open_settled-open_boxed-requires
+open_settled-open_boxed-requires t c =
+    let is = ap plain_process c.in-Left.is ∙ left_step c.in-Left.first c.in-Left.second in
+    let parts = subst (IsProcessIn c.args.pool.now.trees) is c.requires.within in
+    let part = ap plain_process c.deref-in-Left.ensures in (
+      omega (arith, first_smaller c.args.process.now c.deref-in-Left.result.now c.in-Left.first c.in-Left.second c.in-Left.is c.deref-in-Left.ensures, c.decreases),
+      (
+        c.requires.bodies,
+        (
+          c.requires.listed,
+          (
+            subst (IsProcessIn c.args.pool.now.trees) (sym part) parts.0,
+            (
+              ap (is_outside c.args.self.now.found.now.parallel.items) part ∙ (both_outside (is_outside c.args.self.now.found.now.parallel.items (plain_process c.in-Left.first.value)) (is_outside c.args.self.now.found.now.parallel.items (plain_process c.in-Left.second.value)) (sym (ap (is_outside c.args.self.now.found.now.parallel.items) is) ∙ c.requires.outside)).0,
+              (
+                λ x i. c.requires.reached x (subst (λ l. Contains l x) (sym (ap (plain_calls Everywhere) is)) (Contains-append_left (plain_calls Everywhere (plain_process c.in-Left.first.value)) (plain_calls Everywhere (plain_process c.in-Left.second.value)) x (subst (λ l. Contains l x) (ap (plain_calls Everywhere) part) i))),
+                λ x i marked. c.requires.below x (subst (λ l. Contains l x) (sym (ap (plain_calls Everywhere) is)) (Contains-append_left (plain_calls Everywhere (plain_process c.in-Left.first.value)) (plain_calls Everywhere (plain_process c.in-Left.second.value)) x (subst (λ l. Contains l x) (ap (plain_calls Everywhere) part) i))) marked,
+              ),
+            ),
+          ),
+        ),
+      ),
+    )
+
+pub open_settled-open_boxed-requires-in-Left : goal.open_settled-open_boxed-requires-in-Left
+open_settled-open_boxed-requires-in-Left t c =
+    let is = ap plain_process c.in-Left.is ∙ left_step c.in-Left.first c.in-Left.second in
+    let parts = subst (IsProcessIn c.args.pool.now.trees) is c.requires.within in
+    let part = ap plain_process c.deref-in-Left-2.ensures in (
+      omega (arith, second_smaller c.args.process.now c.deref-in-Left-2.result.now c.in-Left.first c.in-Left.second c.in-Left.is c.deref-in-Left-2.ensures, c.decreases),
+      (
+        bodies_kept (plain_model c.args.self.now.model.now) c.args.self.now.found.now c.args.pool.now.trees c.open_boxed.new.pool.trees c.open_boxed.ensures.kept c.requires.bodies,
+        (
+          all_in_kept c.args.pool.now.trees c.open_boxed.new.pool.trees (listed_terms c.args.by.now) c.open_boxed.ensures.kept c.requires.listed,
+          (
+            process_kept c.args.pool.now.trees c.open_boxed.new.pool.trees c.open_boxed.ensures.kept (plain_process c.deref-in-Left-2.result.now) (subst (IsProcessIn c.args.pool.now.trees) (sym part) parts.1),
+            (
+              ap (is_outside c.args.self.now.found.now.parallel.items) part ∙ (both_outside (is_outside c.args.self.now.found.now.parallel.items (plain_process c.in-Left.first.value)) (is_outside c.args.self.now.found.now.parallel.items (plain_process c.in-Left.second.value)) (sym (ap (is_outside c.args.self.now.found.now.parallel.items) is) ∙ c.requires.outside)).1,
+              (
+                λ x i. c.requires.reached x (subst (λ l. Contains l x) (sym (ap (plain_calls Everywhere) is)) (Contains-append_right (plain_calls Everywhere (plain_process c.in-Left.first.value)) (plain_calls Everywhere (plain_process c.in-Left.second.value)) x (subst (λ l. Contains l x) (ap (plain_calls Everywhere) part) i))),
+                λ x i marked. c.requires.below x (subst (λ l. Contains l x) (sym (ap (plain_calls Everywhere) is)) (Contains-append_right (plain_calls Everywhere (plain_process c.in-Left.first.value)) (plain_calls Everywhere (plain_process c.in-Left.second.value)) x (subst (λ l. Contains l x) (ap (plain_calls Everywhere) part) i))) marked,
+              ),
+            ),
+          ),
+        ),
+      ),
+    )
+
+pub open_settled-returns-in_ok-open_boxed-in-Left-2-clause-opens : goal.open_settled-returns-in_ok-open_boxed-in-Left-2-clause-opens
+open_settled-returns-in_ok-open_boxed-in-Left-2-clause-opens t c =
+    left_opens (plain_model c.args.self.now.model.now) c.args.self.now.found.now c.open_boxed-in-Left.new.pool.trees c.args.by.now c.open_boxed.new.pool.trees c.args.process.now c.deref-in-Left.result.now c.deref-in-Left-2.result.now c.in-Left.first c.in-Left.second c.in_ok-open_boxed-in-Left.field-0 c.in_ok-open_boxed-in-Left-2.field-0
+    c.in-Left.is c.deref-in-Left.ensures c.deref-in-Left-2.ensures c.open_boxed-in-Left.ensures.kept c.in_ok-open_boxed-in-Left.ensures.opens c.in_ok-open_boxed-in-Left-2.ensures.opens
+
+pub open_settled-returns-in_ok-open_all-in-Sync-clause-opens : goal.open_settled-returns-in_ok-open_all-in-Sync-clause-opens
+open_settled-returns-in_ok-open_all-in-Sync-clause-opens t c =
+    sync_opens (plain_model c.args.self.now.model.now) c.args.self.now.found.now c.open_all-in-Sync.new.pool.trees c.args.by.now c.args.process.now c.in-Sync.parts c.deref-in-Sync.result.now c.in_ok-open_all-in-Sync.field-0 c.in-Sync.is c.deref-in-Sync.ensures.value c.in_ok-open_all-in-Sync.ensures.opens

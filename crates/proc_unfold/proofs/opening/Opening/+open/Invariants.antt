@@ -14,6 +14,9 @@ decreases-open_settled l = l.rank * (3 * deepest l.self.now.model.now.procs.item
 abbrev pub decreases-open_under : goal.decreases-open_under
 decreases-open_under l = l.rank * (3 * deepest l.self.now.model.now.procs.items + 1) + (3 * nodes (plain_process l.part.now) + 2)
 
+abbrev pub decreases-open_boxed : goal.decreases-open_boxed
+decreases-open_boxed l = l.rank * (3 * deepest l.self.now.model.now.procs.items + 1) + (3 * nodes (plain_process l.part.now) + 2)
+
 abbrev pub decreases-open_all : goal.decreases-open_all
 decreases-open_all l = l.rank * (3 * deepest l.self.now.model.now.procs.items + 1) + (3 * all_nodes (processes_of (map plain_process l.parts.now)) + 2)
 
