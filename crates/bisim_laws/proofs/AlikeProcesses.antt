@@ -7,7 +7,7 @@ use Rattle.data_theory.specs.Provable.{reflexive, symmetric, transitive}
 use Rattle.process_terms.specs.Theories.{Theory}
 use Rattle.process_terms.specs.Labels.{Label, AgreeInOrder}
 use Rattle.process_terms.specs.Processes.{Around, Start, Table, Process, delta, act, choice, seq, cond, sum, call, merge, starting, around, Definition, close, BodyOf, the_body}
-use Rattle.process_terms.specs.Steps.{Outcome, ended, goes_on, before, beside, within, Step, by_act, by_left, by_right, by_seq, by_true, by_false, by_sum, by_call, by_left_alone, by_right_alone, by_both, by_left_first, by_both_first, by_around}
+use Rattle.process_terms.specs.Steps.{Outcome, ended, goes_on, before, beside, within, Step, by_act, by_left, by_right, by_seq, by_true, by_false, by_sum, by_call, by_left_alone, by_right_alone, by_both, by_left_merge, by_sync, by_around}
 use Rattle.process_terms.proofs.AgreeingLabels.{equals_refl, equals_sym, agree_refl, agree_sym, agree_trans, agree_append}
 use Rattle.process_terms.proofs.OperatorLemmas.{passes_along}
 use Rattle.bisim_laws.specs.Sameness.{EqualData, equal_delta, equal_act, equal_choice, equal_seq, equal_cond, equal_sum, equal_call, equal_merge, equal_starting, equal_around, Alike, by_data, by_body, turned, joined_up, seq_regrouped, merge_regrouped, alike_choice, alike_seq, alike_cond, alike_sum, alike_merge, alike_starting, alike_around}
@@ -90,13 +90,13 @@ data_answers (by_both s t) q (equal_merge h k) =
     let a = data_answers s _ h in
     let b = data_answers t _ k in
     record { label = _; outcome = _; step = by_both a.step b.step; agree = agree_append a.agree b.agree; lands = lands_beside (λ x x' y y' h k. equal_merge h k) a.lands b.lands }
-data_answers (by_left_first s) q (equal_starting h k) =
+data_answers (by_left_merge s) q (equal_starting h k) =
     let a = data_answers s _ h in
-    record { label = a.label; outcome = _; step = by_left_first a.step; agree = a.agree; lands = lands_beside (λ x x' y y' h k. equal_merge h k) a.lands (both_go_on k) }
-data_answers (by_both_first s t) q (equal_starting h k) =
+    record { label = a.label; outcome = _; step = by_left_merge a.step; agree = a.agree; lands = lands_beside (λ x x' y y' h k. equal_merge h k) a.lands (both_go_on k) }
+data_answers (by_sync s t) q (equal_starting h k) =
     let a = data_answers s _ h in
     let b = data_answers t _ k in
-    record { label = _; outcome = _; step = by_both_first a.step b.step; agree = agree_append a.agree b.agree; lands = lands_beside (λ x x' y y' h k. equal_merge h k) a.lands b.lands }
+    record { label = _; outcome = _; step = by_sync a.step b.step; agree = agree_append a.agree b.agree; lands = lands_beside (λ x x' y y' h k. equal_merge h k) a.lands b.lands }
 data_answers (by_around {o = o} s f) q (equal_around h) =
     let a = data_answers s _ h in
     let g = passes_along f a.agree in
@@ -171,13 +171,13 @@ through_merge f h g k m r (by_both s t) =
     record { label = _; outcome = _; step = by_both a.step b.step; agree = agree_append a.agree b.agree; lands = lands_beside (λ x x' y y' h k. alike_merge h k) a.lands b.lands }
 
 through_starting : {th : Theory} {o : Start} {p p' q q' : Process} → AnswersAlike th p p' → AnswersAlike th q q' → Alike th q q' → AnswersAlike th (starting o p q) (starting o p' q')
-through_starting f g k m r (by_left_first s) =
+through_starting f g k m r (by_left_merge s) =
     let a = f m _ s in
-    record { label = a.label; outcome = _; step = by_left_first a.step; agree = a.agree; lands = lands_beside (λ x x' y y' h k. alike_merge h k) a.lands (both_go_on k) }
-through_starting f g k m r (by_both_first s t) =
+    record { label = a.label; outcome = _; step = by_left_merge a.step; agree = a.agree; lands = lands_beside (λ x x' y y' h k. alike_merge h k) a.lands (both_go_on k) }
+through_starting f g k m r (by_sync s t) =
     let a = f _ _ s in
     let b = g _ _ t in
-    record { label = _; outcome = _; step = by_both_first a.step b.step; agree = agree_append a.agree b.agree; lands = lands_beside (λ x x' y y' h k. alike_merge h k) a.lands b.lands }
+    record { label = _; outcome = _; step = by_sync a.step b.step; agree = agree_append a.agree b.agree; lands = lands_beside (λ x x' y y' h k. alike_merge h k) a.lands b.lands }
 
 through_around : {th : Theory} {o : Around} {p p' : Process} → AnswersAlike th p p' → AnswersAlike th (around o p) (around o p')
 through_around {o = o} f m r (by_around s i) =

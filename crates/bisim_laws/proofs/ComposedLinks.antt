@@ -2,12 +2,12 @@
 use Rattle.process_terms.specs.Theories.{Theory}
 use Rattle.process_terms.specs.Labels.{Label}
 use Rattle.process_terms.specs.Processes.{Around, Start, Process, merge, starting, around}
-use Rattle.process_terms.specs.Steps.{Outcome, beside, within, Step, by_left_alone, by_right_alone, by_both, by_left_first, by_both_first, by_around}
+use Rattle.process_terms.specs.Steps.{Outcome, beside, within, Step, by_left_alone, by_right_alone, by_both, by_left_merge, by_sync, by_around}
 use Rattle.process_terms.proofs.AgreeingLabels.{agree_trans, agree_append}
 use Rattle.process_terms.proofs.OperatorLemmas.{passes_along}
 use Rattle.bisim_laws.specs.Sameness.{Alike, turned, joined_up}
 use Rattle.bisim_laws.specs.Bisimulations.{Lands, both_end, both_go_on, Answer, Answers, Flipped, Bisimulation, Joined, joined, Sides, both_sides, left_side, right_side, SidesBegun, before_first, after_first, AroundBoth, around_both, UpTo, up_to, Progress}
-use Rattle.bisim_laws.specs.Links.{Same, Then, Product, Beside, Started, Begun, Wrapped, Under, Form, Regular, Stack, Dropped, Solved, Held, Phased, Sealed}
+use Rattle.bisim_laws.specs.Links.{Same, Then, Product, Beside, ProductFrom, Begun, Wrapped, Under, Form, Regular, Stack, Dropped, Solved, Held, Phased, Sealed}
 use Rattle.bisim_laws.specs.LinkLaws.{SameIsGood, ThenIsGood, BesideIsGood, BegunIsGood, UnderIsGood, UpToSameIsEnough}
 use Rattle.bisim_laws.proofs.AlikeProcesses.{lands_weaken, answer_weaken, alike_answers, alike_bisimulation}
 
@@ -77,13 +77,13 @@ sides_bisimulation {th} {R} {S} f g = record {
 -- ---- an operator between the sides, before the first step
 starting_answers : {th : Theory} {R S : Process → Process → Type 0} (o : Start) → Answers th R R → Answers th S S → (p p' q q' : Process) → R p p' → S q q' → (m : Label) (r : Outcome) → Step th (starting o p q) m r
     → Answer th (SidesBegun o R S) (starting o p' q') m r
-starting_answers o f g p p' q q' h k m r (by_left_first s) =
+starting_answers o f g p p' q q' h k m r (by_left_merge s) =
     let a = f p p' _ _ h s in
-    record { label = a.label; outcome = _; step = by_left_first a.step; agree = a.agree; lands = lands_weaken (λ x y j. after_first j) (lands_sides a.lands (both_go_on k)) }
-starting_answers o f g p p' q q' h k m r (by_both_first s t) =
+    record { label = a.label; outcome = _; step = by_left_merge a.step; agree = a.agree; lands = lands_weaken (λ x y j. after_first j) (lands_sides a.lands (both_go_on k)) }
+starting_answers o f g p p' q q' h k m r (by_sync s t) =
     let a = f p p' _ _ h s in
     let b = g q q' _ _ k t in
-    record { label = _; outcome = _; step = by_both_first a.step b.step; agree = agree_append a.agree b.agree; lands = lands_weaken (λ x y j. after_first j) (lands_sides a.lands b.lands) }
+    record { label = _; outcome = _; step = by_sync a.step b.step; agree = agree_append a.agree b.agree; lands = lands_weaken (λ x y j. after_first j) (lands_sides a.lands b.lands) }
 
 begun_answers : {th : Theory} {R S : Process → Process → Type 0} (o : Start) → Answers th R R → Answers th S S → Answers th (SidesBegun o R S) (SidesBegun o R S)
 begun_answers o f g p q m r (before_first h k) s = starting_answers o f g _ _ _ _ h k m r s
@@ -176,7 +176,7 @@ up_to_enough th Same i f = absurd i
 up_to_enough th (Then k l) i f = absurd i
 up_to_enough th (Product a b l) i f = up_to_bisimulation f
 up_to_enough th (Beside a b l j k) i f = absurd i
-up_to_enough th (Started o a b l) i f = up_to_bisimulation f
+up_to_enough th (ProductFrom o a b l) i f = up_to_bisimulation f
 up_to_enough th (Begun o a b l j k) i f = absurd i
 up_to_enough th (Wrapped o l k) i f = up_to_bisimulation f
 up_to_enough th (Under o l k j) i f = absurd i

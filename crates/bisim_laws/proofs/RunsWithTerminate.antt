@@ -4,7 +4,7 @@ use Rattle.process_terms.specs.Theories.{Theory}
 use Rattle.process_terms.specs.Labels.{Label}
 use Rattle.process_terms.specs.Processes.{Process}
 use Rattle.process_terms.specs.Steps.{Outcome, ended, goes_on, Step}
-use Rattle.bisim_laws.specs.Terminations.{terminate_label, ComesToRest, comes_to_rest, LandsOrTerminates, the_first_ends, the_first_goes_on, TerminatingBisimulation}
+use Rattle.bisim_laws.specs.Terminations.{terminate_label, ComesToDeadlock, comes_to_deadlock, LandsOrTerminates, the_first_ends, the_first_goes_on, TerminatingBisimulation}
 use Rattle.bisim_laws.specs.Runs.{Run, no_step, one_step}
 use Rattle.bisim_laws.specs.TerminatingRuns.{AgreeEach, no_labels, one_label, ComesFrom, from_a_run, from_an_end, AnswersRun, RunsComeFromRuns, RunsAreAnswered}
 
@@ -15,20 +15,20 @@ module _ {th : Theory} {R : Process → Process → Type 0} {E : Process → Typ
   in_front {m = m} s (one_label a no_labels) (from_an_end {ms = ms} k b w) = from_an_end {ms = m ∷ ms} (one_step s k) (one_label a b) w
 
   -- behind the last step there is nothing
-  nothing_more : {ms : List Label} {o r : Outcome} → ComesToRest th o → Run th o ms r → (ms ≡ []) × ComesToRest th r
+  nothing_more : {ms : List Label} {o r : Outcome} → ComesToDeadlock th o → Run th o ms r → (ms ≡ []) × ComesToDeadlock th r
   nothing_more h no_step = (refl, h)
-  nothing_more (comes_to_rest k) (one_step {q = q} {m = m} s t) = absurd (k m q s)
+  nothing_more (comes_to_deadlock k) (one_step {q = q} {m = m} s t) = absurd (k m q s)
 
-  at_rest_from : {p : Process} {m n : Label} {o : Outcome} → Step th p n ended → AgreeEach th (m ∷ []) (n ∷ []) → {k : Label} → k ≡ terminate_label → ComesToRest th o → ComesFrom th R E p (m ∷ k ∷ []) o
-  at_rest_from {p} {m} s a e (comes_to_rest {p = q} w) = subst (λ z. ComesFrom th R E p (m ∷ z ∷ []) (goes_on q)) (sym e) (from_an_end {ms = m ∷ []} (one_step s no_step) a w)
+  deadlock_from : {p : Process} {m n : Label} {o : Outcome} → Step th p n ended → AgreeEach th (m ∷ []) (n ∷ []) → {k : Label} → k ≡ terminate_label → ComesToDeadlock th o → ComesFrom th R E p (m ∷ k ∷ []) o
+  deadlock_from {p} {m} s a e (comes_to_deadlock {p = q} w) = subst (λ z. ComesFrom th R E p (m ∷ z ∷ []) (goes_on q)) (sym e) (from_an_end {ms = m ∷ []} (one_step s no_step) a w)
 
   -- behind the first one's end
   behind_end : {p q : Process} {m n : Label} {ms : List Label} {r : Outcome} → Step th p n ended → AgreeEach th (m ∷ []) (n ∷ []) → E q → Run th (goes_on q) ms r → ComesFrom th R E p (m ∷ ms) r
   behind_end s a e no_step = from_a_run (one_step s no_step) a (the_first_ends e)
   behind_end {p} {q} {m} s a e (one_step {q = o} {r = r} {m = k} {ms = ms} t w) =
       let c = (f.terminates q e).each k o t in
-      let d = nothing_more c.rests w in
-      subst (λ z. ComesFrom th R E p (m ∷ k ∷ z) r) (sym d.0) (at_rest_from s a c.label d.1)
+      let d = nothing_more c.deadlock w in
+      subst (λ z. ComesFrom th R E p (m ∷ k ∷ z) r) (sym d.0) (deadlock_from s a c.label d.1)
 
   -- what comes of an outcome
   data ComesOut : Outcome → List Label → Outcome → Type 0 where

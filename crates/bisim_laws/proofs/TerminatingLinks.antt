@@ -8,9 +8,9 @@ use Rattle.process_terms.specs.Steps.{Outcome, ended, goes_on, Step, by_act, by_
 use Rattle.process_terms.proofs.AgreeingLabels.{agree_trans}
 use Rattle.bisim_laws.specs.Sameness.{Alike, turned, joined_up}
 use Rattle.bisim_laws.specs.Bisimulations.{Lands, both_end, both_go_on, Answers, Replies, Flipped, Bisimulation, Joined, joined, UpTo, up_to}
-use Rattle.bisim_laws.specs.Terminations.{without_arguments, terminate_name, terminate_label, ComesToRest, comes_to_rest, Terminates, LandsOrTerminates, the_first_ends, the_first_goes_on, Exchanged, TerminatingBisimulation, EndJoined, end_joined, TerminatingProgress}
+use Rattle.bisim_laws.specs.Terminations.{without_arguments, terminate_name, terminate_label, ComesToDeadlock, comes_to_deadlock, Terminates, LandsOrTerminates, the_first_ends, the_first_goes_on, Exchanged, TerminatingBisimulation, EndJoined, end_joined, TerminatingProgress}
 use Rattle.bisim_laws.specs.LinkLaws.{ThenIsGoodWithTerminate, SealedIsGoodWithTerminate, UpToSameIsEnoughWithTerminate}
-use Rattle.bisim_laws.specs.LinkChecks.{again_and_again, WhatEndsIsNotGoodWithTerminate, StoppingIsNotTerminating, TerminatingAgainIsNotTerminating}
+use Rattle.bisim_laws.specs.LinkChecks.{again_and_again, WhatEndsIsNotGoodWithTerminate, StoppingIsNotTerminating, DeadlockIsNotTerminating, TerminatingAgainIsNotTerminating}
 use Rattle.bisim_laws.proofs.AlikeProcesses.{alike_answers, alike_bisimulation}
 
 -- ---- what takes the place of the end goes along a bisimulation
@@ -20,9 +20,9 @@ alone_agrees a (next_agree (equal_args no_terms) both_silent) = refl
 last_label : {th : Theory} {m n : Label} → AgreeInOrder th m n → n ≡ terminate_label → m ≡ terminate_label
 last_label {th} {m} {n} h e = alone_agrees terminate_name (subst (λ z. AgreeInOrder th m z) e h)
 
-rests_along : {th : Theory} {S : Process → Process → Type 0} → Answers th S S → {r o : Outcome} → Lands S r o → ComesToRest th o → ComesToRest th r
-rests_along f both_end k = elim k [ ]
-rests_along f (both_go_on {p = p} {q = q} h) (comes_to_rest k) = comes_to_rest (λ m r s. let a = f p q m r h s in k a.label a.outcome a.step)
+deadlocks_along : {th : Theory} {S : Process → Process → Type 0} → Answers th S S → {r o : Outcome} → Lands S r o → ComesToDeadlock th o → ComesToDeadlock th r
+deadlocks_along f both_end k = elim k [ ]
+deadlocks_along f (both_go_on {p = p} {q = q} h) (comes_to_deadlock k) = comes_to_deadlock (λ m r s. let a = f p q m r h s in k a.label a.outcome a.step)
 
 pub terminates_along : {th : Theory} {S : Process → Process → Type 0} → Bisimulation th S → (z q : Process) → S z q → Terminates th z → Terminates th q
 terminates_along {th} {S} f z q h t =
@@ -34,7 +34,7 @@ terminates_along {th} {S} f z q h t =
       each = λ m r s.
           let b = f.back q z m r h s in
           let c = t.each b.label b.outcome b.step in
-          record { label = last_label b.agree c.label; rests = rests_along f.back b.lands c.rests };
+          record { label = last_label b.agree c.label; deadlock = deadlocks_along f.back b.lands c.deadlock };
     }
 
 -- ---- one relation after another
@@ -150,14 +150,24 @@ stopping_not_terminating th l a g =
     let k = g.follows.forth (act a) (seq (act a) delta) a ended g.starts by_act in
     delta_stays (terminates_then g.follows k.step k.lands).step
 
+-- where the first one is in a deadlock after one step, the second one does no further step
+does_no_more : {th : Theory} {R : Process → Process → Type 0} {E : Process → Type 0} {a m n : Label} {q : Process} {r : Outcome} → TerminatingBisimulation th R E → Step th (seq (act a) (seq (act n) q)) m r
+    → LandsOrTerminates R E (goes_on delta) r → ⊥
+does_no_more {n = n} {q = q} f (by_seq by_act) (the_first_goes_on h) = delta_stays (f.back (seq (act n) q) delta n (goes_on q) h (by_seq by_act)).step
+
+pub deadlock_not_terminating : DeadlockIsNotTerminating
+deadlock_not_terminating th l a g =
+    let k = g.follows.forth (seq (act a) delta) (seq (act a) (seq (act terminate_label) delta)) a (goes_on delta) g.starts (by_seq by_act) in
+    does_no_more g.follows k.step k.lands
+
 again : {th : Theory} → Step th (call again_and_again 0 []) terminate_label (goes_on (call again_and_again 0 []))
 again = by_call (the_body _ refl refl) (by_seq by_act)
 
-never_rests : {th : Theory} {p : Process} {m : Label} {r : Outcome} → Step th p m r → ComesToRest th (goes_on p) → ⊥
-never_rests {m = m} {r = r} s (comes_to_rest k) = k m r s
+no_deadlock : {th : Theory} {p : Process} {m : Label} {r : Outcome} → Step th p m r → ComesToDeadlock th (goes_on p) → ⊥
+no_deadlock {m = m} {r = r} s (comes_to_deadlock k) = k m r s
 
 pub again_not_terminating : TerminatingAgainIsNotTerminating
 again_not_terminating th l a g =
     let k = g.follows.forth (act a) (seq (act a) (call again_and_again 0 [])) a ended g.starts by_act in
     let t = terminates_then g.follows k.step k.lands in
-    never_rests again (t.each terminate_label (goes_on (call again_and_again 0 [])) again).rests
+    no_deadlock again (t.each terminate_label (goes_on (call again_and_again 0 [])) again).deadlock

@@ -36,11 +36,11 @@ pub data ProductState (th : Theory) (a b : Side) (l : Linear) : Process → Proc
 -- ---- a product whose first step is of one kind
 -- The last column says whether the first step is still to come. Until then both sides are running, and the operator stands
 -- between them. Afterwards they are two sides of a product.
-pub data StartedState (th : Theory) (o : Start) (a b : Side) (l : Linear) : Process → Process → Type 0 where
+pub data ProductFromState (th : Theory) (o : Start) (a b : Side) (l : Linear) : Process → Process → Type 0 where
   at_first : {p q : Process} {ts us : List Term} {f : Term} → SideAt th a (goes_on p) ts → SideAt th b (goes_on q) us → IsOfSort th boolean f → IsTrue th f
-      → StartedState th o a b l (starting o p q) (state_of l ((ts ++ us) ++ (f ∷ [])))
+      → ProductFromState th o a b l (starting o p q) (state_of l ((ts ++ us) ++ (f ∷ [])))
   begun : {r s : Outcome} {ts us : List Term} {f : Term} {p : Process} → SideAt th a r ts → SideAt th b s us → IsOfSort th boolean f → IsFalse th f → beside r s ≡ goes_on p
-      → StartedState th o a b l p (state_of l ((ts ++ us) ++ (f ∷ [])))
+      → ProductFromState th o a b l p (state_of l ((ts ++ us) ++ (f ∷ [])))
 
 -- ---- an operator around a linear process
 -- with the state of the process that was made for it
@@ -149,22 +149,22 @@ pub data SolvedState (th : Theory) (l k : Linear) : Process → Process → Type
 -- ---- a phase
 -- Where the linear process k is sealed it has one more parameter, the phase. That is 1 up to the end and 2 behind it, and 3 once
 -- the last step is done. Without a phase k is l.
-abbrev pub up_to_the_end : Term
-up_to_the_end = number_of 0
+abbrev pub phase_running : Term
+phase_running = number_of 0
 
-abbrev pub behind_the_end : Term
-behind_the_end = number_of 1
+abbrev pub phase_ended : Term
+phase_ended = number_of 1
 
-abbrev pub all_is_done : Term
-all_is_done = number_of 2
+abbrev pub phase_done : Term
+phase_done = number_of 2
 
 pub data SealedState (th : Theory) : Bool → Linear → Linear → Process → Process → Type 0 where
-  with_phase : {l k : Linear} {ts : List Term} {t : Term} → AreOfSorts th (sorts l.params) ts → IsOfSort th positive t → Equal th t up_to_the_end → SealedState th true l k (state_of l ts) (state_of k (ts ++ t ∷ []))
+  with_phase : {l k : Linear} {ts : List Term} {t : Term} → AreOfSorts th (sorts l.params) ts → IsOfSort th positive t → Equal th t phase_running → SealedState th true l k (state_of l ts) (state_of k (ts ++ t ∷ []))
   without_phase : {l k : Linear} {ts : List Term} → AreOfSorts th (sorts l.params) ts → SealedState th false l k (state_of l ts) (state_of k ts)
 
 -- the states that are paired with the end
 pub data SealedEnd (th : Theory) : Bool → Linear → Linear → Process → Type 0 where
-  in_phase_two : {l k : Linear} {t : Term} (ts : List Term) → AreOfSorts th (sorts l.params) ts → IsOfSort th positive t → Equal th t behind_the_end → SealedEnd th true l k (state_of k (ts ++ t ∷ []))
+  in_phase_two : {l k : Linear} {t : Term} (ts : List Term) → AreOfSorts th (sorts l.params) ts → IsOfSort th positive t → Equal th t phase_ended → SealedEnd th true l k (state_of k (ts ++ t ∷ []))
 
 -- ---- an invariant
 -- provably equal arguments of which the invariant, a term over the parameters, is provably true

@@ -36,6 +36,10 @@ WhatEndsIsNotGoodWithTerminate = (th : Theory) (l : Link) (p q : Process) (m : L
 abbrev pub StoppingIsNotTerminating : Type 0
 StoppingIsNotTerminating = (th : Theory) (l : Link) (a : Label) → IsGoodWithTerminate th l (act a) (seq (act a) delta) → ⊥
 
+-- `a . delta` with `a . Terminate . delta`: the first one doesn't end
+abbrev pub DeadlockIsNotTerminating : Type 0
+DeadlockIsNotTerminating = (th : Theory) (l : Link) (a : Label) → IsGoodWithTerminate th l (seq (act a) delta) (seq (act a) (seq (act terminate_label) delta)) → ⊥
+
 -- `proc X = Terminate . X`
 abbrev pub again_and_again : Table
 again_and_again = record { params = []; body = written_seq (written_act terminate_label) (written_call 0 []) } ∷ []

@@ -11,7 +11,7 @@ use Rattle.bisim_laws.specs.Terminations.{TerminatingBisimulation, TerminatingPr
 use Rattle.bisim_laws.specs.LinearProcesses.{Summand, Linear, variables, sorts, linear_table, state_of, WritesLinear, IsSummand, IsLinear, IsWellSorted, put_next, NextEquals, outcome_in, outcome_of, Does, Fires}
 use Rattle.bisim_laws.specs.BaseStates.{Side, IsCall, Piece, StandsFor}
 use Rattle.bisim_laws.specs.Compositions.{PiecesAnswer}
-use Rattle.bisim_laws.specs.Links.{Link, Same, Then, Product, Beside, Started, Begun, Wrapped, Under, Form, Phased, Sealed, IsBase, States, Pairs, IsGood, EndStates, PairsEnd, IsGoodWithTerminate}
+use Rattle.bisim_laws.specs.Links.{Link, Same, Then, Product, Beside, ProductFrom, Begun, Wrapped, Under, Form, Phased, Sealed, IsBase, States, Pairs, IsGood, EndStates, PairsEnd, IsGoodWithTerminate}
 
 -- ---- links
 abbrev pub SameIsGood : Type 0
@@ -28,7 +28,7 @@ BesideIsGood =
 
 abbrev pub BegunIsGood : Type 0
 BegunIsGood =
-    (th : Theory) (o : Start) (a b : Side) (l : Linear) (j k : Link) (p x q y r : Process) → IsGood th j p x → IsGood th k q y → IsGood th (Started o a b l) (starting o x y) r
+    (th : Theory) (o : Start) (a b : Side) (l : Linear) (j k : Link) (p x q y r : Process) → IsGood th j p x → IsGood th k q y → IsGood th (ProductFrom o a b l) (starting o x y) r
     → IsGood th (Begun o a b l j k) (starting o p q) r
 
 abbrev pub UnderIsGood : Type 0

@@ -7,16 +7,16 @@ use Rattle.bisim_laws.specs.Sameness.{Alike}
 use Rattle.bisim_laws.specs.Bisimulations.{Bisimulation, Joined, Sides, SidesBegun, AroundBoth, UpTo}
 use Rattle.bisim_laws.specs.Terminations.{TerminatingBisimulation, EndJoined}
 use Rattle.bisim_laws.specs.LinearProcesses.{Linear}
-use Rattle.bisim_laws.specs.BaseStates.{Side, ProductState, StartedState, AroundState, AlongOneList, IsCall, Piece, StandsFor, Columns, RegularState, StackNames, StackState, Fate, DroppedState, SolvedState, SealedState, SealedEnd, HeldState}
+use Rattle.bisim_laws.specs.BaseStates.{Side, ProductState, ProductFromState, AroundState, AlongOneList, IsCall, Piece, StandsFor, Columns, RegularState, StackNames, StackState, Fate, DroppedState, SolvedState, SealedState, SealedEnd, HeldState}
 
--- `Product`, `Started`, `Wrapped` and `Phased` are the base relations of `Beside`, `Begun`, `Under` and `Sealed`. The linear processes,
+-- `Product`, `ProductFrom`, `Wrapped` and `Phased` are the base relations of `Beside`, `Begun`, `Under` and `Sealed`. The linear processes,
 -- tables and columns are what the relation reads.
 pub data Link : Type 0 where
   Same : Link
   Then : Link → Link → Link
   Product : Side → Side → Linear → Link
   Beside : Side → Side → Linear → Link → Link → Link
-  Started : Start → Side → Side → Linear → Link
+  ProductFrom : Start → Side → Side → Linear → Link
   Begun : Start → Side → Side → Linear → Link → Link → Link
   Wrapped : Around → Linear → Linear → Link
   Under : Around → Linear → Linear → Link → Link
@@ -32,7 +32,7 @@ pub data Link : Type 0 where
 -- a link that doesn't stand on other links
 abbrev pub IsBase : Link → Type 0
 IsBase (Product a b l) = Unit {0}
-IsBase (Started o a b l) = Unit {0}
+IsBase (ProductFrom o a b l) = Unit {0}
 IsBase (Wrapped o l k) = Unit {0}
 IsBase (Form d pieces form) = Unit {0}
 IsBase (Regular form c l) = Unit {0}
@@ -46,7 +46,7 @@ IsBase _ = ⊥
 -- the states that a base link pairs, before what is the same counts as equal
 abbrev pub States : Theory → Link → Process → Process → Type 0
 States th (Product a b l) = ProductState th a b l
-States th (Started o a b l) = StartedState th o a b l
+States th (ProductFrom o a b l) = ProductFromState th o a b l
 States th (Wrapped o l k) = AroundState th o l k
 States th (Form d pieces form) = AlongOneList (StandsFor th d pieces) (IsCall form)
 States th (Regular form c l) = RegularState th form c l
@@ -63,8 +63,8 @@ Pairs th Same = Alike th
 Pairs th (Then k l) = Joined (Pairs th k) (Pairs th l)
 Pairs th (Product a b l) = UpTo th (States th (Product a b l))
 Pairs th (Beside a b l j k) = Joined (Sides (Pairs th j) (Pairs th k)) (UpTo th (States th (Product a b l)))
-Pairs th (Started o a b l) = UpTo th (States th (Started o a b l))
-Pairs th (Begun o a b l j k) = Joined (SidesBegun o (Pairs th j) (Pairs th k)) (UpTo th (States th (Started o a b l)))
+Pairs th (ProductFrom o a b l) = UpTo th (States th (ProductFrom o a b l))
+Pairs th (Begun o a b l j k) = Joined (SidesBegun o (Pairs th j) (Pairs th k)) (UpTo th (States th (ProductFrom o a b l)))
 Pairs th (Wrapped o l k) = UpTo th (States th (Wrapped o l k))
 Pairs th (Under o l k j) = Joined (AroundBoth o (Pairs th j)) (UpTo th (States th (Wrapped o l k)))
 Pairs th (Form d pieces form) = UpTo th (States th (Form d pieces form))

@@ -4,7 +4,7 @@ use Rattle.process_terms.specs.Theories.{Theory}
 use Rattle.process_terms.specs.Labels.{Label, AgreeInOrder}
 use Rattle.process_terms.specs.Processes.{Process}
 use Rattle.process_terms.specs.Steps.{Outcome, ended, goes_on}
-use Rattle.bisim_laws.specs.Terminations.{terminate_label, IsAtRest, LandsOrTerminates}
+use Rattle.bisim_laws.specs.Terminations.{terminate_label, IsDeadlock, LandsOrTerminates}
 use Rattle.bisim_laws.specs.Runs.{Run}
 use Rattle.bisim_laws.specs.Links.{Link, Pairs, PairsEnd, IsGoodWithTerminate}
 
@@ -17,7 +17,7 @@ pub data AgreeEach (th : Theory) : List Label → List Label → Type 0 where
 -- paired state or ends; and where it ends, `Terminate` may follow, and then nothing.
 pub data ComesFrom (th : Theory) (R : Process → Process → Type 0) (E : Process → Type 0) (p : Process) : List Label → Outcome → Type 0 where
   from_a_run : {ms ns : List Label} {o r : Outcome} → Run th (goes_on p) ns o → AgreeEach th ms ns → LandsOrTerminates R E o r → ComesFrom th R E p ms r
-  from_an_end : {ms ns : List Label} {q : Process} → Run th (goes_on p) ns ended → AgreeEach th ms ns → IsAtRest th q → ComesFrom th R E p (ms ++ terminate_label ∷ []) (goes_on q)
+  from_an_end : {ms ns : List Label} {q : Process} → Run th (goes_on p) ns ended → AgreeEach th ms ns → IsDeadlock th q → ComesFrom th R E p (ms ++ terminate_label ∷ []) (goes_on q)
 
 -- a run of the second process that answers one of the first
 pub record AnswersRun (th : Theory) (R : Process → Process → Type 0) (E : Process → Type 0) (q : Process) (ns : List Label) (o : Outcome) : Type 0 where

@@ -20,16 +20,16 @@ abbrev pub terminate_label : Label
 terminate_label = without_arguments terminate_name
 
 -- ---- the state that is paired with the end
-abbrev pub IsAtRest : Theory → Process → Type 0
-IsAtRest th p = (m : Label) (r : Outcome) → Step th p m r → ⊥
+abbrev pub IsDeadlock : Theory → Process → Type 0
+IsDeadlock th p = (m : Label) (r : Outcome) → Step th p m r → ⊥
 
 -- the outcome is a state without steps
-pub data ComesToRest (th : Theory) : Outcome → Type 0 where
-  comes_to_rest : {p : Process} → IsAtRest th p → ComesToRest th (goes_on p)
+pub data ComesToDeadlock (th : Theory) : Outcome → Type 0 where
+  comes_to_deadlock : {p : Process} → IsDeadlock th p → ComesToDeadlock th (goes_on p)
 
 pub record IsLastStep (th : Theory) (m : Label) (r : Outcome) : Type 0 where
   pub label : m ≡ terminate_label
-  pub rests : ComesToRest th r
+  pub deadlock : ComesToDeadlock th r
 
 -- it has a step, and each of its steps has the label `Terminate` alone and leads to a state without steps
 pub record Terminates (th : Theory) (q : Process) : Type 0 where

@@ -1,6 +1,6 @@
 //! What no good link can pair, and what `Same` pairs, as checks of the definitions.
 
-ghost use Rattle.bisim_laws.specs.LinkChecks.{AMissingParameterPairsNothing, BracketsDoNotCount, EndingIsNotStopping, NamesOfParametersDoNotCount, NamesOfSumsDoNotCount, NothingDoneIsNoAnswer, NothingPairedIsNotGood, PiecesMayStraddleABracket, SolvedWithItselfIsGood, StoppingIsNotTerminating, TerminatingAgainIsNotTerminating, WhatEndsIsNotGoodWithTerminate};
+ghost use Rattle.bisim_laws.specs.LinkChecks.{AMissingParameterPairsNothing, BracketsDoNotCount, DeadlockIsNotTerminating, EndingIsNotStopping, NamesOfParametersDoNotCount, NamesOfSumsDoNotCount, NothingDoneIsNoAnswer, NothingPairedIsNotGood, PiecesMayStraddleABracket, SolvedWithItselfIsGood, StoppingIsNotTerminating, TerminatingAgainIsNotTerminating, WhatEndsIsNotGoodWithTerminate};
 
 /// A process that can do something has no good link with `delta`.
 pub fn nothing_done_is_no_answer()
@@ -36,9 +36,11 @@ pub fn solved_with_itself_is_good()
     ensures { SolvedWithItselfIsGood }
 {}
 
-/// No link is good with `Terminate` for a second process that ends, that stops without `Terminate`, or that terminates again and again.
+/// No link is good with `Terminate` for a second process that ends, that stops without `Terminate`, that terminates where the first one
+/// is in a deadlock, or that terminates again and again.
 pub fn terminating_is_not_ending()
     ensures ends { WhatEndsIsNotGoodWithTerminate }
     ensures stops { StoppingIsNotTerminating }
+    ensures deadlock { DeadlockIsNotTerminating }
     ensures again { TerminatingAgainIsNotTerminating }
 {}

@@ -15,7 +15,8 @@ use Rattle.term_pool.proofs.Lists.{contains_none}
 use Rattle.process_terms.specs.declared.processes.Proc.{Proc}
 use Rattle.process_terms.specs.PlainProcesses.{PlainAction, PlainProcess, processes_of, plain_process}
 use Rattle.process_terms.specs.PlainProcesses as plain
-use Rattle.process_terms.specs.Processes.{Body, written_choice, both_at_once, written_merge, written_starting, choice_of, merged_with, synced_with}
+use Rattle.process_terms.specs.Processes as written
+use Rattle.process_terms.specs.Processes.{Body, written_choice, written_merge, written_starting, choice_of, merged_with, synced_with}
 use Rattle.process_terms.specs.Meanings.{Entries, body_of, bodies_of}
 use Rattle.proc_unfold.specs.Parallel.{HasParallel}
 use Rattle.greibach.specs.PlacesInCode.{PlainPart, delta, act, choice, cond, sum, call, PlainPlace}
@@ -341,9 +342,9 @@ merge_reads ts (Ok n) ps us old new scope rest (p ∷ []) several h = absurd (se
 merge_reads ts (Ok n) ps us old new scope rest (p ∷ q ∷ qs) several h = λ e all table b c free. absurd (free (merged_parallel (body_of e p) (body_of e q) (bodies_of e (processes_of qs))))
 
 -- ---- a `|`
-pub synced_parallel : (p q : Body) (qs : List Body) → HasParallel (synced_with (written_starting both_at_once p q) qs)
+pub synced_parallel : (p q : Body) (qs : List Body) → HasParallel (synced_with (written_starting written.sync p q) qs)
 synced_parallel p q [] = tt
-synced_parallel p q (r ∷ qs) = synced_parallel (written_starting both_at_once p q) r qs
+synced_parallel p q (r ∷ qs) = synced_parallel (written_starting written.sync p q) r qs
 
 pub sync_reads : {E : Type 0} (ts : List Tree) (r : Result ℕ E) (ps us : List PlainPlace) (old new : List ProcId) (scope : List VarId) (rest : Option ℕ) (qs : List PlainProcess) → (length qs ≡ 1 → ⊥) → IfOk r (λ n. ReadsTerm ts ps us old new scope plain.delta rest n)
     → IfOk r (λ n. ReadsTerm ts ps us old new scope (plain.sync (processes_of qs)) rest n)

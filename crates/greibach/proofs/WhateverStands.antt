@@ -5,7 +5,8 @@ use Rattle.std.proofs.lemmas.Option.{slice_get-map}
 use Rattle.data_theory.specs.declared.ids.VarId.{VarId}
 use Rattle.graphs.specs.Graphs.{IsPath, IsMarked}
 use Rattle.process_terms.specs.PlainProcesses.{PlainProcess, PlainProcesses, PlainDefinition, PlainModel, call_of, term_of, delta, act, call, choice, seq, cond, sum, merge, left_merge, sync, around, no_processes, more_processes}
-use Rattle.process_terms.specs.Processes.{Body, Definition, both_at_once, written_merge, written_starting, choice_of, seq_of, merged_with, synced_with, sums_around}
+use Rattle.process_terms.specs.Processes as written
+use Rattle.process_terms.specs.Processes.{Body, Definition, written_merge, written_starting, choice_of, seq_of, merged_with, synced_with, sums_around}
 use Rattle.process_terms.specs.Meanings.{Entries, bound_at, body_of, bodies_of, definition_of, table_of}
 use Rattle.guard_check.specs.declared.calls.Extent.TheVariants.{Everywhere}
 use Rattle.guard_check.specs.Calls.{calls, Calls}
@@ -89,7 +90,7 @@ module _ (e f : Entries) where
 
     synced_there : (xs : List ℕ) (b c : Body) → (BindsAnew xs b → BindsAnew xs c) → (ps : PlainProcesses) → BindsAnew xs (synced_with b (bodies_of e ps)) → BindsAnew xs (synced_with c (bodies_of f ps))
     synced_there xs b c w no_processes h = w h
-    synced_there xs b c w (more_processes q ps) h = synced_there xs (written_starting both_at_once b (body_of e q)) (written_starting both_at_once c (body_of f q)) (λ k. (w k.0, binds_there xs q k.1)) ps h
+    synced_there xs b c w (more_processes q ps) h = synced_there xs (written_starting written.sync b (body_of e q)) (written_starting written.sync c (body_of f q)) (λ k. (w k.0, binds_there xs q k.1)) ps h
 
 own_there : (e f : Entries) (m : PlainModel) → ((x : ℕ) (k : Definition) → slice_get (table_of e m.definitions) x ≡ Some k → HasOwnVariables k) → (x : ℕ) (k : Definition) → slice_get (table_of f m.definitions) x ≡ Some k → HasOwnVariables k
 own_there e f m h x k at =

@@ -3,9 +3,10 @@ use Rattle.std.proofs.Common.{◌≡◌, ◌<◌, ◌+◌, ℕ, List, [], ◌∷
 use Rattle.std.proofs.lemmas.Result.{on_ok_weaker}
 use Rattle.std.specs.Result.{OnOk}
 use Rattle.std.proofs.lemmas.List.{append-nil, map-append, append_assoc, take_more}
-use Rattle.process_terms.specs.Processes.{Bound, Body, both_at_once, written_merge, written_starting, choice_of, seq_of, merged_with, merge_of, synced_with, sync_of, sums_around}
+use Rattle.process_terms.specs.Processes as written
+use Rattle.process_terms.specs.Processes.{Bound, Body, written_merge, written_starting, choice_of, seq_of, merged_with, merge_of, synced_with, sync_of, sums_around}
 use Rattle.process_terms.specs.declared.processes.Proc.{Proc}
-use Rattle.process_terms.specs.declared.processes.Proc.TheVariants.{Cond, rolls-Cond, Left, rolls-Left}
+use Rattle.process_terms.specs.declared.processes.Proc.TheVariants.{Cond, rolls-Cond, LeftMerge, rolls-LeftMerge}
 use Rattle.process_terms.specs.declared.processes.Proc.TheFolds.{fold-roll-Proc}
 use Rattle.data_theory.specs.declared.ids.TermId.{TermId}
 use Rattle.std.specs.Global.{Box}
@@ -76,7 +77,7 @@ mutual
 
   synced_calls : (n : Extent) (g : Entries) (q : Body) (ps : PlainProcesses) → calls n q ++ all_calls n ps ≡ calls n (synced_with q (bodies_of g ps))
   synced_calls n g q no_processes = append-nil (calls n q)
-  synced_calls n g q (more_processes p ps) = sym (append_assoc (calls n q) (plain_calls n p) (all_calls n ps)) ∙ ((λ i. (calls n q ++ same_calls n g p i) ++ all_calls n ps) ∙ synced_calls n g (written_starting both_at_once q (body_of g p)) ps)
+  synced_calls n g q (more_processes p ps) = sym (append_assoc (calls n q) (plain_calls n p) (all_calls n ps)) ∙ ((λ i. (calls n q ++ same_calls n g p i) ++ all_calls n ps) ∙ synced_calls n g (written_starting written.sync q (body_of g p)) ps)
 
   chain_calls : (g : Entries) (ps : PlainProcesses) → all_calls Everywhere ps ≡ calls Everywhere (seq_of (bodies_of g ps))
   chain_calls g no_processes = refl
@@ -100,14 +101,14 @@ pub both_walked : {T E : Type 0} (r : Result T E) (n : Extent) (p : Proc) (c : T
 both_walked r n p c then other q q' start mid end is e f h k =
     on_ok_weaker r (λ j. appended start mid end _ _ h j ∙ ap (λ l. start ++ l) ((λ i. plain_calls n (plain_process (e i)) ++ plain_calls n (plain_process (f i))) ∙ sym (ap (λ q. plain_calls n (plain_process q)) is ∙ cond_calls n c then other))) k
 
-left_step : (p q : Box Proc) → plain_process (Left p q) ≡ left_merge (plain_process p.value) (plain_process q.value)
-left_step p q = ap plain_process (sym (rolls-Left p q)) ∙ fold-roll-Proc PlainProcess plain_process_step _
+left_step : (p q : Box Proc) → plain_process (LeftMerge p q) ≡ left_merge (plain_process p.value) (plain_process q.value)
+left_step p q = ap plain_process (sym (rolls-LeftMerge p q)) ∙ fold-roll-Proc PlainProcess plain_process_step _
 
-pub left_calls : (n : Extent) (p q : Box Proc) → plain_calls n (plain_process (Left p q)) ≡ plain_calls n (plain_process p.value) ++ plain_calls n (plain_process q.value)
+pub left_calls : (n : Extent) (p q : Box Proc) → plain_calls n (plain_process (LeftMerge p q)) ≡ plain_calls n (plain_process p.value) ++ plain_calls n (plain_process q.value)
 left_calls n p q = ap (plain_calls n) (left_step p q)
 
 -- both sides of a `||_` are walked
-pub left_walked : {T E : Type 0} (r : Result T E) (n : Extent) (p : Proc) (first second : Box Proc) (q q' : Proc) (start mid end : List ℕ) → p ≡ Left first second → q ≡ first.value → q' ≡ second.value
+pub left_walked : {T E : Type 0} (r : Result T E) (n : Extent) (p : Proc) (first second : Box Proc) (q q' : Proc) (start mid end : List ℕ) → p ≡ LeftMerge first second → q ≡ first.value → q' ≡ second.value
     → mid ≡ start ++ plain_calls n (plain_process q) → OnOk r (end ≡ mid ++ plain_calls n (plain_process q')) → OnOk r (end ≡ start ++ plain_calls n (plain_process p))
 left_walked r n p first second q q' start mid end is e f h k =
     on_ok_weaker r (λ j. appended start mid end _ _ h j ∙ ap (λ l. start ++ l) ((λ i. plain_calls n (plain_process (e i)) ++ plain_calls n (plain_process (f i))) ∙ sym (ap (λ q. plain_calls n (plain_process q)) is ∙ left_calls n first second))) k

@@ -54,7 +54,7 @@ fn add_calls(extent: Extent, process: &Proc, found: &mut Vec<usize>) -> Result<(
             add_calls(extent, then, found)?;
             add_calls(extent, other, found)
         }
-        Proc::Left(first, second) => {
+        Proc::LeftMerge(first, second) => {
             add_calls(extent, first, found)?;
             add_calls(extent, second, found)
         }

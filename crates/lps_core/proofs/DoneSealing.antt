@@ -32,7 +32,7 @@ use Rattle.bisim_laws.specs.LinearProcesses as theory
 use Rattle.bisim_laws.specs.LinearProcesses.{variables, sorts, state_of, IsLinear}
 use Rattle.bisim_laws.specs.Links.{Phased, IsGoodWithTerminate}
 use Rattle.bisim_laws.proofs.Firing.{contains_first, contains_none, contains_cases}
-use Rattle.bisim_laws.specs.BaseStates.{up_to_the_end}
+use Rattle.bisim_laws.specs.BaseStates.{phase_running}
 use Rattle.lps_core.specs.Fitting.{AreTermsOf, IsActionOf, IsVariable, sort_of_variable, HasTakenName, SummandFits, Fits}
 use Rattle.lps_core.specs.GoingOn.{IsGoodOverWithTerminate}
 use Rattle.lps_core.specs.declared.linears.Summand.{Summand}
@@ -212,7 +212,7 @@ module _ (g h : Sig) (ts us : List Tree) (l k : PlainLinear) (act : ActId) (v : 
   linear_meant : linear_of (entries_of h us) k ≡ sealed v.0 (linear_of (entries_of h us) l)
   linear_meant = ap₂ (λ ps xs. record { params = ps; summands = xs }) params_meant summands_meant
 
-  init_meant : initial_of (entries_of h us) k ≡ initial_of (entries_of h us) l ++ up_to_the_end ∷ []
+  init_meant : initial_of (entries_of h us) k ≡ initial_of (entries_of h us) l ++ phase_running ∷ []
   init_meant =
       ap (map (term_at (entries_of h us))) init
       ∙ map-append (term_at (entries_of h us)) l.init (first ∷ [])
@@ -234,8 +234,8 @@ module _ (g h : Sig) (ts us : List Tree) (l k : PlainLinear) (act : ActId) (v : 
   closed : HaveSorts (data_meant h) [] (terms_of (initial_of (entries_of h us) k)) (sorts (linear_of (entries_of h us) k).params)
   closed =
       subst (λ z. HaveSorts (data_meant h) [] (terms_of z) (sorts (linear_of (entries_of h us) k).params)) (sym init_meant)
-      (subst (λ z. HaveSorts (data_meant h) [] (terms_of (initial_of (entries_of h us) l ++ up_to_the_end ∷ [])) (sorts z)) (sym params_meant)
-      (columns_sorted (data_meant h) [] bounds (phase v.0 ∷ []) (initial_of (entries_of h us) l) (up_to_the_end ∷ []) fits_on.closed ((refl, one_two_three 0 (omega arith)), tt)))
+      (subst (λ z. HaveSorts (data_meant h) [] (terms_of (initial_of (entries_of h us) l ++ phase_running ∷ [])) (sorts z)) (sym params_meant)
+      (columns_sorted (data_meant h) [] bounds (phase v.0 ∷ []) (initial_of (entries_of h us) l) (phase_running ∷ []) fits_on.closed ((refl, one_two_three 0 (omega arith)), tt)))
 
   each_fits : All (SummandFits h us (l.params ++ v ∷ [])) (ss ++ last ∷ [])
   each_fits =
@@ -258,7 +258,7 @@ module _ (g h : Sig) (ts us : List Tree) (l k : PlainLinear) (act : ActId) (v : 
   }
 
   pub is_sealed : IsSealed g ts l h us k
-  is_sealed = it_is_sealed act v added params (linear_meant ∙ ap (sealed v.0) stays.0) (init_meant ∙ ap (λ z. z ++ up_to_the_end ∷ []) stays.1)
+  is_sealed = it_is_sealed act v added params (linear_meant ∙ ap (sealed v.0) stays.0) (init_meant ∙ ap (λ z. z ++ phase_running ∷ []) stays.1)
 
   pub sealed_never_ends : NeverEnds (linear_of (entries_of h us) k)
   sealed_never_ends = subst NeverEnds (sym linear_meant) (never_ends v.0 (linear_of (entries_of h us) l))

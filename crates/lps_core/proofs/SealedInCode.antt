@@ -25,7 +25,7 @@ use Rattle.process_terms.specs.Meanings.{ActionEntry, bound_at, action_at}
 use Rattle.process_terms.specs.SignatureEntries.{entries_of, action_entry}
 use Rattle.process_terms.proofs.MeaningLemmas.{entry_stays}
 use Rattle.bisim_laws.specs.Terminations.{terminate_name, terminate_label}
-use Rattle.bisim_laws.specs.BaseStates.{up_to_the_end, behind_the_end}
+use Rattle.bisim_laws.specs.BaseStates.{phase_running, phase_ended}
 use Rattle.lps_core.specs.Columns.{as_terms}
 use Rattle.lps_core.specs.Conditions.{parts, without_true, joined}
 use Rattle.lps_core.specs.Fitting.{IsVariable, sort_of_variable, HasTakenName}
@@ -96,11 +96,11 @@ module _ (h : Sig) (table : IsTable h) (complete : IsComplete h) where
   phase_means : (v : VarId) (i : ℕ) → term_under h (phase_tree v i) ≡ phase_is v.0 (num positive (pos i))
   phase_means v i = ap₂ (λ s t. application s (and_more (var v.0) (and_more t no_terms))) (numbers_mean h table complete).2 (number_means i)
 
-  condition_means : (v : VarId) (t : Tree) → IsTreeWithin h t → term_under h (conjunction_tree (phase_tree v 1 ∷ trees_without_true (tree_parts t))) ≡ joined (phase_is v.0 up_to_the_end ∷ term_under h t ∷ [])
+  condition_means : (v : VarId) (t : Tree) → IsTreeWithin h t → term_under h (conjunction_tree (phase_tree v 1 ∷ trees_without_true (tree_parts t))) ≡ joined (phase_is v.0 phase_running ∷ term_under h t ∷ [])
   condition_means v t w =
       chains_mean_chains h table complete (phase_tree v 1 ∷ trees_without_true (tree_parts t))
       ∙ ap₂ (λ c cs. conjunction_of (c ∷ cs)) (phase_means v 1) (parts_mean_parts h table complete t w)
-      ∙ ap (λ cs. conjunction_of (phase_is v.0 up_to_the_end ∷ without_true cs)) (sym (append-nil (parts (term_under h t))))
+      ∙ ap (λ cs. conjunction_of (phase_is v.0 phase_running ∷ without_true cs)) (sym (append-nil (parts (term_under h t))))
 
   variables_mean : (us : List Tree) (xs : List VarId) → map (term_under h) (map variable xs) ≡ as_terms (map (bound_at (entries_of h us)) xs)
   variables_mean us [] = refl
@@ -119,4 +119,4 @@ module _ (h : Sig) (table : IsTable h) (complete : IsComplete h) where
   pub last_tree_means : (us : List Tree) (params : List VarId) (v : VarId) (act : ActId) → meant_action h (record { act = act; args = [] }) ∷ [] ≡ terminate_label → meant_summand h (last_tree params v act) ≡ last_summand (map (bound_at (entries_of h us)) params) v.0
   last_tree_means us params v act e =
       ap₂ (λ c m. record { sums = []; condition = c; label = m; next = Some (map (term_under h) (map variable params ++ pos_tree 3 ∷ [])) }) (phase_means v 2) e
-      ∙ ap (λ n. record { sums = []; condition = phase_is v.0 behind_the_end; label = terminate_label; next = Some n }) (params_mean us params 3)
+      ∙ ap (λ n. record { sums = []; condition = phase_is v.0 phase_ended; label = terminate_label; next = Some n }) (params_mean us params 3)

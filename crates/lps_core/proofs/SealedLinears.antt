@@ -20,9 +20,9 @@ use Rattle.process_terms.specs.Steps.{ended, goes_on}
 use Rattle.process_terms.proofs.AgreeingLabels.{agree_refl}
 use Rattle.bisim_laws.specs.Bisimulations.{Reply, Replies, Flipped, UpTo, up_to}
 use Rattle.bisim_laws.specs.Sameness.{Alike}
-use Rattle.bisim_laws.specs.Terminations.{terminate_label, IsAtRest, ComesToRest, comes_to_rest, IsLastStep, Terminates, LandsOrTerminates, the_first_ends, the_first_goes_on, Exchanged, EndJoined, end_joined, TerminatingProgress}
+use Rattle.bisim_laws.specs.Terminations.{terminate_label, IsDeadlock, ComesToDeadlock, comes_to_deadlock, IsLastStep, Terminates, LandsOrTerminates, the_first_ends, the_first_goes_on, Exchanged, EndJoined, end_joined, TerminatingProgress}
 use Rattle.bisim_laws.specs.LinearProcesses.{Summand, Linear, variables, sorts, state_of, no_action_left, action_over, NextIsOver, no_next, next_over, IsSummand, IsLinear, no_action_to_sort, action_sorted, NextIsSorted, no_next_to_sort, next_sorted, AreDeclared, HaveDataSorts, SummandIsSorted, IsWellSorted, put_next, outcome_of, Does, AreBound, Fires}
-use Rattle.bisim_laws.specs.BaseStates.{number_of, up_to_the_end, behind_the_end, all_is_done, SealedState, with_phase, without_phase, SealedEnd, in_phase_two}
+use Rattle.bisim_laws.specs.BaseStates.{number_of, phase_running, phase_ended, phase_done, SealedState, with_phase, without_phase, SealedEnd, in_phase_two}
 use Rattle.bisim_laws.proofs.Firing.{contains_first, contains_cases, contains_none, variable_among, reading_same, fired, fire, does_along}
 use Rattle.bisim_laws.proofs.SortedFiring.{firings_keep}
 use Rattle.bisim_laws.proofs.AlikeProcesses.{alike_refl}
@@ -107,8 +107,8 @@ module _ (v : ℕ) (l : Linear) (is : IsLinear l) (apart : IsApart v l) where
 
   next_is_over : (s : Summand) (next : Option (List Term)) → NextIsOver (before_sealing s) l.params next → NextIsOver (after_sealing s) P (Some (sealed_next l.params v next))
   next_is_over s _ no_next = next_over
-      (over_append (after_sealing s) (as_terms l.params) (behind_the_end ∷ []) (variables_over l.params (after_sealing s) (λ x i. wider s x (Contains-append_right (variables s.sums) (variables l.params) x i))) (tt, tt))
-      (params_long (as_terms l.params) behind_the_end (length-map l.params (λ x. variable x.var)))
+      (over_append (after_sealing s) (as_terms l.params) (phase_ended ∷ []) (variables_over l.params (after_sealing s) (λ x i. wider s x (Contains-append_right (variables s.sums) (variables l.params) x i))) (tt, tt))
+      (params_long (as_terms l.params) phase_ended (length-map l.params (λ x. variable x.var)))
   next_is_over s _ (next_over {ts = ts} o e) = next_over
       (over_append (after_sealing s) ts (variable v ∷ []) (all_over_more (before_sealing s) (after_sealing s) (wider s) (terms_of ts) o) (phase_among s, tt))
       (params_long ts (variable v) e)
@@ -117,7 +117,7 @@ module _ (v : ℕ) (l : Linear) (is : IsLinear l) (apart : IsApart v l) where
   summand_is s i =
       let f = is.summands s i in
       record {
-        condition = joined_over (after_sealing s) (phase_is v up_to_the_end ∷ s.condition ∷ []) (phase_over (after_sealing s) v 0 (phase_among s), (over_more (before_sealing s) (after_sealing s) (wider s) s.condition f.condition, tt));
+        condition = joined_over (after_sealing s) (phase_is v phase_running ∷ s.condition ∷ []) (phase_over (after_sealing s) v 0 (phase_among s), (over_more (before_sealing s) (after_sealing s) (wider s) s.condition f.condition, tt));
         label = label_over_more (before_sealing s) (after_sealing s) (wider s) f.label;
         next = next_is_over s s.next f.next;
         apart = λ x j k. ⊎_elim (λ a. f.apart x j a) (λ q. apart.sums s i (subst (λ z. Contains (variables s.sums) z) (sym q) j)) (params_cases x k);
@@ -128,7 +128,7 @@ module _ (v : ℕ) (l : Linear) (is : IsLinear l) (apart : IsApart v l) where
   last_is = record {
     condition = phase_over (variables P) v 1 phase_behind;
     label = action_over tt no_action_left;
-    next = next_over (over_append (variables P) (as_terms l.params) (all_is_done ∷ []) (variables_over l.params (variables P) params_front) (tt, tt)) (params_long (as_terms l.params) all_is_done (length-map l.params (λ x. variable x.var)));
+    next = next_over (over_append (variables P) (as_terms l.params) (phase_done ∷ []) (variables_over l.params (variables P) params_front) (tt, tt)) (params_long (as_terms l.params) phase_done (length-map l.params (λ x. variable x.var)));
     apart = λ x i j. contains_nothing x i;
     distinct = tt;
   }
@@ -162,7 +162,7 @@ module _ (g : Data) (vs : List Sort) (v : ℕ) (l : Linear) (well : IsWellSorted
   phase_sort x i = ⊎_elim (λ q. subst (λ z. IsSort g z.sort) q tt) (λ j. absurd (contains_none x j)) (contains_cases (phase v) x [] i)
 
   next_is_sorted : (next : Option (List Term)) → NextIsSorted g vs (sorts l.params) next → NextIsSorted g vs (sorts Q) (Some (sealed_next l.params v next))
-  next_is_sorted _ no_next_to_sort = next_sorted (columns_sorted g vs l.params (phase v ∷ []) (as_terms l.params) (behind_the_end ∷ []) (variables_sorted g vs l.params well.params) ((refl, one_two_three 1 (omega arith)), tt))
+  next_is_sorted _ no_next_to_sort = next_sorted (columns_sorted g vs l.params (phase v ∷ []) (as_terms l.params) (phase_ended ∷ []) (variables_sorted g vs l.params well.params) ((refl, one_two_three 1 (omega arith)), tt))
   next_is_sorted _ (next_sorted {ts = ts} h) = next_sorted (columns_sorted g vs l.params (phase v ∷ []) ts (variable v ∷ []) h (d, tt))
 
   summand_sorted : (s : Summand) → Contains l.summands s → SummandIsSorted g vs Q (sealed_summand l.params v s)
@@ -171,7 +171,7 @@ module _ (g : Data) (vs : List Sort) (v : ℕ) (l : Linear) (well : IsWellSorted
       record {
         sums = f.sums;
         sum_sorts = f.sum_sorts;
-        condition = joined_sorted g vs (phase_is v up_to_the_end ∷ s.condition ∷ []) (phase_sorted g vs v 0 (omega arith) d, (f.condition, tt));
+        condition = joined_sorted g vs (phase_is v phase_running ∷ s.condition ∷ []) (phase_sorted g vs v 0 (omega arith) d, (f.condition, tt));
         label = f.label;
         next = next_is_sorted s.next f.next;
       }
@@ -182,7 +182,7 @@ module _ (g : Data) (vs : List Sort) (v : ℕ) (l : Linear) (well : IsWellSorted
     sum_sorts = λ x i. absurd (contains_none x i);
     condition = phase_sorted g vs v 1 (omega arith) d;
     label = action_sorted tt no_action_to_sort;
-    next = next_sorted (columns_sorted g vs l.params (phase v ∷ []) (as_terms l.params) (all_is_done ∷ []) (variables_sorted g vs l.params well.params) ((refl, one_two_three 2 (omega arith)), tt));
+    next = next_sorted (columns_sorted g vs l.params (phase v ∷ []) (as_terms l.params) (phase_done ∷ []) (variables_sorted g vs l.params well.params) ((refl, one_two_three 2 (omega arith)), tt));
   }
 
   each_sorted : (t : Summand) → IsSealedFrom v l t → SummandIsSorted g vs Q t
@@ -250,12 +250,12 @@ module _ (th : Theory) (vs : List Sort) (v : ℕ) (l : Linear) (con : IsConsiste
   sorted = sealed_sorted th.declared vs v l well d
 
   -- where a summand leads, and where the sealed one does
-  leads : (e : Environment) (ts : List Term) (t : Term) → read e l.params ≡ ts → term_in e v ≡ t → AreOfSorts th (sorts l.params) ts → IsOfSort th positive t → Equal th t up_to_the_end → (n : Option (List Term))
+  leads : (e : Environment) (ts : List Term) (t : Term) → read e l.params ≡ ts → term_in e v ≡ t → AreOfSorts th (sorts l.params) ts → IsOfSort th positive t → Equal th t phase_running → (n : Option (List Term))
       → ((us : List Term) → put_next e n ≡ Some us → AreOfSorts th (sorts l.params) us) → LandsOrTerminates U E (outcome_of l (put_next e n)) (outcome_of L (put_next e (Some (sealed_next l.params v n))))
   leads e ts t r q s i h None f =
-      let whole : map (put (term_in e)) (as_terms l.params ++ behind_the_end ∷ []) ≡ ts ++ behind_the_end ∷ [] = put_append e (as_terms l.params) (behind_the_end ∷ []) ∙ ap (λ us. us ++ behind_the_end ∷ []) (put_variables e l.params ∙ r) in
+      let whole : map (put (term_in e)) (as_terms l.params ++ phase_ended ∷ []) ≡ ts ++ phase_ended ∷ [] = put_append e (as_terms l.params) (phase_ended ∷ []) ∙ ap (λ us. us ++ phase_ended ∷ []) (put_variables e l.params ∙ r) in
       subst (λ us. LandsOrTerminates U E ended (goes_on (state_of L us))) (sym whole)
-      (the_first_ends (end_joined (in_phase_two ts s (refl, one_two_three 1 (omega arith)) reflexive) (alike_refl th (state_of L (ts ++ behind_the_end ∷ [])))))
+      (the_first_ends (end_joined (in_phase_two ts s (refl, one_two_three 1 (omega arith)) reflexive) (alike_refl th (state_of L (ts ++ phase_ended ∷ [])))))
   leads e ts t r q s i h (Some us) f =
       let new : List Term = map (put (term_in e)) us in
       let whole : map (put (term_in e)) (us ++ variable v ∷ []) ≡ new ++ t ∷ [] = put_append e us (variable v ∷ []) ∙ ap (λ z. new ++ z ∷ []) q in
@@ -264,39 +264,39 @@ module _ (th : Theory) (vs : List Sort) (v : ℕ) (l : Linear) (con : IsConsiste
 
   -- the parts of a sealed condition are closed
   parts_closed : (s : Summand) → Contains l.summands s → (e : Environment) (ts : List Term) (t : Term) → read e S ≡ ts ++ t ∷ [] → AreOfSorts th (sorts l.params) ts → IsOfSort th positive t → AreBound th s.sums e
-      → AreConditionsOnce th.declared (term_in e) (phase_is v up_to_the_end ∷ s.condition ∷ [])
+      → AreConditionsOnce th.declared (term_in e) (phase_is v phase_running ∷ s.condition ∷ [])
   parts_closed s i e ts t r h k b =
       let xs = variables s.sums ++ variables S in
       let f = well.summands s i in
       let w = both_have_terms th.declared vs (variables s.sums) (variables S) (term_in e)
       (bound_have_terms th vs s.sums e f.sums b)
       (bound_have_terms th vs S e sorted.params (read_bound th S e (subst (λ us. AreOfSorts th (sorts S) us) (sym r) (columns_sorted th.declared [] l.params (phase v ∷ []) ts (t ∷ []) h (k, tt))))) in (
-        closed_instance th.declared vs xs (term_in e) w (phase_is v up_to_the_end) boolean (phase_over xs v 0 (phase_among v l is apart s)) (phase_sorted th.declared vs v 0 (omega arith) d),
+        closed_instance th.declared vs xs (term_in e) w (phase_is v phase_running) boolean (phase_over xs v 0 (phase_among v l is apart s)) (phase_sorted th.declared vs v 0 (omega arith) d),
         (closed_instance th.declared vs xs (term_in e) w s.condition boolean (over_more (variables s.sums ++ variables l.params) xs (wider v l is apart s) s.condition (is.summands s i).condition) f.condition, tt),
       )
 
   -- ---- what fires at a phase
   data AtPhase (ts : List Term) (t : Term) (m : Label) (next : Option (List Term)) : Type 0 where
-    up_to_end : (e : Environment) (s : Summand) → Contains l.summands s → read e l.params ≡ ts → term_in e v ≡ t → AreBound th s.sums e → IsTrue th (equals positive t up_to_the_end) → Does th s e m (put_next e s.next)
+    up_to_end : (e : Environment) (s : Summand) → Contains l.summands s → read e l.params ≡ ts → term_in e v ≡ t → AreBound th s.sums e → IsTrue th (equals positive t phase_running) → Does th s e m (put_next e s.next)
         → next ≡ put_next e (Some (sealed_next l.params v s.next)) → AtPhase ts t m next
-    behind_end : IsTrue th (equals positive t behind_the_end) → m ≡ terminate_label → next ≡ Some (ts ++ all_is_done ∷ []) → AtPhase ts t m next
+    behind_end : IsTrue th (equals positive t phase_ended) → m ≡ terminate_label → next ≡ Some (ts ++ phase_done ∷ []) → AtPhase ts t m next
 
   at_phase_of : (ts : List Term) (t : Term) (m : Label) (next : Option (List Term)) → AreOfSorts th (sorts l.params) ts → IsOfSort th positive t → (x : Summand) → IsSealedFrom v l x → (e : Environment) → read e S ≡ ts ++ t ∷ []
       → AreBound th x.sums e → Does th x e m next → AtPhase ts t m next
   at_phase_of ts t m next h k _ (of_a_summand s i) e r b w =
       let c = split_read e l.params (phase v ∷ []) ts (t ∷ []) (columns_long th.declared [] ts l.params h) r in
-      let parts = (joined_true th (term_in e) (phase_is v up_to_the_end ∷ s.condition ∷ []) (parts_closed s i e ts t r h k b)).1 w.holds in
-      up_to_end e s i c.0 (head_of c.1) b (subst (λ z. IsTrue th (equals positive z up_to_the_end)) (head_of c.1) (first_true th parts)) (record { holds = first_true th (rest_true th parts); label = w.label; onward = refl }) w.onward
+      let parts = (joined_true th (term_in e) (phase_is v phase_running ∷ s.condition ∷ []) (parts_closed s i e ts t r h k b)).1 w.holds in
+      up_to_end e s i c.0 (head_of c.1) b (subst (λ z. IsTrue th (equals positive z phase_running)) (head_of c.1) (first_true th parts)) (record { holds = first_true th (rest_true th parts); label = w.label; onward = refl }) w.onward
   at_phase_of ts t m next h k _ the_last e r b w =
       let c = split_read e l.params (phase v ∷ []) ts (t ∷ []) (columns_long th.declared [] ts l.params h) r in
-      behind_end (subst (λ z. IsTrue th (equals positive z behind_the_end)) (head_of c.1) w.holds) w.label
-      (w.onward ∙ ap (λ us. Some us) (put_append e (as_terms l.params) (all_is_done ∷ []) ∙ ap (λ us. us ++ all_is_done ∷ []) (put_variables e l.params ∙ c.0)))
+      behind_end (subst (λ z. IsTrue th (equals positive z phase_ended)) (head_of c.1) w.holds) w.label
+      (w.onward ∙ ap (λ us. Some us) (put_append e (as_terms l.params) (phase_done ∷ []) ∙ ap (λ us. us ++ phase_done ∷ []) (put_variables e l.params ∙ c.0)))
 
   at_phase : (ts : List Term) (t : Term) (m : Label) (next : Option (List Term)) → AreOfSorts th (sorts l.params) ts → IsOfSort th positive t → Fires th L (ts ++ t ∷ []) m next → AtPhase ts t m next
   at_phase ts t m next h k f = at_phase_of ts t m next h k f.summand (sealed_from v l f.summand f.among) f.environment f.reads f.bound f.does
 
   -- ---- up to the end
-  forth_at : (ts : List Term) (t : Term) (m : Label) (next : Option (List Term)) → AreOfSorts th (sorts l.params) ts → IsOfSort th positive t → Equal th t up_to_the_end → Fires th l ts m next
+  forth_at : (ts : List Term) (t : Term) (m : Label) (next : Option (List Term)) → AreOfSorts th (sorts l.params) ts → IsOfSort th positive t → Equal th t phase_running → Fires th l ts m next
       → Reply th (LandsOrTerminates U E) (state_of L (ts ++ t ∷ [])) m (outcome_of l next)
   forth_at ts t m next h k w f =
       let s = f.summand in
@@ -315,8 +315,8 @@ module _ (th : Theory) (vs : List Sort) (v : ℕ) (l : Linear) (con : IsConsiste
         reads = reads;
         bound = b;
         does = record {
-          holds = (joined_true th (term_in e) (phase_is v up_to_the_end ∷ s.condition ∷ []) (parts_closed s f.among e ts t reads h k b)).0
-              (true_and_more (subst (λ z. IsTrue th (equals positive z up_to_the_end)) (sym q) (in_phase th 0 k w)) (true_and_more does.holds none_left));
+          holds = (joined_true th (term_in e) (phase_is v phase_running ∷ s.condition ∷ []) (parts_closed s f.among e ts t reads h k b)).0
+              (true_and_more (subst (λ z. IsTrue th (equals positive z phase_running)) (sym q) (in_phase th 0 k w)) (true_and_more does.holds none_left));
           label = does.label;
           onward = refl;
         };
@@ -330,7 +330,7 @@ module _ (th : Theory) (vs : List Sort) (v : ℕ) (l : Linear) (con : IsConsiste
             (leads e ts t r q h k w s.next (λ us z. firings_keep th vs l ts us m is well h (subst (λ o. Fires th l ts m o) (does.onward ∙ z) f)));
       }
 
-  back_at : (ts : List Term) (t : Term) (m : Label) (next : Option (List Term)) → AreOfSorts th (sorts l.params) ts → IsOfSort th positive t → Equal th t up_to_the_end → AtPhase ts t m next
+  back_at : (ts : List Term) (t : Term) (m : Label) (next : Option (List Term)) → AreOfSorts th (sorts l.params) ts → IsOfSort th positive t → Equal th t phase_running → AtPhase ts t m next
       → Reply th (Exchanged (LandsOrTerminates U E)) (state_of l ts) m (outcome_of L next)
   back_at ts t m next h k w (up_to_end e s i r q b c does o) =
       let fires : Fires th l ts m (put_next e s.next) = record { summand = s; among = i; environment = e; reads = r; bound = b; does = does } in
@@ -345,20 +345,20 @@ module _ (th : Theory) (vs : List Sort) (v : ℕ) (l : Linear) (con : IsConsiste
   back_at ts t m next h k w (behind_end c n o) = let e = one_phase th con 0 1 (omega arith) (omega arith) w c in absurd (omega (arith, e))
 
   -- ---- behind the end
-  at_rest : (ts : List Term) (m : Label) (next : Option (List Term)) → AtPhase ts all_is_done m next → ⊥
+  at_rest : (ts : List Term) (m : Label) (next : Option (List Term)) → AtPhase ts phase_done m next → ⊥
   at_rest ts m next (up_to_end e s i r q b c does o) = let n = one_phase th con 2 0 (omega arith) (omega arith) reflexive c in absurd (omega (arith, n))
   at_rest ts m next (behind_end c n o) = let k = one_phase th con 2 1 (omega arith) (omega arith) reflexive c in absurd (omega (arith, k))
 
-  rests : (ts : List Term) → AreOfSorts th (sorts l.params) ts → IsAtRest th (state_of L (ts ++ all_is_done ∷ []))
+  rests : (ts : List Term) → AreOfSorts th (sorts l.params) ts → IsDeadlock th (state_of L (ts ++ phase_done ∷ []))
   rests ts h m r s =
-      let f = fired th L (ts ++ all_is_done ∷ []) m r linear s in
-      at_rest ts m f.0 (at_phase ts all_is_done m f.0 h (refl, one_two_three 2 (omega arith)) f.1.0)
+      let f = fired th L (ts ++ phase_done ∷ []) m r linear s in
+      at_rest ts m f.0 (at_phase ts phase_done m f.0 h (refl, one_two_three 2 (omega arith)) f.1.0)
 
-  last_step : (ts : List Term) (t : Term) (m : Label) (next : Option (List Term)) → AreOfSorts th (sorts l.params) ts → Equal th t behind_the_end → AtPhase ts t m next → IsLastStep th m (outcome_of L next)
+  last_step : (ts : List Term) (t : Term) (m : Label) (next : Option (List Term)) → AreOfSorts th (sorts l.params) ts → Equal th t phase_ended → AtPhase ts t m next → IsLastStep th m (outcome_of L next)
   last_step ts t m next h w (up_to_end e s i r q b c does o) = let n = one_phase th con 1 0 (omega arith) (omega arith) w c in absurd (omega (arith, n))
-  last_step ts t m next h w (behind_end c n o) = record { label = n; rests = subst (λ z. ComesToRest th (outcome_of L z)) (sym o) (comes_to_rest (rests ts h)) }
+  last_step ts t m next h w (behind_end c n o) = record { label = n; deadlock = subst (λ z. ComesToDeadlock th (outcome_of L z)) (sym o) (comes_to_deadlock (rests ts h)) }
 
-  last_fires : (ts : List Term) (t : Term) → AreOfSorts th (sorts l.params) ts → IsOfSort th positive t → Equal th t behind_the_end
+  last_fires : (ts : List Term) (t : Term) → AreOfSorts th (sorts l.params) ts → IsOfSort th positive t → Equal th t phase_ended
       → Fires th L (ts ++ t ∷ []) terminate_label (put_next (bound (variables S) (ts ++ t ∷ [])) (last_summand l.params v).next)
   last_fires ts t h k w =
       let e = bound (variables S) (ts ++ t ∷ []) in
@@ -370,10 +370,10 @@ module _ (th : Theory) (vs : List Sort) (v : ℕ) (l : Linear) (con : IsConsiste
         environment = e;
         reads = reads;
         bound = λ x i. absurd (contains_none x i);
-        does = record { holds = subst (λ z. IsTrue th (equals positive z behind_the_end)) (sym (head_of c.1)) (in_phase th 1 k w); label = refl; onward = refl };
+        does = record { holds = subst (λ z. IsTrue th (equals positive z phase_ended)) (sym (head_of c.1)) (in_phase th 1 k w); label = refl; onward = refl };
       }
 
-  terminates_at : (ts : List Term) (t : Term) → AreOfSorts th (sorts l.params) ts → IsOfSort th positive t → Equal th t behind_the_end → Terminates th (state_of L (ts ++ t ∷ []))
+  terminates_at : (ts : List Term) (t : Term) → AreOfSorts th (sorts l.params) ts → IsOfSort th positive t → Equal th t phase_ended → Terminates th (state_of L (ts ++ t ∷ []))
   terminates_at ts t h k w = record {
     label = terminate_label;
     outcome = outcome_of L (put_next (bound (variables S) (ts ++ t ∷ [])) (last_summand l.params v).next);
@@ -402,12 +402,12 @@ module _ (th : Theory) (vs : List Sort) (v : ℕ) (l : Linear) (con : IsConsiste
 
 pub sealed_good : SealedIsGood
 sealed_good th vs v l ts con is well apart d h = record {
-  starts = up_to (alike_refl th (state_of l ts)) (with_phase h (refl, one_two_three 0 (omega arith)) reflexive) (alike_refl th (state_of (sealed v l) (ts ++ up_to_the_end ∷ [])));
+  starts = up_to (alike_refl th (state_of l ts)) (with_phase h (refl, one_two_three 0 (omega arith)) reflexive) (alike_refl th (state_of (sealed v l) (ts ++ phase_running ∷ [])));
   follows = enough_terminating th true l (sealed v l) (sealed_progress th vs v l con is well apart d);
 }
 
 pub sealed_behind : SealedBehindALink
-sealed_behind th vs v l ts j p con is well apart d h g = sealed_terminating th true l (sealed v l) j p (state_of l ts) (state_of (sealed v l) (ts ++ up_to_the_end ∷ [])) g (sealed_good th vs v l ts con is well apart d h)
+sealed_behind th vs v l ts j p con is well apart d h g = sealed_terminating th true l (sealed v l) j p (state_of l ts) (state_of (sealed v l) (ts ++ phase_running ∷ [])) g (sealed_good th vs v l ts con is well apart d h)
 
 -- ---- what never ends
 module _ (th : Theory) (vs : List Sort) (l : Linear) (is : IsLinear l) (well : IsWellSorted th.declared vs l) (never : NeverEnds l) where

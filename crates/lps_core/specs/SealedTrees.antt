@@ -12,7 +12,7 @@ use Rattle.data_theory.specs.Signature.{Sig, with_action, with_variable}
 use Rattle.data_theory.specs.IdTrees.{Tree, variable, numeral, function, none, more}
 use Rattle.process_terms.specs.SignatureEntries.{entries_of}
 use Rattle.bisim_laws.specs.Terminations.{terminate_name}
-use Rattle.bisim_laws.specs.BaseStates.{up_to_the_end}
+use Rattle.bisim_laws.specs.BaseStates.{phase_running}
 use Rattle.bisim_laws.specs.Links.{Phased}
 use Rattle.lps_core.specs.PlainLinears.{PlainSummand, PlainLinear, linear_of, initial_of, linear_state}
 use Rattle.lps_core.specs.Fitting.{Fits}
@@ -77,7 +77,7 @@ IsNoAction g text = (n : NameId) (k : Key) → slice_get g.texts n.0 ≡ Some te
 pub data IsSealed (g : Sig) (ts : List Tree) (l : PlainLinear) : Sig → List Tree → PlainLinear → Type 0 where
   it_never_ends : {us : List Tree} {k : PlainLinear} → NeverEnds (linear_of (entries_of g ts) l) → k ≡ l → IsSealed g ts l g us k
   it_is_sealed : {h : Sig} {us : List Tree} {k : PlainLinear} (act : ActId) (v : VarId) → HasPhase g h act v → k.params ≡ l.params ++ v ∷ []
-      → linear_of (entries_of h us) k ≡ sealed v.0 (linear_of (entries_of g ts) l) → initial_of (entries_of h us) k ≡ initial_of (entries_of g ts) l ++ up_to_the_end ∷ [] → IsSealed g ts l h us k
+      → linear_of (entries_of h us) k ≡ sealed v.0 (linear_of (entries_of g ts) l) → initial_of (entries_of h us) k ≡ initial_of (entries_of g ts) l ++ phase_running ∷ [] → IsSealed g ts l h us k
 
 -- over every theory that goes on from the signature the process that is left never ends, and says the end by `Terminate`; there is a phase or none
 abbrev pub SealingIsGood : Sig → List Tree → PlainLinear → Sig → List Tree → PlainLinear → Type 0

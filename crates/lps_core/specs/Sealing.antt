@@ -7,7 +7,7 @@ use Rattle.process_terms.specs.Theories.{Theory, IsConsistent, AreOfSorts}
 use Rattle.process_terms.specs.Processes.{Bound, Process}
 use Rattle.bisim_laws.specs.Terminations.{terminate_label}
 use Rattle.bisim_laws.specs.LinearProcesses.{Summand, Linear, variables, sorts, state_of, IsLinear, IsWellSorted}
-use Rattle.bisim_laws.specs.BaseStates.{up_to_the_end, behind_the_end, all_is_done}
+use Rattle.bisim_laws.specs.BaseStates.{phase_running, phase_ended, phase_done}
 use Rattle.bisim_laws.specs.Links.{Link, Phased, Sealed, IsGood, IsGoodWithTerminate}
 use Rattle.lps_core.specs.Columns.{as_terms}
 use Rattle.lps_core.specs.Conditions.{joined}
@@ -26,14 +26,14 @@ phase_is v n = equals positive (variable v) n
 
 -- where a summand goes on it keeps the phase; where it ends, the parameters stay and the phase becomes 2
 abbrev pub sealed_next : List Bound → ℕ → Option (List Term) → List Term
-sealed_next params v None = as_terms params ++ behind_the_end ∷ []
+sealed_next params v None = as_terms params ++ phase_ended ∷ []
 sealed_next params v (Some ts) = ts ++ variable v ∷ []
 
 abbrev pub sealed_summand : List Bound → ℕ → Summand → Summand
-sealed_summand params v s = record { sums = s.sums; condition = joined (phase_is v up_to_the_end ∷ s.condition ∷ []); label = s.label; next = Some (sealed_next params v s.next) }
+sealed_summand params v s = record { sums = s.sums; condition = joined (phase_is v phase_running ∷ s.condition ∷ []); label = s.label; next = Some (sealed_next params v s.next) }
 
 abbrev pub last_summand : List Bound → ℕ → Summand
-last_summand params v = record { sums = []; condition = phase_is v behind_the_end; label = terminate_label; next = Some (as_terms params ++ all_is_done ∷ []) }
+last_summand params v = record { sums = []; condition = phase_is v phase_ended; label = terminate_label; next = Some (as_terms params ++ phase_done ∷ []) }
 
 abbrev pub sealed : ℕ → Linear → Linear
 sealed v l = record { params = l.params ++ phase v ∷ []; summands = map (sealed_summand l.params v) l.summands ++ last_summand l.params v ∷ [] }
@@ -57,7 +57,7 @@ SealedIsSorted = (g : Data) (vs : List Sort) (v : ℕ) (l : Linear) → IsWellSo
 abbrev pub SealedIsGood : Type 0
 SealedIsGood =
     (th : Theory) (vs : List Sort) (v : ℕ) (l : Linear) (ts : List Term) → IsConsistent th → IsLinear l → IsWellSorted th.declared vs l → IsApart v l → Declares vs v positive → AreOfSorts th (sorts l.params) ts
-    → IsGoodWithTerminate th (Phased true l (sealed v l)) (state_of l ts) (state_of (sealed v l) (ts ++ up_to_the_end ∷ []))
+    → IsGoodWithTerminate th (Phased true l (sealed v l)) (state_of l ts) (state_of (sealed v l) (ts ++ phase_running ∷ []))
 
 -- what never ends stays as it is
 abbrev pub NeverEndingIsGood : Type 0
@@ -69,4 +69,4 @@ NeverEndingIsGood =
 abbrev pub SealedBehindALink : Type 0
 SealedBehindALink =
     (th : Theory) (vs : List Sort) (v : ℕ) (l : Linear) (ts : List Term) (j : Link) (p : Process) → IsConsistent th → IsLinear l → IsWellSorted th.declared vs l → IsApart v l → Declares vs v positive → AreOfSorts th (sorts l.params) ts
-    → IsGood th j p (state_of l ts) → IsGoodWithTerminate th (Sealed true l (sealed v l) j) p (state_of (sealed v l) (ts ++ up_to_the_end ∷ []))
+    → IsGood th j p (state_of l ts) → IsGoodWithTerminate th (Sealed true l (sealed v l) j) p (state_of (sealed v l) (ts ++ phase_running ∷ []))

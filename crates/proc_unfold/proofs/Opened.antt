@@ -51,7 +51,7 @@ use Rattle.proc_unfold.specs.Networks.{PlainNetwork, PlainNetworks, network_body
 use Rattle.proc_unfold.specs.PutTerms.{IsPutIn, put_call}
 use Rattle.proc_unfold.specs.FittingModels.{TermsFit, CallFits, ProcessFits, ProcessesFit, DefinitionFits, ModelFits}
 use Rattle.proc_unfold.specs.Unfolded.{IsComponentOf}
-use Rattle.proc_unfold.specs.Opening.{Opens, AllOpen, term_kept, call_kept, call_opened, beside, one_choice, one_step, first_alone, together, no_sum, within, none_open, more_open}
+use Rattle.proc_unfold.specs.Opening.{Opens, AllOpen, term_kept, call_kept, call_opened, beside, one_choice, one_step, left_merged, synced, no_sum, within, none_open, more_open}
 use Rattle.proc_unfold.proofs.ParallelLemmas.{sequential_tells}
 use Rattle.proc_unfold.proofs.PutBodies.{env_of, IsFixed, AreFixedOrOpen, through_first, terms_mean, put_same}
 use Rattle.proc_unfold.proofs.PutFits.{Covers, put_calls, put_parallel, terms_fit, put_fits}
@@ -194,8 +194,8 @@ module _ (s : Sig) (stands : IsSignature s) (ts : List Tree) where
       opens_unfolds th (one_step {ps = no_processes} one h) xs b k = cc
       opens_unfolds th (one_step {ps = more_processes p no_processes} one (more_open h none_open)) xs b k = opens_unfolds th h xs b k.0
       opens_unfolds th (one_step {ps = more_processes p (more_processes q ps)} one h) xs b k = cc
-      opens_unfolds th (first_alone h i) xs b k = begun (opens_unfolds th h xs b k.0) (opens_unfolds th i xs b k.1)
-      opens_unfolds th (together h) xs b k = sync_unfolds (all_unfold th h xs b k)
+      opens_unfolds th (left_merged h i) xs b k = begun (opens_unfolds th h xs b k.0) (opens_unfolds th i xs b k.1)
+      opens_unfolds th (synced h) xs b k = sync_unfolds (all_unfold th h xs b k)
       opens_unfolds th (no_sum h) xs b k = opens_unfolds th h xs b k.1
       opens_unfolds th (within h) xs b k = unfolds_under (opens_unfolds th h xs b k.1)
 
@@ -244,9 +244,9 @@ module _ (s : Sig) (stands : IsSignature s) (ts : List Tree) (m : PlainModel) (f
     opens_components (beside h) xs b k r = all_components h xs b k r
     opens_components (one_choice one h) xs b k r = all_components h xs b k r
     opens_components (one_step one h) xs b k r = all_components h xs b k r
-    opens_components (first_alone {p = p} {q = q} h i) xs b k r =
+    opens_components (left_merged {p = p} {q = q} h i) xs b k r =
         (opens_components h xs b k.0 (λ x j. r x (Contains-append_left (plain_calls Everywhere p) (plain_calls Everywhere q) x j)), opens_components i xs b k.1 (λ x j. r x (Contains-append_right (plain_calls Everywhere p) (plain_calls Everywhere q) x j)))
-    opens_components (together h) xs b k r = all_components h xs b k r
+    opens_components (synced h) xs b k r = all_components h xs b k r
     opens_components (no_sum h) xs b k r = opens_components h xs b k.1 r
     opens_components (within h) xs b k r = opens_components h xs b k.1 r
 

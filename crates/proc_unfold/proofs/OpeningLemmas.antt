@@ -30,9 +30,9 @@ use Rattle.proc_unfold.specs.declared.opening.Entered.{Entered}
 use Rattle.proc_unfold.specs.ParallelTests.{is_sequential, is_outside, all_outside}
 use Rattle.proc_unfold.specs.Networks.{PlainNetwork, networks_of, plain_network, plain_operator}
 use Rattle.proc_unfold.specs.PutTerms.{ArePut, PutsTerms, PutsIn}
-use Rattle.proc_unfold.specs.Opening.{Opens, AllOpen, term_kept, call_kept, call_opened, beside, one_choice, one_step, first_alone, together, no_sum, within, none_open, more_open, OpensTo, AllOpenTo, AreReached, IsReady, HasReadyBodies, is_parallel_call, Enters, IsSettled}
+use Rattle.proc_unfold.specs.Opening.{Opens, AllOpen, term_kept, call_kept, call_opened, beside, one_choice, one_step, left_merged, synced, no_sum, within, none_open, more_open, OpensTo, AllOpenTo, AreReached, IsReady, HasReadyBodies, is_parallel_call, Enters, IsSettled}
 use Rattle.proc_unfold.proofs.LoopLemmas.{one_is}
-use Rattle.proc_unfold.proofs.ProcessSteps.{call_step, choice_step, seq_step, sum_step, merge_step, left_step, sync_step, leaf_step, side_step, first_step, at_once_step, under_step}
+use Rattle.proc_unfold.proofs.ProcessSteps.{call_step, choice_step, seq_step, sum_step, merge_step, left_merge_step, sync_step, leaf_step, side_step, left_merged_step, synced_step, under_step}
 use Rattle.proc_unfold.proofs.PuttingLemmas.{process_kept}
 
 -- ---- what is known stays as the pool grows
@@ -88,12 +88,12 @@ module _ (m : PlainModel) (found : Parallelism) (new : List Tree) (by : List (Va
       → AllOpenTo m found new by (processes_of (map plain_process items)) ns → OpensTo m found new by (plain_process p) (nets.Sync ns)
   sync_opens p parts items ns is e all =
       let all' : AllOpenTo m found new by (processes_of (map plain_process parts.items)) ns = subst (λ l. AllOpenTo m found new by (processes_of (map plain_process l)) ns) e all in
-      opens_at (ap plain_process is ∙ sync_step parts) (at_once_step ns) (λ ts k. together (all'.later ts k))
+      opens_at (ap plain_process is ∙ sync_step parts) (synced_step ns) (λ ts k. synced (all'.later ts k))
 
-  pub left_opens : (mid : List Tree) (p q r : Proc) (first second : Box Proc) (a b : Box Network) → p ≡ procs.Left first second → q ≡ first.value → r ≡ second.value → Extends mid new
-      → OpensTo m found mid by (plain_process q) a.value → OpensTo m found new by (plain_process r) b.value → OpensTo m found new by (plain_process p) (nets.Left a b)
+  pub left_opens : (mid : List Tree) (p q r : Proc) (first second : Box Proc) (a b : Box Network) → p ≡ procs.LeftMerge first second → q ≡ first.value → r ≡ second.value → Extends mid new
+      → OpensTo m found mid by (plain_process q) a.value → OpensTo m found new by (plain_process r) b.value → OpensTo m found new by (plain_process p) (nets.LeftMerge a b)
   left_opens mid p q r first second a b is e f grow h k =
-      opens_at (ap plain_process is ∙ left_step first second) (first_step a b) (λ ts j. first_alone
+      opens_at (ap plain_process is ∙ left_merge_step first second) (left_merged_step a b) (λ ts j. left_merged
       (subst (λ z. Unfolding ts (plain_process z) (plain_network a.value)) e (h.later ts (extends_on mid new ts grow j)))
       (subst (λ z. Unfolding ts (plain_process z) (plain_network b.value)) f (k.later ts j)))
 

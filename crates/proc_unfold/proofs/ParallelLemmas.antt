@@ -3,7 +3,8 @@ use Rattle.std.proofs.Common.{◌≡◌, ◌⊎◌, inl, inr, Bool, true, false,
 use Rattle.std.specs.List.{Contains}
 use Rattle.graphs.specs.Graphs.{IsMarked}
 use Rattle.graphs.proofs.Marks.{none_contained}
-use Rattle.process_terms.specs.Processes.{Bound, Body, both_at_once, written_choice, written_seq, written_merge, written_starting, chain_of, merged_with, merge_of, synced_with, sync_of, sums_around}
+use Rattle.process_terms.specs.Processes as written
+use Rattle.process_terms.specs.Processes.{Bound, Body, written_choice, written_seq, written_merge, written_starting, chain_of, merged_with, merge_of, synced_with, sync_of, sums_around}
 use Rattle.process_terms.specs.PlainProcesses.{PlainProcess, PlainProcesses, delta, act, call, choice, seq, cond, sum, merge, left_merge, sync, around, no_processes, more_processes}
 use Rattle.process_terms.specs.Meanings.{Entries, body_of, bodies_of, bound_at}
 use Rattle.guard_check.specs.declared.calls.Extent.TheVariants.{Everywhere}
@@ -48,7 +49,7 @@ merged_parallel q (r ∷ rs) h = merged_parallel (written_merge q r) rs tt
 
 synced_parallel : (q : Body) (qs : List Body) → HasParallel q → HasParallel (synced_with q qs)
 synced_parallel q [] h = h
-synced_parallel q (r ∷ rs) h = synced_parallel (written_starting both_at_once q r) rs tt
+synced_parallel q (r ∷ rs) h = synced_parallel (written_starting written.sync q r) rs tt
 
 sums_parallel : (xs : List Bound) (p : Body) → HasParallel p → HasParallel (sums_around xs p)
 sums_parallel [] p h = h
@@ -86,7 +87,7 @@ module _ (g : Entries) where
     sync_tells : (ps : PlainProcesses) → (has_two ps || any_parallel ps) ≡ true → HasParallel (sync_of (bodies_of g ps))
     sync_tells no_processes e = cc
     sync_tells (more_processes p no_processes) e = elim (either_true (has_parallel p) false e) [ inl h ↦ parallel_tells p h | inr h ↦ cc ]
-    sync_tells (more_processes p (more_processes q ps)) e = synced_parallel (written_starting both_at_once (body_of g p) (body_of g q)) (bodies_of g ps) tt
+    sync_tells (more_processes p (more_processes q ps)) e = synced_parallel (written_starting written.sync (body_of g p) (body_of g q)) (bodies_of g ps) tt
 
   mutual
     pub parallel_told : (p : PlainProcess) → HasParallel (body_of g p) → has_parallel p ≡ true
@@ -150,7 +151,7 @@ module _ (g : Entries) (marks : List Bool) where
 
   synced_outside : (q : Body) (qs : List Body) → IsOutsideBut (IsMarked marks) (synced_with q qs) → IsOutsideBut (IsMarked marks) q
   synced_outside q [] h = h
-  synced_outside q (r ∷ rs) h = (synced_outside (written_starting both_at_once q r) rs h).0
+  synced_outside q (r ∷ rs) h = (synced_outside (written_starting written.sync q r) rs h).0
 
   mutual
     pub outside_tells : (p : PlainProcess) → is_outside marks p ≡ true → IsOutsideBut (IsMarked marks) (body_of g p)
@@ -179,7 +180,7 @@ module _ (g : Entries) (marks : List Bool) where
 
     sync_outside : (q : Body) → IsOutsideBut (IsMarked marks) q → (ps : PlainProcesses) → all_outside marks ps ≡ true → IsOutsideBut (IsMarked marks) (synced_with q (bodies_of g ps))
     sync_outside q h no_processes e = h
-    sync_outside q h (more_processes p ps) e = let parts = both_true (is_outside marks p) (all_outside marks ps) e in sync_outside (written_starting both_at_once q (body_of g p)) (h, outside_tells p parts.0) ps parts.1
+    sync_outside q h (more_processes p ps) e = let parts = both_true (is_outside marks p) (all_outside marks ps) e in sync_outside (written_starting written.sync q (body_of g p)) (h, outside_tells p parts.0) ps parts.1
 
   mutual
     pub outside_told : (p : PlainProcess) → IsOutsideBut (IsMarked marks) (body_of g p) → is_outside marks p ≡ true
@@ -208,4 +209,4 @@ module _ (g : Entries) (marks : List Bool) where
 
     synced_others : (q : Body) (ps : PlainProcesses) → IsOutsideBut (IsMarked marks) (synced_with q (bodies_of g ps)) → all_outside marks ps ≡ true
     synced_others q no_processes h = refl
-    synced_others q (more_processes p ps) h = are_true (is_outside marks p) (all_outside marks ps) (outside_told p (synced_outside (written_starting both_at_once q (body_of g p)) (bodies_of g ps) h).1) (synced_others (written_starting both_at_once q (body_of g p)) ps h)
+    synced_others q (more_processes p ps) h = are_true (is_outside marks p) (all_outside marks ps) (outside_told p (synced_outside (written_starting written.sync q (body_of g p)) (bodies_of g ps) h).1) (synced_others (written_starting written.sync q (body_of g p)) ps h)

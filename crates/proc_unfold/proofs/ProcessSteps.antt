@@ -16,7 +16,8 @@ use Rattle.proc_unfold.specs.declared.networks.NetOp.{NetOp}
 use Rattle.proc_unfold.specs.declared.networks.Network.{Network}
 use Rattle.proc_unfold.specs.declared.networks.Network.TheVariants as nets
 use Rattle.proc_unfold.specs.declared.networks.Network.TheFolds.{fold-roll-Network}
-use Rattle.proc_unfold.specs.Networks.{PlainNetwork, leaf, side_by_side, left_first, all_at_once, under, networks_of, plain_network, plain_network_step, plain_operator}
+use Rattle.proc_unfold.specs.Networks as networks
+use Rattle.proc_unfold.specs.Networks.{PlainNetwork, leaf, side_by_side, under, networks_of, plain_network, plain_network_step, plain_operator}
 
 pub delta_step : plain_process procs.Delta ≡ delta
 delta_step = ap plain_process (sym procs.rolls-Delta) ∙ fold-roll-Proc PlainProcess plain_process_step _
@@ -42,8 +43,8 @@ sum_step xs p = ap plain_process (sym (procs.rolls-Sum xs p)) ∙ fold-roll-Proc
 pub merge_step : (parts : Vec Proc Global) → plain_process (procs.Merge parts) ≡ merge (processes_of (map plain_process parts.items))
 merge_step parts = ap plain_process (sym (procs.rolls-Merge parts)) ∙ fold-roll-Proc PlainProcess plain_process_step _
 
-pub left_step : (p q : Box Proc) → plain_process (procs.Left p q) ≡ left_merge (plain_process p.value) (plain_process q.value)
-left_step p q = ap plain_process (sym (procs.rolls-Left p q)) ∙ fold-roll-Proc PlainProcess plain_process_step _
+pub left_merge_step : (p q : Box Proc) → plain_process (procs.LeftMerge p q) ≡ left_merge (plain_process p.value) (plain_process q.value)
+left_merge_step p q = ap plain_process (sym (procs.rolls-LeftMerge p q)) ∙ fold-roll-Proc PlainProcess plain_process_step _
 
 pub sync_step : (parts : Vec Proc Global) → plain_process (procs.Sync parts) ≡ sync (processes_of (map plain_process parts.items))
 sync_step parts = ap plain_process (sym (procs.rolls-Sync parts)) ∙ fold-roll-Proc PlainProcess plain_process_step _
@@ -69,11 +70,11 @@ leaf_step c = ap plain_network (sym (nets.rolls-Leaf c)) ∙ fold-roll-Network P
 pub side_step : (ns : Vec Network Global) → plain_network (nets.Merge ns) ≡ side_by_side (networks_of (map plain_network ns.items))
 side_step ns = ap plain_network (sym (nets.rolls-Merge ns)) ∙ fold-roll-Network PlainNetwork plain_network_step _
 
-pub first_step : (m n : Box Network) → plain_network (nets.Left m n) ≡ left_first (plain_network m.value) (plain_network n.value)
-first_step m n = ap plain_network (sym (nets.rolls-Left m n)) ∙ fold-roll-Network PlainNetwork plain_network_step _
+pub left_merged_step : (m n : Box Network) → plain_network (nets.LeftMerge m n) ≡ networks.left_merge (plain_network m.value) (plain_network n.value)
+left_merged_step m n = ap plain_network (sym (nets.rolls-LeftMerge m n)) ∙ fold-roll-Network PlainNetwork plain_network_step _
 
-pub at_once_step : (ns : Vec Network Global) → plain_network (nets.Sync ns) ≡ all_at_once (networks_of (map plain_network ns.items))
-at_once_step ns = ap plain_network (sym (nets.rolls-Sync ns)) ∙ fold-roll-Network PlainNetwork plain_network_step _
+pub synced_step : (ns : Vec Network Global) → plain_network (nets.Sync ns) ≡ networks.sync (networks_of (map plain_network ns.items))
+synced_step ns = ap plain_network (sym (nets.rolls-Sync ns)) ∙ fold-roll-Network PlainNetwork plain_network_step _
 
 pub under_step : (o : NetOp) (n : Box Network) → plain_network (nets.Op o n) ≡ under (plain_operator o) (plain_network n.value)
 under_step o n = ap plain_network (sym (nets.rolls-Op o n)) ∙ fold-roll-Network PlainNetwork plain_network_step _

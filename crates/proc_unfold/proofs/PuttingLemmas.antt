@@ -17,7 +17,7 @@ use Rattle.process_terms.specs.PlainProcesses.{PlainAround, PlainProcess, PlainP
 use Rattle.lps_core.specs.TreeSummands.{IsActionIn, trees_of_label, put_actions}
 use Rattle.lps_core.proofs.PoolTrees.{extends_on, tree_kept, all_in_kept, trees_kept, listed_kept, put_along, args_along, actions_in_kept, actions_kept, actions_along}
 use Rattle.proc_unfold.specs.PutTerms.{IsProcessIn, AreProcessesIn, without, ArePut, IsTermPut, IsPutIn, ArePutIn, put_delta, put_act, put_call, put_choice, put_seq, put_cond, put_sum, put_merge, put_left, put_sync, put_around, none_put, more_put, PutsTerms, PutsIn, PutsAllIn}
-use Rattle.proc_unfold.proofs.ProcessSteps.{delta_step, act_step, call_step, choice_step, seq_step, cond_step, sum_step, merge_step, left_step, sync_step}
+use Rattle.proc_unfold.proofs.ProcessSteps.{delta_step, act_step, call_step, choice_step, seq_step, cond_step, sum_step, merge_step, left_merge_step, sync_step}
 
 -- ---- ids of the pool stay so
 mutual
@@ -115,10 +115,10 @@ module _ (new : List Tree) (by : List (VarId × TermId)) where
   sync_put p parts made ps is e h =
       at_parts (ap plain_process is ∙ sync_step parts) (sync_step made) (λ ts k. put_sync (subst (λ l. ArePutIn ts by (processes_of (map plain_process l)) (processes_of (map plain_process made.items))) e (h.later ts k)))
 
-  pub left_put : (mid : List Tree) (p : Proc) (first second made made' : Box Proc) (q r : Proc) → p ≡ procs.Left first second → q ≡ first.value → r ≡ second.value → Extends mid new
-      → PutsIn mid by (plain_process q) (plain_process made.value) → PutsIn new by (plain_process r) (plain_process made'.value) → PutsIn new by (plain_process p) (plain_process (procs.Left made made'))
+  pub left_put : (mid : List Tree) (p : Proc) (first second made made' : Box Proc) (q r : Proc) → p ≡ procs.LeftMerge first second → q ≡ first.value → r ≡ second.value → Extends mid new
+      → PutsIn mid by (plain_process q) (plain_process made.value) → PutsIn new by (plain_process r) (plain_process made'.value) → PutsIn new by (plain_process p) (plain_process (procs.LeftMerge made made'))
   left_put mid p first second made made' q r is e f grow i k =
-      at_parts (ap plain_process is ∙ left_step first second) (left_step made made') (λ ts j. put_left
+      at_parts (ap plain_process is ∙ left_merge_step first second) (left_merge_step made made') (λ ts j. put_left
       (subst (λ z. IsPutIn ts by (plain_process z) (plain_process made.value)) e (i.later ts (extends_on mid new ts grow j)))
       (subst (λ z. IsPutIn ts by (plain_process z) (plain_process made'.value)) f (k.later ts j)))
 

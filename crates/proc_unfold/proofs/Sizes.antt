@@ -8,7 +8,7 @@ use Rattle.process_terms.specs.declared.definitions.ProcDef.{ProcDef}
 use Rattle.process_terms.specs.declared.processes.Proc.{Proc}
 use Rattle.process_terms.specs.declared.processes.Proc.TheVariants as procs
 use Rattle.process_terms.specs.PlainProcesses.{PlainAround, PlainProcess, PlainProcesses, delta, act, call, choice, seq, cond, sum, merge, left_merge, sync, around, no_processes, more_processes, processes_of, plain_process}
-use Rattle.proc_unfold.proofs.ProcessSteps.{choice_step, seq_step, cond_step, sum_step, merge_step, left_step, sync_step}
+use Rattle.proc_unfold.proofs.ProcessSteps.{choice_step, seq_step, cond_step, sum_step, merge_step, left_merge_step, sync_step}
 
 mutual
   pub nodes : PlainProcess → ℕ
@@ -114,15 +114,15 @@ synced_smaller p parts items is e =
     let same : all_nodes (processes_of (map plain_process items)) ≡ all_nodes (processes_of (map plain_process parts.items)) = ap (λ l. all_nodes (processes_of (map plain_process l))) e in
     omega (arith, whole, same)
 
-pub first_smaller : (p q : Proc) (first second : Box Proc) → p ≡ procs.Left first second → q ≡ first.value → nodes (plain_process q) < nodes (plain_process p)
+pub first_smaller : (p q : Proc) (first second : Box Proc) → p ≡ procs.LeftMerge first second → q ≡ first.value → nodes (plain_process q) < nodes (plain_process p)
 first_smaller p q first second is e =
-    let whole : nodes (plain_process p) ≡ 1 + (nodes (plain_process first.value) + nodes (plain_process second.value)) = ap nodes (ap plain_process is ∙ left_step first second) ∙ left_nodes (plain_process first.value) (plain_process second.value) in
+    let whole : nodes (plain_process p) ≡ 1 + (nodes (plain_process first.value) + nodes (plain_process second.value)) = ap nodes (ap plain_process is ∙ left_merge_step first second) ∙ left_nodes (plain_process first.value) (plain_process second.value) in
     let part : nodes (plain_process q) ≡ nodes (plain_process first.value) = ap (λ r. nodes (plain_process r)) e in
     omega (arith, whole, part)
 
-pub second_smaller : (p q : Proc) (first second : Box Proc) → p ≡ procs.Left first second → q ≡ second.value → nodes (plain_process q) < nodes (plain_process p)
+pub second_smaller : (p q : Proc) (first second : Box Proc) → p ≡ procs.LeftMerge first second → q ≡ second.value → nodes (plain_process q) < nodes (plain_process p)
 second_smaller p q first second is e =
-    let whole : nodes (plain_process p) ≡ 1 + (nodes (plain_process first.value) + nodes (plain_process second.value)) = ap nodes (ap plain_process is ∙ left_step first second) ∙ left_nodes (plain_process first.value) (plain_process second.value) in
+    let whole : nodes (plain_process p) ≡ 1 + (nodes (plain_process first.value) + nodes (plain_process second.value)) = ap nodes (ap plain_process is ∙ left_merge_step first second) ∙ left_nodes (plain_process first.value) (plain_process second.value) in
     let part : nodes (plain_process q) ≡ nodes (plain_process second.value) = ap (λ r. nodes (plain_process r)) e in
     omega (arith, whole, part)
 

@@ -1,7 +1,8 @@
 -- Networks in code, as plain data, and what they mean.
 use Rattle.std.specs.Prelude.{List, [], ◌∷◌}
 use Rattle.process_terms.specs.PlainProcesses.{items_of_each, plain_rules, PlainAround, allow, block, hide, rename, comm, PlainComponent, plain_component, PlainModel}
-use Rattle.process_terms.specs.Processes.{Body, Process, left_alone, written_starting, merge_of, sync_of, written_around, close}
+use Rattle.process_terms.specs.Processes as written
+use Rattle.process_terms.specs.Processes.{Body, Process, written_starting, merge_of, sync_of, written_around, close}
 use Rattle.process_terms.specs.Meanings.{Entries, around_of, component_body, table_of}
 use Rattle.proc_unfold.specs.declared.networks.NetOp.{NetOp}
 use Rattle.proc_unfold.specs.declared.networks.NetOp.TheVariants as ops
@@ -22,8 +23,8 @@ mutual
   pub data PlainNetwork : Type 0 where
     leaf : PlainComponent → PlainNetwork
     side_by_side : PlainNetworks → PlainNetwork
-    left_first : PlainNetwork → PlainNetwork → PlainNetwork
-    all_at_once : PlainNetworks → PlainNetwork
+    left_merge : PlainNetwork → PlainNetwork → PlainNetwork
+    sync : PlainNetworks → PlainNetwork
     under : PlainAround → PlainNetwork → PlainNetwork
 
   pub data PlainNetworks : Type 0 where
@@ -38,8 +39,8 @@ networks_of (n ∷ ns) = more_networks n (networks_of ns)
 abbrev pub plain_network_step : Network-F PlainNetwork → PlainNetwork
 plain_network_step (open_.Leaf component) = leaf (plain_component component)
 plain_network_step (open_.Merge parts) = side_by_side (networks_of parts.items)
-plain_network_step (open_.Left first second) = left_first first.value second.value
-plain_network_step (open_.Sync parts) = all_at_once (networks_of parts.items)
+plain_network_step (open_.LeftMerge first second) = left_merge first.value second.value
+plain_network_step (open_.Sync parts) = sync (networks_of parts.items)
 plain_network_step (open_.Op op part) = under (plain_operator op) part.value
 
 abbrev pub plain_network : Network → PlainNetwork
@@ -50,8 +51,8 @@ abbrev mutual
   pub network_body : Entries → PlainNetwork → Body
   network_body g (leaf component) = component_body g component
   network_body g (side_by_side ns) = merge_of (network_bodies g ns)
-  network_body g (left_first m n) = written_starting left_alone (network_body g m) (network_body g n)
-  network_body g (all_at_once ns) = sync_of (network_bodies g ns)
+  network_body g (left_merge m n) = written_starting written.left_merge (network_body g m) (network_body g n)
+  network_body g (sync ns) = sync_of (network_bodies g ns)
   network_body g (under o n) = written_around (around_of g o) (network_body g n)
 
   pub network_bodies : Entries → PlainNetworks → List Body
@@ -67,8 +68,8 @@ abbrev mutual
   pub AllComponents : (PlainComponent → Type 0) → PlainNetwork → Type 0
   AllComponents IsSo (leaf component) = IsSo component
   AllComponents IsSo (side_by_side ns) = AllComponentsOfEach IsSo ns
-  AllComponents IsSo (left_first m n) = AllComponents IsSo m × AllComponents IsSo n
-  AllComponents IsSo (all_at_once ns) = AllComponentsOfEach IsSo ns
+  AllComponents IsSo (left_merge m n) = AllComponents IsSo m × AllComponents IsSo n
+  AllComponents IsSo (sync ns) = AllComponentsOfEach IsSo ns
   AllComponents IsSo (under o n) = AllComponents IsSo n
 
   pub AllComponentsOfEach : (PlainComponent → Type 0) → PlainNetworks → Type 0

@@ -17,7 +17,8 @@ use Rattle.proc_unfold.specs.declared.outside.Parallelism.{Parallelism}
 use Rattle.proc_unfold.specs.declared.networks.Network.{Network}
 use Rattle.proc_unfold.specs.declared.opening.Entered.{Entered}
 use Rattle.proc_unfold.specs.ParallelTests.{has_one, is_sequential, is_outside}
-use Rattle.proc_unfold.specs.Networks.{PlainNetwork, PlainNetworks, leaf, side_by_side, left_first, all_at_once, under, no_networks, more_networks, networks_of, plain_network}
+use Rattle.proc_unfold.specs.Networks as networks
+use Rattle.proc_unfold.specs.Networks.{PlainNetwork, PlainNetworks, leaf, side_by_side, under, no_networks, more_networks, networks_of, plain_network}
 use Rattle.proc_unfold.specs.PutTerms.{IsProcessIn, ArePut, IsPutIn}
 
 mutual
@@ -31,8 +32,8 @@ mutual
     beside : {by : List (VarId × TermId)} {ps : PlainProcesses} {ns : PlainNetworks} → AllOpen ds marks ts by ps ns → Opens ds marks ts by (merge ps) (side_by_side ns)
     one_choice : {by : List (VarId × TermId)} {ps : PlainProcesses} {ns : PlainNetworks} → has_one ps ≡ true → AllOpen ds marks ts by ps ns → Opens ds marks ts by (choice ps) (side_by_side ns)
     one_step : {by : List (VarId × TermId)} {ps : PlainProcesses} {ns : PlainNetworks} → has_one ps ≡ true → AllOpen ds marks ts by ps ns → Opens ds marks ts by (seq ps) (side_by_side ns)
-    first_alone : {by : List (VarId × TermId)} {p q : PlainProcess} {m n : PlainNetwork} → Opens ds marks ts by p m → Opens ds marks ts by q n → Opens ds marks ts by (left_merge p q) (left_first m n)
-    together : {by : List (VarId × TermId)} {ps : PlainProcesses} {ns : PlainNetworks} → AllOpen ds marks ts by ps ns → Opens ds marks ts by (sync ps) (all_at_once ns)
+    left_merged : {by : List (VarId × TermId)} {p q : PlainProcess} {m n : PlainNetwork} → Opens ds marks ts by p m → Opens ds marks ts by q n → Opens ds marks ts by (left_merge p q) (networks.left_merge m n)
+    synced : {by : List (VarId × TermId)} {ps : PlainProcesses} {ns : PlainNetworks} → AllOpen ds marks ts by ps ns → Opens ds marks ts by (sync ps) (networks.sync ns)
     no_sum : {by : List (VarId × TermId)} {p : PlainProcess} {n : PlainNetwork} → Opens ds marks ts by p n → Opens ds marks ts by (sum [] p) n
     within : {by : List (VarId × TermId)} {o : PlainAround} {p : PlainProcess} {n : PlainNetwork} → Opens ds marks ts by p n → Opens ds marks ts by (around o p) (under o n)
 

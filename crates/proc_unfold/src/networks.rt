@@ -26,7 +26,7 @@ pub enum Network {
     /// `p || q || r`, which means `(p || q) || r`
     Merge(Vec<Network>),
     /// `p ||_ q`
-    Left(Box<Network>, Box<Network>),
+    LeftMerge(Box<Network>, Box<Network>),
     /// `p | q | r`, which means `(p | q) | r`
     Sync(Vec<Network>),
     /// An operator around a network.

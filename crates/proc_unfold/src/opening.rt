@@ -104,7 +104,7 @@ impl Opening<'_> {
             | Proc::Cond(..)
             | Proc::Sum(..)
             | Proc::Merge(_)
-            | Proc::Left(..)
+            | Proc::LeftMerge(..)
             | Proc::Sync(_)
             | Proc::Allow(..)
             | Proc::Block(..)
@@ -305,7 +305,7 @@ impl Opening<'_> {
                 let op = NetOp::Comm(set.copy(alloc)?);
                 self.open_under(alloc, pool, part, op, rank, by)
             }
-            Proc::Left(first, second) => Ok(Network::Left(
+            Proc::LeftMerge(first, second) => Ok(Network::LeftMerge(
                 self.open_boxed(alloc, pool, first, rank, by)?,
                 self.open_boxed(alloc, pool, second, rank, by)?,
             )),

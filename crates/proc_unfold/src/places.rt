@@ -21,7 +21,7 @@ pub fn has_parallel(process: &Proc) -> bool
         Proc::Sum(_, part) => has_parallel(part),
         Proc::Merge(parts) => parts.len() >= 2 || any_parallel(parts),
         Proc::Sync(parts) => parts.len() >= 2 || any_parallel(parts),
-        Proc::Left(..) => true,
+        Proc::LeftMerge(..) => true,
         Proc::Allow(..) | Proc::Block(..) | Proc::Hide(..) | Proc::Rename(..) | Proc::Comm(..) =>
             true,
     }
@@ -93,7 +93,7 @@ pub fn is_outside(alloc: Global, process: &Proc, marks: &[bool]) -> Result<bool,
         }
         Proc::Merge(parts) => all_outside(alloc, parts, marks),
         Proc::Sync(parts) => all_outside(alloc, parts, marks),
-        Proc::Left(first, second) => {
+        Proc::LeftMerge(first, second) => {
             if is_outside(alloc, first, marks)? {
                 is_outside(alloc, second, marks)
             } else {

@@ -166,7 +166,7 @@ pub fn put_in(
             )
         }
         Proc::Comm(set, part) => { put_under(alloc, pool, part, NetOp::Comm(set.copy(alloc)?), by) }
-        Proc::Left(first, second) => Ok(Proc::Left(
+        Proc::LeftMerge(first, second) => Ok(Proc::LeftMerge(
             put_boxed(alloc, pool, first, by)?,
             put_boxed(alloc, pool, second, by)?,
         )),

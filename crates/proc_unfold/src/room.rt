@@ -59,7 +59,7 @@ fn depth_of(process: &Proc, depths: &[usize]) -> usize {
         Proc::Cond(_, then, other) => depth_of(then, depths)
             .max(depth_of(other, depths))
             .saturating_add(1),
-        Proc::Left(first, second) => depth_of(first, depths)
+        Proc::LeftMerge(first, second) => depth_of(first, depths)
             .max(depth_of(second, depths))
             .saturating_add(1),
         Proc::Sum(_, part)

@@ -10,7 +10,7 @@ use Rattle.data_theory.specs.Equations.{trueᵗ}
 use Rattle.data_theory.specs.Complete.{BeginsWith}
 use Rattle.data_theory.specs.declared.ids.VarId.{VarId}
 use Rattle.process_terms.specs.Processes as written
-use Rattle.process_terms.specs.Processes.{Bound, Body, written_act, written_cond, written_call, left_alone, written_starting, written_around, choice_of, seq_of, merge_of, sync_of, sums_around, close}
+use Rattle.process_terms.specs.Processes.{Bound, Body, written_act, written_cond, written_call, written_starting, written_around, choice_of, seq_of, merge_of, sync_of, sums_around, close}
 use Rattle.process_terms.specs.PlainProcesses.{allow, block, hide, rename, comm, PlainProcesses, delta, act, call, choice, seq, cond, sum, merge, left_merge, sync, around, no_processes, more_processes, call_of, term_of}
 use Rattle.process_terms.specs.Meanings.{ActionEntry, Entries, Grows, name_at, bound_at, term_at, action_of, rule_of, renaming_of, around_of, body_of, bodies_of, definition_of, above, equation_of, HasName, HasTerm, HasVariable, HasAction, HasRule, HasRenaming, HasAround, HasProcesses, HasDefinition, HasEquation}
 use Rattle.process_terms.specs.MeaningLaws.{LabelsAreSettled, ProcessesAreSettled, DefinitionsAreSettled, ModelsAreSettled, ComponentsAreSettled}
@@ -112,7 +112,7 @@ mutual
   processes_are_settled old new grows (left_merge p q) h =
       let first = processes_are_settled old new grows p h.0 in
       let second = processes_are_settled old new grows q h.1 in
-      (ap₂ (written_starting left_alone) first.0 second.0, (first.1, second.1))
+      (ap₂ (written_starting written.left_merge) first.0 second.0, (first.1, second.1))
   processes_are_settled old new grows (sync ps) h = let same = all_settled old new grows ps h in (ap sync_of same.0, same.1)
   processes_are_settled old new grows (around o p) h =
       let operator = around_stays old new grows o h.0 in

@@ -8,9 +8,9 @@ use Rattle.process_terms.specs.Names.{Name}
 use Rattle.process_terms.specs.Theories.{Theory, IsTrue, IsFalse, IsOfSort, AllTrue, none_left, true_and_more}
 use Rattle.process_terms.specs.Labels.{Action, Label, Inserted, at_front, further, Permuted, nothing_left, one_placed}
 use Rattle.process_terms.specs.Communication.{Rule, Split, all_split, to_first, to_second, no_more_actions, one_more_action, IsGroup, group_equalities, conjunction_of, Grouped, all_grouped, stays, joins, NoneFurther}
-use Rattle.process_terms.specs.Processes.{left_alone, both_at_once, Process, act, seq, sum, merge, starting}
-use Rattle.process_terms.specs.Steps.{Outcome, ended, goes_on, Step, by_act, by_seq, by_sum, by_left_alone, by_right_alone, by_both, by_left_first, by_both_first, by_around, silent_allowed, communicated}
-use Rattle.process_terms.specs.WorkedSteps.{DeltaDoesNothing, TwoActionsSideBySide, LeftGoesFirst, BothGoFirst, with_argument, two_joined, EqualDataJoin, UnequalDataStay, UnknownDataDoNothing, SilenceIsAllowed, SumTakesEveryTerm, EndingGoesOn}
+use Rattle.process_terms.specs.Processes.{left_merge, sync, Process, act, seq, sum, merge, starting}
+use Rattle.process_terms.specs.Steps.{Outcome, ended, goes_on, Step, by_act, by_seq, by_sum, by_left_alone, by_right_alone, by_both, by_left_merge, by_sync, by_around, silent_allowed, communicated}
+use Rattle.process_terms.specs.WorkedSteps.{DeltaDoesNothing, TwoActionsSideBySide, LeftMergeBegins, LeftMergeGoesOn, SyncGoesOn, SyncGoesOnWithTheRight, SyncGoesOnWithTheLeft, SyncOfLabelsIsTheirLabel, with_argument, two_joined, EqualDataJoin, UnequalDataStay, UnknownDataDoNothing, SilenceIsAllowed, SumTakesEveryTerm, EndingGoesOn}
 use Rattle.process_terms.proofs.PermutedLists.{permuted_refl}
 
 pub delta_none : DeltaDoesNothing
@@ -39,21 +39,57 @@ side_by_side th a b m r = (
       h,
 )
 
--- ---- a first step of one kind
-left_forth : (th : Theory) (a b m : Label) (r : Outcome) → Step th (starting left_alone (act a) (act b)) m r → (m ≡ a) × (r ≡ goes_on (act b))
-left_forth th a b m r (by_left_first by_act) = (refl, refl)
+-- ---- left merge and synchronisation
+begins_forth : (th : Theory) (a b m : Label) (r : Outcome) → Step th (starting left_merge (act a) (act b)) m r → (m ≡ a) × (r ≡ goes_on (act b))
+begins_forth th a b m r (by_left_merge by_act) = (refl, refl)
 
-pub left_first : LeftGoesFirst
-left_first th a b m r = (left_forth th a b m r, λ e. same_step th (starting left_alone (act a) (act b)) m a r (goes_on (act b)) e.0 e.1 (by_left_first by_act))
+pub left_merge_begins : LeftMergeBegins
+left_merge_begins th a b m r = (begins_forth th a b m r, λ e. same_step th (starting left_merge (act a) (act b)) m a r (goes_on (act b)) e.0 e.1 (by_left_merge by_act))
 
-both_forth : (th : Theory) (a b m : Label) (p q : Process) (r : Outcome) → Step th (starting both_at_once (seq (act a) p) (seq (act b) q)) m r → (m ≡ a ++ b) × (r ≡ goes_on (merge p q))
-both_forth th a b m p q r (by_both_first (by_seq by_act) (by_seq by_act)) = (refl, refl)
+left_forth : (th : Theory) (a m : Label) (p q : Process) (r : Outcome) → Step th (starting left_merge (seq (act a) p) q) m r → (m ≡ a) × (r ≡ goes_on (merge p q))
+left_forth th a m p q r (by_left_merge (by_seq by_act)) = (refl, refl)
 
-pub both_first : BothGoFirst
-both_first th a b m p q r = (
-  both_forth th a b m p q r,
-  λ e. same_step th (starting both_at_once (seq (act a) p) (seq (act b) q)) m (a ++ b) r (goes_on (merge p q)) e.0 e.1 (by_both_first (by_seq by_act) (by_seq by_act)),
+pub left_merge_goes_on : LeftMergeGoesOn
+left_merge_goes_on th a m p q r = (
+  left_forth th a m p q r,
+  λ e. same_step th (starting left_merge (seq (act a) p) q) m a r (goes_on (merge p q)) e.0 e.1 (by_left_merge (by_seq by_act)),
 )
+
+sync_forth : (th : Theory) (a b m : Label) (p q : Process) (r : Outcome) → Step th (starting sync (seq (act a) p) (seq (act b) q)) m r → (m ≡ a ++ b) × (r ≡ goes_on (merge p q))
+sync_forth th a b m p q r (by_sync (by_seq by_act) (by_seq by_act)) = (refl, refl)
+
+pub sync_goes_on : SyncGoesOn
+sync_goes_on th a b m p q r = (
+  sync_forth th a b m p q r,
+  λ e. same_step th (starting sync (seq (act a) p) (seq (act b) q)) m (a ++ b) r (goes_on (merge p q)) e.0 e.1 (by_sync (by_seq by_act) (by_seq by_act)),
+)
+
+right_forth : (th : Theory) (a b m : Label) (q : Process) (r : Outcome) → Step th (starting sync (act a) (seq (act b) q)) m r → (m ≡ a ++ b) × (r ≡ goes_on q)
+right_forth th a b m q r (by_sync by_act (by_seq by_act)) = (refl, refl)
+
+pub sync_goes_on_with_the_right : SyncGoesOnWithTheRight
+sync_goes_on_with_the_right th a b m q r = (
+  right_forth th a b m q r,
+  λ e. same_step th (starting sync (act a) (seq (act b) q)) m (a ++ b) r (goes_on q) e.0 e.1 (by_sync by_act (by_seq by_act)),
+)
+
+rest_forth : (th : Theory) (a b m : Label) (p : Process) (r : Outcome) → Step th (starting sync (seq (act a) p) (act b)) m r → (m ≡ a ++ b) × (r ≡ goes_on p)
+rest_forth th a b m p r (by_sync (by_seq by_act) by_act) = (refl, refl)
+
+pub sync_goes_on_with_the_left : SyncGoesOnWithTheLeft
+sync_goes_on_with_the_left th a b m p r = (
+  rest_forth th a b m p r,
+  λ e. same_step th (starting sync (seq (act a) p) (act b)) m (a ++ b) r (goes_on p) e.0 e.1 (by_sync (by_seq by_act) by_act),
+)
+
+label_forth : (th : Theory) (a b m : Label) (r : Outcome) → Step th (starting sync (act a) (act b)) m r → Step th (act (a ++ b)) m r
+label_forth th a b m r (by_sync by_act by_act) = by_act
+
+label_back : (th : Theory) (a b c m : Label) (r : Outcome) → c ≡ a ++ b → Step th (act c) m r → Step th (starting sync (act a) (act b)) m r
+label_back th a b c m r e by_act = subst (λ l. Step th (starting sync (act a) (act b)) l ended) (sym e) (by_sync by_act by_act)
+
+pub sync_of_labels_is_their_label : SyncOfLabelsIsTheirLabel
+sync_of_labels_is_their_label th a b m r = (label_forth th a b m r, label_back th a b (a ++ b) m r refl)
 
 -- ---- communication of two actions
 inserted_long : {A : Type 0} {x : A} {xs ys : List A} → Inserted x xs ys → length ys ≡ suc (length xs)

@@ -15,7 +15,7 @@ use Rattle.process_terms.specs.Theories.{Theory}
 use Rattle.process_terms.specs.Labels.{Action, Label}
 use Rattle.process_terms.specs.Communication.{Rule}
 use Rattle.process_terms.specs.Processes as written
-use Rattle.process_terms.specs.Processes.{Renaming, Around, Bound, Body, written_delta, written_act, written_seq, written_cond, written_call, left_alone, written_starting, written_around, choice_of, seq_of, merge_of, sync_of, sums_around, Definition, Table, Process, close}
+use Rattle.process_terms.specs.Processes.{Renaming, Around, Bound, Body, written_delta, written_act, written_seq, written_cond, written_call, written_starting, written_around, choice_of, seq_of, merge_of, sync_of, sums_around, Definition, Table, Process, close}
 use Rattle.process_terms.specs.PlainProcesses.{PlainAction, PlainRule, PlainAround, allow, block, hide, rename, comm, PlainProcess, PlainProcesses, delta, act, call, choice, seq, cond, sum, merge, left_merge, sync, around, no_processes, more_processes, PlainDefinition, PlainEquation, PlainModel, PlainComponent, call_of, term_of}
 
 -- an action of a text
@@ -73,7 +73,7 @@ abbrev mutual
   body_of g (cond c p q) = written_cond (term_at g c) (body_of g p) (body_of g q)
   body_of g (sum xs p) = sums_around (map (bound_at g) xs) (body_of g p)
   body_of g (merge ps) = merge_of (bodies_of g ps)
-  body_of g (left_merge p q) = written_starting left_alone (body_of g p) (body_of g q)
+  body_of g (left_merge p q) = written_starting written.left_merge (body_of g p) (body_of g q)
   body_of g (sync ps) = sync_of (bodies_of g ps)
   body_of g (around o p) = written_around (around_of g o) (body_of g p)
 

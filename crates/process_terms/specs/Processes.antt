@@ -21,8 +21,8 @@ pub data Around : Type 0 where
 
 -- what the first step of two processes side by side is: one of the left process alone, `p ||_ q`, or one of both, `p | q`
 pub data Start : Type 0 where
-  left_alone : Start
-  both_at_once : Start
+  left_merge : Start
+  sync : Start
 
 -- a variable that a `sum` or a parameter list binds, with its sort
 pub record Bound : Type 0 where
@@ -105,7 +105,7 @@ merge_of (p ∷ ps) = merged_with p ps
 -- `|` nests to the left
 abbrev pub synced_with : Body → List Body → Body
 synced_with p [] = p
-synced_with p (q ∷ qs) = synced_with (written_starting both_at_once p q) qs
+synced_with p (q ∷ qs) = synced_with (written_starting sync p q) qs
 
 abbrev pub sync_of : List Body → Body
 sync_of [] = written_delta

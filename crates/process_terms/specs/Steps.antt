@@ -5,7 +5,7 @@ use Rattle.process_terms.specs.Names.{Name}
 use Rattle.process_terms.specs.Theories.{Theory, IsTrue, IsFalse, IsOfSort}
 use Rattle.process_terms.specs.Labels.{Action, Label, names, Permuted}
 use Rattle.process_terms.specs.Communication.{Rule, Communicates}
-use Rattle.process_terms.specs.Processes.{Renaming, Around, allow, block, hide, rename, comm, left_alone, both_at_once, Process, act, choice, seq, cond, sum, Table, call, merge, starting, around, BodyOf}
+use Rattle.process_terms.specs.Processes.{Renaming, Around, allow, block, hide, rename, comm, left_merge, sync, Process, act, choice, seq, cond, sum, Table, call, merge, starting, around, BodyOf}
 
 -- what a step leads to
 pub data Outcome : Type 0 where
@@ -60,6 +60,6 @@ pub data Step (th : Theory) : Process → Label → Outcome → Type 0 where
   by_left_alone : {p q : Process} {m : Label} {r : Outcome} → Step th p m r → Step th (merge p q) m (beside r (goes_on q))
   by_right_alone : {p q : Process} {m : Label} {r : Outcome} → Step th q m r → Step th (merge p q) m (beside (goes_on p) r)
   by_both : {p q : Process} {m n : Label} {r s : Outcome} → Step th p m r → Step th q n s → Step th (merge p q) (m ++ n) (beside r s)
-  by_left_first : {p q : Process} {m : Label} {r : Outcome} → Step th p m r → Step th (starting left_alone p q) m (beside r (goes_on q))
-  by_both_first : {p q : Process} {m n : Label} {r s : Outcome} → Step th p m r → Step th q n s → Step th (starting both_at_once p q) (m ++ n) (beside r s)
+  by_left_merge : {p q : Process} {m : Label} {r : Outcome} → Step th p m r → Step th (starting left_merge p q) m (beside r (goes_on q))
+  by_sync : {p q : Process} {m n : Label} {r s : Outcome} → Step th p m r → Step th q n s → Step th (starting sync p q) (m ++ n) (beside r s)
   by_around : {o : Around} {p : Process} {m n : Label} {r : Outcome} → Step th p m r → Passes th o m n → Step th (around o p) n (within o r)

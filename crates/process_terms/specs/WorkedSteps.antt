@@ -6,7 +6,7 @@ use Rattle.data_theory.specs.Equations.{equals}
 use Rattle.process_terms.specs.Names.{Name}
 use Rattle.process_terms.specs.Theories.{Theory, IsTrue, IsFalse, IsConsistent, IsOfSort}
 use Rattle.process_terms.specs.Labels.{Action, Label}
-use Rattle.process_terms.specs.Processes.{allow, comm, left_alone, both_at_once, Process, delta, act, seq, sum, merge, starting, around}
+use Rattle.process_terms.specs.Processes.{allow, comm, left_merge, sync, Process, delta, act, seq, sum, merge, starting, around}
 use Rattle.process_terms.specs.Steps.{Outcome, ended, goes_on, within, Step}
 
 -- `delta` does nothing
@@ -19,15 +19,37 @@ TwoActionsSideBySide =
     (th : Theory) (a b m : Label) (r : Outcome)
     → (Step th (merge (act a) (act b)) m r ↔ (((m ≡ a) × (r ≡ goes_on (act b))) ⊎ (((m ≡ b) × (r ≡ goes_on (act a))) ⊎ ((m ≡ a ++ b) × (r ≡ ended)))))
 
+-- ---- left merge and synchronisation
 -- `a ||_ b` does a and goes on with b, and nothing else
-abbrev pub LeftGoesFirst : Type 0
-LeftGoesFirst = (th : Theory) (a b m : Label) (r : Outcome) → (Step th (starting left_alone (act a) (act b)) m r ↔ ((m ≡ a) × (r ≡ goes_on (act b))))
+abbrev pub LeftMergeBegins : Type 0
+LeftMergeBegins = (th : Theory) (a b m : Label) (r : Outcome) → (Step th (starting left_merge (act a) (act b)) m r ↔ ((m ≡ a) × (r ≡ goes_on (act b))))
+
+-- `(a . p) ||_ q` does a and goes on with `p || q`, and nothing else
+abbrev pub LeftMergeGoesOn : Type 0
+LeftMergeGoesOn =
+    (th : Theory) (a m : Label) (p q : Process) (r : Outcome)
+    → (Step th (starting left_merge (seq (act a) p) q) m r ↔ ((m ≡ a) × (r ≡ goes_on (merge p q))))
 
 -- `(a . p) | (b . q)` does a|b and goes on with `p || q`, and nothing else
-abbrev pub BothGoFirst : Type 0
-BothGoFirst =
+abbrev pub SyncGoesOn : Type 0
+SyncGoesOn =
     (th : Theory) (a b m : Label) (p q : Process) (r : Outcome)
-    → (Step th (starting both_at_once (seq (act a) p) (seq (act b) q)) m r ↔ ((m ≡ a ++ b) × (r ≡ goes_on (merge p q))))
+    → (Step th (starting sync (seq (act a) p) (seq (act b) q)) m r ↔ ((m ≡ a ++ b) × (r ≡ goes_on (merge p q))))
+
+-- where one of both ends, `|` goes on with the other one
+abbrev pub SyncGoesOnWithTheRight : Type 0
+SyncGoesOnWithTheRight =
+    (th : Theory) (a b m : Label) (q : Process) (r : Outcome)
+    → (Step th (starting sync (act a) (seq (act b) q)) m r ↔ ((m ≡ a ++ b) × (r ≡ goes_on q)))
+
+abbrev pub SyncGoesOnWithTheLeft : Type 0
+SyncGoesOnWithTheLeft =
+    (th : Theory) (a b m : Label) (p : Process) (r : Outcome)
+    → (Step th (starting sync (seq (act a) p) (act b)) m r ↔ ((m ≡ a ++ b) × (r ≡ goes_on p)))
+
+-- where both end, it ends: as processes `a | b` does what the label a|b does
+abbrev pub SyncOfLabelsIsTheirLabel : Type 0
+SyncOfLabelsIsTheirLabel = (th : Theory) (a b m : Label) (r : Outcome) → (Step th (starting sync (act a) (act b)) m r ↔ Step th (act (a ++ b)) m r)
 
 -- ---- `comm({x|y -> z}, x(t)|y(u))`
 abbrev pub with_argument : Name → Sort → Term → Action

@@ -29,7 +29,7 @@ pub enum Proc {
     /// `p || q || r`, which means `(p || q) || r`
     Merge(Vec<Proc>),
     /// `p ||_ q`
-    Left(Box<Proc>, Box<Proc>),
+    LeftMerge(Box<Proc>, Box<Proc>),
     /// `p | q | r` where it isn't one label, which means `(p | q) | r`
     Sync(Vec<Proc>),
     /// `allow({a, b|c}, p)`
@@ -98,7 +98,7 @@ impl Proc {
                 copy_boxed(alloc, part)?,
             )),
             Proc::Merge(parts) => Ok(Proc::Merge(copy_all(alloc, parts)?)),
-            Proc::Left(first, second) => Ok(Proc::Left(
+            Proc::LeftMerge(first, second) => Ok(Proc::LeftMerge(
                 copy_boxed(alloc, first)?,
                 copy_boxed(alloc, second)?,
             )),

@@ -1,6 +1,6 @@
 //! Steps of small processes, as checks of the definitions. The functions do nothing.
 
-ghost use Rattle.process_terms.specs.WorkedSteps.{BothGoFirst, DeltaDoesNothing, EndingGoesOn, EqualDataJoin, LeftGoesFirst, SilenceIsAllowed, SomeDataAreUnknown, SumTakesEveryTerm, TwoActionsSideBySide, UnequalDataStay, UnknownDataDoNothing};
+ghost use Rattle.process_terms.specs.WorkedSteps.{DeltaDoesNothing, EndingGoesOn, EqualDataJoin, LeftMergeBegins, LeftMergeGoesOn, SilenceIsAllowed, SomeDataAreUnknown, SumTakesEveryTerm, SyncGoesOn, SyncGoesOnWithTheLeft, SyncGoesOnWithTheRight, SyncOfLabelsIsTheirLabel, TwoActionsSideBySide, UnequalDataStay, UnknownDataDoNothing};
 
 /// `delta` does nothing.
 pub fn delta_does_nothing()
@@ -12,10 +12,19 @@ pub fn two_actions_side_by_side()
     ensures { TwoActionsSideBySide }
 {}
 
-/// `a ||_ b` does a and goes on with b, and `(a . p) | (b . q)` does a|b and goes on with `p || q`. Neither does anything else.
-pub fn first_steps_are_told()
-    ensures left { LeftGoesFirst }
-    ensures both { BothGoFirst }
+/// `a ||_ b` does a and goes on with b, and `(a . p) ||_ q` does a and goes on with `p || q`. Neither does anything else.
+pub fn left_merges_begin_on_the_left()
+    ensures ends { LeftMergeBegins }
+    ensures goes_on { LeftMergeGoesOn }
+{}
+
+/// `(a . p) | (b . q)` does a|b and goes on with `p || q`, and where one side ends, with the other one. As processes `a | b` does what
+/// the label a|b does. None does anything else.
+pub fn synchronisations_begin_on_both_sides()
+    ensures goes_on { SyncGoesOn }
+    ensures left_ends { SyncGoesOnWithTheRight }
+    ensures right_ends { SyncGoesOnWithTheLeft }
+    ensures ends { SyncOfLabelsIsTheirLabel }
 {}
 
 /// `comm({x|y -> z}, x(t)|y(u))` does `z(t)` where t and u are provably equal, `x(t)|y(u)` where they are provably unequal, and

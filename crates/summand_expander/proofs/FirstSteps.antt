@@ -7,13 +7,13 @@ use Rattle.data_theory.specs.Declarations.{Data, IsSort}
 use Rattle.data_theory.specs.Provable.{reflexive, symmetric, transitive}
 use Rattle.process_terms.specs.Theories.{Theory, IsTrue, IsFalse, IsConsistent, IsOfSort, AreOfSorts}
 use Rattle.process_terms.specs.Labels.{Label, AgreeInOrder}
-use Rattle.process_terms.specs.Processes.{Start, left_alone, both_at_once, Bound, Process, starting}
-use Rattle.process_terms.specs.Steps.{Outcome, goes_on, beside, Step, by_left_first, by_both_first}
+use Rattle.process_terms.specs.Processes.{Start, left_merge, sync, Bound, Process, starting}
+use Rattle.process_terms.specs.Steps.{Outcome, goes_on, beside, Step, by_left_merge, by_sync}
 use Rattle.process_terms.proofs.AgreeingLabels.{agree_refl}
 use Rattle.bisim_laws.specs.Sameness.{alike_starting}
 use Rattle.bisim_laws.specs.Bisimulations.{UpTo, up_to, Lands, both_end as ends_both, both_go_on as goes_both, Answer, Flipped, Progress}
 use Rattle.bisim_laws.specs.LinearProcesses.{Summand, Linear, variables, sorts, state_of, outcome_of, IsLinear, IsWellSorted, Fires}
-use Rattle.bisim_laws.specs.BaseStates.{Side, SideAt, running, over, StartedState, at_first, begun}
+use Rattle.bisim_laws.specs.BaseStates.{Side, SideAt, running, over, ProductFromState, at_first, begun}
 use Rattle.bisim_laws.specs.Links.{Same}
 use Rattle.bisim_laws.proofs.AlikeProcesses.{alike_refl}
 use Rattle.bisim_laws.proofs.ComposedLinks.{same_good, begun_good, up_to_bisimulation}
@@ -128,7 +128,7 @@ module _ (th : Theory) (sane : IsConsistent th) (vs : List Sort) (o : Start) (a 
 
   -- where both come to
   abbrev Related : Process → Process → Type 0
-  Related = UpTo th (StartedState th o a b K)
+  Related = UpTo th (ProductFromState th o a b K)
 
   here_at : {r s : Outcome} {cs ds : List Term} {t : Term} {p : Process} → SideAt th a r cs → SideAt th b s ds → IsOfSort th boolean t → IsFalse th t → beside r s ≡ goes_on p → Lands Related (goes_on p) (goes_on (state_of K ((cs ++ ds) ++ (t ∷ []))))
   here_at h k i j e = goes_both (up_to (alike_refl th _) (begun h k i j e) (alike_refl th _))
@@ -225,33 +225,33 @@ module _ (th : Theory) (sane : IsConsistent th) (vs : List Sort) (o : Start) (a 
 -- ---- the first step
 -- a step of the operator between both, by what it comes from
 data FirstStep (th : Theory) (o : Start) (p q : Process) (m : Label) : Outcome → Type 0 where
-  left_first : {r : Outcome} → o ≡ left_alone → Step th p m r → FirstStep th o p q m (beside r (goes_on q))
-  both_first : {m' n' : Label} {r s : Outcome} → o ≡ both_at_once → m ≡ m' ++ n' → Step th p m' r → Step th q n' s → FirstStep th o p q m (beside r s)
+  left_first : {r : Outcome} → o ≡ left_merge → Step th p m r → FirstStep th o p q m (beside r (goes_on q))
+  both_first : {m' n' : Label} {r s : Outcome} → o ≡ sync → m ≡ m' ++ n' → Step th p m' r → Step th q n' s → FirstStep th o p q m (beside r s)
 
 first_step : {th : Theory} {o : Start} {p q : Process} {m : Label} {r : Outcome} → Step th (starting o p q) m r → FirstStep th o p q m r
-first_step (by_left_first s) = left_first refl s
-first_step (by_both_first s s') = both_first refl refl s s'
+first_step (by_left_merge s) = left_first refl s
+first_step (by_sync s s') = both_first refl refl s s'
 
 step_first : {th : Theory} {o : Start} {p q : Process} {m : Label} {r : Outcome} → FirstStep th o p q m r → Step th (starting o p q) m r
-step_first {th} {o} {p} {q} {m} (left_first {r = r} e s) = subst (λ z. Step th (starting z p q) m (beside r (goes_on q))) (sym e) (by_left_first s)
+step_first {th} {o} {p} {q} {m} (left_first {r = r} e s) = subst (λ z. Step th (starting z p q) m (beside r (goes_on q))) (sym e) (by_left_merge s)
 step_first {th} {o} {p} {q} {m} (both_first {r = r} {s = s'} e d s t) =
-    subst (λ z. Step th (starting z p q) m (beside r s')) (sym e) (subst (λ l. Step th (starting both_at_once p q) l (beside r s')) (sym d) (by_both_first s t))
+    subst (λ z. Step th (starting z p q) m (beside r s')) (sym e) (subst (λ l. Step th (starting sync p q) l (beside r s')) (sym d) (by_sync s t))
 
-left_may_be : {o : Start} → o ≡ left_alone → left_may o ≡ false → ⊥
-left_may_be {o = left_alone} e q = cc
-left_may_be {o = both_at_once} e q = cc
+left_may_be : {o : Start} → o ≡ left_merge → left_may o ≡ false → ⊥
+left_may_be {o = left_merge} e q = cc
+left_may_be {o = sync} e q = cc
 
-both_may_be : {o : Start} → o ≡ both_at_once → both_may o ≡ false → ⊥
-both_may_be {o = left_alone} e q = cc
-both_may_be {o = both_at_once} e q = cc
+both_may_be : {o : Start} → o ≡ sync → both_may o ≡ false → ⊥
+both_may_be {o = left_merge} e q = cc
+both_may_be {o = sync} e q = cc
 
-is_left_alone : (o : Start) → (left_may o ≡ false → ⊥) → o ≡ left_alone
-is_left_alone left_alone h = refl
-is_left_alone both_at_once h = absurd (h refl)
+is_left_merge : (o : Start) → (left_may o ≡ false → ⊥) → o ≡ left_merge
+is_left_merge left_merge h = refl
+is_left_merge sync h = absurd (h refl)
 
-is_both_at_once : (o : Start) → (both_may o ≡ false → ⊥) → o ≡ both_at_once
-is_both_at_once left_alone h = absurd (h refl)
-is_both_at_once both_at_once h = refl
+is_sync : (o : Start) → (both_may o ≡ false → ⊥) → o ≡ sync
+is_sync left_merge h = absurd (h refl)
+is_sync sync h = refl
 
 -- one side's move is a step of its process
 move_step : {th : Theory} (a : Side) → IsLinear a.process → {p : Process} {r : Outcome} {cs cs' : List Term} {m : Label} → Moves th a (goes_on p) cs m r cs' → Step th p m r
@@ -262,7 +262,7 @@ module _ (th : Theory) (sane : IsConsistent th) (vs : List Sort) (o : Start) (a 
   L = product_from o a b f
 
   abbrev Paired : Process → Process → Type 0
-  Paired = UpTo th (StartedState th o a b L)
+  Paired = UpTo th (ProductFromState th o a b L)
 
   step_left : {p : Process} {r : Outcome} {cs : List Term} {m : Label} → SideAt th a (goes_on p) cs → Step th p m r → (cs' : List Term) × Moves th a (goes_on p) cs m r cs'
   step_left (running ts fs l k c) st = left_moves th sane vs a b ok l k c st
@@ -291,7 +291,7 @@ module _ (th : Theory) (sane : IsConsistent th) (vs : List Sort) (o : Start) (a 
     first_back_at : {m : Label} {next : Option (List Term)} → OfKind th sane vs o a b f ok new first_state m next → Answer th (Flipped Paired) (starting o p q) m (outcome_of L next)
     first_back_at {m = m} {next = next} (OfKind.a_left k) =
         let w = left_without th sane vs o a b f ok new (goes_on p) (goes_on q) cs ds t left right flag_sorted k in
-        let e = is_left_alone o (λ z. not_begun (w.begun z)) in
+        let e = is_left_merge o (λ z. not_begun (w.begun z)) in
         let c = lefts_come th sane vs a b ok (goes_on p) (goes_on q) cs ds left right m w.next w.fires in
         record {
           label = m;
@@ -305,7 +305,7 @@ module _ (th : Theory) (sane : IsConsistent th) (vs : List Sort) (o : Start) (a 
         absurd (not_begun (w.begun refl))
     first_back_at {m = m} {next = next} (OfKind.a_both k) =
         let w = both_without th sane vs o a b f ok new (goes_on p) (goes_on q) cs ds t left right flag_sorted k in
-        let e = is_both_at_once o (λ z. not_begun (w.begun z)) in
+        let e = is_sync o (λ z. not_begun (w.begun z)) in
         let c = boths_come th sane vs a b ok (goes_on p) (goes_on q) cs ds left right m w.next w.fires in
         record {
           label = m;
@@ -321,16 +321,16 @@ module _ (th : Theory) (sane : IsConsistent th) (vs : List Sort) (o : Start) (a 
         subst (λ z. Answer th (Flipped Paired) (starting o p q) m z) (sym k.1.1) (first_back_at (of_kind th sane vs o a b f ok new k.1.0))
 
   -- ---- both together
-  from_forth : (p q : Process) (m : Label) (r : Outcome) → StartedState th o a b L p q → Step th p m r → Answer th Paired q m r
+  from_forth : (p q : Process) (m : Label) (r : Outcome) → ProductFromState th o a b L p q → Step th p m r → Answer th Paired q m r
   from_forth p q m r (at_first {p = x} {q = y} {ts = cs} {us = ds} {f = t} h k i j) st = first_forth x y cs ds t h k i j (first_step st)
   from_forth p q m r (begun {r = x} {s = y} {ts = cs} {us = ds} {f = t} h k i j e) st =
       later_forth th sane vs o a b f ok new x y cs ds t h k i j (step_joint th sane vs a b ok h k (subst (λ z. StepOf th z m r) (sym e) st))
 
-  from_back : (p q : Process) (m : Label) (r : Outcome) → StartedState th o a b L p q → Step th q m r → Answer th (Flipped Paired) p m r
+  from_back : (p q : Process) (m : Label) (r : Outcome) → ProductFromState th o a b L p q → Step th q m r → Answer th (Flipped Paired) p m r
   from_back p q m r (at_first {p = x} {q = y} {ts = cs} {us = ds} {f = t} h k i j) st = first_back x y cs ds t h k i j st
   from_back p q m r (begun {r = x} {s = y} {ts = cs} {us = ds} {f = t} h k i j e) st = later_back th sane vs o a b f ok new x y cs ds t h k i p e st
 
-  pub from_progress : Progress th (StartedState th o a b L)
+  pub from_progress : Progress th (ProductFromState th o a b L)
   from_progress = record { forth = λ p q m r h st. from_forth p q m r h st; back = λ q p m r h st. from_back p q m r h st }
 
 pub from_answers : ProductFromAnswers

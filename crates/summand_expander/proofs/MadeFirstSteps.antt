@@ -10,7 +10,7 @@ use Rattle.process_terms.specs.Processes.{Start, starting}
 use Rattle.process_terms.specs.SignatureEntries.{entries_of, BothGrow}
 use Rattle.bisim_laws.specs.Sameness.{Alike}
 use Rattle.bisim_laws.specs.LinearProcesses.{Linear, sorts, state_of}
-use Rattle.bisim_laws.specs.Links.{Started, IsGood}
+use Rattle.bisim_laws.specs.Links.{ProductFrom, IsGood}
 use Rattle.bisim_laws.proofs.AlikeProcesses.{alike_refl}
 use Rattle.lps_core.specs.Fitting.{Fits}
 use Rattle.lps_core.specs.Naming.{GrowsByNames}
@@ -45,10 +45,10 @@ module _ (o : Start) (g h : Sig) (ts us : List Tree) (l r k made : PlainLinear) 
         let d = terms_grown (data_meant g) th.declared back.grows [] (terms_of ys) (sorts sides.right.process.params) sides.right_closed in
         let known = newest_good th sane (variable_sorts g) o sides.left sides.right (sides.separate th.declared back.grows) xs ys c d (linear_state (entries_of g ts) l) (linear_state (entries_of g ts) r)
         (subst (λ (z : Linear). Alike th (linear_state (entries_of g ts) l) (state_of z xs)) (sym sides.left_is) (alike_refl th (linear_state (entries_of g ts) l))) (sides.same th) in
-        subst (λ z. IsGood th (Started o sides.left sides.right z) (starting o (linear_state (entries_of h us) l) (linear_state (entries_of h us) r)) (state_of z (initial_of (entries_of h us) made))) (sym linear)
-        (subst (λ z. IsGood th (Started o sides.left sides.right (product_from o sides.left sides.right (length (variable_sorts g)))) (starting o (linear_state (entries_of h us) l) (linear_state (entries_of h us) r)) (state_of (product_from o sides.left sides.right (length (variable_sorts g))) z)) (sym initial)
-        (subst (λ z. IsGood th (Started o sides.left sides.right (product_from o sides.left sides.right (length (variable_sorts g)))) (starting o z (linear_state (entries_of h us) r)) (state_of (product_from o sides.left sides.right (length (variable_sorts g))) (first_of_all sides.left sides.right xs ys))) (sym (state_stays l left_fits))
-        (subst (λ z. IsGood th (Started o sides.left sides.right (product_from o sides.left sides.right (length (variable_sorts g)))) (starting o (linear_state (entries_of g ts) l) z) (state_of (product_from o sides.left sides.right (length (variable_sorts g))) (first_of_all sides.left sides.right xs ys))) (sym (state_stays r right_fits)) known)));
+        subst (λ z. IsGood th (ProductFrom o sides.left sides.right z) (starting o (linear_state (entries_of h us) l) (linear_state (entries_of h us) r)) (state_of z (initial_of (entries_of h us) made))) (sym linear)
+        (subst (λ z. IsGood th (ProductFrom o sides.left sides.right (product_from o sides.left sides.right (length (variable_sorts g)))) (starting o (linear_state (entries_of h us) l) (linear_state (entries_of h us) r)) (state_of (product_from o sides.left sides.right (length (variable_sorts g))) z)) (sym initial)
+        (subst (λ z. IsGood th (ProductFrom o sides.left sides.right (product_from o sides.left sides.right (length (variable_sorts g)))) (starting o z (linear_state (entries_of h us) r)) (state_of (product_from o sides.left sides.right (length (variable_sorts g))) (first_of_all sides.left sides.right xs ys))) (sym (state_stays l left_fits))
+        (subst (λ z. IsGood th (ProductFrom o sides.left sides.right (product_from o sides.left sides.right (length (variable_sorts g)))) (starting o (linear_state (entries_of g ts) l) z) (state_of (product_from o sides.left sides.right (length (variable_sorts g))) (first_of_all sides.left sides.right xs ys))) (sym (state_stays r right_fits)) known)));
   }
 
 pub made_of_product : MadeOfAProductIsGood

@@ -4,11 +4,11 @@ use Rattle.data_theory.specs.Terms.{Sort, boolean, Term, variable}
 use Rattle.data_theory.specs.Declarations.{Data}
 use Rattle.data_theory.specs.Equations.{trueᵗ, falseᵗ, !ᵗ◌}
 use Rattle.process_terms.specs.Theories.{Theory, IsConsistent, AreOfSorts}
-use Rattle.process_terms.specs.Processes.{Start, left_alone, both_at_once, Process, starting}
+use Rattle.process_terms.specs.Processes.{Start, left_merge, sync, Process, starting}
 use Rattle.bisim_laws.specs.Bisimulations.{Progress}
 use Rattle.bisim_laws.specs.LinearProcesses.{Summand, Linear, variables, sorts, state_of, IsLinear, AreDeclared, IsWellSorted}
 use Rattle.bisim_laws.specs.BaseStates.{Side}
-use Rattle.bisim_laws.specs.Links.{Same, Started, Begun, States, Pairs, IsGood}
+use Rattle.bisim_laws.specs.Links.{Same, ProductFrom, Begun, States, Pairs, IsGood}
 use Rattle.lps_core.specs.Conditions.{parts, conjoined}
 use Rattle.summand_expander.specs.Product.{flag_of, columns, lone, own_first, own_last, pair, product, first_columns, Separate}
 
@@ -26,12 +26,12 @@ both_summands a b = flat_map (λ s. map (pair a b s) b.process.summands) a.proce
 -- ---- the first step
 -- whether the first step may be one of the left side alone, and whether it may be one of both
 abbrev pub left_may : Start → Bool
-left_may left_alone = true
-left_may both_at_once = false
+left_may left_merge = true
+left_may sync = false
 
 abbrev pub both_may : Start → Bool
-both_may left_alone = false
-both_may both_at_once = true
+both_may left_merge = false
+both_may sync = true
 
 -- the parameter f says that the first step is still to come: a summand that may be the first step has its condition, and every
 -- other one has the part `!f` before all its parts
@@ -75,7 +75,7 @@ ProductFromIsLinear = (g : Data) (vs : List Sort) (o : Start) (a b : Side) (f : 
 abbrev pub ProductFromAnswers : Type 0
 ProductFromAnswers =
     (th : Theory) → IsConsistent th → (vs : List Sort) (o : Start) (a b : Side) (f : ℕ) → Separate th.declared vs a b → IsFirstFlag th.declared vs a b f
-    → Progress th (States th (Started o a b (product_from o a b f)))
+    → Progress th (States th (ProductFrom o a b (product_from o a b f)))
 
 -- from any arguments of their sorts, and `true` for f
 abbrev pub first_of_all : Side → Side → List Term → List Term → List Term
@@ -85,7 +85,7 @@ abbrev pub ProductFromIsGood : Type 0
 ProductFromIsGood =
     (th : Theory) → IsConsistent th → (vs : List Sort) (o : Start) (a b : Side) (f : ℕ) → Separate th.declared vs a b → IsFirstFlag th.declared vs a b f
     → (ts us : List Term) → AreOfSorts th (sorts a.process.params) ts → AreOfSorts th (sorts b.process.params) us → (x y : Process) → Pairs th Same x (state_of a.process ts) → Pairs th Same y (state_of b.process us)
-    → IsGood th (Started o a b (product_from o a b f)) (starting o x y) (state_of (product_from o a b f) (first_of_all a b ts us))
+    → IsGood th (ProductFrom o a b (product_from o a b f)) (starting o x y) (state_of (product_from o a b f) (first_of_all a b ts us))
 
 -- so `Begun` of `Same` is good for it, too
 abbrev pub ProductFromIsBegun : Type 0
@@ -103,4 +103,4 @@ abbrev pub ProductFromNewestIsGood : Type 0
 ProductFromNewestIsGood =
     (th : Theory) → IsConsistent th → (vs : List Sort) (o : Start) (a b : Side) → Separate th.declared vs a b
     → (ts us : List Term) → AreOfSorts th (sorts a.process.params) ts → AreOfSorts th (sorts b.process.params) us → (x y : Process) → Pairs th Same x (state_of a.process ts) → Pairs th Same y (state_of b.process us)
-    → IsGood th (Started o a b (product_from o a b (length vs))) (starting o x y) (state_of (product_from o a b (length vs)) (first_of_all a b ts us))
+    → IsGood th (ProductFrom o a b (product_from o a b (length vs))) (starting o x y) (state_of (product_from o a b (length vs)) (first_of_all a b ts us))

@@ -12,12 +12,12 @@ use Rattle.data_theory.specs.IdTerms.{variable_sorts}
 use Rattle.data_theory.specs.IdTrees.{Tree}
 use Rattle.summand_expander.specs.declared.starts.Start.{Start as Chosen}
 use Rattle.summand_expander.specs.declared.starts.Start.TheVariants as chosen
-use Rattle.process_terms.specs.Processes.{Start, left_alone, both_at_once, starting}
+use Rattle.process_terms.specs.Processes.{Start, left_merge, sync, starting}
 use Rattle.process_terms.specs.SignatureEntries.{entries_of}
 use Rattle.process_terms.specs.Theories.{Theory}
 use Rattle.bisim_laws.specs.LinearProcesses.{sorts, state_of}
 use Rattle.bisim_laws.specs.BaseStates.{Side}
-use Rattle.bisim_laws.specs.Links.{Same, Started, Pairs}
+use Rattle.bisim_laws.specs.Links.{Same, ProductFrom, Pairs}
 use Rattle.data_theory.specs.WholeSignatures.{IsSignature}
 use Rattle.term_pool.specs.Pools.{Extends}
 use Rattle.lps_core.specs.Fitting.{Fits}
@@ -42,8 +42,8 @@ pub record HasSides (h : Sig) (us : List Tree) (l r k : PlainLinear) : Type 0 wh
   pub same : (th : Theory) → Pairs th Same (linear_state (entries_of h us) r) (state_of right.process (initial_of (entries_of h us) r))
 
 abbrev pub start_of : Chosen → Start
-start_of chosen.LeftAlone = left_alone
-start_of chosen.Both = both_at_once
+start_of chosen.LeftAlone = left_merge
+start_of chosen.Both = sync
 
 -- How it is made: the sides are those of the product, from the signature g to h, and then a variable with a fresh name on `first`
 -- comes, from h to k. The initial terms of the product are followed by `true`.
@@ -61,11 +61,11 @@ pub record IsProductFrom (o : Start) (g k : Sig) (us : List Tree) (l r made : Pl
       ≡ product_from o (side_of_linear (entries_of k us) l product.left_flag) (renewed_side (entries_of k us) product.olds product.news r product.right_flag) (length named.variables)
   pub initial : initial_of (entries_of k us) made ≡ first_of_all (side_of_linear (entries_of k us) l product.left_flag) (renewed_side (entries_of k us) product.olds product.news r product.right_flag) (initial_of (entries_of k us) l) (initial_of (entries_of k us) r)
 
--- over every theory that goes on from the signature, `Started` is good for the operator between both and it
+-- over every theory that goes on from the signature, `ProductFrom` is good for the operator between both and it
 pub record IsGoodProductFrom (o : Start) (h : Sig) (us : List Tree) (l r k : PlainLinear) : Type 0 where
   pub left : Side
   pub right : Side
-  pub good : IsGoodOver h (Started o left right (linear_of (entries_of h us) k)) (starting o (linear_state (entries_of h us) l) (linear_state (entries_of h us) r)) (linear_state (entries_of h us) k)
+  pub good : IsGoodOver h (ProductFrom o left right (linear_of (entries_of h us) k)) (starting o (linear_state (entries_of h us) l) (linear_state (entries_of h us) r)) (linear_state (entries_of h us) k)
 
 -- From the signature g of a product to h, with one variable more: what means the product with a first step of one kind, over the
 -- product's own sides and with the newest variable, is good.

@@ -4,7 +4,7 @@ use Rattle.term_pool.specs.Bindings.{listed_terms}
 use Rattle.process_terms.specs.PlainProcesses.{plain_process, processes_of}
 use Rattle.lps_core.proofs.PoolTrees.{extends_itself, extends_on, all_in_kept}
 use Rattle.proc_unfold.specs.PutTerms.{IsProcessIn, AreProcessesIn}
-use Rattle.proc_unfold.proofs.ProcessSteps.{act_step, call_step, choice_step, seq_step, cond_step, sum_step, merge_step, left_step, sync_step, allow_step, block_step, hide_step, rename_step, comm_step}
+use Rattle.proc_unfold.proofs.ProcessSteps.{act_step, call_step, choice_step, seq_step, cond_step, sum_step, merge_step, left_merge_step, sync_step, allow_step, block_step, hide_step, rename_step, comm_step}
 use Rattle.proc_unfold.proofs.PutBodies.{listed_without}
 use Rattle.proc_unfold.proofs.Sizes.{then_smaller, other_smaller, summed_smaller, around_smaller, choices_smaller, steps_smaller, merged_smaller, synced_smaller, first_smaller, second_smaller, operand_no_larger}
 use Rattle.proc_unfold.proofs.PuttingLemmas.{process_kept, part_in, under_in, terms_put, term_put, delta_put, act_put, call_put, choice_put, seq_put, merge_put, sync_put, left_put, cond_put, sum_put, around_put, none_puts, more_puts}
@@ -179,31 +179,31 @@ put_in-put_under-requires-in-Comm t c =
       ),
     )
 
-pub put_in-put_boxed-requires-in-Left : goal.put_in-put_boxed-requires-in-Left
-put_in-put_boxed-requires-in-Left t c =
-    let parts = subst (IsProcessIn c.args.pool.now.trees) (ap plain_process c.in-Left.is ∙ left_step c.in-Left.first c.in-Left.second) c.requires.within in (
-      omega (arith, first_smaller c.args.process.now c.deref-in-Left.result.now c.in-Left.first c.in-Left.second c.in-Left.is c.deref-in-Left.ensures, c.decreases),
+pub put_in-put_boxed-requires-in-LeftMerge : goal.put_in-put_boxed-requires-in-LeftMerge
+put_in-put_boxed-requires-in-LeftMerge t c =
+    let parts = subst (IsProcessIn c.args.pool.now.trees) (ap plain_process c.in-LeftMerge.is ∙ left_merge_step c.in-LeftMerge.first c.in-LeftMerge.second) c.requires.within in (
+      omega (arith, first_smaller c.args.process.now c.deref-in-LeftMerge.result.now c.in-LeftMerge.first c.in-LeftMerge.second c.in-LeftMerge.is c.deref-in-LeftMerge.ensures, c.decreases),
       (
-        subst (λ p. IsProcessIn c.args.pool.now.trees (plain_process p)) (sym c.deref-in-Left.ensures) parts.0,
+        subst (λ p. IsProcessIn c.args.pool.now.trees (plain_process p)) (sym c.deref-in-LeftMerge.ensures) parts.0,
         c.requires.listed,
       ),
     )
 
-pub put_in-put_boxed-requires-in-Left-2 : goal.put_in-put_boxed-requires-in-Left-2
-put_in-put_boxed-requires-in-Left-2 t c =
-    let parts = subst (IsProcessIn c.args.pool.now.trees) (ap plain_process c.in-Left.is ∙ left_step c.in-Left.first c.in-Left.second) c.requires.within in
-    let grown = c.put_boxed-in-Left.ensures.kept in (
-      omega (arith, second_smaller c.args.process.now c.deref-in-Left-2.result.now c.in-Left.first c.in-Left.second c.in-Left.is c.deref-in-Left-2.ensures, c.decreases),
+pub put_in-put_boxed-requires-in-LeftMerge-2 : goal.put_in-put_boxed-requires-in-LeftMerge-2
+put_in-put_boxed-requires-in-LeftMerge-2 t c =
+    let parts = subst (IsProcessIn c.args.pool.now.trees) (ap plain_process c.in-LeftMerge.is ∙ left_merge_step c.in-LeftMerge.first c.in-LeftMerge.second) c.requires.within in
+    let grown = c.put_boxed-in-LeftMerge.ensures.kept in (
+      omega (arith, second_smaller c.args.process.now c.deref-in-LeftMerge-2.result.now c.in-LeftMerge.first c.in-LeftMerge.second c.in-LeftMerge.is c.deref-in-LeftMerge-2.ensures, c.decreases),
       (
-        process_kept c.args.pool.now.trees c.put_boxed-in-Left.new.pool.trees grown (plain_process c.deref-in-Left-2.result.now) (subst (λ p. IsProcessIn c.args.pool.now.trees (plain_process p)) (sym c.deref-in-Left-2.ensures) parts.1),
-        all_in_kept c.args.pool.now.trees c.put_boxed-in-Left.new.pool.trees (listed_terms c.args.by.now) grown c.requires.listed,
+        process_kept c.args.pool.now.trees c.put_boxed-in-LeftMerge.new.pool.trees grown (plain_process c.deref-in-LeftMerge-2.result.now) (subst (λ p. IsProcessIn c.args.pool.now.trees (plain_process p)) (sym c.deref-in-LeftMerge-2.ensures) parts.1),
+        all_in_kept c.args.pool.now.trees c.put_boxed-in-LeftMerge.new.pool.trees (listed_terms c.args.by.now) grown c.requires.listed,
       ),
     )
 
-pub put_in-returns-in_ok-put_boxed-in-Left-2-clause-put : goal.put_in-returns-in_ok-put_boxed-in-Left-2-clause-put
-put_in-returns-in_ok-put_boxed-in-Left-2-clause-put t c =
-    left_put c.put_boxed-in-Left-2.new.pool.trees c.args.by.now c.put_boxed-in-Left.new.pool.trees c.args.process.now c.in-Left.first c.in-Left.second c.in_ok-put_boxed-in-Left.field-0 c.in_ok-put_boxed-in-Left-2.field-0 c.deref-in-Left.result.now c.deref-in-Left-2.result.now
-    c.in-Left.is c.deref-in-Left.ensures c.deref-in-Left-2.ensures c.put_boxed-in-Left-2.ensures.kept c.in_ok-put_boxed-in-Left.ensures.put c.in_ok-put_boxed-in-Left-2.ensures.put
+pub put_in-returns-in_ok-put_boxed-in-LeftMerge-2-clause-put : goal.put_in-returns-in_ok-put_boxed-in-LeftMerge-2-clause-put
+put_in-returns-in_ok-put_boxed-in-LeftMerge-2-clause-put t c =
+    left_put c.put_boxed-in-LeftMerge-2.new.pool.trees c.args.by.now c.put_boxed-in-LeftMerge.new.pool.trees c.args.process.now c.in-LeftMerge.first c.in-LeftMerge.second c.in_ok-put_boxed-in-LeftMerge.field-0 c.in_ok-put_boxed-in-LeftMerge-2.field-0 c.deref-in-LeftMerge.result.now c.deref-in-LeftMerge-2.result.now
+    c.in-LeftMerge.is c.deref-in-LeftMerge.ensures c.deref-in-LeftMerge-2.ensures c.put_boxed-in-LeftMerge-2.ensures.kept c.in_ok-put_boxed-in-LeftMerge.ensures.put c.in_ok-put_boxed-in-LeftMerge-2.ensures.put
 
 pub put_in-put_in_all-requires-in-Sync : goal.put_in-put_in_all-requires-in-Sync
 put_in-put_in_all-requires-in-Sync t c =

@@ -21,7 +21,7 @@ use Rattle.proc_unfold.proofs.WithinLemmas.{definition_at}
 use Rattle.proc_unfold.proofs.OpeningLemmas.{bodies_kept, body_opens, all_open_none, all_open_more, under_opens, call_opens, choice_opens, seq_opens, merge_opens, sync_opens, left_opens, sum_opens, no_variables, part_outside, part_calls}
 use Rattle.proc_unfold.specs.ParallelTests.{is_outside, all_outside}
 use Rattle.proc_unfold.proofs.LoopLemmas.{choice_of_one, choice_of_others, seq_of_one, seq_of_others, both_outside}
-use Rattle.proc_unfold.proofs.ProcessSteps.{call_step, choice_step, seq_step, merge_step, left_step, sync_step, allow_step, block_step, hide_step, rename_step, comm_step}
+use Rattle.proc_unfold.proofs.ProcessSteps.{call_step, choice_step, seq_step, merge_step, left_merge_step, sync_step, allow_step, block_step, hide_step, rename_step, comm_step}
 use Rattle.proc_unfold.proofs.opening.Opening.+open.Goals as goal
 
 pub open-open_settled-requires : goal.open-open_settled-requires
@@ -387,10 +387,10 @@ open_settled-open_all-requires-in-Sync t c =
 
 pub open_settled-open_boxed-requires : goal.open_settled-open_boxed-requires
 open_settled-open_boxed-requires t c =
-    let is = ap plain_process c.in-Left.is ∙ left_step c.in-Left.first c.in-Left.second in
+    let is = ap plain_process c.in-LeftMerge.is ∙ left_merge_step c.in-LeftMerge.first c.in-LeftMerge.second in
     let parts = subst (IsProcessIn c.args.pool.now.trees) is c.requires.within in
-    let part = ap plain_process c.deref-in-Left.ensures in (
-      omega (arith, first_smaller c.args.process.now c.deref-in-Left.result.now c.in-Left.first c.in-Left.second c.in-Left.is c.deref-in-Left.ensures, c.decreases),
+    let part = ap plain_process c.deref-in-LeftMerge.ensures in (
+      omega (arith, first_smaller c.args.process.now c.deref-in-LeftMerge.result.now c.in-LeftMerge.first c.in-LeftMerge.second c.in-LeftMerge.is c.deref-in-LeftMerge.ensures, c.decreases),
       (
         c.requires.bodies,
         (
@@ -398,10 +398,10 @@ open_settled-open_boxed-requires t c =
           (
             subst (IsProcessIn c.args.pool.now.trees) (sym part) parts.0,
             (
-              ap (is_outside c.args.self.now.found.now.parallel.items) part ∙ (both_outside (is_outside c.args.self.now.found.now.parallel.items (plain_process c.in-Left.first.value)) (is_outside c.args.self.now.found.now.parallel.items (plain_process c.in-Left.second.value)) (sym (ap (is_outside c.args.self.now.found.now.parallel.items) is) ∙ c.requires.outside)).0,
+              ap (is_outside c.args.self.now.found.now.parallel.items) part ∙ (both_outside (is_outside c.args.self.now.found.now.parallel.items (plain_process c.in-LeftMerge.first.value)) (is_outside c.args.self.now.found.now.parallel.items (plain_process c.in-LeftMerge.second.value)) (sym (ap (is_outside c.args.self.now.found.now.parallel.items) is) ∙ c.requires.outside)).0,
               (
-                λ x i. c.requires.reached x (subst (λ l. Contains l x) (sym (ap (plain_calls Everywhere) is)) (Contains-append_left (plain_calls Everywhere (plain_process c.in-Left.first.value)) (plain_calls Everywhere (plain_process c.in-Left.second.value)) x (subst (λ l. Contains l x) (ap (plain_calls Everywhere) part) i))),
-                λ x i marked. c.requires.below x (subst (λ l. Contains l x) (sym (ap (plain_calls Everywhere) is)) (Contains-append_left (plain_calls Everywhere (plain_process c.in-Left.first.value)) (plain_calls Everywhere (plain_process c.in-Left.second.value)) x (subst (λ l. Contains l x) (ap (plain_calls Everywhere) part) i))) marked,
+                λ x i. c.requires.reached x (subst (λ l. Contains l x) (sym (ap (plain_calls Everywhere) is)) (Contains-append_left (plain_calls Everywhere (plain_process c.in-LeftMerge.first.value)) (plain_calls Everywhere (plain_process c.in-LeftMerge.second.value)) x (subst (λ l. Contains l x) (ap (plain_calls Everywhere) part) i))),
+                λ x i marked. c.requires.below x (subst (λ l. Contains l x) (sym (ap (plain_calls Everywhere) is)) (Contains-append_left (plain_calls Everywhere (plain_process c.in-LeftMerge.first.value)) (plain_calls Everywhere (plain_process c.in-LeftMerge.second.value)) x (subst (λ l. Contains l x) (ap (plain_calls Everywhere) part) i))) marked,
               ),
             ),
           ),
@@ -409,23 +409,23 @@ open_settled-open_boxed-requires t c =
       ),
     )
 
-pub open_settled-open_boxed-requires-in-Left : goal.open_settled-open_boxed-requires-in-Left
-open_settled-open_boxed-requires-in-Left t c =
-    let is = ap plain_process c.in-Left.is ∙ left_step c.in-Left.first c.in-Left.second in
+pub open_settled-open_boxed-requires-in-LeftMerge : goal.open_settled-open_boxed-requires-in-LeftMerge
+open_settled-open_boxed-requires-in-LeftMerge t c =
+    let is = ap plain_process c.in-LeftMerge.is ∙ left_merge_step c.in-LeftMerge.first c.in-LeftMerge.second in
     let parts = subst (IsProcessIn c.args.pool.now.trees) is c.requires.within in
-    let part = ap plain_process c.deref-in-Left-2.ensures in (
-      omega (arith, second_smaller c.args.process.now c.deref-in-Left-2.result.now c.in-Left.first c.in-Left.second c.in-Left.is c.deref-in-Left-2.ensures, c.decreases),
+    let part = ap plain_process c.deref-in-LeftMerge-2.ensures in (
+      omega (arith, second_smaller c.args.process.now c.deref-in-LeftMerge-2.result.now c.in-LeftMerge.first c.in-LeftMerge.second c.in-LeftMerge.is c.deref-in-LeftMerge-2.ensures, c.decreases),
       (
         bodies_kept (plain_model c.args.self.now.model.now) c.args.self.now.found.now c.args.pool.now.trees c.open_boxed.new.pool.trees c.open_boxed.ensures.kept c.requires.bodies,
         (
           all_in_kept c.args.pool.now.trees c.open_boxed.new.pool.trees (listed_terms c.args.by.now) c.open_boxed.ensures.kept c.requires.listed,
           (
-            process_kept c.args.pool.now.trees c.open_boxed.new.pool.trees c.open_boxed.ensures.kept (plain_process c.deref-in-Left-2.result.now) (subst (IsProcessIn c.args.pool.now.trees) (sym part) parts.1),
+            process_kept c.args.pool.now.trees c.open_boxed.new.pool.trees c.open_boxed.ensures.kept (plain_process c.deref-in-LeftMerge-2.result.now) (subst (IsProcessIn c.args.pool.now.trees) (sym part) parts.1),
             (
-              ap (is_outside c.args.self.now.found.now.parallel.items) part ∙ (both_outside (is_outside c.args.self.now.found.now.parallel.items (plain_process c.in-Left.first.value)) (is_outside c.args.self.now.found.now.parallel.items (plain_process c.in-Left.second.value)) (sym (ap (is_outside c.args.self.now.found.now.parallel.items) is) ∙ c.requires.outside)).1,
+              ap (is_outside c.args.self.now.found.now.parallel.items) part ∙ (both_outside (is_outside c.args.self.now.found.now.parallel.items (plain_process c.in-LeftMerge.first.value)) (is_outside c.args.self.now.found.now.parallel.items (plain_process c.in-LeftMerge.second.value)) (sym (ap (is_outside c.args.self.now.found.now.parallel.items) is) ∙ c.requires.outside)).1,
               (
-                λ x i. c.requires.reached x (subst (λ l. Contains l x) (sym (ap (plain_calls Everywhere) is)) (Contains-append_right (plain_calls Everywhere (plain_process c.in-Left.first.value)) (plain_calls Everywhere (plain_process c.in-Left.second.value)) x (subst (λ l. Contains l x) (ap (plain_calls Everywhere) part) i))),
-                λ x i marked. c.requires.below x (subst (λ l. Contains l x) (sym (ap (plain_calls Everywhere) is)) (Contains-append_right (plain_calls Everywhere (plain_process c.in-Left.first.value)) (plain_calls Everywhere (plain_process c.in-Left.second.value)) x (subst (λ l. Contains l x) (ap (plain_calls Everywhere) part) i))) marked,
+                λ x i. c.requires.reached x (subst (λ l. Contains l x) (sym (ap (plain_calls Everywhere) is)) (Contains-append_right (plain_calls Everywhere (plain_process c.in-LeftMerge.first.value)) (plain_calls Everywhere (plain_process c.in-LeftMerge.second.value)) x (subst (λ l. Contains l x) (ap (plain_calls Everywhere) part) i))),
+                λ x i marked. c.requires.below x (subst (λ l. Contains l x) (sym (ap (plain_calls Everywhere) is)) (Contains-append_right (plain_calls Everywhere (plain_process c.in-LeftMerge.first.value)) (plain_calls Everywhere (plain_process c.in-LeftMerge.second.value)) x (subst (λ l. Contains l x) (ap (plain_calls Everywhere) part) i))) marked,
               ),
             ),
           ),
@@ -433,10 +433,10 @@ open_settled-open_boxed-requires-in-Left t c =
       ),
     )
 
-pub open_settled-returns-in_ok-open_boxed-in-Left-2-clause-opens : goal.open_settled-returns-in_ok-open_boxed-in-Left-2-clause-opens
-open_settled-returns-in_ok-open_boxed-in-Left-2-clause-opens t c =
-    left_opens (plain_model c.args.self.now.model.now) c.args.self.now.found.now c.open_boxed-in-Left.new.pool.trees c.args.by.now c.open_boxed.new.pool.trees c.args.process.now c.deref-in-Left.result.now c.deref-in-Left-2.result.now c.in-Left.first c.in-Left.second c.in_ok-open_boxed-in-Left.field-0 c.in_ok-open_boxed-in-Left-2.field-0
-    c.in-Left.is c.deref-in-Left.ensures c.deref-in-Left-2.ensures c.open_boxed-in-Left.ensures.kept c.in_ok-open_boxed-in-Left.ensures.opens c.in_ok-open_boxed-in-Left-2.ensures.opens
+pub open_settled-returns-in_ok-open_boxed-in-LeftMerge-2-clause-opens : goal.open_settled-returns-in_ok-open_boxed-in-LeftMerge-2-clause-opens
+open_settled-returns-in_ok-open_boxed-in-LeftMerge-2-clause-opens t c =
+    left_opens (plain_model c.args.self.now.model.now) c.args.self.now.found.now c.open_boxed-in-LeftMerge.new.pool.trees c.args.by.now c.open_boxed.new.pool.trees c.args.process.now c.deref-in-LeftMerge.result.now c.deref-in-LeftMerge-2.result.now c.in-LeftMerge.first c.in-LeftMerge.second c.in_ok-open_boxed-in-LeftMerge.field-0 c.in_ok-open_boxed-in-LeftMerge-2.field-0
+    c.in-LeftMerge.is c.deref-in-LeftMerge.ensures c.deref-in-LeftMerge-2.ensures c.open_boxed-in-LeftMerge.ensures.kept c.in_ok-open_boxed-in-LeftMerge.ensures.opens c.in_ok-open_boxed-in-LeftMerge-2.ensures.opens
 
 pub open_settled-returns-in_ok-open_all-in-Sync-clause-opens : goal.open_settled-returns-in_ok-open_all-in-Sync-clause-opens
 open_settled-returns-in_ok-open_all-in-Sync-clause-opens t c =
