@@ -6,8 +6,9 @@
 It looks every quarter of a second at the processes that the command has started, so it costs next to nothing. The processes of
 the prover name their crate on their command line: proofs of the crate, of its tests (with what is built and run of these and of
 programs), and of its edits, which are tried in a folder of their own. What ends between two looks isn't seen: the last row but
-one has the rest of the command's own count. For an exact table run nothing else on the machine. Behind the table stand the
-seconds of each edit in the order of their names, and last those of the crate over what the edits left.
+one has the rest of the command's own count. For an exact table run nothing else on the machine. Behind the table stand the longest chain
+of crates, what machines of two and of four processors would take at best, and the seconds of each edit in the order of their names, with
+those of the crate over what the edits left at the end.
 """
 import os
 import re
@@ -104,6 +105,65 @@ class Watch(threading.Thread):
             time.sleep(0.25)
 
 
+def listed():
+    """The crates of crates.txt, in its order, each with the crates that it names."""
+    with open(f"{TOP}/crates.txt", encoding="utf-8") as file:
+        named = re.findall(r"^(\w+)(?: staticlib)?:(.*)$", file.read(), re.M)
+    crates = {crate for crate, _ in named}
+    return {crate: [it for it in rest.split() if it in crates] for crate, rest in named}
+
+
+def ways_down(below, minutes):
+    """The minutes of the longest chain that ends in each crate, with the chain itself."""
+    found = {}
+
+    def way(crate):
+        if crate not in found:
+            before = max((way(it) for it in below[crate]), default=(0.0, []))
+            found[crate] = before[0] + minutes[crate], [*before[1], crate]
+        return found[crate]
+
+    for crate in below:
+        way(crate)
+    return found
+
+
+def clock(below, work, processors):
+    """The minutes that so many processors take, where a proof can be shared by up to four of them without loss.
+
+    The work of a crate is its proof, which waits for those below it, and then its tests and edits, which nothing waits for.
+    """
+    above = {crate: 0.0 for crate in below}
+    for crate, (minutes, chain) in ways_down(below, {it: work[it][0] for it in below}).items():
+        for place, it in enumerate(chain):
+            above[it] = max(above[it], minutes - sum(work[low][0] for low in chain[:place]))
+    left = {(crate, part): work[crate][part] for crate in below for part in (0, 1)}
+    done, now = set(), 0.0
+    while len(done) < len(left):
+        ready = [it for it in left if it not in done and all((low, 0) in done for low in ([it[0]] if it[1] else below[it[0]]))]
+        ready.sort(key=lambda it: (it[1], -above[it[0]]))
+        shares, free = {}, processors
+        for it in ready:
+            shares[it] = min(4 if it[1] == 0 else 1, free)
+            free -= shares[it]
+        step = min((left[it] / share for it, share in shares.items() if share), default=0.0)
+        now += step
+        for it, share in shares.items():
+            left[it] -= step * share
+            if share and left[it] < 1e-9:
+                done.add(it)
+    return now
+
+
+def prospects(sums):
+    """Prints the longest chain, and what machines of two and of four processors would take."""
+    below = listed()
+    work = {crate: (sums.get(crate, {}).get("proof", 0.0) / 60, sum(sums.get(crate, {}).get(kind, 0.0) for kind in KINDS[1:]) / 60) for crate in below}
+    minutes, chain = max(ways_down(below, {crate: work[crate][0] for crate in below}).values())
+    print(f"longest chain: {minutes:.1f} processor-minutes: {', '.join(chain)}")
+    print(f"at best {clock(below, work, 2):.0f} minutes on two processors, {clock(below, work, 4):.0f} on four")
+
+
 def table(watch, total):
     """Prints the table and the edits."""
     sums, edits = {}, {}
@@ -113,8 +173,7 @@ def table(watch, total):
         if run:
             runs = edits.setdefault(crate, {})
             runs[run] = runs.get(run, 0.0) + seconds
-    with open(f"{TOP}/crates.txt", encoding="utf-8") as file:
-        order = re.findall(r"^(\w+)(?: staticlib)?:", file.read(), re.M)
+    order = listed()
     print("| Crate | Lines | Proof | Tests | Edits | Minutes | per 1,000 lines |")
     print("|---|---|---|---|---|---|---|")
     whole, seen = 0, 0.0
@@ -125,6 +184,7 @@ def table(watch, total):
         print(f"| `{crate}` | {lines:,} | {' | '.join(f'{it:.1f}' for it in parts)} | {sum(parts):.1f} | {each} |")
     print(f"| the rest | | | | | {total / 60 - seen:.1f} | |")
     print(f"| all | {whole:,} | | | | {total / 60:.1f} | {1000 * total / 60 / max(whole, 1):.1f} |")
+    prospects(sums)
     for crate, runs in edits.items():
         print(f"edits of {crate}: {' '.join(f'{it:.0f}' for it in runs.values())} s")
 
