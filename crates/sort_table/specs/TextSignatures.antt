@@ -8,16 +8,16 @@ use Rattle.data_theory.specs.declared.ids.SortId.{SortId}
 use Rattle.data_theory.specs.Sorts.{SortInfo, without_constructors, IsListOver}
 use Rattle.data_theory.specs.IdSorts.{IsDeclaredKind}
 use Rattle.data_theory.specs.FirstNames.{first_names}
-use Rattle.data_theory.specs.Signature.{Sig, IsTaken}
+use Rattle.data_theory.specs.Signature.{Sig, IsTaken, first_signature}
 use Rattle.sort_table.specs.Expressions.{Name}
 use Rattle.sort_table.specs.BareSorts.{SortExpression}
 use Rattle.sort_table.specs.BareDeclarations.{Declaration, bare_sections, declarations_in}
-use Rattle.sort_table.specs.SortMeanings.{Kind, under_names}
+use Rattle.sort_table.specs.SortMeanings.{Kind, kinds_in, under_names}
 use Rattle.sort_table.specs.UnknownSorts.{AllAreKnown}
 use Rattle.sort_table.specs.SortCycles.{NoCycle}
 use Rattle.sort_table.specs.Duplicates.{NothingAgain}
 use Rattle.sort_table.specs.Identifiers.{identifiers_in, copied_identifiers}
-use Rattle.sort_table.specs.NamedSorts.{HaveSortNames, ReadsSorts, sort_names_of, sort_count}
+use Rattle.sort_table.specs.NamedSorts.{AreIdsOf, HaveSortNames, ReadsSorts, sort_names_of, sort_count}
 use Rattle.sort_table.specs.EnteredFunctions.{IsReadable}
 use Rattle.sort_table.specs.PlacedSections.{IsPlaced}
 use Rattle.sort_table.specs.Built.{expressions_in, IsWritten}
@@ -32,6 +32,13 @@ pub record IsSoundText (spec : PlainSpec) : Type 0 where
   pub known : AllAreKnown (declarations_of spec)
   pub round : NoCycle (declarations_of spec)
   pub once : NothingAgain (bare_sections spec)
+
+-- The signature has nothing declared, over a table with all identifiers of the text, in which these are the ids of its sort names.
+pub record IsBegun (spec : PlainSpec) (ids : List NameId) (g : Sig) : Type 0 where
+  pub given : List Name
+  pub first : g ≡ first_signature given
+  pub ids_are : AreIdsOf given (kinds_in (declarations_of spec)) ids
+  pub entered : (t : Name) → Contains (identifiers_in spec) t → Contains given t
 
 -- no declared sort has constructors
 abbrev pub AllBare : List SortInfo → Type 0

@@ -4,6 +4,7 @@ ghost use Rattle.std.specs.Prelude.{◌≡◌, Some, IfOk, OnOk};
 ghost use Rattle.std.specs.List.{AllByRecursion, Contains, flat_map};
 ghost use Rattle.std.specs.Str.{IsUtf8};
 ghost use Rattle.mcrl2_syntax.specs.Declarations.{spec_of};
+ghost use Rattle.data_theory.specs.Names.{with_texts};
 ghost use Rattle.sort_table.specs.Expressions.{Name};
 ghost use Rattle.sort_table.specs.BareSorts.{SortExpression};
 ghost use Rattle.sort_table.specs.SortMeanings.{kinds_in};
@@ -16,7 +17,7 @@ ghost use Rattle.sort_table.specs.TakenTexts.{TakesTexts};
 ghost use Rattle.sort_table.specs.WrittenSorts.{AddsWritten};
 ghost use Rattle.sort_table.specs.DeclaredNames.{AreNamesOf};
 ghost use Rattle.sort_table.specs.Built.{IsDeclared, expressions_in};
-ghost use Rattle.sort_table.specs.TextSignatures.{IsSoundText, HasTextSorts};
+ghost use Rattle.sort_table.specs.TextSignatures.{IsSoundText, IsBegun, HasTextSorts};
 
 use crate::constructor_marks::constructor_marks;
 use crate::constructor_sorts::give_constructors;
@@ -46,13 +47,25 @@ pub(crate) fn declared_signature(
     ensures declared { IfOk result (λ built. IsDeclared (spec_of spec.now) built.0) }
     ensures names { IfOk result (λ built. AreNamesOf built.0 built.1.items (declarations_of_text spec.now)) }
 {
-    let mut names = names;
     let declarations = declaration_list(alloc, spec)?;
-    let sorts = text_names(alloc, spec, declarations.as_slice(), &mut names)?;
-    let mut signature = text_sorts(alloc, spec, &sorts, declarations.as_slice(), names)?;
-    add_functions(alloc, spec, &sorts, declarations.as_slice(), &mut signature)?;
-    let own = sorts.own_ids(alloc)?;
-    Ok((signature, own))
+    signature_of(alloc, spec, declarations.as_slice(), names)
+}
+
+/// A signature with what these declarations of a specification declare, with the ids of the sort names that are no aliases.
+fn signature_of<'a>(
+    alloc: Global,
+    spec: &Spec,
+    declarations: &[&'a Decl],
+    names: Names,
+) -> Result<(Signature, Vec<NameId>), NoMemory>
+    requires sound { IsSoundText (spec_of spec.now) }
+    requires all { declarations_under declarations.now ≡ declarations_of_text spec.now }
+    ensures declared { IfOk result (λ built. IsDeclared (spec_of spec.now) built.0) }
+    ensures names { IfOk result (λ built. AreNamesOf built.0 built.1.items (declarations_of_text spec.now)) }
+{
+    let mut names = names;
+    let sorts = text_names(alloc, spec, declarations, &mut names)?;
+    named_signature(alloc, spec, &sorts, declarations, names)
 }
 
 /// The declared sort names, with their ids in a table that has all identifiers of a specification.
@@ -68,35 +81,84 @@ fn text_names<'a>(
     ensures ids { IfOk result (λ sorts. AreIdsOf names.new (kinds_in (declarations_of_text spec.now)) sorts.ids.items) }
     ensures entered { OnOk result ((t : Name) → Contains (identifiers_in (spec_of spec.now)) t → Contains names.new t) }
 {
-    let texts = identifiers(alloc, spec)?;
-    enter_all(alloc, names, texts.as_slice())?;
+    enter_identifiers(alloc, spec, names)?;
     let index = sort_index(alloc, declarations)?;
     enter_sort_names(alloc, index, names)
 }
 
-/// A signature with the sorts that a specification declares and with those of all its sort expressions, over a table with all its
-/// identifiers.
-fn text_sorts<'a>(
+/// Enters all identifiers of a specification.
+fn enter_identifiers(alloc: Global, spec: &Spec, names: &mut Names) -> Result<(), NoMemory>
+    requires { AllByRecursion IsUtf8 (identifiers_in (spec_of spec.now)) }
+    ensures { OnOk result (names.new ≡ with_texts names.old (identifiers_in (spec_of spec.now))) }
+{
+    let texts = identifiers(alloc, spec)?;
+    enter_all(alloc, names, texts.as_slice())?;
+    Ok(())
+}
+
+/// A signature with what these declarations of a specification declare, over a table with all its identifiers, with the ids of the
+/// sort names that are no aliases.
+fn named_signature<'a>(
     alloc: Global,
     spec: &Spec,
     sorts: &SortNames<'a>,
     declarations: &[&'a Decl],
     names: Names,
-) -> Result<Signature, NoMemory>
+) -> Result<(Signature, Vec<NameId>), NoMemory>
     requires sound { IsSoundText (spec_of spec.now) }
     requires all { declarations_under declarations.now ≡ declarations_of_text spec.now }
     requires kinds { kinds_of_index sorts.now.index ≡ kinds_in (declarations_of_text spec.now) }
     requires ids { AreIdsOf names (kinds_in (declarations_of_text spec.now)) sorts.now.ids.items }
     requires entered { (t : Name) → Contains (identifiers_in (spec_of spec.now)) t → Contains names t }
-    ensures { IfOk result (λ signature. HasTextSorts (spec_of spec.now) (kinds_of_index sorts.now.index) sorts.now.ids.items signature) }
+    ensures declared { IfOk result (λ built. IsDeclared (spec_of spec.now) built.0) }
+    ensures names { IfOk result (λ built. AreNamesOf built.0 built.1.items (declarations_of_text spec.now)) }
 {
     let mut signature = Signature::new(alloc, names)?;
-    sorts.declare(alloc, &mut signature)?;
+    let own = fill(alloc, spec, sorts, declarations, &mut signature)?;
+    Ok((signature, own))
+}
+
+/// Adds what these declarations of a specification declare to a signature that has only its identifiers. The ids of the sort names
+/// that are no aliases come back.
+fn fill<'a>(
+    alloc: Global,
+    spec: &Spec,
+    sorts: &SortNames<'a>,
+    declarations: &[&'a Decl],
+    signature: &mut Signature,
+) -> Result<Vec<NameId>, NoMemory>
+    requires sound { IsSoundText (spec_of spec.now) }
+    requires all { declarations_under declarations.now ≡ declarations_of_text spec.now }
+    requires kinds { kinds_of_index sorts.now.index ≡ kinds_in (declarations_of_text spec.now) }
+    requires begun { IsBegun (spec_of spec.now) sorts.now.ids.items signature.old }
+    ensures declared { OnOk result (IsDeclared (spec_of spec.now) signature.new) }
+    ensures names { IfOk result (λ own. AreNamesOf signature.new own.items (declarations_of_text spec.now)) }
+{
+    add_sorts(alloc, spec, sorts, declarations, signature)?;
+    add_functions(alloc, spec, sorts, declarations, signature)?;
+    sorts.own_ids(alloc)
+}
+
+/// Adds the sorts that a specification declares and those of all its sort expressions.
+fn add_sorts<'a>(
+    alloc: Global,
+    spec: &Spec,
+    sorts: &SortNames<'a>,
+    declarations: &[&'a Decl],
+    signature: &mut Signature,
+) -> Result<(), NoMemory>
+    requires sound { IsSoundText (spec_of spec.now) }
+    requires all { declarations_under declarations.now ≡ declarations_of_text spec.now }
+    requires kinds { kinds_of_index sorts.now.index ≡ kinds_in (declarations_of_text spec.now) }
+    requires begun { IsBegun (spec_of spec.now) sorts.now.ids.items signature.old }
+    ensures { OnOk result (HasTextSorts (spec_of spec.now) (kinds_of_index sorts.now.index) sorts.now.ids.items signature.new) }
+{
+    sorts.declare(alloc, signature)?;
     let _ = signature.names();
-    take_copied(alloc, spec, &mut signature)?;
+    take_copied(alloc, spec, signature)?;
     let _ = signature.names();
-    add_expressions(alloc, sorts, declarations, &mut signature)?;
-    Ok(signature)
+    add_expressions(alloc, sorts, declarations, signature)?;
+    Ok(())
 }
 
 /// Takes the identifiers of copied declarations.

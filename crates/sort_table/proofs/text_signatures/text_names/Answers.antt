@@ -1,5 +1,5 @@
 use Rattle.std.proofs.Common.{◌∙◌, List, map, ap, sym, subst}
-use Rattle.std.specs.List.{All, AllByRecursion, Contains}
+use Rattle.std.specs.List.{All}
 use Rattle.std.specs.Str.{IsUtf8}
 use Rattle.graphs.proofs.Kept.{if_ok_map}
 use Rattle.mcrl2_syntax.specs.Declarations.{spec_of}
@@ -7,12 +7,9 @@ use Rattle.sort_table.specs.Expressions.{Name}
 use Rattle.sort_table.specs.SortMeanings.{Kind, kinds_in}
 use Rattle.sort_table.specs.IndexedKinds.{kinds_of_index}
 use Rattle.sort_table.specs.NamedSorts.{AreIdsOf}
-use Rattle.sort_table.specs.LentTexts.{texts_of}
+use Rattle.sort_table.specs.Identifiers.{identifiers_in}
 use Rattle.sort_table.proofs.BuiltSignatures.{on_ok_map, still_entered, entered_now, kinds_are_text}
 use Rattle.sort_table.proofs.text_signatures.text_names.Goals as goal
-
-pub enter_all-requires : goal.enter_all-requires
-enter_all-requires c = subst (AllByRecursion IsUtf8) (sym (ap texts_of c.as_slice.ensures.value ∙ c.in_ok-texts.ensures)) c.requires.text
 
 pub enter_sort_names-requires : goal.enter_sort_names-requires
 enter_sort_names-requires c = subst (λ (ks : List (Name × Kind)). All (λ (r : Name × Kind). IsUtf8 r.0) ks) (sym (c.in_ok-index.ensures ∙ ap kinds_in c.requires.all)) (kinds_are_text (spec_of c.args.spec.now) c.requires.text)
@@ -27,6 +24,6 @@ returns-clause-ids c =
 pub returns-clause-entered : goal.returns-clause-entered
 returns-clause-entered c =
     on_ok_map c.enter_sort_names.result
-    (λ is t among. still_entered c.enter_all.new.names (map (λ (r : Name × Kind). r.0) (kinds_of_index c.in_ok-index.index)) c.enter_sort_names.new.names t is
-    (entered_now c.args.names.now (texts_of c.as_slice.result.now) c.enter_all.new.names t c.in_ok-enter_all.ensures.entered (subst (λ ts. Contains ts t) (sym (ap texts_of c.as_slice.ensures.value ∙ c.in_ok-texts.ensures)) among)))
+    (λ is t among. still_entered c.enter_identifiers.new.names (map (λ (r : Name × Kind). r.0) (kinds_of_index c.in_ok-index.index)) c.enter_sort_names.new.names t is
+    (entered_now c.args.names.now (identifiers_in (spec_of c.args.spec.now)) c.enter_identifiers.new.names t c.in_ok-enter_identifiers.ensures among))
     c.enter_sort_names.ensures.entered
