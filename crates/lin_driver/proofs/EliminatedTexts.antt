@@ -21,7 +21,7 @@ use Rattle.bisim_laws.specs.LinearProcesses.{Linear, state_of}
 use Rattle.bisim_laws.specs.Links.{Link, Then, Dropped, Solved}
 use Rattle.bisim_laws.proofs.ComposedLinks.{then_good}
 use Rattle.lps_core.specs.Fitting.{Fits}
-use Rattle.lps_core.specs.GoingOn.{IsGoodOver, IsGoodWith}
+use Rattle.lps_core.specs.GoingOn.{IsGoodOver, IsGoodOverEquations}
 use Rattle.lps_core.specs.PlainLinears.{PlainLinear, linear_of, initial_of, linear_state}
 use Rattle.lps_core.proofs.Staying.{what_fits_stays}
 use Rattle.lps_parelm.proofs.WholeElimination.{fits_on}
@@ -44,7 +44,7 @@ use Rattle.lin_driver.proofs.RewritableEquations.{equations_are}
 -- ---- what each elimination does
 record HasLink (g : Sig) (own : List Equation) (p q : Process) : Type 0 where
   link : Link
-  good : IsGoodWith g own link p q
+  good : IsGoodOverEquations g own link p q
 
 effect_has_link : (e : Elimination) (g : Sig) (own : List Equation) (ts : List Tree) (l k : PlainLinear) → HasEffect e g own ts l k → HasLink g own (linear_state (entries_of g ts) l) (linear_state (entries_of g ts) k)
 effect_has_link (Constants fuel) g own ts l k h = record { link = Dropped h.fates (linear_of (entries_of g ts) l) (linear_of (entries_of g ts) k); good = h.bisimilar }

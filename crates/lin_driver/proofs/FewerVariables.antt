@@ -21,7 +21,7 @@ use Rattle.lps_constelm.specs.Constants.{put_summand, putting, without_constants
 use Rattle.lps_constelm.specs.Eliminating.{Eliminates, simplified as first_round, one_more}
 use Rattle.lps_constelm.specs.Simplified as simplified
 use Rattle.lps_constelm.specs.Simplified.{Becomes}
-use Rattle.lps_core.specs.Solutions.{is_among}
+use Rattle.lps_sumelm.specs.Solutions.{is_among}
 use Rattle.lps_sumelm.specs.Solving.{without, used, solve, summand_variables, IsSolvedFrom, nothing_to_solve, one_solved, IsSolvedSummand}
 use Rattle.lps_printer.specs.FittingLinears.{HasIdentifier, VariablesHaveOwnNames, NamesAreIdentifiers}
 use Rattle.lin_driver.proofs.SomeOf.{AreSomeOf, some_later, all_of, some_of_some, some_in, some_all, some_distinct, some_mapped, some_back, some_tested, some_left}

@@ -17,7 +17,7 @@ use Rattle.bisim_laws.specs.LinearProcesses.{state_of}
 use Rattle.bisim_laws.specs.Links.{Solved}
 use Rattle.lps_core.specs.declared.linears.Linear.{Linear}
 use Rattle.lps_core.specs.Fitting.{Fits}
-use Rattle.lps_core.specs.GoingOn.{IsGoodWith}
+use Rattle.lps_core.specs.GoingOn.{IsGoodOverEquations}
 use Rattle.lps_core.specs.PlainLinears.{PlainLinear, plain_linear, linear_of, initial_of, linear_state}
 use Rattle.lps_core.proofs.Staying.{what_fits_stays}
 use Rattle.lps_parelm.specs.Needed.{IsWithoutTheUnneeded}
@@ -55,8 +55,8 @@ module _ (g : Sig) (stands : IsSignature g) (ts us : List Tree) (kept : Extends 
   good_later own k good =
       let K = linear_of (entries_of g us) k in
       let to = linear_state (entries_of g us) k in
-      subst (λ (is : List Term). IsGoodWith g own (Solved (linear_of (entries_of g us) l) K) (state_of (linear_of (entries_of g us) l) is) to) (sym stays.1)
-      (subst (λ (L : theory.Linear). IsGoodWith g own (Solved L K) (state_of L (initial_of (entries_of g ts) l)) to) (sym stays.0) good)
+      subst (λ (is : List Term). IsGoodOverEquations g own (Solved (linear_of (entries_of g us) l) K) (state_of (linear_of (entries_of g us) l) is) to) (sym stays.1)
+      (subst (λ (L : theory.Linear). IsGoodOverEquations g own (Solved L K) (state_of L (initial_of (entries_of g ts) l)) to) (sym stays.0) good)
 
   pub left_without_sums : {E : Type 0} (own : List Equation) (fuel : ℕ) (Simple : Term → Type 0) → ((t : Term) → Simple t → IsSimpleWith g own fuel t) → (r : Result Linear E)
       → IfOk r (λ made. (plain_linear made).params ≡ l.params) → IfOk r (λ made. (plain_linear made).init ≡ l.init) → IfOk r (λ made. Fits g us (plain_linear made))

@@ -2,17 +2,14 @@
 use Rattle.std.specs.Prelude.{◌≡◌, List, []}
 use Rattle.data_theory.specs.Terms.{Term}
 use Rattle.data_theory.specs.Provable.{Equation}
-use Rattle.data_theory.specs.EqualityLaws.{AreAmong}
 use Rattle.data_theory.specs.Signature.{Sig}
 use Rattle.data_theory.specs.IdTrees.{Tree}
-use Rattle.process_terms.specs.Theories.{Theory, IsConsistent}
-use Rattle.process_terms.specs.Processes.{Process}
 use Rattle.process_terms.specs.SignatureEntries.{entries_of}
 use Rattle.bisim_laws.specs.LinearProcesses.{Linear}
 use Rattle.bisim_laws.specs.BaseStates.{Fate}
-use Rattle.bisim_laws.specs.Links.{Link, Dropped, IsGood}
+use Rattle.bisim_laws.specs.Links.{Dropped}
 use Rattle.lps_core.specs.PlainLinears.{PlainLinear, linear_of, initial_of, linear_state}
-use Rattle.lps_core.specs.GoingOn.{GoesOn}
+use Rattle.lps_core.specs.GoingOn.{IsGoodOverEquations}
 use Rattle.lps_core.specs.Moving.{all_kept}
 use Rattle.lps_parelm.specs.Keeping.{keep}
 use Rattle.lps_constelm.specs.Simplified.{IsSimplerTerm, Becomes, IsAllOf}
@@ -25,14 +22,10 @@ pub data Eliminates (R : Term → Term → Type 0) (l : Linear) (init : List Ter
   one_more : {m k : Linear} {mid first : List Term} {fates : List Fate} (set : List Fate) → Eliminates R l init m mid fates → IsGreatestConstantSet m mid set → ¬ (members set m ≡ [])
       → Becomes R (without_constants set m) (keep set mid) k first → Eliminates R l init k first (then_fates fates set)
 
--- in each consistent theory whose data go on from the signature's, with the written equations among its own
-abbrev pub IsGoodWith : Sig → List Equation → Link → Process → Process → Type 0
-IsGoodWith g own k p q = (th : Theory) → GoesOn g th → AreAmong own th.equations → IsConsistent th → IsGood th k p q
-
 -- No constant set is left but the empty one, each term is simple, and the parameters that were dropped are constant.
 pub record IsWithoutConstants (g : Sig) (own : List Equation) (IsSimple : Term → Type 0) (ts : List Tree) (l k : PlainLinear) : Type 0 where
   pub fates : List Fate
   pub eliminated : Eliminates (IsSimplerTerm g own IsSimple) (linear_of (entries_of g ts) l) (initial_of (entries_of g ts) l) (linear_of (entries_of g ts) k) (initial_of (entries_of g ts) k) fates
   pub done : HasNoConstantSet (linear_of (entries_of g ts) k) (initial_of (entries_of g ts) k)
   pub simple : IsAllOf IsSimple (linear_of (entries_of g ts) k) (initial_of (entries_of g ts) k)
-  pub bisimilar : IsGoodWith g own (Dropped fates (linear_of (entries_of g ts) l) (linear_of (entries_of g ts) k)) (linear_state (entries_of g ts) l) (linear_state (entries_of g ts) k)
+  pub bisimilar : IsGoodOverEquations g own (Dropped fates (linear_of (entries_of g ts) l) (linear_of (entries_of g ts) k)) (linear_state (entries_of g ts) l) (linear_state (entries_of g ts) k)

@@ -1,8 +1,7 @@
 -- What `seal` answers: it is sealed, fits, never ends, and is bisimilar.
-use Rattle.std.proofs.Common.{◌≡◌, ◌≤◌, ◌||◌, Bool, true, false, List, [], ◌∷◌, ◌++◌, map, length, refl, sym, ap, ap₂, ◌∙◌, subst, arith, ⊎_elim, Option, Some, None, lit<}
-use Rattle.std.specs.Prelude.{slice_get, option_map, is_none, IfSome, Vec}
-use Rattle.std.specs.Global.{Global}
-use Rattle.std.specs.List.{All, Contains, list_any}
+use Rattle.std.proofs.Common.{◌≡◌, ◌≤◌, true, false, List, [], ◌∷◌, ◌++◌, map, length, refl, sym, ap, ap₂, ◌∙◌, subst, arith, Option, Some, None, lit<}
+use Rattle.std.specs.Prelude.{slice_get, option_map, IfSome}
+use Rattle.std.specs.List.{All, Contains}
 use Rattle.std.proofs.lemmas.List.{map-append}
 use Rattle.std.proofs.lemmas.List.Elements.{All-nil, All-push, All-head, All-tail, All-cons, All-weaker, All-contains}
 use Rattle.data_theory.specs.declared.ids.ActId.{ActId}
@@ -26,20 +25,22 @@ use Rattle.term_pool.specs.HeadTrees.{tree_at, trees_at, IsIn, AreIn}
 use Rattle.term_pool.specs.Pools.{Extends}
 use Rattle.process_terms.specs.PlainProcesses.{PlainAction}
 use Rattle.process_terms.specs.Processes.{Bound}
-use Rattle.process_terms.specs.Meanings.{Entries, bound_at, term_at}
+use Rattle.process_terms.specs.Meanings.{bound_at, term_at}
 use Rattle.process_terms.specs.SignatureEntries.{entries_of, BothGrow}
 use Rattle.bisim_laws.specs.LinearProcesses as theory
 use Rattle.bisim_laws.specs.LinearProcesses.{variables, sorts, state_of, IsLinear}
 use Rattle.bisim_laws.specs.Links.{Phased, IsGoodWithTerminate}
-use Rattle.bisim_laws.proofs.Firing.{contains_first, contains_none, contains_cases}
+use Rattle.bisim_laws.proofs.Firing.{contains_first}
 use Rattle.bisim_laws.specs.BaseStates.{phase_running}
 use Rattle.lps_core.specs.Fitting.{AreTermsOf, IsActionOf, IsVariable, sort_of_variable, HasTakenName, SummandFits, Fits}
 use Rattle.lps_core.specs.GoingOn.{IsGoodOverWithTerminate}
 use Rattle.lps_core.specs.declared.linears.Summand.{Summand}
-use Rattle.lps_core.specs.PlainLinears.{PlainSummand, PlainLinear, plain_next, plain_summand, ends, summand_of, linear_of, initial_of, linear_state}
+use Rattle.lps_core.specs.PlainLinears.{PlainSummand, PlainLinear, plain_summand, can_end, summand_of, linear_of, initial_of, linear_state}
+use Rattle.lps_core.specs.NumberTrees.{number_tree}
 use Rattle.lps_core.specs.TreeSummands.{TreeAction, TreeSummand, trees_of_action, trees_of_label, trees_of_summand, meant_summand, IsSummandIn, IsActionIn}
 use Rattle.lps_core.specs.Sealing.{NeverEnds, phase, sealed_summand, last_summand, sealed, IsApart}
-use Rattle.lps_core.specs.SealedTrees.{pos_tree, sealed_next_trees, sealed_tree, last_tree, HasPhase, IsSealed, it_is_sealed, SealingIsGood, SealingDone, AreSealed}
+use Rattle.lps_core.specs.SealedTrees.{sealed_next_trees, sealed_tree, last_tree, HasPhase, IsSealed, it_is_sealed, SealingIsGood, SealingDone, AreSealed}
+use Rattle.lps_core.proofs.CanEnd.{what_cannot_end_never_ends}
 use Rattle.lps_core.proofs.GrowingData.{linear_grown, terms_grown}
 use Rattle.lps_core.proofs.KeptSummands.{summand_in_kept, summand_kept, summands_kept}
 use Rattle.lps_core.proofs.MeantTrees.{numbers_meant, summand_read, summands_read}
@@ -75,7 +76,7 @@ module _ (h : Sig) (us : List Tree) (table : IsTable h) (complete : IsComplete h
 
   next_fits : (next : Option (List TermId)) (made : List TermId) → IfSome next (AreTermsOf h us (map (sort_of_variable h) params)) → AreIn us made → trees_at us made ≡ sealed_next_trees params v (option_map (trees_at us) next)
       → AreTermsOf h us (map (sort_of_variable h) all_params) made
-  next_fits None made k w e = terms_with made (map variable params) (pos_tree 2) w e (variables_sorted h params vs) (number_sorted h complete 2 (omega arith) (lit< tt))
+  next_fits None made k w e = terms_with made (map variable params) (number_tree 2) w e (variables_sorted h params vs) (number_sorted h complete 2 (omega arith) (lit< tt))
   next_fits (Some ids) made k w e = terms_with made (trees_at us ids) (variable v) w e k.sorted of
 
   -- a label with the same trees
@@ -132,13 +133,13 @@ module _ (h : Sig) (us : List Tree) (table : IsTable h) (complete : IsComplete h
 
   pub last_fits : (act : ActId) (entry : Key) (t : PlainSummand) → slice_get h.actions act.0 ≡ Some entry → entry.sorts ≡ [] → trees_of_summand us t ≡ last_tree params v act → IsSummandIn us t → SummandFits h us all_params t
   last_fits act entry t at none e w =
-      let n = some_next t.next (map variable params ++ pos_tree 3 ∷ []) w.next (ap (λ (z : TreeSummand). z.next) e) in
+      let n = some_next t.next (map variable params ++ number_tree 3 ∷ []) w.next (ap (λ (z : TreeSummand). z.next) e) in
       record {
         sums = subst (λ xs. All (IsVariable h) xs) (sym (ap (λ (z : TreeSummand). z.sums) e)) (All-nil (IsVariable h));
         condition = record { within = w.condition; sorted = subst (λ z. HasTreeSort h z bool_sort) (sym (ap (λ (z : TreeSummand). z.condition) e)) (phase_sorted h complete v 2 (omega arith) (lit< tt) of) };
         label = last_label_fits act entry t.label at none (ap (λ (z : TreeSummand). z.label) e);
         next = subst (λ o. IfSome o (AreTermsOf h us (map (sort_of_variable h) all_params))) (sym n.1.0)
-            (terms_with n.0 (map variable params) (pos_tree 3) n.1.1.0 n.1.1.1 (variables_sorted h params vs) (number_sorted h complete 3 (omega arith) (lit< tt)));
+            (terms_with n.0 (map variable params) (number_tree 3) n.1.1.0 n.1.1.1 (variables_sorted h params vs) (number_sorted h complete 3 (omega arith) (lit< tt)));
       }
 
   -- ---- all summands
@@ -179,7 +180,7 @@ not_among g us h v new xs own i =
     let same = r.1.1 in
     omega (arith, low, new, same)
 
-module _ (g h : Sig) (ts us : List Tree) (l k : PlainLinear) (act : ActId) (v : VarId) (old : IsSignature g) (new : IsSignature h) (grown : IsGrown g h) (extends : Extends ts us) (fits : Fits g ts l) (added : HasPhase g h act v) (params : k.params ≡ l.params ++ v ∷ []) (first : TermId) (init : k.init ≡ l.init ++ first ∷ []) (first_in : IsIn us first) (first_is : tree_at us first ≡ pos_tree 1) (ss : List PlainSummand) (last : PlainSummand) (summands : k.summands ≡ ss ++ last ∷ []) (ss_in : All (IsSummandIn us) ss) (last_in : IsSummandIn us last) (are_sealed : map (trees_of_summand us) ss ≡ map (sealed_tree l.params v) (map (trees_of_summand ts) l.summands)) (last_is : trees_of_summand us last ≡ last_tree l.params v act) where
+module _ (g h : Sig) (ts us : List Tree) (l k : PlainLinear) (act : ActId) (v : VarId) (ending : can_end l ≡ true) (old : IsSignature g) (new : IsSignature h) (grown : IsGrown g h) (extends : Extends ts us) (fits : Fits g ts l) (added : HasPhase g h act v) (params : k.params ≡ l.params ++ v ∷ []) (first : TermId) (init : k.init ≡ l.init ++ first ∷ []) (first_in : IsIn us first) (first_is : tree_at us first ≡ number_tree 1) (ss : List PlainSummand) (last : PlainSummand) (summands : k.summands ≡ ss ++ last ∷ []) (ss_in : All (IsSummandIn us) ss) (last_in : IsSummandIn us last) (are_sealed : map (trees_of_summand us) ss ≡ map (sealed_tree l.params v) (map (trees_of_summand ts) l.summands)) (last_is : trees_of_summand us last ≡ last_tree l.params v act) where
   grow : BothGrow g h ts us
   grow = record { signature = grown; pool = extends }
 
@@ -228,7 +229,7 @@ module _ (g h : Sig) (ts us : List Tree) (l k : PlainLinear) (act : ActId) (v : 
 
   init_terms : AreTermsOf h us (map (sort_of_variable h) (l.params ++ v ∷ [])) (l.init ++ first ∷ [])
   init_terms =
-      terms_with h us new.table new.complete l.params v fits_on.params phase_is_there.variable phase_is_there.sort phase_is_there.of_sort (l.init ++ first ∷ []) (trees_at us l.init) (pos_tree 1)
+      terms_with h us new.table new.complete l.params v fits_on.params phase_is_there.variable phase_is_there.sort phase_is_there.of_sort (l.init ++ first ∷ []) (trees_at us l.init) (number_tree 1)
       (All-push (IsIn us) l.init first fits_on.init.within first_in) (map-append (tree_at us) l.init (first ∷ []) ∙ ap (λ t. trees_at us l.init ++ t ∷ []) first_is) fits_on.init.sorted (number_sorted h new.complete 1 (omega arith) (lit< tt))
 
   closed : HaveSorts (data_meant h) [] (terms_of (initial_of (entries_of h us) k)) (sorts (linear_of (entries_of h us) k).params)
@@ -258,7 +259,7 @@ module _ (g h : Sig) (ts us : List Tree) (l k : PlainLinear) (act : ActId) (v : 
   }
 
   pub is_sealed : IsSealed g ts l h us k
-  is_sealed = it_is_sealed act v added params (linear_meant ∙ ap (sealed v.0) stays.0) (init_meant ∙ ap (λ z. z ++ phase_running ∷ []) stays.1)
+  is_sealed = it_is_sealed act v ending added params (linear_meant ∙ ap (sealed v.0) stays.0) (init_meant ∙ ap (λ z. z ++ phase_running ∷ []) stays.1)
 
   pub sealed_never_ends : NeverEnds (linear_of (entries_of h us) k)
   sealed_never_ends = subst NeverEnds (sym linear_meant) (never_ends v.0 (linear_of (entries_of h us) l))
@@ -278,7 +279,7 @@ module _ (g h : Sig) (ts us : List Tree) (l k : PlainLinear) (act : ActId) (v : 
       (subst (λ ins. IsGoodWithTerminate th (Phased true L (sealed v.0 L)) (state_of L (initial_of (entries_of h us) l)) (state_of (sealed v.0 L) ins)) (sym init_meant) good)))
 
   pub sealing_done : SealingDone g h ts us l k
-  sealing_done = record { sealed = is_sealed; fits = sealed_fits; never_ends = sealed_never_ends; bisimilar = (true, sealed_is_good) }
+  sealing_done = record { sealed = is_sealed; fits = sealed_fits; never_ends = sealed_never_ends; bisimilar = λ th on con. subst (λ b. IsGoodWithTerminate th (Phased b (linear_of (entries_of g ts) l) (linear_of (entries_of h us) k)) (linear_state (entries_of g ts) l) (linear_state (entries_of h us) k)) (sym ending) (sealed_is_good th on con) }
 
 -- ---- as the code makes it
 pub are_all_sealed : (ts t1 us : List Tree) (l : PlainLinear) (v : VarId) (act : ActId) (made : List Summand) (last : Summand) (all : List Summand) (params : List VarId) (olds : List PlainSummand) → all ≡ made ++ last ∷ [] → Extends t1 us → All (IsSummandIn t1) (map plain_summand made)
@@ -294,38 +295,18 @@ are_all_sealed ts t1 us l v act made last all params olds e x w z p q h k = reco
   last_is = k ∙ ap (λ ps. last_tree ps v act) p;
 }
 
-pub ending_done : (g h : Sig) (ts t1 us : List Tree) (l k : PlainLinear) (act : ActId) (v : VarId) → IsSignature g → IsSignature h → IsGrown g h → Extends ts t1 → Extends t1 us → Fits g ts l → HasPhase g h act v → k.params ≡ l.params ++ v ∷ [] → (first : TermId)
-    → k.init ≡ l.init ++ first ∷ [] → IsIn us first → tree_at us first ≡ pos_tree 1 → AreSealed ts t1 l v act k.summands → SealingDone g h ts us l k
-ending_done g h ts t1 us l k act v old new grown e x fits added params first init first_in first_is a =
-    sealing_done g h ts us l k act v old new grown (extends_on ts t1 us e x) fits added params first init first_in first_is a.sealed a.last a.are
+pub ending_done : (g h : Sig) (ts t1 us : List Tree) (l k : PlainLinear) (act : ActId) (v : VarId) → can_end l ≡ true → IsSignature g → IsSignature h → IsGrown g h → Extends ts t1 → Extends t1 us → Fits g ts l → HasPhase g h act v → k.params ≡ l.params ++ v ∷ [] → (first : TermId)
+    → k.init ≡ l.init ++ first ∷ [] → IsIn us first → tree_at us first ≡ number_tree 1 → AreSealed ts t1 l v act k.summands → SealingDone g h ts us l k
+ending_done g h ts t1 us l k act v ending old new grown e x fits added params first init first_in first_is a =
+    sealing_done g h ts us l k act v ending old new grown (extends_on ts t1 us e x) fits added params first init first_in first_is a.sealed a.last a.are
     (All-weaker (IsSummandIn t1) (IsSummandIn us) (λ s j. summand_in_kept t1 us x s j) a.sealed a.within) (summand_in_kept t1 us x a.last a.last_within)
     (summands_kept t1 us x a.sealed a.within ∙ a.are_sealed) (summand_kept t1 us x a.last a.last_within ∙ a.last_is)
 
 -- ---- what can't end
-goes_on_there : (e : Entries) (s : Summand) → ends s ≡ false → (summand_of e (plain_summand s)).next ≡ None → ⊥
-goes_on_there e s q h = by_next s.next q h
-  where
-    by_next : (n : Option (Vec TermId Global)) → is_none n ≡ false → option_map (map (term_at e)) (plain_next n) ≡ None → ⊥
-    by_next None q h = cc
-    by_next (Some v) q h = cc
-
-pub never_ends_there : (e : Entries) (items : List Summand) → list_any ends items ≡ false → (s : theory.Summand) → Contains (map (summand_of e) (map plain_summand items)) s → s.next ≡ None → ⊥
-never_ends_there e [] q s i h = contains_none s i
-never_ends_there e (x ∷ items) q s i h = by_test (ends x) refl (λ w j. never_ends_there e items w s j h)
-  where
-    by_test : (b : Bool) → ends x ≡ b → (list_any ends items ≡ false → Contains (map (summand_of e) (map plain_summand items)) s → ⊥) → ⊥
-    by_test true r again = let k : (true || list_any ends items) ≡ false = ap (λ b. b || list_any ends items) (sym r) ∙ q in cc
-    by_test false r again = ⊎_elim
-        (λ p. goes_on_there e x r (ap (λ (z : theory.Summand). z.next) p ∙ h))
-        (λ j. again (sym (ap (λ b. b || list_any ends items) r) ∙ q) j)
-        (contains_cases (summand_of e (plain_summand x)) s (map (summand_of e) (map plain_summand items)) i)
-
-pub staying_good : (g : Sig) (ts : List Tree) (l : PlainLinear) → IsSignature g → Fits g ts l → NeverEnds (linear_of (entries_of g ts) l) → SealingIsGood g ts l g ts l
-staying_good g ts l s fits never = (
-  false,
-  λ th on con.
-      let L = linear_of (entries_of g ts) l in
-      never_ending_good th (variable_sorts g) L (initial_of (entries_of g ts) l) fits.linear
-      (linear_grown (data_meant g) th.declared on.grows (variable_sorts g) L (what_fits_is_sorted g ts l s.table s.complete fits)) never
-      (terms_grown (data_meant g) th.declared on.grows [] (terms_of (initial_of (entries_of g ts) l)) (sorts L.params) fits.closed),
-)
+pub staying_good : (g : Sig) (ts : List Tree) (l : PlainLinear) → IsSignature g → Fits g ts l → can_end l ≡ false → SealingIsGood g ts l g ts l
+staying_good g ts l s fits stays th on con =
+    let L = linear_of (entries_of g ts) l in
+    subst (λ b. IsGoodWithTerminate th (Phased b L L) (linear_state (entries_of g ts) l) (linear_state (entries_of g ts) l)) (sym stays)
+    (never_ending_good th (variable_sorts g) L (initial_of (entries_of g ts) l) fits.linear
+    (linear_grown (data_meant g) th.declared on.grows (variable_sorts g) L (what_fits_is_sorted g ts l s.table s.complete fits)) (what_cannot_end_never_ends (entries_of g ts) l stays)
+    (terms_grown (data_meant g) th.declared on.grows [] (terms_of (initial_of (entries_of g ts) l)) (sorts L.params) fits.closed))

@@ -21,9 +21,8 @@ pub mod FunctionNames
 pub mod StayingFits
 pub mod NamedLinears
 pub mod NamingLoops
+pub mod CanEnd
 pub mod SealedLinears
-pub mod SolvableParts
-pub mod ClosedTerms
 pub mod SealingLoops
 pub mod AddedPhase
 pub mod SortedTrees

@@ -30,9 +30,10 @@ use Rattle.lps_core.specs.Columns.{as_terms}
 use Rattle.lps_core.specs.Conditions.{parts, without_true, joined}
 use Rattle.lps_core.specs.Fitting.{IsVariable, sort_of_variable, HasTakenName}
 use Rattle.lps_core.specs.TreeConditions.{tree_parts, trees_without_true, conjunction_tree}
+use Rattle.lps_core.specs.NumberTrees.{number_tree}
 use Rattle.lps_core.specs.TreeSummands.{TreeSummand, meant_action, meant_summand}
 use Rattle.lps_core.specs.Sealing.{phase, phase_is, sealed_next, sealed_summand, last_summand}
-use Rattle.lps_core.specs.SealedTrees.{pos_tree, phase_tree, sealed_next_trees, sealed_tree, last_tree, HasPhase, a_phase}
+use Rattle.lps_core.specs.SealedTrees.{phase_tree, sealed_next_trees, sealed_tree, last_tree, HasPhase, a_phase}
 use Rattle.lps_core.proofs.MeantParts.{numbers_mean, positive_meant, parts_mean_parts, chains_mean_chains}
 use Rattle.lps_core.proofs.NamedSums.{last_variable, with_name_has, name_taken}
 use Rattle.lps_core.proofs.Staying.{read_mapped}
@@ -90,7 +91,7 @@ phase_stands g _ _ _ s (a_phase {h = h} {name = name} f) =
 
 -- ---- what the trees mean
 module _ (h : Sig) (table : IsTable h) (complete : IsComplete h) where
-  pub number_means : (i : ℕ) → term_under h (pos_tree i) ≡ num positive (pos i)
+  pub number_means : (i : ℕ) → term_under h (number_tree i) ≡ num positive (pos i)
   number_means i = ap (λ s. num s (pos i)) (positive_meant h table)
 
   phase_means : (v : VarId) (i : ℕ) → term_under h (phase_tree v i) ≡ phase_is v.0 (num positive (pos i))
@@ -106,8 +107,8 @@ module _ (h : Sig) (table : IsTable h) (complete : IsComplete h) where
   variables_mean us [] = refl
   variables_mean us (x ∷ xs) = ap (λ ts. var x.0 ∷ ts) (variables_mean us xs)
 
-  params_mean : (us : List Tree) (params : List VarId) (i : ℕ) → map (term_under h) (map variable params ++ pos_tree i ∷ []) ≡ as_terms (map (bound_at (entries_of h us)) params) ++ num positive (pos i) ∷ []
-  params_mean us params i = map-append (term_under h) (map variable params) (pos_tree i ∷ []) ∙ ap₂ (λ xs t. xs ++ t ∷ []) (variables_mean us params) (number_means i)
+  params_mean : (us : List Tree) (params : List VarId) (i : ℕ) → map (term_under h) (map variable params ++ number_tree i ∷ []) ≡ as_terms (map (bound_at (entries_of h us)) params) ++ num positive (pos i) ∷ []
+  params_mean us params i = map-append (term_under h) (map variable params) (number_tree i ∷ []) ∙ ap₂ (λ xs t. xs ++ t ∷ []) (variables_mean us params) (number_means i)
 
   next_means : (us : List Tree) (params : List VarId) (v : VarId) (next : Option (List Tree)) → map (term_under h) (sealed_next_trees params v next) ≡ sealed_next (map (bound_at (entries_of h us)) params) v.0 (option_map (map (term_under h)) next)
   next_means us params v None = params_mean us params 2
@@ -118,5 +119,5 @@ module _ (h : Sig) (table : IsTable h) (complete : IsComplete h) where
 
   pub last_tree_means : (us : List Tree) (params : List VarId) (v : VarId) (act : ActId) → meant_action h (record { act = act; args = [] }) ∷ [] ≡ terminate_label → meant_summand h (last_tree params v act) ≡ last_summand (map (bound_at (entries_of h us)) params) v.0
   last_tree_means us params v act e =
-      ap₂ (λ c m. record { sums = []; condition = c; label = m; next = Some (map (term_under h) (map variable params ++ pos_tree 3 ∷ [])) }) (phase_means v 2) e
+      ap₂ (λ c m. record { sums = []; condition = c; label = m; next = Some (map (term_under h) (map variable params ++ number_tree 3 ∷ [])) }) (phase_means v 2) e
       ∙ ap (λ n. record { sums = []; condition = phase_is v.0 phase_ended; label = terminate_label; next = Some n }) (params_mean us params 3)

@@ -8,7 +8,6 @@ use Rattle.std.proofs.lemmas.List.Elements.{All-head, All-tail}
 use Rattle.std.proofs.lemmas.Option.{slice_get-get_or}
 use Rattle.data_theory.specs.declared.ids.SortId.{SortId}
 use Rattle.data_theory.specs.declared.ids.VarId.{VarId}
-use Rattle.data_theory.specs.declared.signature.Variable.{Variable}
 use Rattle.data_theory.specs.Functions.{Function, arguments_of}
 use Rattle.data_theory.specs.Rows.{built_in, built_ins}
 use Rattle.data_theory.specs.Table.{first_rows, truth_rows, sort_rows, first_table, pos_sort, bool_sort}
@@ -19,7 +18,8 @@ use Rattle.data_theory.specs.Complete.{IsComplete}
 use Rattle.data_theory.specs.IdTrees.{Tree, variable, numeral, function, none, more, trees_of}
 use Rattle.data_theory.specs.IdTreeSorts.{IsVariableOf, HasTreeSort, HaveTreeSorts}
 use Rattle.lps_core.specs.Fitting.{IsVariable, sort_of_variable}
-use Rattle.lps_core.specs.SealedTrees.{phase_tree, pos_tree, equal_pos}
+use Rattle.lps_core.specs.NumberTrees.{number_tree, equal_function, equals_number}
+use Rattle.lps_core.specs.SealedTrees.{phase_tree}
 use Rattle.lps_core.specs.TreeConditions.{and_function, and_tree, tree_parts, is_true_tree, trees_without_true, conjunction_tree}
 use Rattle.lps_core.proofs.TreeParts.{two_unmerged}
 
@@ -32,11 +32,11 @@ and_at : (texts : List (List ℕ)) (new : List Function) → slice_get (built_in
 unfolding first_table first_rows truth_rows sort_rows
 and_at texts new = refl
 
-equal_at : (texts : List (List ℕ)) (new : List Function) → slice_get (built_ins texts first_table ++ new) 15 ≡ Some (built_in texts (rows.Two words.Equal pos_sort pos_sort bool_sort))
+pub equal_at : (texts : List (List ℕ)) (new : List Function) → slice_get (built_ins texts first_table ++ new) 15 ≡ Some (built_in texts (rows.Two words.Equal pos_sort pos_sort bool_sort))
 unfolding first_table first_rows truth_rows sort_rows
 equal_at texts new = refl
 
-read_at : (g : Sig) → IsComplete g → (k : ℕ) (f : Function) → ((new : List Function) → slice_get (built_ins g.texts first_table ++ new) k ≡ Some f) → slice_get g.functions k ≡ Some f
+pub read_at : (g : Sig) → IsComplete g → (k : ℕ) (f : Function) → ((new : List Function) → slice_get (built_ins g.texts first_table ++ new) k ≡ Some f) → slice_get g.functions k ≡ Some f
 read_at g c k f h = ap (λ fs. slice_get fs k) c.first_functions_stay.1 ∙ h c.first_functions_stay.0
 
 one_function : {e f : Function} → Some e ≡ Some f → e ≡ f
@@ -77,12 +77,15 @@ module _ (g : Sig) (complete : IsComplete g) where
   chain_sorted (t ∷ []) h = h.0
   chain_sorted (t ∷ u ∷ ts) h = and_sorted t (conjunction_tree (u ∷ ts)) h.0 (chain_sorted (u ∷ ts) h.1)
 
-  -- ---- the control number
-  pub number_sorted : (i : ℕ) → 1 ≤ i → i < 340282366920938463463374607431768211456 → HasTreeSort g (pos_tree i) pos_sort
+  -- ---- numbers
+  pub number_sorted : (i : ℕ) → 1 ≤ i → i < 340282366920938463463374607431768211456 → HasTreeSort g (number_tree i) pos_sort
   number_sorted i one few = (refl, (inl (refl, let l : pos 1 ≤ℤ pos i = omega (arith, ints, one) in l), few))
 
+  pub equals_number_sorted : (t : Tree) (i : ℕ) → 1 ≤ i → i < 340282366920938463463374607431768211456 → HasTreeSort g t pos_sort → IsTruth g (equals_number t i)
+  equals_number_sorted t i one few k = (built_in g.texts (rows.Two words.Equal pos_sort pos_sort bool_sort), read_at g complete 15 _ (equal_at g.texts), refl, (k, (number_sorted i one few, tt)), two_unmerged equal_function t (number_tree i))
+
   pub phase_sorted : (v : VarId) (i : ℕ) → 1 ≤ i → i < 340282366920938463463374607431768211456 → IsVariableOf g v pos_sort → IsTruth g (phase_tree v i)
-  phase_sorted v i one few k = (built_in g.texts (rows.Two words.Equal pos_sort pos_sort bool_sort), read_at g complete 15 _ (equal_at g.texts), refl, (k, (number_sorted i one few, tt)), two_unmerged equal_pos (variable v) (pos_tree i))
+  phase_sorted v i one few k = equals_number_sorted (variable v) i one few k
 
   pub sealed_condition_sorted : (v : VarId) (t : Tree) → IsVariableOf g v pos_sort → IsTruth g t → IsTruth g (conjunction_tree (phase_tree v 1 ∷ trees_without_true (tree_parts t)))
   sealed_condition_sorted v t k h = chain_sorted (phase_tree v 1 ∷ trees_without_true (tree_parts t)) (phase_sorted v 1 (omega arith) (lit< tt) k, without_sorted (tree_parts t) (parts_sorted t h))
@@ -90,12 +93,6 @@ module _ (g : Sig) (complete : IsComplete g) where
 -- ---- variables
 pub is_of : (g : Sig) (x : VarId) → IsVariable g x → IsVariableOf g x (sort_of_variable g x)
 is_of g x w = (get_or g.variables x.0 (record { name = record { 0 = 0 }; sort = bool_sort }), slice_get-get_or g.variables x.0 (record { name = record { 0 = 0 }; sort = bool_sort }) w, refl)
-
-one_variable : {u w : Variable} → Some u ≡ Some w → u ≡ w
-one_variable q = cc
-
-one_sort : (g : Sig) (x : VarId) (a b : SortId) → IsVariableOf g x a → IsVariableOf g x b → a ≡ b
-one_sort g x a b p q = sym p.2 ∙ ap (λ (y : Variable). y.sort) (one_variable (sym p.1 ∙ q.1)) ∙ q.2
 
 pub variables_sorted : (g : Sig) (xs : List VarId) → All (IsVariable g) xs → HaveTreeSorts g (trees_of (map variable xs)) (map (sort_of_variable g) xs)
 variables_sorted g [] h = tt

@@ -11,6 +11,6 @@ pub mod MeantConditions
 pub mod Naming
 pub mod CanonicalConditions
 pub mod Sealing
+pub mod NumberTrees
 pub mod SealedTrees
-pub mod Solutions
 pub mod MadeTerms

@@ -1,6 +1,7 @@
 -- Linear processes in code, as plain data, and what they mean.
 use Rattle.std.specs.Prelude.{Bool, List, map, is_none, option_map, Option, Vec}
 use Rattle.std.specs.Global.{Global}
+use Rattle.std.specs.List.{list_any}
 use Rattle.data_theory.specs.declared.ids.VarId.{VarId}
 use Rattle.data_theory.specs.declared.ids.TermId.{TermId}
 use Rattle.data_theory.specs.Terms.{Term}
@@ -35,6 +36,10 @@ ends s = is_none s.next
 
 abbrev pub plain_linear : Linear → PlainLinear
 plain_linear l = record { params = l.params.items; init = l.init.items; summands = map plain_summand l.summands.items }
+
+-- whether some summand ends
+abbrev pub can_end : PlainLinear → Bool
+can_end l = list_any (λ (s : PlainSummand). is_none s.next) l.summands
 
 -- ---- what they mean
 abbrev pub summand_of : Entries → PlainSummand → theory.Summand

@@ -55,11 +55,3 @@ pub fn sealed_processes_never_end()
     ensures behind { SealedBehindALink }
     ensures staying { NeverEndingIsGood }
 {}
-
-ghost use Rattle.lps_core.specs.Solutions.{WhatGivesNothingIsNotSolvable, WhatIsGivenIsSolvable};
-
-/// Which parts of a condition give a term for a variable.
-pub fn parts_are_solvable()
-    ensures given { WhatIsGivenIsSolvable }
-    ensures nothing { WhatGivesNothingIsNotSolvable }
-{}

@@ -9,6 +9,7 @@ pub mod laws;
 mod linears;
 mod moving;
 mod naming;
+mod numbers;
 mod sealing;
 
 pub use conditions::{conjoined, parts_of};
@@ -18,4 +19,5 @@ pub use naming::{
     add_variable_names, fresh_from, has_name, name_all, name_sums, put_next, signature_stands,
     used_names,
 };
+pub use numbers::{equals_number, numeral};
 pub use sealing::seal;

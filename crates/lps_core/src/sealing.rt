@@ -1,6 +1,6 @@
 //! Linear processes that never end.
 
-ghost use Rattle.std.specs.Prelude.{◌≡◌, ◌≤◌, ◌++◌, [], ◌∷◌, length, map, option_map, IfOk, IfSome, OnOk, Some};
+ghost use Rattle.std.specs.Prelude.{◌≡◌, ◌≤◌, ◌++◌, [], ◌∷◌, length, map, option_map, IfOk, IfSome, OnOk, Some, true};
 ghost use Rattle.std.specs.List.{All, AllZip};
 ghost use Rattle.data_theory.specs.IdTrees.{variable};
 ghost use Rattle.data_theory.specs.IdTerms.{IsGrown};
@@ -8,8 +8,9 @@ ghost use Rattle.data_theory.specs.Signature.{IsAct};
 ghost use Rattle.term_pool.specs.HeadTrees.{tree_at, trees_at, AreIn, IsIn};
 ghost use Rattle.term_pool.specs.Pools.{Extends};
 ghost use Rattle.bisim_laws.specs.Terminations.{terminate_name};
-ghost use Rattle.lps_core.specs.PlainLinears.{linear_of, plain_linear, plain_next, plain_summand};
-ghost use Rattle.lps_core.specs.SealedTrees.{last_tree, phase_tree, pos_tree, sealed_next_trees, sealed_tree, AreSealed, HasPhase, IsNoAction, IsSealed, IsSealedSummand, SealingDone, SealingIsGood};
+ghost use Rattle.lps_core.specs.PlainLinears.{can_end, linear_of, plain_linear, plain_next, plain_summand};
+ghost use Rattle.lps_core.specs.NumberTrees.{number_tree};
+ghost use Rattle.lps_core.specs.SealedTrees.{last_tree, phase_tree, sealed_next_trees, sealed_tree, AreSealed, HasPhase, IsNoAction, IsSealed, IsSealedSummand, SealingDone, SealingIsGood};
 ghost use Rattle.lps_core.specs.Sealing.{NeverEnds};
 ghost use Rattle.lps_core.specs.Fitting.{Fits};
 ghost use Rattle.process_terms.specs.SignatureEntries.{entries_of};
@@ -20,30 +21,13 @@ use crate::conditions::{conjoined, parts_of};
 use crate::linears::{Linear, Summand};
 use crate::moving::variable_term;
 use crate::naming::signature_stands;
-use data_theory::{ActId, FunId, NoMemory, Num, Signature, SortId, TermId, VarId};
+use crate::numbers::{equals_number, numeral};
+use data_theory::{ActId, NoMemory, Signature, SortId, TermId, VarId};
 use process_terms::{Action, Label};
 use std::alloc::Global;
-use term_pool::{Head, Pool};
+use term_pool::Pool;
 
 const POS: SortId = SortId(1);
-
-/// `==` on Pos
-const EQUAL: FunId = FunId(15);
-
-/// The term of a number of Pos.
-fn numeral(pool: &mut Pool, number: usize) -> Result<TermId, NoMemory>
-    requires { 1 ≤ number }
-    ensures kept { Extends pool.old.trees pool.new.trees }
-    ensures constants { pool.new.constants ≡ pool.old.constants }
-    ensures within { IfOk result (λ id. IsIn pool.new.trees id) }
-    ensures tree { IfOk result (λ id. tree_at pool.new.trees id ≡ pos_tree number) }
-{
-    let num = Num {
-        negative: false,
-        magnitude: number as u128,
-    };
-    pool.intern(Head::Num(POS, num), &[])
-}
 
 /// That the phase is this number.
 fn phase_is(pool: &mut Pool, phase: VarId, number: usize) -> Result<TermId, NoMemory>
@@ -53,9 +37,8 @@ fn phase_is(pool: &mut Pool, phase: VarId, number: usize) -> Result<TermId, NoMe
     ensures within { IfOk result (λ id. IsIn pool.new.trees id) }
     ensures tree { IfOk result (λ id. tree_at pool.new.trees id ≡ phase_tree phase number) }
 {
-    let left = variable_term(pool, phase)?;
-    let right = numeral(pool, number)?;
-    pool.intern(Head::Fun(EQUAL), &[left, right])
+    let term = variable_term(pool, phase)?;
+    equals_number(pool, term, number)
 }
 
 /// The condition, behind the part that the phase is 1.
@@ -102,7 +85,7 @@ fn params_at(
     ensures kept { Extends pool.old.trees pool.new.trees }
     ensures constants { pool.new.constants ≡ pool.old.constants }
     ensures within { IfOk result (λ terms. AreIn pool.new.trees terms.items) }
-    ensures terms { IfOk result (λ terms. trees_at pool.new.trees terms.items ≡ map variable params.now ++ pos_tree number ∷ []) }
+    ensures terms { IfOk result (λ terms. trees_at pool.new.trees terms.items ≡ map variable params.now ++ number_tree number ∷ []) }
 {
     let mut terms = variable_terms(alloc, pool, params)?;
     terms.push(numeral(pool, number)?)?;
@@ -246,6 +229,7 @@ fn seal_ending(
     pool: &mut Pool,
 ) -> Result<Linear, NoMemory>
     requires fits { Fits sig.old pool.old.trees (plain_linear lin) }
+    requires ends { can_end (plain_linear lin) ≡ true }
     requires absent { IsNoAction sig.old terminate_name }
     ensures grown { IsGrown sig.old sig.new }
     ensures kept { Extends pool.old.trees pool.new.trees }

@@ -28,7 +28,7 @@ use Rattle.term_pool.specs.declared.terms.Head.TheVariants.{Fun}
 use Rattle.term_pool.specs.HeadTrees.{written_tree, tree_at, trees_at}
 use Rattle.data_rewriter.specs.Standing.{term_at, listed_at, terms_of}
 use Rattle.data_rewriter.proofs.Standings.{application_at}
-use Rattle.lps_core.specs.Solutions.{solution}
+use Rattle.lps_sumelm.specs.Solutions.{solution}
 
 -- ---- functions
 module _ (g : Sig) (stands : IsSignature g) where

@@ -8,7 +8,7 @@ use Rattle.data_theory.specs.Signature.{Sig}
 use Rattle.data_theory.specs.IdTrees.{Tree}
 use Rattle.data_rewriter.specs.Standing.{IsTerm, term_at, listed_at}
 use Rattle.lps_sumelm.specs.declared.solutions.Solution.{Solution}
-use Rattle.lps_core.specs.Solutions.{solution, IsFirst, it_is_first, it_is_later, NoneGives}
+use Rattle.lps_sumelm.specs.Solutions.{solution, IsFirst, it_is_first, it_is_later, NoneGives}
 use Rattle.lps_sumelm.specs.SummandsInCode.{meant_solution, IsFirstAt}
 
 module _ {A : Type 0} (f : A → Term) (xs : List ℕ) where

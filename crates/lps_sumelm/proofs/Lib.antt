@@ -1,5 +1,7 @@
+pub mod SolvableParts
 pub mod AnsweringSummands
 pub mod SolvingSteps
+pub mod ClosedTerms
 pub mod SimplifiedSummands
 pub mod UnusedSums
 pub mod SolvedChains

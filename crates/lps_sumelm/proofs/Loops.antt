@@ -13,10 +13,10 @@ use Rattle.process_terms.specs.SignatureEntries.{entries_of}
 use Rattle.bisim_laws.proofs.Firing.{contains_none, contains_first, contains_later, contains_cases}
 use Rattle.lps_core.specs.TreeConditions.{tree_parts, trees_without_true}
 use Rattle.lps_core.specs.TreeSummands.{numbers_of}
-use Rattle.lps_core.specs.Solutions.{is_among}
+use Rattle.lps_sumelm.specs.Solutions.{is_among}
 use Rattle.lps_sumelm.specs.Solving.{used}
 use Rattle.lps_sumelm.specs.SummandsInCode.{parts_of_each, sums_but, sums_in}
-use Rattle.lps_core.proofs.SolvableParts.{tests_differ, among_is, is_there}
+use Rattle.lps_sumelm.proofs.SolvableParts.{tests_differ, among_is, is_there}
 use Rattle.lps_sumelm.proofs.AddedVariables.{is_key, key_among, among_keys}
 
 -- ---- parts

@@ -20,7 +20,7 @@ use Rattle.lps_core.proofs.GrowingData.{sort_grown}
 use Rattle.lps_core.proofs.SortedTerms.{HaveTerms}
 use Rattle.lps_sumelm.specs.Simplified.{IsAnswer, ActionBecomes, NextBecomes, neither_goes_on, both_go_on, SummandBecomes}
 use Rattle.lps_sumelm.specs.SolvingLaws.{IsAnswered, AnswerEachOther}
-use Rattle.lps_core.proofs.ClosedTerms.{closing, closing_closes, closing_agrees}
+use Rattle.lps_sumelm.proofs.ClosedTerms.{closing, closing_closes, closing_agrees}
 use Rattle.lps_sumelm.proofs.SolvingSteps.{terms_for}
 
 -- actions have their names and sorts

@@ -13,9 +13,9 @@ use Rattle.term_pool.specs.declared.terms.Head.TheVariants.{Var}
 use Rattle.term_pool.specs.HeadTrees.{written_tree, tree_at}
 use Rattle.data_rewriter.specs.Standing.{term_at}
 use Rattle.lps_sumelm.specs.OccurringVariables.{Occurs}
-use Rattle.lps_core.specs.Solutions.{is_among, side}
+use Rattle.lps_sumelm.specs.Solutions.{is_among, side}
 use Rattle.lps_sumelm.specs.SummandsInCode.{meant_solution}
-use Rattle.lps_core.proofs.SolvableParts.{among_is, is_there}
+use Rattle.lps_sumelm.proofs.SolvableParts.{among_is, is_there}
 use Rattle.lps_sumelm.proofs.SummandVariables.{occurring, occurs_there}
 
 abbrev what_is_given : ℕ → Term → Bool → Bool → Option Binding

@@ -18,14 +18,14 @@ use Rattle.bisim_laws.specs.LinearProcesses.{Summand, variables, sorts, is_true,
 use Rattle.bisim_laws.proofs.Firing.{contains_none, contains_first, contains_later, contains_cases}
 use Rattle.lps_core.specs.Conditions.{parts, without_true}
 use Rattle.lps_core.proofs.GrowingData.{data_sorts_grown, label_grown, next_grown}
-use Rattle.lps_core.specs.Solutions.{Gives, on_the_left, on_the_right}
+use Rattle.lps_sumelm.specs.Solutions.{Gives, on_the_left, on_the_right}
 use Rattle.lps_sumelm.specs.Simplified.{IsAnswer, ActionBecomes, NextBecomes, neither_goes_on, both_go_on, SummandBecomes, NextHas, EachTermIs}
 use Rattle.lps_sumelm.specs.Solving.{solve, conditions_of, IsSolvedFrom, nothing_to_solve, one_solved, IsSolvedSummand}
 use Rattle.lps_sumelm.specs.SolvingLaws.{AnswerEachOther, HasNoSolution, HasNoUnused}
-use Rattle.lps_core.proofs.SolvableParts.{tests_differ, first_is_found, none_is_solvable}
+use Rattle.lps_sumelm.proofs.SolvableParts.{tests_differ, first_is_found, none_is_solvable}
 use Rattle.lps_sumelm.proofs.AnsweringSummands.{each_other_then, AllAnswer}
 use Rattle.lps_sumelm.proofs.SolvingSteps.{solve_shape, solve_sorts, solve_answers}
-use Rattle.lps_core.proofs.ClosedTerms.{a_term, inhabited}
+use Rattle.lps_sumelm.proofs.ClosedTerms.{a_term, inhabited}
 use Rattle.lps_sumelm.proofs.SimplifiedSummands.{becomes_shape, becomes_sorts, becomes_answers}
 use Rattle.lps_sumelm.proofs.UnusedSums.{used_number, none_unused, unused_answers, unused_shape, unused_sorts}
 

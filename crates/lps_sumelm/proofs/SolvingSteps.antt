@@ -23,10 +23,10 @@ use Rattle.lps_core.proofs.Chains.{true_alone, joined_true, joined_sorted, joine
 use Rattle.lps_core.proofs.Environments.{put_through, label_through, next_through}
 use Rattle.lps_core.proofs.OverVariables.{put_over, label_over, next_over_put, ArePutOver}
 use Rattle.lps_core.proofs.SortedTerms.{label_sorted, next_sorted_put, one_sort, HaveTheirSorts, HaveTerms, closed_instance, bound_have_terms, read_bound, both_have_terms}
-use Rattle.lps_core.specs.Solutions.{Gives, on_the_left, on_the_right}
+use Rattle.lps_sumelm.specs.Solutions.{Gives, on_the_left, on_the_right}
 use Rattle.lps_sumelm.specs.Solving.{without, solve, conditions_of}
 use Rattle.lps_sumelm.specs.SolvingLaws.{IsAnswered, AnswerEachOther, StepsKeepTheShape, StepsKeepTheSorts, StepsAnswer}
-use Rattle.lps_core.proofs.SolvableParts.{IsFound, first_is_found, taken_apart, put_together}
+use Rattle.lps_sumelm.proofs.SolvableParts.{IsFound, first_is_found, taken_apart, put_together}
 
 -- ---- what holds of all parts
 all_mapped : (P Q : Term → Type 0) (f : Term → Term) → ((c : Term) → P c → Q (f c)) → (cs : List Term) → AllByRecursion P cs → AllByRecursion Q (map f cs)

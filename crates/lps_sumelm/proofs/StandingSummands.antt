@@ -40,11 +40,11 @@ use Rattle.lps_core.proofs.Members.{map_contains, all_from, all_at}
 use Rattle.lps_core.proofs.MeantTrees.{summand_read}
 use Rattle.lps_core.proofs.Staying.{read_mapped, boolean_meant, sorts_of_variables, sort_is_within, what_fits_is_sorted}
 use Rattle.lps_sumelm.specs.declared.solutions.Solution.{Solution}
-use Rattle.lps_core.specs.Solutions.{IsFirst}
+use Rattle.lps_sumelm.specs.Solutions.{IsFirst}
 use Rattle.lps_sumelm.specs.Solving.{solve, conditions_of, without_unused}
 use Rattle.lps_sumelm.specs.SummandsInCode.{meant_solution, summand_at, sums_but, solved_trees, IsActionOver, IsSummandOver, SummandStands, IsSummandAnswer}
 use Rattle.lps_sumelm.proofs.SortedTrees.{sorted_back, all_sorted_back}
-use Rattle.lps_core.proofs.SolvableParts.{first_is_found}
+use Rattle.lps_sumelm.proofs.SolvableParts.{first_is_found}
 use Rattle.lps_sumelm.proofs.SolvingSteps.{solve_shape, solve_sorts}
 use Rattle.lps_sumelm.proofs.SimplifiedSummands.{becomes_shape, becomes_sorts}
 use Rattle.lps_sumelm.proofs.UnusedSums.{unused_shape, unused_sorts}

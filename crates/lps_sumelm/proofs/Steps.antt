@@ -19,12 +19,12 @@ use Rattle.lps_core.specs.TreeSummands.{trees_of_summand, IsSummandIn, numbers_o
 use Rattle.lps_core.proofs.MeantTrees.{numbers_meant}
 use Rattle.lps_sumelm.specs.declared.solutions.Solution.{Solution}
 use Rattle.lps_sumelm.specs.Simplified.{IsAnswer, SummandBecomes}
-use Rattle.lps_core.specs.Solutions.{IsFirst, NoneGives}
+use Rattle.lps_sumelm.specs.Solutions.{IsFirst, NoneGives}
 use Rattle.lps_sumelm.specs.Solving.{conditions_of}
 use Rattle.lps_sumelm.specs.SummandsInCode.{meant_solution, summand_at, sums_but, solved_trees, IsFirstAt, IsSummandOver, SummandStands, IsSummandAnswer, IsStep}
 use Rattle.lps_sumelm.proofs.Loops.{but_fewer}
 use Rattle.lps_sumelm.proofs.SimplifiedInCode.{becomes_along}
-use Rattle.lps_core.proofs.SolvableParts.{first_is_found}
+use Rattle.lps_sumelm.proofs.SolvableParts.{first_is_found}
 use Rattle.lps_sumelm.proofs.SolvedTrees.{parts_mean, solved_over}
 use Rattle.lps_sumelm.proofs.StandingSummands.{answer_stands, step_means, step_stands}
 

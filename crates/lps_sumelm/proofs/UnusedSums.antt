@@ -12,10 +12,10 @@ use Rattle.process_terms.specs.Processes.{Bound}
 use Rattle.process_terms.proofs.AgreeingLabels.{agree_refl}
 use Rattle.bisim_laws.specs.LinearProcesses.{Summand, variables, reading, put_next, NextEquals, LabelIsOver, no_action_left, action_over, NextIsOver, no_next, next_over, IsSummand, SummandIsSorted, AreBound}
 use Rattle.bisim_laws.proofs.Firing.{contains_none, contains_first, contains_later, contains_cases, reading_same, variable_among, read_now, read_later}
-use Rattle.lps_core.specs.Solutions.{is_among}
+use Rattle.lps_sumelm.specs.Solutions.{is_among}
 use Rattle.lps_sumelm.specs.Solving.{action_variables, next_variables, summand_variables, used, without_unused}
 use Rattle.lps_sumelm.specs.SolvingLaws.{IsAnswered, AnswerEachOther, HasNoUnused}
-use Rattle.lps_core.proofs.SolvableParts.{tests_differ, among_is, not_there}
+use Rattle.lps_sumelm.proofs.SolvableParts.{tests_differ, among_is, not_there}
 use Rattle.lps_sumelm.proofs.SolvingSteps.{over_others, all_over_others, over_own, all_over_own, same_next}
 
 -- ---- those that occur

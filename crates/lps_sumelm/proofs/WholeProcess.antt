@@ -34,7 +34,7 @@ use Rattle.lps_core.proofs.Staying.{what_fits_is_sorted, what_fits_stays}
 use Rattle.lps_core.proofs.StayingFits.{what_fits_fits_still}
 use Rattle.lps_sumelm.specs.Simplified.{NextHas, EachTermIs, IsAnswer, SummandBecomes}
 use Rattle.lps_sumelm.specs.SolvedLinears.{SolvingIsGood}
-use Rattle.lps_core.specs.Solutions.{NoneGives}
+use Rattle.lps_sumelm.specs.Solutions.{NoneGives}
 use Rattle.lps_sumelm.specs.Solving.{solve, conditions_of, without_unused, IsSolvedFrom, nothing_to_solve, one_solved, IsSolvedSummand}
 use Rattle.lps_sumelm.specs.SolvingLaws.{HasNoSolution, HasNoUnused}
 use Rattle.lps_sumelm.specs.SummandsInCode.{summand_at, SummandStands, IsStep}

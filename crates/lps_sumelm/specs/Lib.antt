@@ -1,3 +1,4 @@
+pub mod Solutions
 pub mod Simplified
 pub mod Solving
 pub mod SolvingLaws

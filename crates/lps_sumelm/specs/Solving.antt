@@ -6,7 +6,7 @@ use Rattle.process_terms.specs.Labels.{Action, put_label}
 use Rattle.process_terms.specs.Processes.{Bound}
 use Rattle.bisim_laws.specs.LinearProcesses.{Summand, variables, put_next}
 use Rattle.lps_core.specs.Conditions.{parts, without_true, joined}
-use Rattle.lps_core.specs.Solutions.{is_among, IsFirst, NoneGives}
+use Rattle.lps_sumelm.specs.Solutions.{is_among, IsFirst, NoneGives}
 use Rattle.lps_sumelm.specs.Simplified.{SummandBecomes}
 
 -- ---- one step

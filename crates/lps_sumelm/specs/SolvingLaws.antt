@@ -1,5 +1,5 @@
 -- What the laws of solved sums say.
-use Rattle.std.specs.Prelude.{◌≡◌, List, Contains}
+use Rattle.std.specs.Prelude.{◌≡◌, ℕ, List, None, Some, Contains}
 use Rattle.data_theory.specs.Terms.{Sort, Term, variables_of}
 use Rattle.data_theory.specs.Declarations.{Data}
 use Rattle.data_theory.specs.Environments.{Environment, Binding, term_in}
@@ -9,7 +9,7 @@ use Rattle.process_terms.specs.Labels.{put_label, AgreeInOrder}
 use Rattle.process_terms.specs.Processes.{Bound}
 use Rattle.bisim_laws.specs.LinearProcesses.{Summand, variables, sorts, reading, put_next, NextEquals, AreBound, IsSummand, SummandIsSorted, AreDeclared}
 use Rattle.lps_core.specs.Conditions.{parts}
-use Rattle.lps_core.specs.Solutions.{IsSolvable, IsFirst}
+use Rattle.lps_sumelm.specs.Solutions.{IsSolvable, solution, IsFirst}
 use Rattle.lps_sumelm.specs.Solving.{solve, conditions_of, summand_variables}
 
 -- ---- summands that do alike at the same arguments
@@ -31,6 +31,13 @@ pub record AnswerEachOther (th : Theory) (params : List Bound) (s t : Summand) :
   pub back : IsAnswered th params t s
 
 -- ---- laws
+-- what a part gives is solvable, and where it gives nothing it isn't
+abbrev pub WhatIsGivenIsSolvable : Type 0
+WhatIsGivenIsSolvable = (xs : List ℕ) (p : Term) (b : Binding) → solution xs p ≡ Some b → IsSolvable xs p b
+
+abbrev pub WhatGivesNothingIsNotSolvable : Type 0
+WhatGivesNothingIsNotSolvable = (xs : List ℕ) (p : Term) (b : Binding) → solution xs p ≡ None → IsSolvable xs p b → ⊥
+
 -- a step keeps the shape and the sorts of the summand, and what it does
 abbrev pub StepsKeepTheShape : Type 0
 StepsKeepTheShape = (params : List Bound) (s : Summand) (b : Binding) (rest : List Term) → IsSummand params s → IsFirst (variables s.sums) (conditions_of s) b rest → IsSummand params (solve b rest s)

@@ -23,7 +23,7 @@ use Rattle.lps_core.specs.PlainLinears.{PlainSummand}
 use Rattle.lps_core.specs.TreeConditions.{conjunction_tree, tree_parts, trees_without_true}
 use Rattle.lps_core.specs.TreeSummands.{TreeSummand, trees_of_summand, put_actions, meant_summand}
 use Rattle.lps_sumelm.specs.declared.solutions.Solution.{Solution}
-use Rattle.lps_core.specs.Solutions.{IsFirst}
+use Rattle.lps_sumelm.specs.Solutions.{IsFirst}
 use Rattle.lps_sumelm.specs.Simplified.{IsAnswer, SummandBecomes}
 use Rattle.lps_sumelm.specs.Solving.{solve, conditions_of}
 

@@ -12,7 +12,7 @@ ghost use Rattle.bisim_laws.specs.LinearProcesses.{variables};
 ghost use Rattle.lps_core.specs.Fitting.{Fits};
 ghost use Rattle.lps_core.specs.PlainLinears.{linear_of, plain_linear, plain_summand};
 ghost use Rattle.lps_sumelm.specs.Simplified.{EachTermIs, IsAnswer};
-ghost use Rattle.lps_core.specs.Solutions.{NoneGives};
+ghost use Rattle.lps_sumelm.specs.Solutions.{NoneGives};
 ghost use Rattle.lps_sumelm.specs.SolvedLinears.{SolvingIsGood};
 ghost use Rattle.lps_sumelm.specs.Solving.{conditions_of, IsSolvedSummand};
 ghost use Rattle.lps_sumelm.specs.SolvingLaws.{HasNoSolution, HasNoUnused};

@@ -1,6 +1,6 @@
 //! The laws of solved sums. The functions do nothing: each contract is a law.
 
-ghost use Rattle.lps_core.specs.Solutions.{WhatGivesNothingIsNotSolvable, WhatIsGivenIsSolvable};
+ghost use Rattle.lps_sumelm.specs.SolvingLaws.{WhatGivesNothingIsNotSolvable, WhatIsGivenIsSolvable};
 
 /// What a part gives for a sum variable is told exactly.
 pub fn solvable_parts_are_told()

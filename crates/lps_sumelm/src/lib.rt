@@ -12,4 +12,3 @@ mod solving;
 mod variables;
 
 pub use eliminating::eliminate;
-pub use solutions::{Solution, first_solution};

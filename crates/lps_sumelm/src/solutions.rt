@@ -10,7 +10,7 @@ ghost use Rattle.data_theory.specs.Signature.{Sig};
 ghost use Rattle.term_pool.specs.HeadTrees.{IsIn};
 ghost use Rattle.data_rewriter.specs.Standing.{listed_at, term_at, IsTerm};
 ghost use Rattle.lps_core.specs.TreeSummands.{numbers_of};
-ghost use Rattle.lps_core.specs.Solutions.{is_among, side, solution, NoneGives};
+ghost use Rattle.lps_sumelm.specs.Solutions.{is_among, side, solution, NoneGives};
 ghost use Rattle.lps_sumelm.specs.SummandsInCode.{meant_solution, IsFirstAt, HasSides};
 
 use crate::variables::occurs;
@@ -21,7 +21,7 @@ use term_pool::{Head, Pool};
 
 /// A variable with the term that a part gives for it.
 #[derive(Clone, Copy, Debug)]
-pub struct Solution {
+pub(crate) struct Solution {
     pub var: VarId,
     pub term: TermId,
 }
@@ -132,7 +132,7 @@ fn solution_of(
 /// # Errors
 ///
 /// `NoMemory` where there is none to look into the terms.
-pub fn first_solution(
+pub(crate) fn first_solution(
     alloc: Global,
     sig: &Signature,
     pool: &Pool,

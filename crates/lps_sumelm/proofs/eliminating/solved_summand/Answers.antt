@@ -8,7 +8,7 @@ use Rattle.lps_core.specs.declared.linears.Summand.{Summand}
 use Rattle.lps_core.specs.PlainLinears.{plain_summand}
 use Rattle.lps_core.proofs.PoolTrees.{extends_on}
 use Rattle.lps_sumelm.specs.Simplified.{IsAnswer}
-use Rattle.lps_core.specs.Solutions.{NoneGives}
+use Rattle.lps_sumelm.specs.Solutions.{NoneGives}
 use Rattle.lps_sumelm.specs.Solving.{conditions_of, without_unused}
 use Rattle.lps_sumelm.specs.SummandsInCode.{summand_at, IsStep, SummandStands}
 use Rattle.lps_sumelm.proofs.SimplifiedInCode.{same_on}

@@ -1,4 +1,4 @@
-use Rattle.lps_core.proofs.SolvableParts.{given_is_solvable, gives_nothing}
+use Rattle.lps_sumelm.proofs.SolvableParts.{given_is_solvable, gives_nothing}
 use Rattle.lps_sumelm.proofs.laws.solvable_parts_are_told.Goals as goal
 
 pub returns : goal.returns

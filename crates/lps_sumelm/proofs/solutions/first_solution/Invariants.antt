@@ -1,7 +1,7 @@
 use Rattle.std.proofs.Common.{take}
 use Rattle.data_rewriter.specs.Standing.{listed_at}
 use Rattle.lps_core.specs.TreeSummands.{numbers_of}
-use Rattle.lps_core.specs.Solutions.{NoneGives}
+use Rattle.lps_sumelm.specs.Solutions.{NoneGives}
 use Rattle.lps_sumelm.proofs.solutions.first_solution.Given as goal
 
 abbrev pub invariant-loop-place : goal.invariant-loop-place

@@ -7,8 +7,8 @@ use Rattle.data_theory.specs.Equations.{trueᵗ}
 use Rattle.data_theory.specs.Environments.{Agree}
 use Rattle.data_theory.specs.Rewriting.{AreSorts, Closes}
 use Rattle.lps_core.proofs.SortedTerms.{HaveTerms}
-use Rattle.lps_core.specs.Solutions.{is_among}
-use Rattle.lps_core.proofs.SolvableParts.{among_is, is_there}
+use Rattle.lps_sumelm.specs.Solutions.{is_among}
+use Rattle.lps_sumelm.proofs.SolvableParts.{among_is, is_there}
 
 pub below : (d n : ℕ) → (d < n) ⊎ (d < n → ⊥)
 below d zero = inr (λ h. omega (arith, h))

@@ -43,11 +43,3 @@ pub data IsFirst (xs : List ℕ) : List Term → Binding → List Term → Type 
 -- no part is solvable
 abbrev pub NoneGives : List ℕ → List Term → Type 0
 NoneGives xs cs = AllByRecursion (λ c. solution xs c ≡ None) cs
-
--- ---- laws
--- what a part gives is solvable, and where it gives nothing it isn't
-abbrev pub WhatIsGivenIsSolvable : Type 0
-WhatIsGivenIsSolvable = (xs : List ℕ) (p : Term) (b : Binding) → solution xs p ≡ Some b → IsSolvable xs p b
-
-abbrev pub WhatGivesNothingIsNotSolvable : Type 0
-WhatGivesNothingIsNotSolvable = (xs : List ℕ) (p : Term) (b : Binding) → solution xs p ≡ None → IsSolvable xs p b → ⊥

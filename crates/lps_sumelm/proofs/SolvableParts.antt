@@ -7,8 +7,8 @@ use Rattle.data_theory.specs.Terms.{equality, Term, variable, application, none,
 use Rattle.data_theory.specs.Environments.{Binding}
 use Rattle.data_theory.specs.Equations.{equals}
 use Rattle.bisim_laws.proofs.Firing.{contains_none, contains_first, contains_later, contains_cases}
-use Rattle.lps_core.specs.Solutions.{Gives, on_the_left, on_the_right, IsSolvable, is_among, side, or_else, solution, IsFirst, it_is_first, it_is_later, NoneGives}
-use Rattle.lps_core.specs.Solutions.{WhatIsGivenIsSolvable, WhatGivesNothingIsNotSolvable}
+use Rattle.lps_sumelm.specs.Solutions.{Gives, on_the_left, on_the_right, IsSolvable, is_among, side, or_else, solution, IsFirst, it_is_first, it_is_later, NoneGives}
+use Rattle.lps_sumelm.specs.SolvingLaws.{WhatIsGivenIsSolvable, WhatGivesNothingIsNotSolvable}
 
 -- ---- tests
 pub tests_differ : true ≡ false → ⊥
