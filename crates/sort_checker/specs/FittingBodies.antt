@@ -6,7 +6,7 @@ use Rattle.data_theory.specs.Environments.{terms_of}
 use Rattle.data_theory.specs.Declarations.{Data, IsSort, Declares, HasSort, HaveSorts}
 use Rattle.data_theory.specs.Provable.{Equation}
 use Rattle.process_terms.specs.Labels.{Action, Label}
-use Rattle.process_terms.specs.Processes.{Bound, Body, written_delta, written_act, written_choice, written_seq, written_cond, written_sum, written_call, written_merge, written_around, Definition}
+use Rattle.process_terms.specs.Processes.{Bound, Body, written_delta, written_act, written_choice, written_seq, written_cond, written_sum, written_call, written_merge, written_starting, written_around, Definition}
 use Rattle.sort_table.specs.Expressions.{Name, Expression}
 use Rattle.sort_table.specs.BareProcesses as bare
 use Rattle.sort_table.specs.BareProcesses.{Process, Processes}
@@ -53,6 +53,7 @@ BodyFits v xs (written_cond c p q) = IsTermOver v.declared.tables xs boolean c �
 BodyFits v xs (written_sum x p) = IsSort v.declared.tables x.sort × ¬ (Contains (map (λ (y : Bound). y.var) xs) x.var) × BodyFits v (x ∷ xs) p
 BodyFits v xs (written_call k ts) = (ss : List Sort) × (slice_get (process_sorts v) k ≡ Some ss) × AreTermsOver v.declared.tables xs ss ts
 BodyFits v xs (written_merge p q) = BodyFits v xs p × BodyFits v xs q
+BodyFits v xs (written_starting o p q) = BodyFits v xs p × BodyFits v xs q
 BodyFits v xs (written_around o p) = BodyFits v xs p
 
 -- ---- what the laws ask
