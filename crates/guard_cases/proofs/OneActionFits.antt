@@ -19,7 +19,7 @@ use Rattle.data_theory.proofs.WholeSignatureLemmas.{first_stands, action_stands}
 use Rattle.term_pool.specs.HeadTrees.{IsIn}
 use Rattle.process_terms.specs.declared.definitions.Model.{Model}
 use Rattle.process_terms.specs.declared.definitions.ProcDef.{ProcDef}
-use Rattle.process_terms.specs.PlainProcesses.{PlainAction, PlainAround, allow, block, hide, rename, comm, PlainProcess, PlainProcesses, delta, act, call, choice, seq, cond, sum, merge, around, no_processes, more_processes, PlainDefinition, plain_definition, PlainModel, plain_model, plain_process}
+use Rattle.process_terms.specs.PlainProcesses.{PlainAction, PlainAround, allow, block, hide, rename, comm, PlainProcess, PlainProcesses, delta, act, call, choice, seq, cond, sum, merge, left_merge, sync, around, no_processes, more_processes, PlainDefinition, plain_definition, PlainModel, plain_model, plain_process}
 use Rattle.process_terms.specs.Meanings.{ReadsOnly, HasName, HasAround}
 use Rattle.process_terms.specs.SignatureEntries.{entries_of}
 use Rattle.lps_core.specs.Fitting.{IsVariable, sort_of_variable}
@@ -124,6 +124,8 @@ module _ (ts : List Tree) (ds : List PlainDefinition) (defined : list_all (is_ba
     process_fits xs (cond c p q) e = absurd (false≢true e)
     process_fits xs (sum ys p) e = absurd (false≢true e)
     process_fits xs (merge ps) e = processes_fit xs ps e
+    process_fits xs (left_merge p q) e = absurd (false≢true e)
+    process_fits xs (sync ps) e = absurd (false≢true e)
     process_fits xs (around o p) e =
         let both = and_parts (names_nothing o) (is_bare (length ds) p) e in
         (around_fits ts o both.0, process_fits xs p both.1)

@@ -41,8 +41,13 @@ fn is_bare(process: &Proc, count: usize) -> bool
         Proc::Choice(parts) | Proc::Seq(parts) | Proc::Merge(parts) => all_bare(parts, count),
         Proc::Block(names, part) | Proc::Hide(names, part) => names.is_empty()
             && is_bare(part, count),
-        Proc::Cond(..) | Proc::Sum(..) | Proc::Allow(..) | Proc::Rename(..) | Proc::Comm(..) =>
-            false,
+        Proc::Cond(..)
+        | Proc::Sum(..)
+        | Proc::LeftMerge(..)
+        | Proc::Sync(_)
+        | Proc::Allow(..)
+        | Proc::Rename(..)
+        | Proc::Comm(..) => false,
     }
 }
 

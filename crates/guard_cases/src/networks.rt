@@ -43,6 +43,7 @@ fn write_network(alloc: Global, network: &Network, text: &mut String) -> Result<
             write_network(alloc, part, text)?;
             Ok(text.push_str(sign(op))?)
         }
+        Network::LeftMerge(..) | Network::Sync(_) => Ok(text.push_str("_")?),
     }
 }
 

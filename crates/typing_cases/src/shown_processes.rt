@@ -149,6 +149,12 @@ impl<'a> Shown<'a> {
             Proc::Choice(parts) => self.chain(out, parts.as_slice(), " + "),
             Proc::Seq(parts) => self.chain(out, parts.as_slice(), " . "),
             Proc::Merge(parts) => self.chain(out, parts.as_slice(), " || "),
+            Proc::Sync(parts) => self.chain(out, parts.as_slice(), " | "),
+            Proc::LeftMerge(first, second) => {
+                out.push_str("(")?;
+                self.before(out, first, " ||_ ")?;
+                self.before(out, second, ")")
+            }
             Proc::Cond(condition, then, other) => {
                 out.push_str("(")?;
                 self.term(out, *condition)?;
