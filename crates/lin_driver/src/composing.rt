@@ -90,6 +90,8 @@ pub(crate) fn compose(
             let linear = compose(alloc, part, parts, sig, pool)?;
             around(alloc, operator, &linear, sig, pool)
         }
+        Network::Sync(networks) => compose_beside(alloc, networks, parts, sig, pool),
+        Network::LeftMerge(..) => unreachable!(),
     }
 }
 

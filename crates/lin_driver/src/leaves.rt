@@ -10,7 +10,7 @@ use proc_unfold::Network;
 use process_terms::{Component, Proc};
 use std::alloc::Global;
 
-/// The leaves of a network, from the left. A `||` of no parts does nothing, and counts as a leaf.
+/// The leaves of a network, from the left. A `||` or `|` of no parts does nothing, and counts as a leaf.
 ///
 /// # Errors
 ///
@@ -32,10 +32,15 @@ fn add_leaves(alloc: Global, network: &Network, found: &mut Vec<Component>) -> R
         Network::Leaf(component) => Ok(found.push(component.copy(alloc)?)?),
         Network::Merge(parts) => add_leaves_beside(alloc, parts, found),
         Network::Op(_, part) => add_leaves(alloc, part, found),
+        Network::LeftMerge(first, second) => {
+            add_leaves(alloc, first, found)?;
+            add_leaves(alloc, second, found)
+        }
+        Network::Sync(parts) => add_leaves_beside(alloc, parts, found),
     }
 }
 
-/// Puts the leaves of networks side by side behind those that were found.
+/// Puts the leaves of networks behind those that were found.
 #[cycle(walk)]
 fn add_leaves_beside(
     alloc: Global,

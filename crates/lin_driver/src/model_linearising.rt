@@ -74,6 +74,8 @@ fn settle(network: Network) -> Network
         Network::Leaf(component) => Network::Leaf(settled_part(component)),
         Network::Merge(parts) => Network::Merge(parts),
         Network::Op(operator, part) => Network::Op(operator, part),
+        Network::LeftMerge(first, second) => Network::LeftMerge(first, second),
+        Network::Sync(parts) => Network::Sync(parts),
     }
 }
 
