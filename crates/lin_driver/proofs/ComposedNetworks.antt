@@ -22,11 +22,11 @@ use Rattle.action_filters.specs.Filters.{IsGoodAround}
 use Rattle.proc_unfold.specs.declared.networks.NetOp.{NetOp}
 use Rattle.proc_unfold.specs.declared.networks.Network.{Network}
 use Rattle.proc_unfold.specs.declared.networks.Network.TheVariants as nets
-use Rattle.proc_unfold.specs.Networks.{PlainNetwork, PlainNetworks, leaf, side_by_side, under, no_networks, more_networks, networks_of, plain_network, plain_operator}
-use Rattle.proc_unfold.proofs.ProcessSteps.{leaf_step, side_step, under_step}
+use Rattle.proc_unfold.specs.Networks.{PlainNetwork, PlainNetworks, leaf, side_by_side, left_merge, sync, under, no_networks, more_networks, networks_of, plain_network, plain_operator}
+use Rattle.proc_unfold.proofs.ProcessSteps.{leaf_step, side_step, left_merged_step, synced_step, under_step}
 use Rattle.lin_driver.specs.FittingOperators.{OperatorFits}
 use Rattle.lin_driver.specs.Parts.{Origin, network_in, HasParts, CanBeComposed, HasItsParts, Composes}
-use Rattle.lin_driver.proofs.ComposedParts.{CanBeJoined, leaf_composed, there_is_one, inside_can, operator_can, under_composed, first_can, first_joined, next_can, so_far_fits, next_joined, all_joined}
+use Rattle.lin_driver.proofs.ComposedParts.{CanBeJoined, leaf_composed, there_is_one, inside_can, operator_can, under_composed, sync_can, sync_composed, first_can, first_joined, next_can, so_far_fits, next_joined, all_joined}
 
 -- ---- a leaf
 some_in_front : (o : Origin) (g : Sig) (ts : List Tree) (c : PlainComponent) (items : List Linear) (rest : List PlainLinear) → HasParts o g ts (c ∷ []) (map plain_linear items) rest → 0 < length items
@@ -73,6 +73,25 @@ pub beside_composes : (g h : Sig) (ts us : List Tree) (n : Network) (ns : Vec Ne
     → Composes g ts (side_by_side (networks_of (map plain_network items))) queue h us left l → Composes g ts (plain_network n) queue h us left l
 beside_composes g h ts us n ns items queue left l is e f =
     subst (λ m. Composes g ts m queue h us left l) (sym (ap plain_network is ∙ side_step ns)) (subst (λ zs. Composes g ts (side_by_side (networks_of (map plain_network zs))) queue h us left l) e f)
+
+-- ---- a left merge, and a `|`, which has at most one part
+pub no_left_merge : (g : Sig) (ts : List Tree) (n : Network) (a b : Box Network) (queue : List PlainLinear) → n ≡ nets.LeftMerge a b → HasItsParts g ts (plain_network n) queue → ⊥
+no_left_merge g ts n a b queue is k = (subst (λ m. CanBeComposed k.0 g ts m queue k.1) (ap plain_network is ∙ left_merged_step a b) k.2).operators
+
+pub synced_parts : (g : Sig) (ts : List Tree) (n : Network) (ns : Vec Network Global) (items : List Network) (queue : List PlainLinear) → n ≡ nets.Sync ns → items ≡ ns.items → HasItsParts g ts (plain_network n) queue
+    → HasItsParts g ts (side_by_side (networks_of (map plain_network items))) queue
+synced_parts g ts n ns items queue is e k = (
+  k.0,
+  k.1,
+  subst (λ zs. CanBeComposed k.0 g ts (side_by_side (networks_of (map plain_network zs))) queue k.1) (sym e)
+      (sync_can k.0 g ts (networks_of (map plain_network ns.items)) queue k.1 (subst (λ m. CanBeComposed k.0 g ts m queue k.1) (ap plain_network is ∙ synced_step ns) k.2)),
+)
+
+pub synced_composes : (g h : Sig) (ts us : List Tree) (n : Network) (ns : Vec Network Global) (items : List Network) (queue left : List PlainLinear) (l : PlainLinear) → n ≡ nets.Sync ns → items ≡ ns.items
+    → Composes g ts (side_by_side (networks_of (map plain_network items))) queue h us left l → Composes g ts (plain_network n) queue h us left l
+synced_composes g h ts us n ns items queue left l is e f =
+    subst (λ m. Composes g ts m queue h us left l) (sym (ap plain_network is ∙ synced_step ns))
+    (λ o rest k. sync_composed o g h ts us (networks_of (map plain_network ns.items)) queue left rest l k (subst (λ zs. Composes g ts (side_by_side (networks_of (map plain_network zs))) queue h us left l) e f))
 
 abbrev pub beside_all : List Network → PlainNetwork
 beside_all xs = side_by_side (networks_of (map plain_network xs))
@@ -181,6 +200,8 @@ mutual
   pub nodes : PlainNetwork → ℕ
   nodes (leaf c) = 1
   nodes (side_by_side ns) = 1 + all_nodes ns
+  nodes (left_merge m n) = 1 + (nodes m + nodes n)
+  nodes (sync ns) = 1 + all_nodes ns
   nodes (under o n) = 1 + nodes n
 
   pub all_nodes : PlainNetworks → ℕ
@@ -197,6 +218,10 @@ beside_nodes : (ns : PlainNetworks) → nodes (side_by_side ns) ≡ 1 + all_node
 unfolding nodes
 beside_nodes ns = refl
 
+sync_nodes : (ns : PlainNetworks) → nodes (sync ns) ≡ 1 + all_nodes ns
+unfolding nodes
+sync_nodes ns = refl
+
 under_nodes : (o : PlainAround) (n : PlainNetwork) → nodes (under o n) ≡ 1 + nodes n
 unfolding nodes
 under_nodes o n = refl
@@ -208,6 +233,12 @@ more_nodes n ns = refl
 pub parts_smaller : (n : Network) (ns : Vec Network Global) (items : List Network) → n ≡ nets.Merge ns → items ≡ ns.items → nodes_of_all items < nodes_of n
 parts_smaller n ns items is e =
     let whole : nodes_of n ≡ 1 + nodes_of_all ns.items = ap nodes (ap plain_network is ∙ side_step ns) ∙ beside_nodes (networks_of (map plain_network ns.items)) in
+    let same : nodes_of_all items ≡ nodes_of_all ns.items = ap nodes_of_all e in
+    omega (arith, whole, same)
+
+pub synced_smaller : (n : Network) (ns : Vec Network Global) (items : List Network) → n ≡ nets.Sync ns → items ≡ ns.items → nodes_of_all items < nodes_of n
+synced_smaller n ns items is e =
+    let whole : nodes_of n ≡ 1 + nodes_of_all ns.items = ap nodes (ap plain_network is ∙ synced_step ns) ∙ sync_nodes (networks_of (map plain_network ns.items)) in
     let same : nodes_of_all items ≡ nodes_of_all ns.items = ap nodes_of_all e in
     omega (arith, whole, same)
 

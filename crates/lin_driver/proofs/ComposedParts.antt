@@ -20,7 +20,7 @@ use Rattle.lps_core.proofs.PoolTrees.{extends_itself}
 use Rattle.summand_expander.specs.WholeProducts.{IsProduct, IsGoodProduct}
 use Rattle.action_filters.specs.Filters.{IsGoodAround}
 use Rattle.greibach.proofs.GrownFits.{both_by_names, pool_alone}
-use Rattle.proc_unfold.specs.Networks.{PlainNetwork, PlainNetworks, side_by_side, under, no_networks, more_networks, network_body, network_bodies}
+use Rattle.proc_unfold.specs.Networks.{PlainNetwork, PlainNetworks, side_by_side, sync, under, no_networks, more_networks, network_body, network_bodies}
 use Rattle.lin_driver.specs.FittingOperators.{OperatorFits, NetworksFit}
 use Rattle.lin_driver.specs.Leaves.{leaves, more_leaves}
 use Rattle.lin_driver.specs.Parts.{IsLinearFor, Origin, entries_in, closed_in, component_in, network_in, HasGrownFrom, HasParts, CanBeComposed, IsComposed, Composes}
@@ -154,6 +154,17 @@ under_composed o g h ts us vs a n queue left rest l k can w f kept fits params g
       linear = around_linear o h us vs a (network_in o n) l k w.stands (since_then o g h w can.since) can.operators.0 kept c.linear fits params good;
       is_left = c.is_left;
     }
+
+-- a `|` of at most one is a `||`
+pub sync_can : (o : Origin) (g : Sig) (ts : List Tree) (ns : PlainNetworks) (queue rest : List PlainLinear) → CanBeComposed o g ts (sync ns) queue rest → CanBeComposed o g ts (side_by_side ns) queue rest
+sync_can o g ts no_networks queue rest k = record { since = k.since; identifiers = k.identifiers; operators = tt; parts = k.parts }
+sync_can o g ts (more_networks n no_networks) queue rest k = record { since = k.since; identifiers = k.identifiers; operators = (k.operators, tt); parts = k.parts }
+sync_can o g ts (more_networks m (more_networks n ns)) queue rest k = absurd k.operators
+
+pub sync_composed : (o : Origin) (g h : Sig) (ts us : List Tree) (ns : PlainNetworks) (queue left rest : List PlainLinear) (l : PlainLinear) → CanBeComposed o g ts (sync ns) queue rest → Composes g ts (side_by_side ns) queue h us left l → IsComposed (network_in o (sync ns)) h us left rest l
+sync_composed o g h ts us no_networks queue left rest l k f = f o rest (sync_can o g ts no_networks queue rest k)
+sync_composed o g h ts us (more_networks n no_networks) queue left rest l k f = f o rest (sync_can o g ts (more_networks n no_networks) queue rest k)
+sync_composed o g h ts us (more_networks m (more_networks n ns)) queue left rest l k f = absurd k.operators
 
 -- side by side
 pub first_can : (o : Origin) (g : Sig) (ts : List Tree) (n : PlainNetwork) (ns : PlainNetworks) (queue rest : List PlainLinear) → CanBeComposed o g ts (side_by_side (more_networks n ns)) queue rest → (between : List PlainLinear) × CanBeComposed o g ts n queue between

@@ -8,7 +8,7 @@ use Rattle.data_theory.specs.Environments.{Environment, bound}
 use Rattle.process_terms.specs.Theories.{Theory, Equals, no_terms, more_terms, IsConsistent}
 use Rattle.process_terms.specs.Labels.{Action, Label, AgreeAction, equal_args, AgreeInOrder, both_silent, next_agree}
 use Rattle.process_terms.specs.Processes as processes
-use Rattle.process_terms.specs.Processes.{Bound, Body, written_delta, written_act, written_choice, written_seq, written_cond, written_sum, written_call, written_merge, written_around, Definition, Table, Process, delta, act, choice, seq, sum, call, merge, around, close}
+use Rattle.process_terms.specs.Processes.{Bound, Body, written_delta, written_act, written_choice, written_seq, written_cond, written_sum, written_call, written_merge, written_starting, written_around, Definition, Table, Process, delta, act, choice, seq, sum, call, merge, starting, around, close}
 use Rattle.process_terms.specs.Steps.{Outcome, Step}
 use Rattle.bisim_laws.specs.Bisimulations.{Lands, both_end, both_go_on, Answers, Flipped, Bisimulation}
 use Rattle.bisim_laws.specs.Links.{Pairs, IsGood}
@@ -19,7 +19,7 @@ use Rattle.sort_table.specs.Growth.{More, with_more}
 use Rattle.sort_table.specs.Vocabularies.{Vocabulary}
 use Rattle.sort_table.proofs.Growing.{first_behind, all_behind}
 use Rattle.lin_driver.specs.Renumberings.{Renumbering, back, new_sort, new_symbol, new_term, new_terms, new_action, new_label, new_body, new_definition, new_table, new_process, new_outcome, TakesVocabulary, TakesTheory}
-use Rattle.lin_driver.specs.SameProcesses.{SameDefinition, SameDefinitions, SameProcess, same_delta, same_act, same_choice, same_seq, same_cond, same_sum, same_call, same_merge, same_around}
+use Rattle.lin_driver.specs.SameProcesses.{SameDefinition, SameDefinitions, SameProcess, same_delta, same_act, same_choice, same_seq, same_cond, same_sum, same_call, same_merge, same_starting, same_around}
 use Rattle.lin_driver.specs.EachReading.{FindsVocabulary, Under, under, WhatStandsForATextDoesSoInEachReading}
 use Rattle.lin_driver.proofs.NewTerms.{list_back, new_long}
 use Rattle.lin_driver.proofs.NewSteps.{new_close, new_bindings, table_back, label_back, process_back, theory_back, new_step}
@@ -106,6 +106,7 @@ body_then r t (written_cond c p q) = λ i. written_cond (term_then r t c i) (bod
 body_then r t (written_sum x p) = λ i. written_sum (record { var = x.var; sort = sort_then r t x.sort i }) (body_then r t p i)
 body_then r t (written_call x ts) = ap (written_call x) (list_then r t ts)
 body_then r t (written_merge p q) = ap₂ written_merge (body_then r t p) (body_then r t q)
+body_then r t (written_starting o p q) = ap₂ (written_starting o) (body_then r t p) (body_then r t q)
 body_then r t (written_around o p) = ap (written_around o) (body_then r t p)
 
 table_then : (r t : Renumbering) (d : Table) → new_table (and_then r t) d ≡ new_table t (new_table r d)
@@ -121,6 +122,7 @@ process_then r t (processes.cond c p q) = λ i. processes.cond (term_then r t c 
 process_then r t (sum s f) = λ i. sum (sort_then r t s i) (λ x. (process_then r t (f (new_term (and_then (back t) (back r)) x)) ∙ ap (λ (y : Term). new_process t (new_process r (f y))) (term_then (back t) (back r) x)) i)
 process_then r t (call d x ts) = λ i. call (table_then r t d i) x (list_then r t ts i)
 process_then r t (merge p q) = ap₂ merge (process_then r t p) (process_then r t q)
+process_then r t (starting o p q) = ap₂ (starting o) (process_then r t p) (process_then r t q)
 process_then r t (around o p) = ap (around o) (process_then r t p)
 
 -- ---- what is the same stays so
@@ -151,6 +153,7 @@ module _ (r : Renumbering) where
   process_stays (same_sum h) = same_sum (λ t. process_stays (h (new_term (back r) t)))
   process_stays (same_call {d = d} {e = e} h) = same_call (definitions_stay d e h)
   process_stays (same_merge h k) = same_merge (process_stays h) (process_stays k)
+  process_stays (same_starting h k) = same_starting (process_stays h) (process_stays k)
   process_stays (same_around h) = same_around (process_stays h)
 
 -- ---- relations under new numbers

@@ -27,8 +27,9 @@ use Rattle.data_theory.specs.IdTrees.{Tree, trees_of}
 use Rattle.data_theory.specs.IdTerms.{sort_under, term_under, terms_under, variable_sorts, IsTreeWithin, AreTreesWithin}
 use Rattle.term_pool.specs.HeadTrees.{tree_at, trees_at, IsIn, AreIn}
 use Rattle.term_pool.specs.Pools.{PoolContents}
-use Rattle.process_terms.specs.Processes.{Bound, Body, written_delta, written_act, written_choice, written_seq, written_cond, written_sum, written_call, written_merge, written_around, choice_of, seq_of, merged_with, sums_around}
-use Rattle.process_terms.specs.PlainProcesses.{PlainAction, PlainProcess, PlainProcesses, delta, act, call, choice, seq, cond as either, sum, merge, around, no_processes, more_processes, PlainDefinition, PlainModel, term_of}
+use Rattle.process_terms.specs.Processes.{Bound, Body, written_delta, written_act, written_choice, written_seq, written_cond, written_sum, written_call, written_merge, written_starting, written_around, choice_of, seq_of, merged_with, synced_with, sums_around}
+use Rattle.process_terms.specs.Processes as written
+use Rattle.process_terms.specs.PlainProcesses.{PlainAction, PlainProcess, PlainProcesses, delta, act, call, choice, seq, cond as either, sum, merge, left_merge, sync, around, no_processes, more_processes, PlainDefinition, PlainModel, term_of}
 use Rattle.process_terms.specs.Meanings.{Entries, bound_at, term_at, action_of, action_at, label_of, body_of, bodies_of, definition_of, table_of, HasTerm, HasVariable, HasAction, HasProcess, HasProcesses, HasDefinition, HasModel, ReadsOnly}
 use Rattle.process_terms.specs.SignatureEntries.{entries_of, action_entry}
 use Rattle.bisim_laws.specs.LinearProcesses.{sorts}
@@ -157,6 +158,7 @@ fits_binds v xs (written_cond c p q) h = (fits_binds v xs p h.1, fits_binds v xs
 fits_binds v xs (written_sum x p) h = (h.1, fits_binds v (x ∷ xs) p h.2)
 fits_binds v xs (written_call k ts) h = tt
 fits_binds v xs (written_merge p q) h = (fits_binds v xs p h.0, fits_binds v xs q h.1)
+fits_binds v xs (written_starting o p q) h = (fits_binds v xs p h.0, fits_binds v xs q h.1)
 fits_binds v xs (written_around o p) h = fits_binds v xs p h
 
 -- what comes into scope by binders
@@ -319,6 +321,9 @@ module _ (g : Sig) (sg : IsSignature g) (ts : List Tree) (within : All (IsTreeWi
           )
       process_fits xs own bs c (merge no_processes) h f = tt
       process_fits xs own bs c (merge (more_processes p ps)) h f = let r = merged_fit xs own bs c (body_of e p) ps h.1 f in (process_fits xs own bs c p h.0 r.0, r.1)
+      process_fits xs own bs c (left_merge p q) h f = (process_fits xs own bs c p h.0 f.0, process_fits xs own bs c q h.1 f.1)
+      process_fits xs own bs c (sync no_processes) h f = tt
+      process_fits xs own bs c (sync (more_processes p ps)) h f = let r = synced_fit xs own bs c (body_of e p) ps h.1 f in (process_fits xs own bs c p h.0 r.0, r.1)
       process_fits xs own bs c (around o p) h f = (h.0, process_fits xs own bs c p h.1 f)
 
       choices_fit : (xs : List VarId) → All (IsVariable g) xs → (bs : List Bound) → Covers xs bs → (ps : PlainProcesses) → HasProcesses e ps → BodyFits v bs (choice_of (bodies_of e ps)) → ProcessesFit g ts ds xs ps
@@ -334,6 +339,10 @@ module _ (g : Sig) (sg : IsSignature g) (ts : List Tree) (within : All (IsTreeWi
       merged_fit : (xs : List VarId) → All (IsVariable g) xs → (bs : List Bound) → Covers xs bs → (b : Body) (ps : PlainProcesses) → HasProcesses e ps → BodyFits v bs (merged_with b (bodies_of e ps)) → BodyFits v bs b × ProcessesFit g ts ds xs ps
       merged_fit xs own bs c b no_processes h f = (f, tt)
       merged_fit xs own bs c b (more_processes q ps) h f = let r = merged_fit xs own bs c (written_merge b (body_of e q)) ps h.1 f in (r.0.0, (process_fits xs own bs c q h.0 r.0.1, r.1))
+
+      synced_fit : (xs : List VarId) → All (IsVariable g) xs → (bs : List Bound) → Covers xs bs → (b : Body) (ps : PlainProcesses) → HasProcesses e ps → BodyFits v bs (synced_with b (bodies_of e ps)) → BodyFits v bs b × ProcessesFit g ts ds xs ps
+      synced_fit xs own bs c b no_processes h f = (f, tt)
+      synced_fit xs own bs c b (more_processes q ps) h f = let r = synced_fit xs own bs c (written_starting written.sync b (body_of e q)) ps h.1 f in (r.0.0, (process_fits xs own bs c q h.0 r.0.1, r.1))
 
 -- ---- definitions
 -- with small numerals

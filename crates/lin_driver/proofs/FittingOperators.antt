@@ -15,8 +15,9 @@ use Rattle.data_theory.specs.IdTerms.{sort_under}
 use Rattle.data_theory.specs.IdTrees.{Tree}
 use Rattle.data_theory.specs.WholeSignatures.{IsSignature}
 use Rattle.term_pool.specs.Pools.{PoolContents}
-use Rattle.process_terms.specs.Processes.{Renaming, Bound, Body, written_delta, written_act, written_choice, written_seq, written_cond, written_sum, written_call, written_merge, written_around, sums_around}
-use Rattle.process_terms.specs.PlainProcesses.{PlainRule, PlainAround, allow, block, hide, rename, comm, PlainProcess, PlainProcesses, delta, act, call, choice, seq, cond as either, sum, merge, around, no_processes, more_processes, PlainDefinition, PlainModel}
+use Rattle.process_terms.specs.Processes as written
+use Rattle.process_terms.specs.Processes.{Renaming, Bound, Body, written_delta, written_act, written_choice, written_seq, written_cond, written_sum, written_call, written_merge, written_starting, written_around, synced_with, sums_around}
+use Rattle.process_terms.specs.PlainProcesses.{PlainRule, PlainAround, allow, block, hide, rename, comm, PlainProcess, PlainProcesses, delta, act, call, choice, seq, cond as either, sum, merge, left_merge, sync, around, no_processes, more_processes, PlainDefinition, PlainModel}
 use Rattle.process_terms.specs.Meanings.{Entries, name_at, bound_at, rule_of, renaming_of, around_of, body_of, bodies_of, HasRenaming, HasAround, HasProcess, HasProcesses, HasDefinition}
 use Rattle.process_terms.specs.SignatureEntries.{entries_of}
 use Rattle.bisim_laws.proofs.Firing.{contains_first, contains_later, contains_cases, contains_none}
@@ -44,7 +45,7 @@ use Rattle.lin_driver.specs.ElaboratedModels.{IsDefinitionOf, IsElaborated}
 use Rattle.lin_driver.specs.FittingOperators.{OperatorFits, HasFittingOperators, HaveFittingOperators, OperatorsFit}
 
 -- ---- body by body
--- the vocabulary fits each operator of it
+-- the vocabulary fits each operator of it, and none is `||_` or `|`
 abbrev FitsIn : FullVocabulary → Body → Type 0
 FitsIn v written_delta = Unit {0}
 FitsIn v (written_act m) = Unit {0}
@@ -54,6 +55,7 @@ FitsIn v (written_cond c p q) = FitsIn v p × FitsIn v q
 FitsIn v (written_sum x p) = FitsIn v p
 FitsIn v (written_call k ts) = Unit {0}
 FitsIn v (written_merge p q) = FitsIn v p × FitsIn v q
+FitsIn v (written_starting o p q) = ⊥
 FitsIn v (written_around o p) = Fits v o × FitsIn v p
 
 module _ (v : FullVocabulary) where
@@ -64,6 +66,10 @@ module _ (v : FullVocabulary) where
   inside_sums : (xs : List Bound) (b : Body) → FitsIn v (sums_around xs b) → FitsIn v b
   inside_sums [] b h = h
   inside_sums (x ∷ xs) b h = inside_sums xs b h
+
+  no_sync : (b c : Body) (bs : List Body) → FitsIn v (synced_with (written_starting written.sync b c) bs) → ⊥
+  no_sync b c [] h = h
+  no_sync b c (d ∷ bs) h = no_sync (written_starting written.sync b c) d bs h
 
   -- what elaborates is such
   mutual
@@ -199,6 +205,10 @@ module _ (g : Sig) (sg : IsSignature g) where
         process_fits (either c p q) there h = (process_fits p there.1 h.0, process_fits q there.2 h.1)
         process_fits (sum xs p) there h = process_fits p there.1 (inside_sums v (map (bound_at e) xs) (body_of e p) h)
         process_fits (merge ps) there h = processes_fit ps there (merge_parts (FitsIn v) (λ p q k. k) (bodies_of e ps) h)
+        process_fits (left_merge p q) there h = absurd h
+        process_fits (sync no_processes) there h = tt
+        process_fits (sync (more_processes p no_processes)) there h = process_fits p there.0 h
+        process_fits (sync (more_processes p (more_processes q ps))) there h = absurd (no_sync v (body_of e p) (body_of e q) (bodies_of e ps) h)
         process_fits (around o p) there h = (operator_fits o there.0 (over_declared o h.0), process_fits p there.1 h.1)
 
         processes_fit : (ps : PlainProcesses) → HasProcesses e ps → AllByRecursion (FitsIn v) (bodies_of e ps) → HaveFittingOperators g ps

@@ -11,9 +11,9 @@ use Rattle.data_theory.specs.WholeSignatures.{IsSignature}
 use Rattle.data_theory.specs.IdTrees.{Tree}
 use Rattle.data_theory.proofs.IdTermLemmas.{sorted_trees_are_within}
 use Rattle.term_pool.specs.HeadTrees.{tree_at}
-use Rattle.process_terms.specs.Processes.{written_act, written_cond, written_call, written_around, choice_of, seq_of, merge_of, sums_around, Around, Body, close}
+use Rattle.process_terms.specs.Processes.{written_act, written_cond, written_call, written_starting, written_around, choice_of, seq_of, merge_of, sync_of, sums_around, Around, Body, close}
 use Rattle.process_terms.specs.Processes as written
-use Rattle.process_terms.specs.PlainProcesses.{PlainAround, allow, block, hide, rename, comm, PlainProcess, PlainProcesses, delta, act, call, choice, seq, cond, sum, merge, around, no_processes, more_processes, PlainDefinition, PlainModel, PlainComponent, call_of, term_of}
+use Rattle.process_terms.specs.PlainProcesses.{PlainAround, allow, block, hide, rename, comm, PlainProcess, PlainProcesses, delta, act, call, choice, seq, cond, sum, merge, left_merge, sync, around, no_processes, more_processes, PlainDefinition, PlainModel, PlainComponent, call_of, term_of}
 use Rattle.process_terms.specs.Meanings.{name_at, bound_at, term_at, action_of, rule_of, renaming_of, around_of, body_of, bodies_of, definition_of, table_of, process_of, component_body, HasName, HasRule, HasRenaming, HasAround}
 use Rattle.process_terms.specs.SignatureEntries.{entries_of, BothGrow}
 use Rattle.process_terms.proofs.MeaningLemmas.{all_same, entry_stays}
@@ -68,6 +68,8 @@ module _ (g h : Sig) (ts us : List Tree) (sg : IsSignature g) (grow : BothGrow g
       process_grows xs (cond c p q) k = (term_grows g h ts us sg grow xs bool_sort c k.0, process_grows xs p k.1, process_grows xs q k.2)
       process_grows xs (sum ys p) k = (variables_grow g h ts us sg grow ys k.0, process_grows (ys ++ xs) p k.1)
       process_grows xs (merge ps) k = processes_grow xs ps k
+      process_grows xs (left_merge p q) k = (process_grows xs p k.0, process_grows xs q k.1)
+      process_grows xs (sync ps) k = processes_grow xs ps k
       process_grows xs (around o p) k = (around_grows o k.0, process_grows xs p k.1)
 
       processes_grow : (xs : List VarId) (ps : PlainProcesses) → ProcessesFit g ts ds xs ps → ProcessesFit h us ds xs ps
@@ -88,6 +90,8 @@ module _ (g h : Sig) (ts us : List Tree) (sg : IsSignature g) (grow : BothGrow g
       process_stays xs (sum ys p) k =
           ap₂ sums_around (all_same (IsVariable g) (bound_at (entries_of g ts)) (bound_at (entries_of h us)) (variable_stays g h ts us sg.table sg.complete grow) ys k.0) (process_stays (ys ++ xs) p k.1)
       process_stays xs (merge ps) k = ap merge_of (processes_stay xs ps k)
+      process_stays xs (left_merge p q) k = ap₂ (written_starting written.left_merge) (process_stays xs p k.0) (process_stays xs q k.1)
+      process_stays xs (sync ps) k = ap sync_of (processes_stay xs ps k)
       process_stays xs (around o p) k = ap₂ written_around (around_stays o k.0) (process_stays xs p k.1)
 
       processes_stay : (xs : List VarId) (ps : PlainProcesses) → ProcessesFit g ts ds xs ps → bodies_of (entries_of h us) ps ≡ bodies_of (entries_of g ts) ps

@@ -5,7 +5,7 @@ use Rattle.std.proofs.lemmas.List.{map_more}
 use Rattle.std.proofs.lemmas.List.Elements.{All-nil, All-cons, All-append}
 use Rattle.process_terms.specs.PlainProcesses.{delta, PlainComponent, term_of}
 use Rattle.proc_unfold.specs.declared.networks.Network.{Network}
-use Rattle.proc_unfold.specs.Networks.{PlainNetwork, PlainNetworks, leaf, side_by_side, under, no_networks, more_networks, networks_of, plain_network, AllComponents, AllComponentsOfEach}
+use Rattle.proc_unfold.specs.Networks.{PlainNetwork, PlainNetworks, leaf, side_by_side, left_merge, sync, under, no_networks, more_networks, networks_of, plain_network, AllComponents, AllComponentsOfEach}
 use Rattle.lin_driver.specs.Leaves.{leaves, leaves_beside, more_leaves}
 
 -- ---- as the walk finds them
@@ -37,6 +37,8 @@ module _ (P : PlainComponent → Type 0) (none : P (term_of delta)) where
     pub all_leaves : (n : PlainNetwork) → AllComponents P n → All P (leaves n)
     all_leaves (leaf c) k = All-cons P c [] k (All-nil P)
     all_leaves (side_by_side ns) k = all_beside ns k
+    all_leaves (left_merge m n) k = All-append P (leaves m) (leaves n) (all_leaves m k.0) (all_leaves n k.1)
+    all_leaves (sync ns) k = all_beside ns k
     all_leaves (under o n) k = all_leaves n k
 
     all_beside : (ns : PlainNetworks) → AllComponentsOfEach P ns → All P (leaves_beside ns)
@@ -52,6 +54,8 @@ mutual
   pub both_hold : (P Q R : PlainComponent → Type 0) → ((c : PlainComponent) → P c → Q c → R c) → (n : PlainNetwork) → AllComponents P n → AllComponents Q n → AllComponents R n
   both_hold P Q R f (leaf c) k l = f c k l
   both_hold P Q R f (side_by_side ns) k l = both_hold_of_each P Q R f ns k l
+  both_hold P Q R f (left_merge m n) k l = (both_hold P Q R f m k.0 l.0, both_hold P Q R f n k.1 l.1)
+  both_hold P Q R f (sync ns) k l = both_hold_of_each P Q R f ns k l
   both_hold P Q R f (under o n) k l = both_hold P Q R f n k l
 
   both_hold_of_each : (P Q R : PlainComponent → Type 0) → ((c : PlainComponent) → P c → Q c → R c) → (ns : PlainNetworks) → AllComponentsOfEach P ns → AllComponentsOfEach Q ns → AllComponentsOfEach R ns

@@ -11,8 +11,8 @@ use Rattle.process_terms.specs.Theories.{Theory, Equal, IsTrue, IsFalse, AllTrue
 use Rattle.process_terms.specs.Labels.{Action, Label, names, put_label, Permuted}
 use Rattle.process_terms.specs.Communication.{Rule, Split, all_split, to_first, to_second, HaveArgumentSorts, no_more_actions, one_more_action, IsGroup, equalities, group_equalities, conjunction_of, Grouped, all_grouped, stays, joins, NoneFurther, Communicates}
 use Rattle.process_terms.specs.Processes as processes
-use Rattle.process_terms.specs.Processes.{Around, Bound, Body, written_delta, written_act, written_choice, written_seq, written_cond, written_sum, written_call, written_merge, written_around, Definition, Table, Process, delta, act, choice, seq, sum, call, merge, around, close, BodyOf, the_body}
-use Rattle.process_terms.specs.Steps.{Outcome, ended, goes_on, before, beside, within, Passes, silent_allowed, named_allowed, not_blocked, nothing_hidden, one_hidden, one_shown, nothing_renamed, one_renamed, communicated, Step, by_act, by_left, by_right, by_seq, by_true, by_false, by_sum, by_call, by_left_alone, by_right_alone, by_both, by_around}
+use Rattle.process_terms.specs.Processes.{Around, Bound, Body, written_delta, written_act, written_choice, written_seq, written_cond, written_sum, written_call, written_merge, written_starting, written_around, Definition, Table, Process, delta, act, choice, seq, sum, call, merge, starting, around, close, BodyOf, the_body}
+use Rattle.process_terms.specs.Steps.{Outcome, ended, goes_on, before, beside, within, Passes, silent_allowed, named_allowed, not_blocked, nothing_hidden, one_hidden, one_shown, nothing_renamed, one_renamed, communicated, Step, by_act, by_left, by_right, by_seq, by_true, by_false, by_sum, by_call, by_left_alone, by_right_alone, by_both, by_left_merge, by_sync, by_around}
 use Rattle.lin_driver.specs.Renumberings.{Renumbering, back, new_sort, new_symbol, new_term, new_terms, new_action, new_label, new_body, new_definition, new_table, new_process, new_outcome, TakesTheory, StepsAreRenumbered}
 use Rattle.lin_driver.proofs.NewTerms.{sort_back, sorts_back, term_back, list_back, new_apply, new_long, data_back}
 use Rattle.lin_driver.proofs.NewDerivations.{new_has_sort}
@@ -68,6 +68,7 @@ new_close r d e (written_sum x p) = λ i. sum (new_sort r x.sort) (λ t. for_a_t
     for_a_term inside t = inside (new_term (back r) t) ∙ ap (λ (u : Term). close (new_table r d) (record { var = x.var; term = u } ∷ new_environment r e) (new_body r p)) (term_back (back r) t)
 new_close r d e (written_call x ts) = ap (call (new_table r d) x) (new_put_list r e ts)
 new_close r d e (written_merge p q) = ap₂ merge (new_close r d e p) (new_close r d e q)
+new_close r d e (written_starting o p q) = ap₂ (starting o) (new_close r d e p) (new_close r d e q)
 new_close r d e (written_around o p) = ap (around o) (new_close r d e p)
 
 new_at : {A B : Type 0} (f : A → B) (xs : List A) (i : ℕ) (x : A) → slice_get xs i ≡ Some x → slice_get (map f xs) i ≡ Some (f x)
@@ -98,6 +99,7 @@ body_back r (written_cond c p q) = λ i. written_cond (term_back r c i) (body_ba
 body_back r (written_sum x p) = λ i. written_sum (record { var = x.var; sort = sort_back r x.sort i }) (body_back r p i)
 body_back r (written_call x ts) = ap (written_call x) (list_back r ts)
 body_back r (written_merge p q) = ap₂ written_merge (body_back r p) (body_back r q)
+body_back r (written_starting o p q) = ap₂ (written_starting o) (body_back r p) (body_back r q)
 body_back r (written_around o p) = ap (written_around o) (body_back r p)
 
 pub table_back : (r : Renumbering) (d : Table) → new_table (back r) (new_table r d) ≡ d
@@ -113,6 +115,7 @@ process_back r (processes.cond c p q) = λ i. processes.cond (term_back r c i) (
 process_back r (sum s f) = λ i. sum (sort_back r s i) (λ t. (process_back r (f (new_term (back r) (new_term r t))) ∙ ap f (term_back r t)) i)
 process_back r (call d x ts) = λ i. call (table_back r d i) x (list_back r ts i)
 process_back r (merge p q) = ap₂ merge (process_back r p) (process_back r q)
+process_back r (starting o p q) = ap₂ (starting o) (process_back r p) (process_back r q)
 process_back r (around o p) = ap (around o) (process_back r p)
 
 pub outcome_back : (r : Renumbering) (o : Outcome) → new_outcome (back r) (new_outcome r o) ≡ o
@@ -239,6 +242,11 @@ module _ (r : Renumbering) (th ti : Theory) (takes : TakesTheory r th ti) where
   new_step (by_both {p = p} {q = q} {m = m} {n = n} {r = o} {s = u} s k) =
       subst (λ (l : Label). Step ti (merge (new_process r p) (new_process r q)) l (new_outcome r (beside o u))) (sym (map-append (new_action r) m n))
       (subst (λ (x : Outcome). Step ti (merge (new_process r p) (new_process r q)) (new_label r m ++ new_label r n) x) (sym (new_beside r o u)) (by_both (new_step s) (new_step k)))
+  new_step (by_left_merge {p = p} {q = q} {m = m} {r = o} s) =
+      subst (λ (u : Outcome). Step ti (starting processes.left_merge (new_process r p) (new_process r q)) (new_label r m) u) (sym (new_beside r o (goes_on q))) (by_left_merge (new_step s))
+  new_step (by_sync {p = p} {q = q} {m = m} {n = n} {r = o} {s = u} s k) =
+      subst (λ (l : Label). Step ti (starting processes.sync (new_process r p) (new_process r q)) l (new_outcome r (beside o u))) (sym (map-append (new_action r) m n))
+      (subst (λ (x : Outcome). Step ti (starting processes.sync (new_process r p) (new_process r q)) (new_label r m ++ new_label r n) x) (sym (new_beside r o u)) (by_sync (new_step s) (new_step k)))
   new_step (by_around {o = w} {p = p} {m = m} {n = n} {r = o} s h) = subst (λ (u : Outcome). Step ti (around w (new_process r p)) (new_label r n) u) (sym (new_within r w o)) (by_around (new_step s) (new_passes h))
 
 pub steps_are_renumbered : StepsAreRenumbered

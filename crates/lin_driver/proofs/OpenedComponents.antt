@@ -5,15 +5,15 @@ use Rattle.std.specs.List.{AllByRecursion}
 use Rattle.data_theory.specs.declared.ids.VarId.{VarId}
 use Rattle.data_theory.specs.declared.ids.TermId.{TermId}
 use Rattle.data_theory.specs.IdTrees.{Tree}
-use Rattle.process_terms.specs.Processes.{Body, written_delta, written_act, written_choice, written_seq, written_cond, written_sum, written_call, written_merge, written_around, sums_around}
+use Rattle.process_terms.specs.Processes.{Body, written_delta, written_act, written_choice, written_seq, written_cond, written_sum, written_call, written_merge, written_starting, written_around, sums_around}
 use Rattle.process_terms.specs.PlainProcesses.{PlainProcess, PlainProcesses, PlainDefinition, PlainComponent}
 use Rattle.process_terms.specs.Meanings.{Entries, bound_at, body_of, bodies_of, component_body}
 use Rattle.bisim_laws.proofs.Firing.{contains_first, contains_later, contains_cases, contains_none}
 use Rattle.proc_unfold.specs.Networks.{PlainNetwork, PlainNetworks, AllComponents, AllComponentsOfEach}
-use Rattle.proc_unfold.specs.PutTerms.{IsPutIn, put_delta, put_act, put_call, put_choice, put_seq, put_cond, put_sum, put_merge, put_around, ArePutIn, none_put, more_put}
-use Rattle.proc_unfold.specs.Opening.{Opens, AllOpen, term_kept, call_kept, call_opened, beside, one_choice, one_step, no_sum, within, none_open, more_open}
+use Rattle.proc_unfold.specs.PutTerms.{IsPutIn, put_delta, put_act, put_call, put_choice, put_seq, put_cond, put_sum, put_merge, put_left, put_sync, put_around, ArePutIn, none_put, more_put}
+use Rattle.proc_unfold.specs.Opening.{Opens, AllOpen, term_kept, call_kept, call_opened, beside, one_choice, one_step, left_merged, synced, no_sum, within, none_open, more_open}
 use Rattle.greibach.specs.Scopes.{BindsAnew}
-use Rattle.lin_driver.proofs.BodyLists.{chain_holds, chain_parts, merge_holds, merge_parts}
+use Rattle.lin_driver.proofs.BodyLists.{chain_holds, chain_parts, merge_holds, merge_parts, sync_holds, sync_parts}
 
 -- ---- bound variables
 pub binds_fewer : (ys xs : List ℕ) → ((v : ℕ) → Contains ys v → Contains xs v) → (b : Body) → BindsAnew xs b → BindsAnew ys b
@@ -28,6 +28,7 @@ binds_fewer ys xs w (written_sum x p) h = (
 )
 binds_fewer ys xs w (written_call x ts) h = tt
 binds_fewer ys xs w (written_merge p q) h = (binds_fewer ys xs w p h.0, binds_fewer ys xs w q h.1)
+binds_fewer ys xs w (written_starting o p q) h = (binds_fewer ys xs w p h.0, binds_fewer ys xs w q h.1)
 binds_fewer ys xs w (written_around o p) h = binds_fewer ys xs w p h
 
 no_scope : (xs : List ℕ) (b : Body) → BindsAnew xs b → BindsAnew [] b
@@ -48,6 +49,8 @@ module _ (e : Entries) (ts : List Tree) where
     put_binds (put_cond k l r) xs h = (put_binds l xs h.0, put_binds r xs h.1)
     put_binds (put_sum {xs = zs} {p = p} {q = q} k) xs h = sums_put zs (body_of e p) (body_of e q) (λ ys j. put_binds k ys j) xs h
     put_binds (put_merge {ps = ps} {qs = qs} k) xs h = merge_holds (BindsAnew xs) tt (λ p q i j. (i, j)) (bodies_of e qs) (each_put_binds k xs (merge_parts (BindsAnew xs) (λ p q i. i) (bodies_of e ps) h))
+    put_binds (put_left k l) xs h = (put_binds k xs h.0, put_binds l xs h.1)
+    put_binds (put_sync {ps = ps} {qs = qs} k) xs h = sync_holds (BindsAnew xs) tt (λ p q i j. (i, j)) (bodies_of e qs) (each_put_binds k xs (sync_parts (BindsAnew xs) (λ p q i. i) (bodies_of e ps) h))
     put_binds (put_around k) xs h = put_binds k xs h
 
     each_put_binds : {by : List (VarId × TermId)} {ps qs : PlainProcesses} → ArePutIn ts by ps qs → (xs : List ℕ) → AllByRecursion (BindsAnew xs) (bodies_of e ps) → AllByRecursion (BindsAnew xs) (bodies_of e qs)
@@ -67,6 +70,8 @@ module _ (e : Entries) (ds : List PlainDefinition) (own : (x : ℕ) (f : PlainDe
     opened_binds (beside {ps = ps} o) xs h = all_opened_bind o xs (merge_parts (BindsAnew xs) (λ p q i. i) (bodies_of e ps) h)
     opened_binds (one_choice {ps = ps} one o) xs h = all_opened_bind o xs (chain_parts (BindsAnew xs) written_choice (λ p q i. i) (bodies_of e ps) h)
     opened_binds (one_step {ps = ps} one o) xs h = all_opened_bind o xs (chain_parts (BindsAnew xs) written_seq (λ p q i. i) (bodies_of e ps) h)
+    opened_binds (left_merged o k) xs h = (opened_binds o xs h.0, opened_binds k xs h.1)
+    opened_binds (synced {ps = ps} o) xs h = all_opened_bind o xs (sync_parts (BindsAnew xs) (λ p q i. i) (bodies_of e ps) h)
     opened_binds (no_sum o) xs h = opened_binds o xs h
     opened_binds (within o) xs h = opened_binds o xs h
 

@@ -37,13 +37,13 @@ use Rattle.lps_core.proofs.SortedTerms.{HaveTerms, one_sort, closed_instance, so
 use Rattle.lps_core.proofs.Staying.{terms_sorted, sorts_of_variables, variables_declared}
 use Rattle.proc_unfold.specs.FittingModels.{TermsFit, ProcessFits, ProcessesFit, DefinitionFits}
 use Rattle.proc_unfold.specs.Networks.{PlainNetwork, PlainNetworks, AllComponents, AllComponentsOfEach}
-use Rattle.proc_unfold.specs.Opening.{Opens, term_kept, call_kept, call_opened, beside, one_choice, one_step, no_sum, within, AllOpen, none_open, more_open}
-use Rattle.proc_unfold.specs.PutTerms.{is_among, without, ArePut, IsPutIn, put_delta, put_act, put_call, put_choice, put_seq, put_cond, put_sum, put_merge, put_around, ArePutIn, none_put, more_put}
+use Rattle.proc_unfold.specs.Opening.{Opens, term_kept, call_kept, call_opened, beside, one_choice, one_step, left_merged, synced, no_sum, within, AllOpen, none_open, more_open}
+use Rattle.proc_unfold.specs.PutTerms.{is_among, without, ArePut, IsPutIn, put_delta, put_act, put_call, put_choice, put_seq, put_cond, put_sum, put_merge, put_left, put_sync, put_around, ArePutIn, none_put, more_put}
 use Rattle.proc_unfold.proofs.PutBodies.{env_of, listed_without, listed_means, term_means, terms_mean}
 use Rattle.stack_encoder.proofs.WiderOrigins.{AreInstancesOf, some_are_instances}
 use Rattle.regular_encoder.proofs.FirstTerms.{some_is}
 use Rattle.lin_driver.specs.PlainlyMade.{IsCommWritten, AreCommsWritten, AreCommsWrittenBeside}
-use Rattle.lin_driver.proofs.BodyLists.{chain_holds, chain_parts, merge_holds, merge_parts}
+use Rattle.lin_driver.proofs.BodyLists.{chain_holds, chain_parts, merge_holds, merge_parts, sync_holds, sync_parts}
 use Rattle.lin_driver.proofs.ComposedInstances.{HasClosedTerms, closed_lists_fit, instances_compose}
 
 -- ---- all of the first is in the second
@@ -264,6 +264,12 @@ module _ (b : Sig) (stands : IsSignature b) (ts : List Tree) (o : Origin) (decla
     kept_instances (put_merge {ps = ps} {qs = qs} a) inside k h =
         merge_holds HasInstances (no_part o) (λ p q i j. both_parts o (written_in p) (written_in q) i j) (bodies_of e qs)
         (all_kept_instances a inside k (merge_parts IsWrittenHere (λ p q i. both_some (written_in p) (written_in q) o.written i) (bodies_of e ps) h))
+    kept_instances (put_left {p = p} {q = q} {r = r} {s = s} a l) inside k h =
+        let both = both_some (written_in (body_of e p)) (written_in (body_of e q)) o.written h in
+        both_parts o (written_in (body_of e r)) (written_in (body_of e s)) (kept_instances a inside k both.0) (kept_instances l inside k both.1)
+    kept_instances (put_sync {ps = ps} {qs = qs} a) inside k h =
+        sync_holds HasInstances (no_part o) (λ p q i j. both_parts o (written_in p) (written_in q) i j) (bodies_of e qs)
+        (all_kept_instances a inside k (sync_parts IsWrittenHere (λ p q i. both_some (written_in p) (written_in q) o.written i) (bodies_of e ps) h))
     kept_instances (put_around {o = a} {p = p} {q = q} l) inside k h =
         let one : Written = record { sums = []; conditions = []; action_arguments = []; call_arguments = []; communicates = is_comm (around_of e a) } in
         let r = both_some one (written_in (body_of e p)) o.written h in
@@ -348,6 +354,10 @@ module _ (b : Sig) (stands : IsSignature b) (ts : List Tree) (o : Origin) (decla
       opened_instances (beside {ps = ps} l) xs scope inside k f h = all_opened_instances l xs scope inside k f (merge_parts IsWrittenHere (λ p q i. both_some (written_in p) (written_in q) o.written i) (bodies_of e ps) h)
       opened_instances (one_choice {ps = ps} one l) xs scope inside k f h = all_opened_instances l xs scope inside k f (chain_parts IsWrittenHere written_choice (λ p q i. both_some (written_in p) (written_in q) o.written i) (bodies_of e ps) h)
       opened_instances (one_step {ps = ps} one l) xs scope inside k f h = all_opened_instances l xs scope inside k f (chain_parts IsWrittenHere written_seq (λ p q i. both_some (written_in p) (written_in q) o.written i) (bodies_of e ps) h)
+      opened_instances (left_merged {p = p} {q = q} l a) xs scope inside k f h =
+          let both = both_some (written_in (body_of e p)) (written_in (body_of e q)) o.written h in
+          (opened_instances l xs scope inside k f.0 both.0, opened_instances a xs scope inside k f.1 both.1)
+      opened_instances (synced {ps = ps} l) xs scope inside k f h = all_opened_instances l xs scope inside k f (sync_parts IsWrittenHere (λ p q i. both_some (written_in p) (written_in q) o.written i) (bodies_of e ps) h)
       opened_instances (no_sum l) xs scope inside k f h = opened_instances l xs scope inside k f.1 h
       opened_instances (within {o = a} {p = p} l) xs scope in_pool k f h =
           opened_instances l xs scope in_pool k f.1 (both_some (record { sums = []; conditions = []; action_arguments = []; call_arguments = []; communicates = is_comm (around_of e a) }) (written_in (body_of e p)) o.written h).1
@@ -373,6 +383,8 @@ module _ (b : Sig) (stands : IsSignature b) (ts : List Tree) (o : Origin) (decla
       opened_comms (beside {ps = ps} l) h = all_opened_comms l (merge_parts IsWrittenHere (λ p q i. both_some (written_in p) (written_in q) o.written i) (bodies_of e ps) h)
       opened_comms (one_choice {ps = ps} one l) h = all_opened_comms l (chain_parts IsWrittenHere written_choice (λ p q i. both_some (written_in p) (written_in q) o.written i) (bodies_of e ps) h)
       opened_comms (one_step {ps = ps} one l) h = all_opened_comms l (chain_parts IsWrittenHere written_seq (λ p q i. both_some (written_in p) (written_in q) o.written i) (bodies_of e ps) h)
+      opened_comms (left_merged {p = p} {q = q} l a) h = let both = both_some (written_in (body_of e p)) (written_in (body_of e q)) o.written h in (opened_comms l both.0, opened_comms a both.1)
+      opened_comms (synced {ps = ps} l) h = all_opened_comms l (sync_parts IsWrittenHere (λ p q i. both_some (written_in p) (written_in q) o.written i) (bodies_of e ps) h)
       opened_comms (no_sum l) h = opened_comms l h
       opened_comms (within {o = a} {p = p} l) h =
           let r = both_some (record { sums = []; conditions = []; action_arguments = []; call_arguments = []; communicates = is_comm (around_of e a) }) (written_in (body_of e p)) o.written h in

@@ -25,7 +25,7 @@ use Rattle.proc_unfold.specs.declared.networks.NetOp.{NetOp}
 use Rattle.proc_unfold.specs.declared.networks.Network.{Network}
 use Rattle.proc_unfold.specs.declared.networks.Network.TheVariants as nets
 use Rattle.proc_unfold.specs.Networks.{PlainNetwork, networks_of, plain_network, plain_operator}
-use Rattle.proc_unfold.proofs.ProcessSteps.{side_step, under_step}
+use Rattle.proc_unfold.proofs.ProcessSteps.{side_step, synced_step, under_step}
 use Rattle.greibach.proofs.GrownFits.{both_by_names, pool_alone}
 use Rattle.lin_driver.specs.PlainlyMade.{IsPlainFor, IsCommWritten, AreCommsWritten, AreCommsWrittenBeside, StaysPlainAround, ComposesPlainly}
 use Rattle.lin_driver.proofs.ComposedNetworks.{beside_all}
@@ -68,6 +68,12 @@ pub beside_plainly : (g h : Sig) (p q : PoolContents) (n : Network) (ns : Vec Ne
     → ComposesPlainly g p (plain_network n) queue h q left l
 beside_plainly g h p q n ns items queue left l is e f s w since comms all =
     f s w since (subst (λ zs. AreCommsWritten w (beside_all zs)) (sym e) (subst (AreCommsWritten w) (ap plain_network is ∙ side_step ns) comms)) all
+
+-- a `|` of at most one is a `||`
+pub synced_plainly : (g h : Sig) (p q : PoolContents) (n : Network) (ns : Vec Network Global) (items : List Network) (queue left : List PlainLinear) (l : PlainLinear) → n ≡ nets.Sync ns → items ≡ ns.items → ComposesPlainly g p (beside_all items) queue h q left l
+    → ComposesPlainly g p (plain_network n) queue h q left l
+synced_plainly g h p q n ns items queue left l is e f s w since comms all =
+    f s w since (subst (λ zs. AreCommsWritten w (beside_all zs)) (sym e) (subst (AreCommsWritten w) (ap plain_network is ∙ synced_step ns) comms)) all
 
 comms_at : (w : Written) (xs : List Network) (i : ℕ) (x : Network) → i < length xs → x ≡ get_or xs i x → AreCommsWrittenBeside w (networks_of (map plain_network xs)) → AreCommsWritten w (plain_network x)
 comms_at w [] i x l is h = absurd (omega (arith, l))

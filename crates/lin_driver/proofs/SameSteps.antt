@@ -6,11 +6,11 @@ use Rattle.data_theory.specs.Terms.{Term}
 use Rattle.data_theory.specs.Environments.{Environment, bound}
 use Rattle.process_terms.specs.Theories.{Theory}
 use Rattle.process_terms.specs.Labels.{Label}
-use Rattle.process_terms.specs.Processes.{Body, written_delta, written_act, written_choice, written_seq, written_cond, written_sum, written_call, written_merge, written_around, Definition, Table, Process, close, BodyOf, the_body}
-use Rattle.process_terms.specs.Steps.{Outcome, ended, goes_on, before, beside, within, Step, by_act, by_left, by_right, by_seq, by_true, by_false, by_sum, by_call, by_left_alone, by_right_alone, by_both, by_around}
+use Rattle.process_terms.specs.Processes.{Body, written_delta, written_act, written_choice, written_seq, written_cond, written_sum, written_call, written_merge, written_starting, written_around, Definition, Table, Process, close, BodyOf, the_body}
+use Rattle.process_terms.specs.Steps.{Outcome, ended, goes_on, before, beside, within, Step, by_act, by_left, by_right, by_seq, by_true, by_false, by_sum, by_call, by_left_alone, by_right_alone, by_both, by_left_merge, by_sync, by_around}
 use Rattle.bisim_laws.specs.Bisimulations.{Lands, both_end, both_go_on}
 use Rattle.bisim_laws.proofs.AlikeProcesses.{lands_before, lands_beside, lands_within}
-use Rattle.lin_driver.specs.SameProcesses.{SameDefinition, SameDefinitions, SameProcess, same_delta, same_act, same_choice, same_seq, same_cond, same_sum, same_call, same_merge, same_around}
+use Rattle.lin_driver.specs.SameProcesses.{SameDefinition, SameDefinitions, SameProcess, same_delta, same_act, same_choice, same_seq, same_cond, same_sum, same_call, same_merge, same_starting, same_around}
 
 pub closed_same : (d e : Table) → SameDefinitions d e → (k : Environment) (b : Body) → SameProcess (close d k b) (close e k b)
 closed_same d e h k written_delta = same_delta
@@ -21,6 +21,7 @@ closed_same d e h k (written_cond c p q) = same_cond (closed_same d e h k p) (cl
 closed_same d e h k (written_sum x p) = same_sum (λ t. closed_same d e h (record { var = x.var; term = t } ∷ k) p)
 closed_same d e h k (written_call x ts) = same_call h
 closed_same d e h k (written_merge p q) = same_merge (closed_same d e h k p) (closed_same d e h k q)
+closed_same d e h k (written_starting o p q) = same_starting (closed_same d e h k p) (closed_same d e h k q)
 closed_same d e h k (written_around o p) = same_around (closed_same d e h k p)
 
 -- ---- the other way round
@@ -42,6 +43,7 @@ process_turned (same_cond h k) = same_cond (process_turned h) (process_turned k)
 process_turned (same_sum h) = same_sum (λ t. process_turned (h t))
 process_turned (same_call {d = d} {e = e} h) = same_call (definitions_turned d e h)
 process_turned (same_merge h k) = same_merge (process_turned h) (process_turned k)
+process_turned (same_starting h k) = same_starting (process_turned h) (process_turned k)
 process_turned (same_around h) = same_around (process_turned h)
 
 pub lands_turned : {o u : Outcome} → Lands SameProcess o u → Lands SameProcess u o
@@ -73,4 +75,6 @@ same_step th (same_call h) (by_call b s) = let c = same_body h b in let r = same
 same_step th (same_merge {q' = q'} h k) (by_left_alone s) = let r = same_step th h s in (beside r.0 (goes_on q'), by_left_alone r.1, lands_beside (λ a b c d i j. same_merge i j) r.2 (both_go_on k))
 same_step th (same_merge {p' = p'} h k) (by_right_alone s) = let r = same_step th k s in (beside (goes_on p') r.0, by_right_alone r.1, lands_beside (λ a b c d i j. same_merge i j) (both_go_on h) r.2)
 same_step th (same_merge h k) (by_both s t) = let r = same_step th h s in let z = same_step th k t in (beside r.0 z.0, by_both r.1 z.1, lands_beside (λ a b c d i j. same_merge i j) r.2 z.2)
+same_step th (same_starting {q' = q'} h k) (by_left_merge s) = let r = same_step th h s in (beside r.0 (goes_on q'), by_left_merge r.1, lands_beside (λ a b c d i j. same_merge i j) r.2 (both_go_on k))
+same_step th (same_starting h k) (by_sync s t) = let r = same_step th h s in let z = same_step th k t in (beside r.0 z.0, by_sync r.1 z.1, lands_beside (λ a b c d i j. same_merge i j) r.2 z.2)
 same_step th (same_around {o = w} h) (by_around s i) = let r = same_step th h s in (within w r.0, by_around r.1 i, lands_within w (λ x y j. same_around j) r.2)

@@ -10,10 +10,10 @@ use Rattle.process_terms.specs.Meanings.{Entries, component_body, table_of, proc
 use Rattle.process_terms.specs.PlainProcesses.{PlainProcess, call, PlainDefinition, PlainModel, PlainComponent, call_of, term_of}
 use Rattle.process_terms.specs.Processes.{close}
 use Rattle.bisim_laws.specs.Links.{Same, Pairs}
-use Rattle.proc_unfold.specs.Networks.{PlainNetwork, leaf, side_by_side, under, network_body}
-use Rattle.proc_unfold.specs.Opening.{Opens, term_kept, call_kept, call_opened, beside, one_choice, one_step, no_sum, within}
+use Rattle.proc_unfold.specs.Networks.{PlainNetwork, leaf, side_by_side, left_merge, sync, under, network_body}
+use Rattle.proc_unfold.specs.Opening.{Opens, term_kept, call_kept, call_opened, beside, one_choice, one_step, left_merged, synced, no_sum, within}
 use Rattle.proc_unfold.specs.ParallelTests.{is_sequential}
-use Rattle.proc_unfold.specs.PutTerms.{ArePut, IsPutIn, put_delta, put_act, put_call, put_choice, put_seq, put_cond, put_sum, put_merge, put_around}
+use Rattle.proc_unfold.specs.PutTerms.{ArePut, IsPutIn, put_delta, put_act, put_call, put_choice, put_seq, put_cond, put_sum, put_merge, put_left, put_sync, put_around}
 use Rattle.proc_unfold.specs.Unfolded.{IsOpened, IsSameNetwork, IsComponentOf, HasItsComponents}
 use Rattle.process_terms.specs.SignatureEntries.{entries_of}
 use Rattle.lin_driver.specs.SettledNetworks.{settled_component, settled, KeepsTheCall}
@@ -33,6 +33,8 @@ module _ (ds : List PlainDefinition) (marks : List Bool) (ts : List Tree) where
   term_settles s (put_cond c k l) = term_kept s (put_cond c k l)
   term_settles s (put_sum k) = term_kept s (put_sum k)
   term_settles s (put_merge k) = term_kept s (put_merge k)
+  term_settles s (put_left k l) = term_kept s (put_left k l)
+  term_settles s (put_sync k) = term_kept s (put_sync k)
   term_settles s (put_around k) = term_kept s (put_around k)
 
   opens_settled : {by : List (VarId × TermId)} {p : PlainProcess} {n : PlainNetwork} → Opens ds marks ts by p n → Opens ds marks ts by p (settled n)
@@ -42,6 +44,8 @@ module _ (ds : List PlainDefinition) (marks : List Bool) (ts : List Tree) where
   opens_settled (beside o) = beside o
   opens_settled (one_choice one o) = one_choice one o
   opens_settled (one_step one o) = one_step one o
+  opens_settled (left_merged o k) = left_merged o k
+  opens_settled (synced o) = synced o
   opens_settled (no_sum o) = no_sum (opens_settled o)
   opens_settled (within o) = within o
 
@@ -55,6 +59,8 @@ settled_body e c = refl
 settled_means : (e : Entries) (n : PlainNetwork) → network_body e (settled n) ≡ network_body e n
 settled_means e (leaf c) = settled_body e c
 settled_means e (side_by_side ns) = refl
+settled_means e (left_merge m n) = refl
+settled_means e (sync ns) = refl
 settled_means e (under o n) = refl
 
 pub settled_is_same : (g : Sig) (ts : List Tree) (m : PlainModel) (n : PlainNetwork) → IsSameNetwork g ts m n → IsSameNetwork g ts m (settled n)
@@ -67,6 +73,8 @@ component_settles g ts m c h = h
 pub settled_has_its_components : (g : Sig) (ts : List Tree) (m : PlainModel) (n : PlainNetwork) → HasItsComponents g ts m n → HasItsComponents g ts m (settled n)
 settled_has_its_components g ts m (leaf c) h = component_settles g ts m c h
 settled_has_its_components g ts m (side_by_side ns) h = h
+settled_has_its_components g ts m (left_merge p n) h = h
+settled_has_its_components g ts m (sync ns) h = h
 settled_has_its_components g ts m (under o n) h = h
 
 -- ---- a call that isn't opened
@@ -88,6 +96,8 @@ module _ (ts : List Tree) (x : ProcId) (us : List TermId) where
   call_put (put_cond c k l) e = cc
   call_put (put_sum k) e = cc
   call_put (put_merge k) e = cc
+  call_put (put_left k l) e = cc
+  call_put (put_sync k) e = cc
   call_put (put_around k) e = cc
 
   call_opens : {ds : List PlainDefinition} {marks : List Bool} {by : List (VarId × TermId)} {p : PlainProcess} {n : PlainNetwork} → Opens ds marks ts by p n → p ≡ call x us → (IsMarked marks x.0 → ⊥) → IsPutCall ts by x us (settled n)
@@ -102,6 +112,8 @@ module _ (ts : List Tree) (x : ProcId) (us : List TermId) where
   call_opens (beside o) e none = cc
   call_opens (one_choice one o) e none = cc
   call_opens (one_step one o) e none = cc
+  call_opens (left_merged o k) e none = cc
+  call_opens (synced o) e none = cc
   call_opens (no_sum o) e none = cc
   call_opens (within o) e none = cc
 

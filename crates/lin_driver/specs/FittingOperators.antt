@@ -1,11 +1,13 @@
--- What an operator around a process asks of the actions, so that it can be put around a linear process.
+-- What an operator around a process asks of the actions, so that it can be put around a linear process. No left merge and no synchronisation of two
+-- can be made linear.
 use Rattle.std.specs.Prelude.{List}
 use Rattle.std.specs.List.{All}
 use Rattle.data_theory.specs.declared.ids.NameId.{NameId}
 use Rattle.data_theory.specs.Signature.{Sig}
-use Rattle.process_terms.specs.PlainProcesses.{PlainRule, PlainAround, allow, block, hide, rename, comm, PlainProcess, PlainProcesses, delta, act, call, choice, seq, cond, sum, merge, around, no_processes, more_processes, PlainDefinition, PlainModel}
+use Rattle.process_terms.specs.PlainProcesses.{PlainRule, PlainAround, allow, block, hide, rename, comm, PlainProcess, PlainProcesses, delta, act, call, choice, seq, cond, sum, merge, left_merge, sync, around, no_processes, more_processes, PlainDefinition, PlainModel}
 use Rattle.action_filters.specs.Filters.{IsNameIn, RenamesOnce, HaveTargets}
 use Rattle.communication.specs.PlaceConditions.{RuleNamesIn, HaveResults}
+use Rattle.proc_unfold.specs.Networks as networks
 use Rattle.proc_unfold.specs.Networks.{PlainNetwork, PlainNetworks, leaf, side_by_side, under, no_networks, more_networks}
 
 -- no name is renamed twice, and the new name has the sorts of the old one
@@ -26,7 +28,7 @@ OperatorFits g (hide ns) = All (IsNameIn g) ns
 OperatorFits g (rename rs) = RenamingFits g rs
 OperatorFits g (comm cs) = RulesFit g cs
 
--- each operator of a process term does
+-- each operator of a process term does, and none is `||_` or a `|` of two
 abbrev mutual
   pub HasFittingOperators : Sig → PlainProcess → Type 0
   HasFittingOperators g delta = Unit {0}
@@ -37,6 +39,10 @@ abbrev mutual
   HasFittingOperators g (cond c p q) = HasFittingOperators g p × HasFittingOperators g q
   HasFittingOperators g (sum xs p) = HasFittingOperators g p
   HasFittingOperators g (merge ps) = HaveFittingOperators g ps
+  HasFittingOperators g (left_merge p q) = ⊥
+  HasFittingOperators g (sync no_processes) = Unit {0}
+  HasFittingOperators g (sync (more_processes p no_processes)) = HasFittingOperators g p
+  HasFittingOperators g (sync (more_processes p (more_processes q ps))) = ⊥
   HasFittingOperators g (around o p) = OperatorFits g o × HasFittingOperators g p
 
   pub HaveFittingOperators : Sig → PlainProcesses → Type 0
@@ -53,6 +59,10 @@ abbrev mutual
   pub NetworkFits : Sig → PlainNetwork → Type 0
   NetworkFits g (leaf c) = Unit {0}
   NetworkFits g (side_by_side ns) = NetworksFit g ns
+  NetworkFits g (networks.left_merge m n) = ⊥
+  NetworkFits g (networks.sync no_networks) = Unit {0}
+  NetworkFits g (networks.sync (more_networks n no_networks)) = NetworkFits g n
+  NetworkFits g (networks.sync (more_networks m (more_networks n ns))) = ⊥
   NetworkFits g (under o n) = OperatorFits g o × NetworkFits g n
 
   pub NetworksFit : Sig → PlainNetworks → Type 0

@@ -2,16 +2,18 @@
 use Rattle.std.specs.Prelude.{◌≡◌, ◌++◌, ◌∷◌, ℕ, List, [], length}
 use Rattle.data_theory.specs.IdTrees.{Tree}
 use Rattle.process_terms.specs.PlainProcesses.{delta, PlainComponent, term_of, PlainModel}
-use Rattle.proc_unfold.specs.Networks.{PlainNetwork, PlainNetworks, leaf, side_by_side, under, no_networks, more_networks}
+use Rattle.proc_unfold.specs.Networks.{PlainNetwork, PlainNetworks, leaf, side_by_side, left_merge, sync, under, no_networks, more_networks}
 use Rattle.proc_unfold.specs.Unfolded.{IsOpened}
 
 abbrev mutual
   pub leaves : PlainNetwork → List PlainComponent
   leaves (leaf c) = c ∷ []
   leaves (side_by_side ns) = leaves_beside ns
+  leaves (left_merge m n) = leaves m ++ leaves n
+  leaves (sync ns) = leaves_beside ns
   leaves (under o n) = leaves n
 
-  -- a `||` of none does nothing, which is one leaf
+  -- a `||` or `|` of none does nothing, which is one leaf
   pub leaves_beside : PlainNetworks → List PlainComponent
   leaves_beside no_networks = term_of delta ∷ []
   leaves_beside (more_networks n ns) = leaves n ++ more_leaves ns

@@ -15,7 +15,7 @@ use Rattle.process_terms.specs.SignatureEntries.{entries_of}
 use Rattle.lps_core.specs.Fitting.{Fits}
 use Rattle.lps_core.specs.MadeTerms.{Written, written_by, StackSort, IsPlain}
 use Rattle.lps_core.specs.PlainLinears.{PlainLinear}
-use Rattle.proc_unfold.specs.Networks.{PlainNetwork, PlainNetworks, leaf, side_by_side, under, no_networks, more_networks}
+use Rattle.proc_unfold.specs.Networks.{PlainNetwork, PlainNetworks, leaf, side_by_side, left_merge, sync, under, no_networks, more_networks}
 use Rattle.greibach.specs.PlainComponents.{written_from}
 use Rattle.greibach.specs.PlainForms.{PlainForm}
 use Rattle.greibach.specs.PlainTerms.{FormIsPlain}
@@ -67,6 +67,8 @@ abbrev mutual
   pub AreCommsWritten : Written → PlainNetwork → Type 0
   AreCommsWritten w (leaf c) = Unit {0}
   AreCommsWritten w (side_by_side ns) = AreCommsWrittenBeside w ns
+  AreCommsWritten w (left_merge m n) = AreCommsWritten w m × AreCommsWritten w n
+  AreCommsWritten w (sync ns) = AreCommsWrittenBeside w ns
   AreCommsWritten w (under a n) = IsCommWritten w a × AreCommsWritten w n
 
   pub AreCommsWrittenBeside : Written → PlainNetworks → Type 0

@@ -11,7 +11,7 @@ use Rattle.sort_checker.specs.FullVocabularies.{Parameters, FullVocabulary}
 use Rattle.process_terms.specs.Theories.{Theory, Equal}
 use Rattle.process_terms.specs.Labels.{Action, Label}
 use Rattle.process_terms.specs.Processes as processes
-use Rattle.process_terms.specs.Processes.{Body, written_delta, written_act, written_choice, written_seq, written_cond, written_sum, written_call, written_merge, written_around, Definition, Table, Process, delta, act, choice, seq, sum, call, merge, around}
+use Rattle.process_terms.specs.Processes.{Body, written_delta, written_act, written_choice, written_seq, written_cond, written_sum, written_call, written_merge, written_starting, written_around, Definition, Table, Process, delta, act, choice, seq, sum, call, merge, starting, around}
 use Rattle.process_terms.specs.Steps.{Outcome, ended, goes_on, Step}
 
 -- New numbers for sorts and for functions, each with the way back to the old ones.
@@ -130,6 +130,7 @@ new_body r (written_cond c p q) = written_cond (new_term r c) (new_body r p) (ne
 new_body r (written_sum x p) = written_sum (new_bound r x) (new_body r p)
 new_body r (written_call x ts) = written_call x (map (new_term r) ts)
 new_body r (written_merge p q) = written_merge (new_body r p) (new_body r q)
+new_body r (written_starting o p q) = written_starting o (new_body r p) (new_body r q)
 new_body r (written_around o p) = written_around o (new_body r p)
 
 abbrev pub new_definition : Renumbering → Definition → Definition
@@ -148,6 +149,7 @@ new_process r (processes.cond c p q) = processes.cond (new_term r c) (new_proces
 new_process r (sum s f) = sum (new_sort r s) (λ t. new_process r (f (new_term (back r) t)))
 new_process r (call d x ts) = call (new_table r d) x (map (new_term r) ts)
 new_process r (merge p q) = merge (new_process r p) (new_process r q)
+new_process r (starting o p q) = starting o (new_process r p) (new_process r q)
 new_process r (around o p) = around o (new_process r p)
 
 abbrev pub new_outcome : Renumbering → Outcome → Outcome

@@ -3,7 +3,7 @@ use Rattle.std.specs.Prelude.{◌≡◌, ℕ, List, length}
 use Rattle.data_theory.specs.Terms.{Sort, Term}
 use Rattle.data_theory.specs.Environments.{bound}
 use Rattle.process_terms.specs.Labels.{Label}
-use Rattle.process_terms.specs.Processes.{Around, Definition, Table, Process, delta, act, choice, seq, cond, sum, call, merge, around, close}
+use Rattle.process_terms.specs.Processes.{Around, Start, Definition, Table, Process, delta, act, choice, seq, cond, sum, call, merge, starting, around, close}
 use Rattle.sort_table.specs.Vocabularies.{EachPair}
 
 -- as many parameters, and the same process for the same arguments, under whatever table
@@ -24,4 +24,5 @@ pub data SameProcess : Process → Process → Type 0 where
   same_sum : {s : Sort} {f g : Term → Process} → ((t : Term) → SameProcess (f t) (g t)) → SameProcess (sum s f) (sum s g)
   same_call : {d e : Table} {x : ℕ} {ts : List Term} → SameDefinitions d e → SameProcess (call d x ts) (call e x ts)
   same_merge : {p p' q q' : Process} → SameProcess p p' → SameProcess q q' → SameProcess (merge p q) (merge p' q')
+  same_starting : {o : Start} {p p' q q' : Process} → SameProcess p p' → SameProcess q q' → SameProcess (starting o p q) (starting o p' q')
   same_around : {o : Around} {p p' : Process} → SameProcess p p' → SameProcess (around o p) (around o p')

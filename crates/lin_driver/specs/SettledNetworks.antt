@@ -5,7 +5,7 @@ use Rattle.data_theory.specs.declared.ids.TermId.{TermId}
 use Rattle.data_theory.specs.IdTrees.{Tree}
 use Rattle.process_terms.specs.Meanings.{Entries, table_of}
 use Rattle.process_terms.specs.PlainProcesses.{call, PlainModel, PlainComponent, call_of, term_of}
-use Rattle.proc_unfold.specs.Networks.{PlainNetwork, leaf, side_by_side, under}
+use Rattle.proc_unfold.specs.Networks.{PlainNetwork, leaf, side_by_side, left_merge, sync, under}
 use Rattle.proc_unfold.specs.Parallel.{IsParallelName}
 use Rattle.proc_unfold.specs.PutTerms.{ArePut}
 
@@ -18,6 +18,8 @@ settled_component c = c
 abbrev pub settled : PlainNetwork → PlainNetwork
 settled (leaf c) = leaf (settled_component c)
 settled (side_by_side ns) = side_by_side ns
+settled (left_merge m n) = left_merge m n
+settled (sync ns) = sync ns
 settled (under o n) = under o n
 
 -- the network is the call of this process with these arguments, in which nothing was put in for variables

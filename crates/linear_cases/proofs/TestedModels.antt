@@ -14,7 +14,7 @@ use Rattle.data_theory.specs.Environments.{terms_of, IsOver, AreOver, Apart, Are
 use Rattle.data_theory.proofs.EnvironmentLemmas.{contains_first, contains_later, contains_cases}
 use Rattle.data_theory.specs.Signature.{Sig}
 use Rattle.data_theory.specs.IdTrees.{Tree}
-use Rattle.process_terms.specs.PlainProcesses.{PlainAction, PlainProcess, PlainProcesses, processes_of, delta, act, call, choice, seq, cond, sum, merge, around, no_processes, more_processes, PlainDefinition, PlainModel}
+use Rattle.process_terms.specs.PlainProcesses.{PlainAction, PlainProcess, PlainProcesses, processes_of, delta, act, call, choice, seq, cond, sum, merge, left_merge, sync, around, no_processes, more_processes, PlainDefinition, PlainModel}
 use Rattle.process_terms.specs.Processes.{Body, Definition, sums_around, choice_of, seq_of}
 use Rattle.process_terms.specs.Meanings.{Entries, ReadsOnly, bound_at, term_at, body_of, bodies_of, definition_of, table_of, component_body}
 use Rattle.process_terms.specs.SignatureEntries.{entries_of}
@@ -109,6 +109,8 @@ module _ (g : Sig) (ts : List Tree) (k : PlainKnown) (known : IsKnown g ts k) wh
           let own = both (list_all (is_known_variable k) ys) (differ (numbers_of ys) && are_apart ys scope) b.0 in
           (variables_known g ts k known ys own.0, process_fits (ys ++ scope) p b.1)
       process_fits scope (merge ps) e = cc
+      process_fits scope (left_merge p q) e = cc
+      process_fits scope (sync ps) e = cc
       process_fits scope (around o p) e = cc
 
       processes_fit : (scope : List VarId) (ps : PlainProcesses) → are_processes g k ds scope ps ≡ true → ProcessesFit g ts ds scope ps
@@ -140,6 +142,8 @@ started_fits g ts ds (seq ps) h = h
 started_fits g ts ds (cond c p q) h = h
 started_fits g ts ds (sum ys p) h = h
 started_fits g ts ds (merge ps) h = h
+started_fits g ts ds (left_merge p q) h = h
+started_fits g ts ds (sync ps) h = h
 started_fits g ts ds (around o p) h = h
 
 started_body : (e : Entries) (p : PlainProcess) → component_body e (started p) ≡ body_of e p
@@ -151,6 +155,8 @@ started_body e (seq ps) = refl
 started_body e (cond c p q) = refl
 started_body e (sum ys p) = refl
 started_body e (merge ps) = refl
+started_body e (left_merge p q) = refl
+started_body e (sync ps) = refl
 started_body e (around o p) = refl
 
 -- ---- without parallel operators
@@ -172,6 +178,8 @@ module _ (g : Sig) (k : PlainKnown) (ds : List PlainDefinition) (e : Entries) wh
         ⊎_elim (not_parallel scope p parts.0) (not_parallel scope q parts.1) h
     not_parallel scope (sum ys p) t h = not_parallel (ys ++ scope) p (both (are_sums k scope ys) (is_process g k ds (ys ++ scope) p) t).1 (parallel_under e ys (body_of e p) h)
     not_parallel scope (merge ps) t h = cc
+    not_parallel scope (left_merge p q) t h = cc
+    not_parallel scope (sync ps) t h = cc
     not_parallel scope (around o p) t h = cc
 
     no_parallel_choice : (scope : List VarId) (ps : PlainProcesses) → are_processes g k ds scope ps ≡ true → HasParallel (choice_of (bodies_of e ps)) → ⊥
@@ -238,6 +246,8 @@ module _ (g : Sig) (k : PlainKnown) (ds : List PlainDefinition) (e : Entries) wh
         sums_bind e ys (numbers_of scope) (body_of e p) (differ_told (numbers_of ys) names.0) (apart_told ys scope names.1)
         (subst (λ xs. BindsAnew xs (body_of e p)) (map-append (λ (x : VarId). x.0) ys scope) (binds_anew (ys ++ scope) p b.1))
     binds_anew scope (merge ps) t = cc
+    binds_anew scope (left_merge p q) t = cc
+    binds_anew scope (sync ps) t = cc
     binds_anew scope (around o p) t = cc
 
     choice_binds : (scope : List VarId) (ps : PlainProcesses) → are_processes g k ds scope ps ≡ true → BindsAnew (numbers_of scope) (choice_of (bodies_of e ps))

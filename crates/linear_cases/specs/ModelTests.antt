@@ -6,7 +6,7 @@ use Rattle.data_theory.specs.declared.ids.VarId.{VarId}
 use Rattle.data_theory.specs.declared.ids.TermId.{TermId}
 use Rattle.data_theory.specs.Table.{bool_sort}
 use Rattle.data_theory.specs.Signature.{Sig}
-use Rattle.process_terms.specs.PlainProcesses.{PlainProcess, PlainProcesses, delta, act, call, choice, seq, cond, sum, merge, around, no_processes, more_processes, PlainDefinition, PlainModel, PlainComponent, call_of, term_of}
+use Rattle.process_terms.specs.PlainProcesses.{PlainProcess, PlainProcesses, delta, act, call, choice, seq, cond, sum, merge, left_merge, sync, around, no_processes, more_processes, PlainDefinition, PlainModel, PlainComponent, call_of, term_of}
 use Rattle.lps_core.specs.TreeSummands.{numbers_of}
 use Rattle.linear_cases.specs.FormTests.{PlainKnown, is_known_variable, has_sort, is_over, differ, are_args, are_sums, is_action}
 
@@ -29,6 +29,8 @@ abbrev mutual
   is_process g k ds scope (cond c p q) = (has_sort k bool_sort c && is_over k scope c) && (is_process g k ds scope p && is_process g k ds scope q)
   is_process g k ds scope (sum ys p) = are_sums k scope ys && is_process g k ds (ys ++ scope) p
   is_process g k ds scope (merge ps) = false
+  is_process g k ds scope (left_merge p q) = false
+  is_process g k ds scope (sync ps) = false
   is_process g k ds scope (around o p) = false
 
   pub are_processes : Sig → PlainKnown → List PlainDefinition → List VarId → PlainProcesses → Bool
@@ -52,4 +54,6 @@ started (seq ps) = term_of (seq ps)
 started (cond c p q) = term_of (cond c p q)
 started (sum ys p) = term_of (sum ys p)
 started (merge ps) = term_of (merge ps)
+started (left_merge p q) = term_of (left_merge p q)
+started (sync ps) = term_of (sync ps)
 started (around o p) = term_of (around o p)
