@@ -41,7 +41,7 @@ use Rattle.lps_core.proofs.PoolTrees.{all_in_kept, trees_kept}
 use Rattle.lps_core.proofs.Staying.{terms_are, variable_stays, terms_stay, what_fits_stays}
 use Rattle.lps_core.proofs.StayingFits.{closed_terms_fit, what_fits_fits_still}
 use Rattle.proc_unfold.specs.FittingModels.{CallFits, ProcessFits, DefinitionFits, ModelFits, ComponentFits}
-use Rattle.proc_unfold.specs.Networks.{PlainNetwork, PlainNetworks, leaf, side_by_side, sync}
+use Rattle.proc_unfold.specs.Networks.{PlainNetwork, PlainNetworks, leaf, side_by_side}
 use Rattle.proc_unfold.specs.Parallel.{HasParallel, HasParallelBody, IsParallelName}
 use Rattle.proc_unfold.specs.PutTerms.{ArePut}
 use Rattle.greibach.specs.ComponentForms.{arguments_of, IsFormOf}
@@ -176,9 +176,6 @@ first_leaves P xs i h = subst (All P) (take-map plain_component i xs) (All-take 
 -- ---- a network
 pub beside_is_no_leaf : (ns : PlainNetworks) (c : PlainComponent) → side_by_side ns ≡ leaf c → ⊥
 beside_is_no_leaf ns c e = cc
-
-pub sync_is_no_leaf : (ns : PlainNetworks) (c : PlainComponent) → sync ns ≡ leaf c → ⊥
-sync_is_no_leaf ns c e = cc
 
 -- sums that are named
 pub named_kept : (by : Method) (g h : Sig) (ts us : List Tree) (m : PlainModel) (c : PlainComponent) (l k : PlainLinear) → IsSignature g → GrowsByNames g h → Extends ts us → ModelFits g ts m → ComponentFits g ts m.definitions c → Fits g ts l → SumsAreNamed g h ts us l k → Fits h us k

@@ -7,8 +7,8 @@ use Rattle.proc_unfold.specs.Networks.{plain_network, plain_operator}
 use Rattle.lin_driver.specs.Parts.{Composes}
 use Rattle.lin_driver.specs.PlainlyMade.{ComposesPlainly, StaysPlainAround}
 use Rattle.lin_driver.proofs.TakenNames.{if_ok}
-use Rattle.lin_driver.proofs.ComposedNetworks.{operator_parts, part_fits, operator_fits_then, operator_composes, beside_parts, beside_composes, beside_all, none_composes, first_has, joins_first, next_has, joined_fits, next_one_fits, joins_next, joins_all, if_ok_all, no_part, some_part, parts_smaller, inner_smaller, part_no_larger}
-use Rattle.lin_driver.proofs.PlainNetworks.{taken_plainly, operator_plainly, beside_plainly, first_plainly, next_plainly}
+use Rattle.lin_driver.proofs.ComposedNetworks.{operator_parts, part_fits, operator_fits_then, operator_composes, beside_parts, beside_composes, beside_all, none_composes, first_has, joins_first, next_has, joined_fits, next_one_fits, joins_next, joins_all, if_ok_all, no_part, some_part, parts_smaller, inner_smaller, part_no_larger, no_left_merge, synced_parts, synced_composes, synced_smaller}
+use Rattle.lin_driver.proofs.PlainNetworks.{taken_plainly, operator_plainly, beside_plainly, synced_plainly, first_plainly, next_plainly}
 use Rattle.lin_driver.proofs.composing.+compose.Goals as goal
 
 pub compose-compose_beside-requires : goal.compose-compose_beside-requires
@@ -160,3 +160,35 @@ compose_beside-returns-clause-plain t c = c.loop-place.invariant.2
 
 pub compose-returns-in-Leaf-clause-first : goal.compose-returns-in-Leaf-clause-first
 compose-returns-in-Leaf-clause-first t c = λ k e. c.take_first.ensures
+
+-- ---- left merges and `|`
+pub compose-compose_beside-requires-in-Sync : goal.compose-compose_beside-requires-in-Sync
+compose-compose_beside-requires-in-Sync t c = (
+  omega (arith, synced_smaller c.args.network.now c.in-Sync.networks c.deref-in-Sync.result.now c.in-Sync.is c.deref-in-Sync.ensures.value, c.decreases),
+  synced_parts c.args.sig.now c.args.pool.now.trees c.args.network.now c.in-Sync.networks c.deref-in-Sync.result.now (map plain_linear c.args.parts.now.items) c.in-Sync.is c.deref-in-Sync.ensures.value c.requires,
+)
+
+pub compose-returns-in-Sync-clause-composed : goal.compose-returns-in-Sync-clause-composed
+compose-returns-in-Sync-clause-composed t c =
+    let g = c.args.sig.now in
+    let h = c.compose_beside-in-Sync.new.sig in
+    let ts = c.args.pool.now.trees in
+    let us = c.compose_beside-in-Sync.new.pool.trees in
+    let queue = map plain_linear c.args.parts.now.items in
+    let left = map plain_linear c.compose_beside-in-Sync.new.parts.items in
+    if_ok c.compose_beside-in-Sync.result (λ made. Composes g ts (beside_all c.deref-in-Sync.result.now) queue h us left (plain_linear made)) (λ made. Composes g ts (plain_network c.args.network.now) queue h us left (plain_linear made))
+    (λ made f. synced_composes g h ts us c.args.network.now c.in-Sync.networks c.deref-in-Sync.result.now queue left (plain_linear made) c.in-Sync.is c.deref-in-Sync.ensures.value f) c.compose_beside-in-Sync.ensures.composed
+
+pub compose-returns-in-Sync-clause-plain : goal.compose-returns-in-Sync-clause-plain
+compose-returns-in-Sync-clause-plain t c =
+    let g = c.args.sig.now in
+    let h = c.compose_beside-in-Sync.new.sig in
+    let p = c.args.pool.now in
+    let q = c.compose_beside-in-Sync.new.pool in
+    let queue = map plain_linear c.args.parts.now.items in
+    let left = map plain_linear c.compose_beside-in-Sync.new.parts.items in
+    if_ok c.compose_beside-in-Sync.result (λ made. ComposesPlainly g p (beside_all c.deref-in-Sync.result.now) queue h q left (plain_linear made)) (λ made. ComposesPlainly g p (plain_network c.args.network.now) queue h q left (plain_linear made))
+    (λ made f. synced_plainly g h p q c.args.network.now c.in-Sync.networks c.deref-in-Sync.result.now queue left (plain_linear made) c.in-Sync.is c.deref-in-Sync.ensures.value f) c.compose_beside-in-Sync.ensures.plain
+
+pub compose-unreachable-requires : goal.compose-unreachable-requires
+compose-unreachable-requires t c = no_left_merge c.args.sig.now c.args.pool.now.trees c.args.network.now c.in-LeftMerge.0 c.in-LeftMerge.1 (map plain_linear c.args.parts.now.items) c.in-LeftMerge.is c.requires
