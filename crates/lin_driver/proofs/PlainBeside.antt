@@ -23,7 +23,7 @@ use Rattle.lps_core.specs.Fitting.{Fits, IsVariable, HasTakenName}
 use Rattle.lps_core.specs.MadeTerms.{Written, StackSort, WasAnswered, Origin, origin_of, IsPlainlyConditioned}
 use Rattle.lps_core.specs.Moving.{renaming_to}
 use Rattle.lps_core.specs.Naming.{GrowsByNames}
-use Rattle.lps_core.specs.PlainLinears.{PlainLinear, linear_of, initial_of}
+use Rattle.lps_core.specs.PlainLinears.{PlainLinear, can_end, linear_of, initial_of}
 use Rattle.lps_core.specs.TreeSummands.{numbers_of}
 use Rattle.lps_core.proofs.Members.{all_from, contains_map, map_contains}
 use Rattle.lps_core.proofs.NamedSums.{names_then, variable_kept, sort_kept, sorts_kept}
@@ -35,7 +35,7 @@ use Rattle.summand_expander.specs.Product.{flag_of, columns, product, first_colu
 use Rattle.summand_expander.specs.Renewals.{IsFlag, renewed_variable, renewed_variables}
 use Rattle.summand_expander.specs.Renewing.{renewed_bounds, renewed}
 use Rattle.summand_expander.specs.SideFits.{IsFlagOf}
-use Rattle.summand_expander.specs.WholeProducts.{can_end, renewed_number, side_of_linear, renewed_side, IsProduct}
+use Rattle.summand_expander.specs.WholeProducts.{renewed_number, side_of_linear, renewed_side, IsProduct}
 use Rattle.summand_expander.proofs.GivingWay.{NewOnes, taken_stays}
 use Rattle.summand_expander.proofs.NewVariables.{renaming_is_term, declared_renewed}
 use Rattle.summand_expander.proofs.RenewedFits.{bounds_renewed}

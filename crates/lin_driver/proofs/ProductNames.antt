@@ -23,7 +23,7 @@ use Rattle.bisim_laws.specs.LinearProcesses.{Linear}
 use Rattle.bisim_laws.proofs.Firing.{contains_cases, contains_none}
 use Rattle.lps_core.specs.Fitting.{Fits, IsVariable, sort_of_variable, HasTakenName}
 use Rattle.lps_core.specs.Naming.{name_of, function_names, GrowsByNames, it_is_new, ParamsHaveOwnNames}
-use Rattle.lps_core.specs.PlainLinears.{PlainLinear}
+use Rattle.lps_core.specs.PlainLinears.{PlainLinear, can_end}
 use Rattle.lps_core.proofs.FunctionNames.{functions_taken, function_names_stay}
 use Rattle.lps_core.proofs.Members.{all_from, contains_map}
 use Rattle.lps_core.proofs.NamedSums.{names_then, variable_kept, name_kept, all_front, all_last}
@@ -32,7 +32,7 @@ use Rattle.lps_core.proofs.StayingFits.{what_fits_fits_still}
 use Rattle.summand_expander.specs.Product.{flag_of, columns}
 use Rattle.summand_expander.specs.Renewals.{IsFlag, no_flag, new_flag, all_sums, HasVariable, IsNew, under_its_name, under_a_fresh_name, OneIsRenewed, it_has_been, it_stays, it_is_renewed, AreRenewed, no_variable, one_variable, IsNoName, IsNameOf, renewed_variable, renewed_variables}
 use Rattle.summand_expander.specs.Renewing.{renewed_bounds}
-use Rattle.summand_expander.specs.WholeProducts.{can_end, renewed_number, side_of_linear, renewed_side, IsProduct}
+use Rattle.summand_expander.specs.WholeProducts.{renewed_number, side_of_linear, renewed_side, IsProduct}
 use Rattle.summand_expander.proofs.DifferentNames.{run_grows, right_apart, all_names_differ}
 use Rattle.summand_expander.proofs.GivingWay.{HasGivenWay, has_given_way, none_new, all_stand, all_each}
 use Rattle.summand_expander.proofs.MadeProducts.{all_sums_are_variables}

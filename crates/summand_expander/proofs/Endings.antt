@@ -6,12 +6,10 @@ use Rattle.data_theory.specs.Terms.{Term}
 use Rattle.process_terms.specs.Meanings.{Entries}
 use Rattle.bisim_laws.specs.LinearProcesses.{Summand, Linear}
 use Rattle.bisim_laws.specs.BaseStates.{Side}
-use Rattle.lps_core.specs.declared.linears.Summand.{Summand as Made}
 use Rattle.lps_core.specs.Columns.{as_terms}
-use Rattle.lps_core.specs.PlainLinears.{PlainSummand, PlainLinear, ends, plain_summand, summand_of, linear_of}
+use Rattle.lps_core.specs.PlainLinears.{PlainSummand, PlainLinear, can_end, summand_of, linear_of}
 use Rattle.summand_expander.specs.Product.{columns, alone, lone, own_first, own_last, together, pair, product}
 use Rattle.summand_expander.specs.Renewing.{renewed_next, renewed_summand, renewed}
-use Rattle.summand_expander.specs.WholeProducts.{can_end}
 
 abbrev pub stops : Summand → Bool
 stops s = is_none s.next
@@ -99,7 +97,3 @@ renewed_stops r l = any_same stops stops (λ s. renewed_summand r s) (λ s. by_n
     by_next : (n : Option (List Term)) → is_none (renewed_next r n) ≡ is_none n
     by_next None = refl
     by_next (Some ts) = refl
-
--- as `Linear::can_end` says it
-pub plain_ends : (items : List Made) → list_any (λ (s : PlainSummand). is_none s.next) (map plain_summand items) ≡ list_any ends items
-plain_ends items = any_same ends (λ (s : PlainSummand). is_none s.next) plain_summand (λ s. none_meant _ s.next) items

@@ -19,7 +19,8 @@ use Rattle.lps_core.proofs.GrowingData.{goes_back, terms_grown}
 use Rattle.lps_core.proofs.Staying.{what_fits_stays}
 use Rattle.term_pool.specs.Pools.{Extends}
 use Rattle.summand_expander.specs.FirstSteps.{product_from, first_of_all}
-use Rattle.summand_expander.specs.WholeFirstSteps.{HasSides, IsGoodProductFrom, MadeOfAProductIsGood}
+use Rattle.summand_expander.specs.ProductSides.{HasSides}
+use Rattle.summand_expander.specs.WholeFirstSteps.{IsGoodProductFrom, MadeOfAProductIsGood}
 use Rattle.summand_expander.proofs.NewestVariable.{newest_good}
 
 -- From the signature g of a product to h, which has one variable more, and from its trees ts to us. What is made means the

@@ -32,7 +32,7 @@ use Rattle.bisim_laws.specs.Links.{Product, Same, IsGood, Pairs}
 use Rattle.bisim_laws.proofs.AlikeProcesses.{alike_refl}
 use Rattle.lps_core.specs.Fitting.{Fits, SummandFits, AreTermsOf, IsVariable, sort_of_variable, HasTakenName}
 use Rattle.lps_core.specs.Naming.{GrowsByNames}
-use Rattle.lps_core.specs.PlainLinears.{PlainSummand, PlainLinear, summand_of, linear_of, initial_of}
+use Rattle.lps_core.specs.PlainLinears.{PlainSummand, PlainLinear, can_end, summand_of, linear_of, initial_of}
 use Rattle.lps_core.specs.TreeSummands.{IsSummandIn}
 use Rattle.lps_core.proofs.GrowingData.{terms_grown}
 use Rattle.lps_core.proofs.NamedSums.{names_none, names_then, variable_kept}
@@ -45,8 +45,8 @@ use Rattle.summand_expander.specs.Product.{flag_of, columns, first_flag, first_c
 use Rattle.summand_expander.specs.Renewing.{renewed, KeepsApart}
 use Rattle.summand_expander.specs.Renewals.{IsFlag, GivesWay, all_sums, HasVariable, IsRenewedLinear}
 use Rattle.summand_expander.specs.SideFits.{FitsWithNames, IsFlagOf}
-use Rattle.summand_expander.specs.WholeFirstSteps.{HasSides}
-use Rattle.summand_expander.specs.WholeProducts.{can_end, renewed_number, side_of_linear, AreProductSummands, first_flag_id, AreFirstTerms, HaveDifferentNames, IsProduct, IsGoodProduct}
+use Rattle.summand_expander.specs.ProductSides.{HasSides}
+use Rattle.summand_expander.specs.WholeProducts.{renewed_number, side_of_linear, AreProductSummands, first_flag_id, AreFirstTerms, HaveDifferentNames, IsProduct, IsGoodProduct}
 use Rattle.summand_expander.proofs.DifferentNames.{all_names_differ}
 use Rattle.summand_expander.proofs.Endings.{can_stop, product_stops, meant_stops, renewed_stops}
 use Rattle.summand_expander.proofs.FittingDrafts.{terms_append, false_sorted}

@@ -32,7 +32,7 @@ use Rattle.bisim_laws.proofs.Firing.{contains_first, contains_later, contains_ca
 use Rattle.lps_core.specs.Fitting.{Fits, IsVariable, HasTakenName}
 use Rattle.process_terms.proofs.MeaningLemmas.{entry_stays}
 use Rattle.lps_core.specs.Naming.{name_of, GrowsByNames}
-use Rattle.lps_core.specs.PlainLinears.{PlainSummand, PlainLinear, summand_of, linear_of}
+use Rattle.lps_core.specs.PlainLinears.{PlainSummand, PlainLinear, can_end, summand_of, linear_of}
 use Rattle.lps_core.specs.TreeSummands.{TreeSummand, numbers_of}
 use Rattle.lps_core.proofs.Environments.{variables_append}
 use Rattle.lps_core.proofs.GrowingData.{linear_grown}
@@ -45,7 +45,7 @@ use Rattle.lps_core.proofs.Staying.{read_mapped, boolean_meant, what_fits_is_sor
 use Rattle.summand_expander.specs.Product.{flag_of, columns, EndsWith, IsSide, Separate}
 use Rattle.summand_expander.specs.Renewals.{IsFlag, no_flag, new_flag, all_sums, HasVariable, renewed_variable, renewed_variables, IsRenewedSummand, IsRenewedLinear}
 use Rattle.summand_expander.specs.SideFits.{IsFlagOf}
-use Rattle.summand_expander.specs.WholeProducts.{can_end, side_of_linear}
+use Rattle.summand_expander.specs.WholeProducts.{side_of_linear}
 use Rattle.summand_expander.proofs.GivingWay.{NewOnes, HasGivenWay}
 use Rattle.summand_expander.proofs.NewVariables.{variable_renewed, stays_or_newer}
 

@@ -7,5 +7,6 @@ pub mod Frames
 pub mod Renewals
 pub mod WholeProducts
 pub mod SideFits
+pub mod ProductSides
 pub mod FirstSteps
 pub mod WholeFirstSteps

@@ -1,6 +1,6 @@
 -- The product of two linear processes in code.
-use Rattle.std.specs.Prelude.{◌≡◌, ◌++◌, ◌∷◌, ℕ, Bool, List, [], map, is_none, option_map, option_to_list, Option, Some, None}
-use Rattle.std.specs.List.{All, list_any}
+use Rattle.std.specs.Prelude.{◌≡◌, ◌++◌, ◌∷◌, ℕ, List, [], map, option_map, option_to_list, Option, Some, None}
+use Rattle.std.specs.List.{All}
 use Rattle.data_theory.specs.declared.ids.TermId.{TermId}
 use Rattle.data_theory.specs.declared.ids.VarId.{VarId}
 use Rattle.data_theory.specs.Signature.{Sig}
@@ -15,15 +15,11 @@ use Rattle.data_theory.specs.Environments.{AreDistinct}
 use Rattle.data_theory.specs.declared.ids.NameId.{NameId}
 use Rattle.lps_core.specs.Naming.{names_of}
 use Rattle.lps_core.specs.GoingOn.{IsGoodOver}
-use Rattle.lps_core.specs.PlainLinears.{PlainSummand, PlainLinear, summand_of, linear_of, initial_of, linear_state}
+use Rattle.lps_core.specs.PlainLinears.{PlainSummand, PlainLinear, can_end, summand_of, linear_of, initial_of, linear_state}
 use Rattle.summand_expander.specs.Product.{product, first_columns}
 use Rattle.summand_expander.specs.Renewing.{renewed}
 use Rattle.summand_expander.specs.SideFits.{FitsWithNames}
 use Rattle.summand_expander.specs.Renewals.{IsFlag, GivesWay, renewed_variable}
-
--- whether a summand ends
-abbrev pub can_end : PlainLinear → Bool
-can_end l = list_any (λ (s : PlainSummand). is_none s.next) l.summands
 
 -- new variables in the place of old ones, by their numbers
 abbrev pub renewed_number : List VarId → List VarId → ℕ → ℕ

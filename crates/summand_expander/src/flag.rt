@@ -2,9 +2,8 @@
 
 ghost use Rattle.std.specs.Prelude.{IfOk};
 ghost use Rattle.lps_core.specs.Naming.{GrowsByNames};
-ghost use Rattle.lps_core.specs.PlainLinears.{plain_linear};
+ghost use Rattle.lps_core.specs.PlainLinears.{can_end, plain_linear};
 ghost use Rattle.summand_expander.specs.Renewals.{IsFlag};
-ghost use Rattle.summand_expander.specs.WholeProducts.{can_end};
 
 use data_theory::{NoMemory, Signature, SortId, VarId};
 use lps_core::{Linear, signature_stands};

@@ -11,8 +11,6 @@ mod products;
 mod renewal;
 mod renewed;
 mod sides;
-mod starts;
 mod summands;
 
 pub use products::product;
-pub use starts::{Start, product_from};

@@ -10,7 +10,7 @@ ghost use Rattle.lps_core.specs.Naming.{GrowsByNames};
 ghost use Rattle.lps_core.specs.PlainLinears.{ends, plain_linear, plain_summand};
 ghost use Rattle.lps_core.specs.TreeSummands.{IsSummandIn};
 ghost use Rattle.summand_expander.specs.SideFits.{IsFlagOf};
-ghost use Rattle.summand_expander.specs.WholeFirstSteps.{HasSides};
+ghost use Rattle.summand_expander.specs.ProductSides.{HasSides};
 ghost use Rattle.summand_expander.specs.WholeProducts.{first_flag_id, AreFirstTerms, AreProductSummands, HaveDifferentNames, IsGoodProduct, IsProduct};
 
 use crate::flag::flag_for;
@@ -109,16 +109,8 @@ fn all_init(
     Ok(all)
 }
 
-/// The product of two linear processes: it does what both do side by side, every summand of one side alone and every pair of
-/// summands at once (book, parallel composition of linear processes; that a side may end, and has a flag then, is this profile's).
-///
-/// The right side gives way: its parameters get other names, and its variables other ids, where the left side has them. After
-/// `NoMemory` the pool and the signature may have got some of this. What was there stays, then too.
-///
-/// # Errors
-///
-/// `NoMemory` where there is none for it.
-pub fn product(
+/// The product, as that of two separate sides.
+fn product_of_sides(
     alloc: Global,
     left: &Linear,
     right: &Linear,
@@ -150,4 +142,34 @@ pub fn product(
         init,
         summands,
     })
+}
+
+/// The product of two linear processes: it does what both do side by side, every summand of one side alone and every pair of
+/// summands at once (book, parallel composition of linear processes; that a side may end, and has a flag then, is this profile's).
+///
+/// The right side gives way: its parameters get other names, and its variables other ids, where the left side has them. After
+/// `NoMemory` the pool and the signature may have got some of this. What was there stays, then too.
+///
+/// # Errors
+///
+/// `NoMemory` where there is none for it.
+pub fn product(
+    alloc: Global,
+    left: &Linear,
+    right: &Linear,
+    sig: &mut Signature,
+    pool: &mut Pool,
+) -> Result<Linear, NoMemory>
+    requires left { Fits sig.old pool.old.trees (plain_linear left.now) }
+    requires right { Fits sig.old pool.old.trees (plain_linear right.now) }
+    ensures grown { GrowsByNames sig.old sig.new }
+    ensures kept { Extends pool.old.trees pool.new.trees }
+    ensures constants { pool.new.constants ≡ pool.old.constants }
+    ensures fits { IfOk result (λ made. Fits sig.new pool.new.trees (plain_linear made)) }
+    ensures made { IfOk result (λ made. IsProduct sig.old sig.new pool.new.trees (plain_linear left.now) (plain_linear right.now) (plain_linear made)) }
+    ensures bisimilar { IfOk result (λ made. IsGoodProduct sig.new pool.new.trees (plain_linear left.now) (plain_linear right.now) (plain_linear made)) }
+    ensures names { IfOk result (λ made. HaveDifferentNames sig.old left.now.params.items → HaveDifferentNames sig.old right.now.params.items → HaveDifferentNames sig.new made.params.items) }
+    ensures ends { IfOk result (λ made. list_any ends made.summands.items ≡ (list_any ends left.now.summands.items && list_any ends right.now.summands.items)) }
+{
+    product_of_sides(alloc, left, right, sig, pool)
 }

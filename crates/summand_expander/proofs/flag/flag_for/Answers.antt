@@ -1,11 +1,10 @@
 use Rattle.std.proofs.Common.{◌≡◌, None, true, false, subst, sym, ◌∙◌}
 use Rattle.lps_core.specs.Naming.{GrowsByNames}
-use Rattle.lps_core.specs.PlainLinears.{plain_linear}
+use Rattle.lps_core.specs.PlainLinears.{plain_linear, can_end}
+use Rattle.lps_core.proofs.CanEnd.{plain_ends}
 use Rattle.lps_core.proofs.NamedSums.{names_none}
 use Rattle.lps_core.proofs.NamingLoops.{fresh_names, fresh_within}
 use Rattle.summand_expander.specs.Renewals.{IsFlag, no_flag}
-use Rattle.summand_expander.specs.WholeProducts.{can_end}
-use Rattle.summand_expander.proofs.Endings.{plain_ends}
 use Rattle.summand_expander.proofs.Separating.{bool_within, flag_made, flag_grown}
 use Rattle.summand_expander.proofs.flag.flag_for.Goals as goal
 

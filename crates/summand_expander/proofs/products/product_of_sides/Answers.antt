@@ -1,11 +1,11 @@
 use Rattle.std.proofs.Common.{◌&&◌, map, ap₂, sym, ◌∙◌}
 use Rattle.lps_core.specs.PlainLinears.{plain_linear, plain_summand}
+use Rattle.lps_core.proofs.CanEnd.{plain_ends}
 use Rattle.lps_core.proofs.NamedSums.{names_then}
 use Rattle.lps_core.proofs.PoolTrees.{extends_on}
-use Rattle.summand_expander.proofs.Endings.{plain_ends}
 use Rattle.summand_expander.proofs.MadeProducts.{ProductDone, product_made, all_sums_later, renewal_long, summands_are_in}
 use Rattle.summand_expander.proofs.RenewedFits.{all_in_still}
-use Rattle.summand_expander.proofs.products.product.Goals as goal
+use Rattle.summand_expander.proofs.products.product_of_sides.Goals as goal
 
 pub giving_way-requires-clause-sums : goal.giving_way-requires-clause-sums
 giving_way-requires-clause-sums c = all_sums_later c.args.sig.now c.flag_for.new.sig c.args.pool.now.trees (plain_linear c.args.right.now) c.flag_for.ensures.grown c.requires.right
