@@ -5,11 +5,11 @@ use Rattle.std.proofs.lemmas.List.{take_more, get_or-set_same, get_or-set_other}
 use Rattle.std.proofs.lemmas.Option.{slice_get-get_or}
 use Rattle.std.proofs.lemmas.List.Elements.{Contains-get_or, Contains-push_cases}
 use Rattle.data_theory.specs.declared.ids.SortId.{SortId}
-use Rattle.term_pool.proofs.Lists.{contains_head, contains_tail}
+use Rattle.term_pool.proofs.Lists.{contains_none, contains_cons, contains_head, contains_tail}
 use Rattle.value_enum.specs.declared.shapes.Constructor.{Constructor}
 use Rattle.value_enum.specs.declared.shapes.Shapes.{Shapes}
 use Rattle.value_enum.specs.Shapes.{arguments_at}
-use Rattle.value_enum.specs.Levels.{is_number_sort, limit_of, total_of, MakeNoHeavier}
+use Rattle.value_enum.specs.Levels.{is_number_sort, limit_of, total_of, MakeHeavier, MakeNoHeavier}
 use Rattle.value_enum.proofs.RowLemmas.{arguments_begin, arguments_end}
 
 -- the sort at a place, in front of those behind it
@@ -73,6 +73,55 @@ module _ (os : List (Option SortId)) (heaviest : List ℕ) (unbounded : List Boo
   pub nothing_to_put : (p l w : ℕ) (s : SortId) (total : ℕ) → p < length os → get_or os p None ≡ Some s → l ≡ limit s → l ≡ 0 → IsSumming p total → MakeNoHeavier heaviest unbounded (arguments_at os first) w
   nothing_to_put p l w s total within is e none sofar = inl (s, sofar.members s (subst (λ ss. Contains ss s) (sym (sort_at os p s within is)) (contains_head s (arguments_at os (suc p)))), sym e ∙ none)
 
+  -- the sum is no more than what all weigh together, and each sort in front has a value
+  pub record IsSummingUp (p total : ℕ) : Type 0 where
+    pub seen : (s : SortId) → Contains (arguments_at os first) s → Contains (arguments_at os p) s ⊎ (0 < limit s)
+    pub sum : total + total_of limit (arguments_at os p) ≤ 1 + total_of limit (arguments_at os first)
+
+  pub summing_up_begins : IsSummingUp first 1
+  summing_up_begins = record { seen = λ s has. inl has; sum = omega arith }
+
+  pub summing_up_goes_on : (p total new l : ℕ) (s : SortId) → p < length os → get_or os p None ≡ Some s → l ≡ limit s → (l ≡ 0 → ⊥) → new ≡ min (total + l) (2 ^ 64 - 1) → IsSummingUp p total → IsSummingUp (p + 1) new
+  summing_up_goes_on p total new l s within is e some d sofar = subst (λ q. IsSummingUp q new) (let one : suc p ≡ p + 1 = omega arith in one) record {
+    seen = λ a has. ⊎_elim
+        (λ there. ⊎_elim
+        (λ same. inr (subst (λ (x : SortId). 0 < limit x) same positive))
+        (λ later. inl later)
+        (contains_cons s a (arguments_at os (suc p)) (subst (λ ss. Contains ss a) here there)))
+        (λ known. inr known)
+        (sofar.seen a has);
+    sum = let less = min_less (total + l) (2 ^ 64 - 1) in let tail = ap (total_of limit) here in omega (arith, less, tail, d, e, sofar.sum);
+  }
+    where
+      here : arguments_at os p ≡ s ∷ arguments_at os (suc p)
+      here = sort_at os p s within is
+
+      min_less : (a b : ℕ) → min a b ≤ a
+      min_less a b = grind arith
+
+      positive : 0 < limit s
+      positive = by l e some
+        where
+          by : (n : ℕ) → n ≡ limit s → (n ≡ 0 → ⊥) → 0 < limit s
+          by zero q h = absurd (h refl)
+          by (suc n) q h = omega (arith, q)
+
+  pub summing_up_ends : (p total w : ℕ) → arguments_at os p ≡ [] → w < total → IsSummingUp p total → MakeHeavier heaviest unbounded (arguments_at os first) w
+  summing_up_ends p total w empty l sofar = (
+    (λ s has. ⊎_elim (λ there. absurd (contains_none s (subst (λ ss. Contains ss s) empty there))) (λ known. known) (sofar.seen s has)),
+    (let m = sofar.sum in omega (arith, l, m)),
+  )
+
+  pub empty_beyond : (p : ℕ) → length os ≤ p → arguments_at os p ≡ []
+  empty_beyond p l = beyond os p l
+
+  pub empty_at_end : (p : ℕ) → p < length os → ((s : SortId) → get_or os p None ≡ Some s → ⊥) → arguments_at os p ≡ []
+  empty_at_end p l none = arguments_end os p (slice_get-get_or os p None l ∙ ap Some (by_option (get_or os p None) none))
+    where
+      by_option : (o : Option SortId) → ((s : SortId) → o ≡ Some s → ⊥) → o ≡ None
+      by_option None n = refl
+      by_option (Some s) n = absurd (n s refl)
+
 -- ---- the constructors of a sort
 module _ (sh : Shapes) (heaviest : List ℕ) (unbounded : List Bool) (w : ℕ) where
   pub one_constructor_more : (cs : List Constructor) (i : ℕ) (d : Constructor) → i < length cs → ((c : Constructor) → Contains (take i cs) c → MakeNoHeavier heaviest unbounded (arguments_at sh.arguments.items c.first) w) → MakeNoHeavier heaviest unbounded (arguments_at sh.arguments.items (get_or cs i d).first) w
@@ -103,6 +152,13 @@ marks_on marks new b n size is here before s l =
 -- what is marked stays marked
 pub marked_still : (marks : List Bool) (k n : ℕ) → k < length marks → get_or marks n false ≡ true → get_or (set marks k true) n false ≡ true
 marked_still marks k n l e = ⊎_elim (λ same. subst (λ m. get_or (set marks k true) m false ≡ true) (sym same) (get_or-set_same marks k true false l)) (λ other. get_or-set_other marks k n true false other ∙ e) (same_or_not n k)
+  where
+    same_or_not : (a b : ℕ) → (a ≡ b) ⊎ (a ≡ b → ⊥)
+    same_or_not a b = grind arith
+
+-- and nothing else gets a mark but the one
+pub marked_before : (marks : List Bool) (k n : ℕ) → k < length marks → get_or (set marks k true) n false ≡ true → (n ≡ k) ⊎ (get_or marks n false ≡ true)
+marked_before marks k n l e = ⊎_elim inl (λ other. inr (sym (get_or-set_other marks k n true false other) ∙ e)) (same_or_not n k)
   where
     same_or_not : (a b : ℕ) → (a ≡ b) ⊎ (a ≡ b → ⊥)
     same_or_not a b = grind arith

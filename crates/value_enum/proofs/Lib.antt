@@ -6,6 +6,7 @@ pub mod TermLists
 pub mod DepthLemmas
 pub mod RowLemmas
 pub mod PlaceLemmas
+pub mod HeavierValues
 pub mod Exhaustion
 pub mod CappedLoops
 pub mod RowReads

@@ -148,6 +148,14 @@ MakeNoHeavier heaviest unbounded ss w = ((s : SortId) × Contains ss s × (limit
 abbrev pub HasNoHeavier : Shapes → List ℕ → List Bool → ℕ → ℕ → Type 0
 HasNoHeavier sh heaviest unbounded w k = (c : Constructor) → Contains (list_at sh.constructors.items k) c → MakeNoHeavier heaviest unbounded (arguments_at sh.arguments.items c.first) w
 
+-- values of these sorts make a heavier one: each sort has one, and all that they weigh together is more
+abbrev pub MakeHeavier : List ℕ → List Bool → List SortId → ℕ → Type 0
+MakeHeavier heaviest unbounded ss w = ((s : SortId) → Contains ss s → 0 < limit_of heaviest unbounded s) × (w < 1 + total_of (limit_of heaviest unbounded) ss)
+
+-- a constructor makes a heavier value of the sort with this number
+abbrev pub HasHeavier : Shapes → List ℕ → List Bool → ℕ → ℕ → Type 0
+HasHeavier sh heaviest unbounded w k = (c : Constructor) × Contains (list_at sh.constructors.items k) c × MakeHeavier heaviest unbounded (arguments_at sh.arguments.items c.first) w
+
 -- the known values up to a weight are no heavier than the heaviest
 abbrev pub AreHeaviest : Sig → List SortId → List ℕ → ℕ → Type 0
 AreHeaviest g sorts heaviest w = (s : SortId) (v : ConstructorValue) → Contains sorts s → IsPlainValueOf g s v → weight v ≤ w → weight v ≤ get_or heaviest s.0 0
@@ -155,3 +163,11 @@ AreHeaviest g sorts heaviest w = (s : SortId) (v : ConstructorValue) → Contain
 -- all values of the sort weigh no more than this
 abbrev pub HasNoneAbove : Sig → SortId → ℕ → Type 0
 HasNoneAbove g s w = (v : ConstructorValue) → IsPlainValueOf g s v → weight v ≤ w
+
+-- each weight that is noted for a sort is that of one of its values
+abbrev pub AreWeightsOfValues : Sig → List SortId → List ℕ → Type 0
+AreWeightsOfValues g sorts heaviest = (s : SortId) → Contains sorts s → 0 < get_or heaviest s.0 0 → (v : ConstructorValue) × IsPlainValueOf g s v × (weight v ≡ get_or heaviest s.0 0)
+
+-- a value of the sort weighs more than this
+abbrev pub HasOneAbove : Sig → SortId → ℕ → Type 0
+HasOneAbove g s w = (v : ConstructorValue) × IsPlainValueOf g s v × (w < weight v)

@@ -5,7 +5,7 @@ ghost use Rattle.std.specs.List.{Contains};
 ghost use Rattle.data_theory.specs.declared.ids.SortId.{SortId};
 ghost use Rattle.data_theory.specs.WholeSignatures.{IsSignature};
 ghost use Rattle.value_enum.specs.Shapes.{AreShapes, arguments_at};
-ghost use Rattle.value_enum.specs.Levels.{limit_of, MakeNoHeavier, HasNoHeavier, AreHeaviest, HasNoneAbove};
+ghost use Rattle.value_enum.specs.Levels.{limit_of, MakeHeavier, MakeNoHeavier, HasHeavier, HasNoHeavier, AreHeaviest, AreWeightsOfValues, HasNoneAbove, HasOneAbove};
 
 use crate::levels::is_number;
 use crate::shapes::{Shapes, constructors_at};
@@ -15,6 +15,7 @@ use std::alloc::Global;
 /// Whether all values of a sort weigh no more than this, by the weights of the heaviest values up to it of all sorts.
 ///
 /// At first only Pos, Nat and Int are taken to have values without bound, and then each sort of which a constructor makes a value that is heavier.
+/// It is `false` only where there is a heavier value.
 pub fn is_exhausted(
     alloc: Global,
     sig: &Signature,
@@ -28,7 +29,8 @@ pub fn is_exhausted(
     requires count { length heaviest.now ≡ length shapes.now.constructors.items }
     requires sort { Contains shapes.now.sorts.keys sort }
     requires weight { weight < 2 ^ 64 - 1 }
-    ensures { IfOk result (λ exhausted. exhausted ≡ true → AreHeaviest sig.now shapes.now.sorts.keys heaviest.now weight → HasNoneAbove sig.now sort weight) }
+    ensures goes_on { IfOk result (λ exhausted. exhausted ≡ false → AreWeightsOfValues sig.now shapes.now.sorts.keys heaviest.now → HasOneAbove sig.now sort weight) }
+    ensures ends { IfOk result (λ exhausted. exhausted ≡ true → AreHeaviest sig.now shapes.now.sorts.keys heaviest.now weight → HasNoneAbove sig.now sort weight) }
 {
     let mut unbounded = Vec::new(alloc);
     for number in 0..heaviest.len() {
@@ -50,7 +52,7 @@ fn growing(shapes: &Shapes, heaviest: &[usize], unbounded: &[bool], weight: usiz
     requires same { length unbounded.now ≡ length heaviest.now }
     requires weight { weight < 2 ^ 64 - 1 }
     ensures { MatchOption result ((k : ℕ) → k < length unbounded.now → get_or unbounded.now k false ≡ false → HasNoHeavier shapes.now heaviest.now unbounded.now weight k)
-        (λ k. (k < length unbounded.now) × (get_or unbounded.now k false ≡ false)) }
+        (λ k. (k < length unbounded.now) × (get_or unbounded.now k false ≡ false) × HasHeavier shapes.now heaviest.now unbounded.now weight k) }
 {
     for number in 0..unbounded.len() {
         if unbounded[number] {
@@ -74,7 +76,8 @@ fn grows(
     requires arguments { (a : SortId) → Contains shapes.now.arguments.items (Some a) → a.0 < length heaviest.now }
     requires same { length unbounded.now ≡ length heaviest.now }
     requires weight { weight < 2 ^ 64 - 1 }
-    ensures { result ≡ false → HasNoHeavier shapes.now heaviest.now unbounded.now weight sort }
+    ensures heavier { result ≡ true → HasHeavier shapes.now heaviest.now unbounded.now weight sort }
+    ensures none { result ≡ false → HasNoHeavier shapes.now heaviest.now unbounded.now weight sort }
 {
     let constructors = constructors_at(shapes, sort);
     for constructor in constructors {
@@ -102,7 +105,8 @@ fn makes_heavier(
     requires arguments { (a : SortId) → Contains arguments.now (Some a) → a.0 < length heaviest.now }
     requires same { length unbounded.now ≡ length heaviest.now }
     requires weight { weight < 2 ^ 64 - 1 }
-    ensures { result ≡ false → MakeNoHeavier heaviest.now unbounded.now (arguments_at arguments.now first) weight }
+    ensures heavier { result ≡ true → MakeHeavier heaviest.now unbounded.now (arguments_at arguments.now first) weight }
+    ensures none { result ≡ false → MakeNoHeavier heaviest.now unbounded.now (arguments_at arguments.now first) weight }
 {
     let mut total: usize = 1;
     for place in first..arguments.len() {

@@ -79,7 +79,7 @@ returns-then-branch-clause-first c =
     let all = listed_more sh c.args.sort w c.args.bound c.add_level.new.pool.trees c.loop-lighter.list.items c.values_of_weight-values.result.now (kept_now before) (block before) few in
     let level : w + 1 < length c.add_level.new.levels.values.items = (let e = c.in_ok-add_level.ensures.longer in let d = c.loop-lighter.invariant.count in omega (arith, e, d)) in
     let heaviest = heaviest_more c.args.sig.now c.requires.stands c.args.shapes.now c.requires.shapes c.args.bound w (omega arith) c.add_level.new.pool.trees c.add_level.new.levels c.in_ok-add_level.ensures.levels level c.loop-lighter.heaviest.items c.note_weights.new.heaviest.items c.loop-lighter.invariant.size c.note_weights.ensures c.loop-lighter.invariant.heaviest in
-    let none = c.in_ok-is_exhausted.ensures c.if-branch.true (rw c.as_slice-in-loop-lighter.ensures.value heaviest) in
+    let none = c.in_ok-is_exhausted.ensures.ends c.if-branch.true (rw c.as_slice-in-loop-lighter.ensures.value heaviest) in
     first_all c.args.sig.now c.requires.stands c.args.shapes.now c.requires.shapes c.args.sort c.requires.sort (w + 1) c.args.bound c.add_level.new.pool.trees c.extend_from_slice.new.self.items true (omega arith) refl none (let e = ap length longer in omega (arith, e, few))
     (subst (λ ids. AreTermsOf c.add_level.new.pool.trees ids (values_up_to sh c.args.sort (w + 1))) (sym longer) all)
 

@@ -19,11 +19,11 @@ pub loop-number-preserved : goal.loop-number-preserved
 loop-number-preserved c =
     λ k l e. ⊎_elim
     (λ less. c.loop-number.invariant k less e)
-    (λ last. subst (HasNoHeavier c.args.shapes.now c.args.heaviest.now c.args.unbounded.now c.args.weight) (sym last) (c.grows.ensures c.if-grows.false))
+    (λ last. subst (HasNoHeavier c.args.shapes.now c.args.heaviest.now c.args.unbounded.now c.args.weight) (sym last) (c.grows.ensures.none c.if-grows.false))
     (before_or_last k c.loop-number.number l)
 
 pub returns-then-grows : goal.returns-then-grows
-returns-then-grows c = (c.loop-number-test.true, c.if-unbounded-number.false)
+returns-then-grows c = (c.loop-number-test.true, c.if-unbounded-number.false, c.grows.ensures.heavier c.if-grows.true)
 
 pub returns : goal.returns
 returns c = λ k l e. c.loop-number.invariant k (omega (arith, l, c.loop-number-test.false)) e

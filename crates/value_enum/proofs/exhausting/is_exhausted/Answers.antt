@@ -1,12 +1,13 @@
-use Rattle.std.proofs.Common.{◌≡◌, ◌<◌, ◌+◌, ◌∙◌, ℕ, Bool, true, false, List, length, get_or, Option, Some, None, refl, sym, ap, subst, arith}
+use Rattle.std.proofs.Common.{◌≡◌, ◌<◌, ◌+◌, ◌∙◌, ℕ, zero, suc, [], ◌∷◌, Bool, true, false, List, length, get_or, Option, Some, None, refl, sym, ap, subst, arith}
 use Rattle.std.specs.Prelude.{MatchOption}
 use Rattle.std.specs.List.{Contains}
 use Rattle.std.proofs.lemmas.List.{length-set}
 use Rattle.data_theory.specs.declared.ids.SortId.{SortId}
 use Rattle.term_pool.proofs.InhabitedSearch.{one_mark_more}
-use Rattle.value_enum.specs.Levels.{HasNoHeavier}
+use Rattle.value_enum.specs.Levels.{HasHeavier, HasNoHeavier}
 use Rattle.value_enum.proofs.RowLemmas.{rows_length}
 use Rattle.value_enum.proofs.GrowingSorts.{marks_on, marked_still}
+use Rattle.value_enum.proofs.HeavierValues.{number_above, above_still}
 use Rattle.value_enum.proofs.Exhaustion.{none_above}
 use Rattle.value_enum.proofs.exhausting.is_exhausted.Goals as goal
 
@@ -25,6 +26,11 @@ loop-grows-init c =
     record {
       size = size;
       numbers = λ s l e. c.loop-number.invariant.numbers s (omega (arith, l)) ∙ e;
+      above = λ noted s among e.
+          let inside = c.requires.shapes.within s among in
+          let count = c.requires.shapes.count in
+          let same = c.requires.count in
+          number_above c.args.sig.now s c.args.weight (sym (c.loop-number.invariant.numbers s (omega (arith, inside, count, same))) ∙ e) c.requires.weight;
     }
 
 pub growing-requires-clause-arguments : goal.growing-requires-clause-arguments
@@ -55,6 +61,8 @@ loop-grows-preserved c =
     record {
       size = length-set c.loop-grows.unbounded.items c.in-Some.grows true ∙ c.loop-grows.invariant.size;
       numbers = λ s m is. marked_still c.loop-grows.unbounded.items c.in-Some.grows s.0 (omega (arith, l, e)) (c.loop-grows.invariant.numbers s m is);
+      above = λ noted. above_still c.args.sig.now c.requires.stands c.args.shapes.now c.requires.shapes c.args.heaviest.now noted c.loop-grows.unbounded.items c.args.weight (c.loop-grows.invariant.above noted) c.in-Some.grows (omega (arith, l, e))
+          (subst (λ (ms : List Bool). HasHeavier c.args.shapes.now c.args.heaviest.now ms c.args.weight c.in-Some.grows) c.as_slice.ensures.value c.in-Some.ensures.2);
     }
 
 pub index-requires : goal.index-requires
@@ -68,8 +76,21 @@ by_none : (o : Option ℕ) (P : Type 0) (Q : ℕ → Type 0) → ((k : ℕ) → 
 by_none None P Q none h = h
 by_none (Some k) P Q none h = absurd (none k refl)
 
-pub returns : goal.returns
-returns c =
+read_true : (xs : List Bool) (k : ℕ) (b : Bool) → b ≡ get_or xs k b → b ≡ true → k < length xs → get_or xs k false ≡ true
+read_true [] k b is e l = absurd (omega (arith, l))
+read_true (x ∷ xs) zero b is e l = sym is ∙ e
+read_true (x ∷ xs) (suc k) b is e l = read_true xs k b is e (omega (arith, l))
+
+pub returns-then-unbounded-sort-clause-goes_on : goal.returns-then-unbounded-sort-clause-goes_on
+returns-then-unbounded-sort-clause-goes_on c = λ e noted.
+    let inside = c.requires.shapes.within c.args.sort c.requires.sort in
+    let count = c.requires.shapes.count in
+    let same = c.requires.count in
+    let size = c.loop-grows.invariant.size in
+    c.loop-grows.invariant.above noted c.args.sort c.requires.sort (read_true c.loop-grows.unbounded.items c.args.sort.0 c.index.result.now c.index.ensures c.if-index.true (omega (arith, inside, count, same, size)))
+
+pub returns-clause-ends : goal.returns-clause-ends
+returns-clause-ends c =
     let count = c.requires.shapes.count in
     let same = c.requires.count in
     let size = c.loop-grows.invariant.size in
