@@ -4,13 +4,15 @@
 Run it anywhere: examples/check.py [PROGRAM WORD..]. The program is ./mcrl2lin if none is given.
 A specification NAME.mcrl2 has its linear process in NAME.lps, where there is one, which is given again when it is read itself. It can be
 linearised, which the task `check` is to say.
-One in refused/ has the line that refuses it in NAME.err, whatever the task. Each difference is a line, and the last line counts what was
-compared. The status is 1 where something differs.
+One in refused/ has the line that refuses it in NAME.err, whatever the task. The cases in cases/ are run as well (cases.py says what they
+are). Each difference is a line, and the last line counts what was compared. The status is 1 where something differs.
 """
 
 import pathlib
 import subprocess
 import sys
+
+import cases
 
 HERE = pathlib.Path(__file__).resolve().parent
 
@@ -43,7 +45,7 @@ def refusals():
 
 def main():
     program = sys.argv[1:] or [str(HERE.parent / "mcrl2lin")]
-    compared = differ = 0
+    compared, differ = cases.compare(program)
     for task, path, wanted in [*linear_processes(), *accepted(), *refusals()]:
         found = run(program, task, path)
         compared += 1

@@ -1,2 +1,0 @@
-pub mod BareLoops
-pub mod OneActionFits
