@@ -61,7 +61,7 @@ module _ (g : Sig) (ts : List Tree) (l : PlainLinear) (o : PlainAround) (f : Lis
   summand_filter : (th : Theory) → IsFilter th (variable_sorts g) (linear_of (entries_of g ts) l).params (around_of (entries_of g ts) o) (labels.by_label f')
   summand_filter th = label_filter th (variable_sorts g) (linear_of (entries_of g ts) l).params (around_of (entries_of g ts) o) f' (is th)
 
-  linear_meant : linear_of (entries_of g ts) made ≡ filtered (labels.by_label f') (linear_of (entries_of g ts) l)
+  pub linear_meant : linear_of (entries_of g ts) made ≡ filtered (labels.by_label f') (linear_of (entries_of g ts) l)
   linear_meant = ap (λ ss. record { params = (linear_of (entries_of g ts) l).params; summands = ss }) (summands_meant g ts f f' meant l.params l.summands fits.summands)
 
   pub labels_fit : Fits g ts made

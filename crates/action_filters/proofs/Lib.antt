@@ -1,6 +1,7 @@
 pub mod Filtered
 pub mod NamesTold
 pub mod TheoryLabels
+pub mod SameFilters
 pub mod Along
 pub mod Meant
 pub mod Around

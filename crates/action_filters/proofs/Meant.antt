@@ -25,10 +25,10 @@ use Rattle.lps_core.proofs.Members.{all_at}
 use Rattle.lps_core.proofs.Staying.{action_is}
 use Rattle.action_filters.specs.NameTests.{is_among}
 use Rattle.action_filters.specs.LabelFilters.{allowed_label, unblocked_label, shown, shown_label}
+use Rattle.action_filters.specs.Filtering.{texts}
 use Rattle.action_filters.specs.Filters.{same_name, key_of_action, naming, labelled, by_label, IsNameIn}
 use Rattle.action_filters.proofs.Along.{IsAlong, allowed_along, unblocked_along, shown_along}
 use Rattle.action_filters.proofs.TheoryLabels as theory
-use Rattle.action_filters.proofs.TheoryLabels.{texts}
 
 -- ---- summands
 -- f' does over terms what f does over numbers, and f keeps the actions of the signature

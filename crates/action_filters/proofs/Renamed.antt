@@ -26,11 +26,13 @@ use Rattle.lps_core.specs.Fitting.{IsActionOf}
 use Rattle.lps_core.proofs.Members.{In, here, there as behind, in_contains, contains_in, contains_map}
 use Rattle.lps_core.proofs.Staying.{action_is}
 use Rattle.action_filters.specs.LabelFilters.{new_name}
+use Rattle.action_filters.specs.Filtering as meant
+use Rattle.action_filters.specs.Filtering.{texts, pairs_of}
 use Rattle.action_filters.specs.Filters.{same_name, sort_numbers, same_key, key_of_action, naming, place_of_key, renamed_key, renamed_action, renamed_label, IsNameIn, RenamesOnce, HaveTargets}
 use Rattle.action_filters.proofs.Along.{new_name_along}
 use Rattle.action_filters.proofs.Meant.{IsMeant, there, key_is, name_within, names_alike, names_along}
 use Rattle.action_filters.proofs.TheoryLabels as theory
-use Rattle.action_filters.proofs.TheoryLabels.{texts, pairs_of, AreFunctional}
+use Rattle.action_filters.proofs.TheoryLabels.{AreFunctional}
 
 -- ---- the place of a key
 sorts_differ : (ss rs : List SortId) → sort_numbers ss ≡ sort_numbers rs → ss ≡ rs
@@ -138,7 +140,7 @@ module _ (g : Sig) (ts : List Tree) (stands : IsSignature g) (pairs : List (Name
     new_actions [] h = All-nil (IsActionOf g ts)
     new_actions (a ∷ m) h = All-cons (IsActionOf g ts) (renamed_action g pairs a) (map (renamed_action g pairs) m) (new_action a (All-head (IsActionOf g ts) a m h)) (new_actions m (All-tail (IsActionOf g ts) a m h))
 
-    action_meant : (a : PlainAction) → IsActionOf g ts a → theory.renamed_action (pairs_of renamings) (action_of (entries_of g ts) a) ≡ action_of (entries_of g ts) (renamed_action g pairs a)
+    action_meant : (a : PlainAction) → IsActionOf g ts a → meant.renamed_action (pairs_of renamings) (action_of (entries_of g ts) a) ≡ action_of (entries_of g ts) (renamed_action g pairs a)
     unfolding new_action
     action_meant a h =
         let old = action_is g ts a h in
@@ -148,7 +150,7 @@ module _ (g : Sig) (ts : List Tree) (stands : IsSignature g) (pairs : List (Name
         (ap₂ (λ (ps : List (Name × Name)) (e : ActionEntry). new_name bytes_eq ps e.name) (pairs_are pairs) old ∙ along.0) old
         ∙ ap (λ (e : ActionEntry). record { name = e.name; sorts = e.sorts; args = map (term_at (entries_of g ts)) a.args }) (sym new)
 
-    label_meant : (m : List PlainAction) → All (IsActionOf g ts) m → map (λ a. theory.renamed_action (pairs_of renamings) a) (label_of (entries_of g ts) m) ≡ label_of (entries_of g ts) (map (renamed_action g pairs) m)
+    label_meant : (m : List PlainAction) → All (IsActionOf g ts) m → map (λ a. meant.renamed_action (pairs_of renamings) a) (label_of (entries_of g ts) m) ≡ label_of (entries_of g ts) (map (renamed_action g pairs) m)
     label_meant [] h = refl
     label_meant (a ∷ m) h = ap₂ (λ x l. x ∷ l) (action_meant a (All-head (IsActionOf g ts) a m h)) (label_meant m (All-tail (IsActionOf g ts) a m h))
 

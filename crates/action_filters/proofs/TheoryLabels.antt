@@ -18,12 +18,9 @@ use Rattle.lps_core.proofs.Members.{In, here, there}
 use Rattle.lps_core.proofs.Shapes.{IsSortedSummand}
 use Rattle.action_filters.specs.NameTests.{is_among, is_permuted}
 use Rattle.action_filters.specs.LabelFilters.{Naming, allowed_label, unblocked_label, shown, shown_label, new_name}
+use Rattle.action_filters.specs.Filtering.{texts, pairs_of, renamed_action}
 use Rattle.action_filters.proofs.NamesTold.{Told, yes, no, told, some_told, among_told, permuted_told}
 use Rattle.action_filters.proofs.Filtered.{IsFilter}
-
--- the names of actions are texts
-abbrev pub texts : Naming Action Name
-texts = record { name = λ a. a.name; same = bytes_eq }
 
 -- ---- summands with another label
 abbrev pub labelled : Summand → Option Label → List Summand
@@ -32,12 +29,6 @@ labelled s (Some m) = record { sums = s.sums; condition = s.condition; label = m
 
 abbrev pub by_label : (Label → Option Label) → Summand → List Summand
 by_label f s = labelled s (f s.label)
-
-abbrev pub pairs_of : List Renaming → List (Name × Name)
-pairs_of rs = map (λ (r : Renaming). (r.from, r.to)) rs
-
-abbrev pub renamed_action : List (Name × Name) → Action → Action
-renamed_action ps a = record { name = new_name bytes_eq ps a.name; sorts = a.sorts; args = a.args }
 
 abbrev pub renamed_label : List (Name × Name) → Label → Option Label
 renamed_label ps m = Some (map (λ a. renamed_action ps a) m)
@@ -166,8 +157,8 @@ allow_sorted : (sets : List (List Name)) (g : Data) (vs : List Sort) (m n : Labe
 allow_sorted sets g vs [] n q h = subst (λ z. LabelIsSorted g vs z) (same_some q) h
 allow_sorted sets g vs (a ∷ m) n q h = kept_sorted g vs (is_allowed sets (names (a ∷ m))) (a ∷ m) n q h
 
-pub allowing : (th : Theory) (sets : List (List Name)) → IsLabelFilter th (allow sets) (allowed_label texts sets)
-allowing th sets = record { passes = allow_passes th sets; passed = allow_passed th sets; along = allow_along sets; over = allow_over sets; sorted = allow_sorted sets }
+pub allow_filters : (th : Theory) (sets : List (List Name)) → IsLabelFilter th (allow sets) (allowed_label texts sets)
+allow_filters th sets = record { passes = allow_passes th sets; passed = allow_passed th sets; along = allow_along sets; over = allow_over sets; sorted = allow_sorted sets }
 
 -- ---- block
 abbrev is_blocked : List Name → List Name → Bool
@@ -197,8 +188,8 @@ drop_if e b c m q = ap (λ z. if z then None else Some (put_label e m)) q ∙ by
     by true = refl
     by false = refl
 
-pub blocking : (th : Theory) (blocked : List Name) → IsLabelFilter th (block blocked) (unblocked_label texts blocked)
-blocking th blocked = record {
+pub block_filters : (th : Theory) (blocked : List Name) → IsLabelFilter th (block blocked) (unblocked_label texts blocked)
+block_filters th blocked = record {
   passes = block_passes th blocked;
   passed = block_passed th blocked;
   along = λ e m. drop_if e (is_blocked blocked (names (put_label e m))) (is_blocked blocked (names m)) m (ap (λ ns. is_blocked blocked ns) (names_put e m));
@@ -244,8 +235,8 @@ shown_sorted : (hidden : List Name) {g : Data} {vs : List Sort} {m : Label} → 
 shown_sorted hidden no_action_to_sort = no_action_to_sort
 shown_sorted hidden {g} {vs} (action_sorted {a = a} {m = m} h k) = elim (is_among bytes_eq hidden a.name) as (λ b. LabelIsSorted g vs (if b then shown texts hidden m else (a ∷ shown texts hidden m))) [ true ↦ shown_sorted hidden k | false ↦ action_sorted h (shown_sorted hidden k) ]
 
-pub hiding : (th : Theory) (hidden : List Name) → IsLabelFilter th (hide hidden) (shown_label texts hidden)
-hiding th hidden = record {
+pub hide_filters : (th : Theory) (hidden : List Name) → IsLabelFilter th (hide hidden) (shown_label texts hidden)
+hide_filters th hidden = record {
   passes = λ m n p. ap (λ z. Some z) (shown_is th hidden p);
   passed = λ m n q. subst (λ z. Passes th (hide hidden) m z) (same_some q) (hide_passed th hidden m);
   along = λ e m. ap (λ z. Some z) (shown_put hidden e m);
@@ -309,8 +300,8 @@ renamed_sorted : (rs : List Renaming) {g : Data} {vs : List Sort} {m : Label} �
 renamed_sorted rs no_action_to_sort = no_action_to_sort
 renamed_sorted rs (action_sorted h k) = action_sorted h (renamed_sorted rs k)
 
-pub renaming : (th : Theory) (rs : List Renaming) → AreFunctional rs → IsLabelFilter th (rename rs) (renamed_label (pairs_of rs))
-renaming th rs ok = record {
+pub rename_filters : (th : Theory) (rs : List Renaming) → AreFunctional rs → IsLabelFilter th (rename rs) (renamed_label (pairs_of rs))
+rename_filters th rs ok = record {
   passes = λ m n p. ap (λ z. Some z) (rename_is th rs ok p);
   passed = λ m n q. subst (λ z. Passes th (rename rs) m z) (same_some q) (rename_passed th rs m);
   along = λ e m. ap (λ z. Some z) (renamed_put rs e m);

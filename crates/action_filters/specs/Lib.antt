@@ -1,3 +1,6 @@
 pub mod NameTests
 pub mod LabelFilters
 pub mod Filters
+pub mod Filtering
+pub mod Means
+pub mod FilterOutcomes

@@ -7,9 +7,11 @@ ghost use Rattle.process_terms.specs.PlainProcesses.{items_of_each, plain_label}
 ghost use Rattle.process_terms.specs.PlainProcesses.{allow as allow_sets, block as block_names, hide as hide_names, rename as rename_pairs};
 ghost use Rattle.lps_core.specs.PlainLinears.{plain_linear, plain_summand};
 ghost use Rattle.lps_core.specs.Fitting.{Fits};
-ghost use Rattle.action_filters.specs.Filters.{allowed, hidden, labelled, renamed, unblocked, HasActionsIn, HaveTargets, IsGoodAround, IsNameIn, RenamesOnce};
+ghost use Rattle.action_filters.specs.Filters.{allowed, hidden, labelled, renamed, unblocked, with_labels, HasActionsIn, HaveTargets, IsGoodAround, IsNameIn, RenamesOnce};
+ghost use Rattle.action_filters.specs.FilterOutcomes.{outcome, HasTargets};
+ghost use Rattle.action_filters.specs.Means.{MeansAllowing, MeansBlocking, MeansHiding, MeansRenaming};
 
-use crate::labels::{allowed_label, renamed_label, shown_label, signature_stands, unblocked_label};
+use crate::labels::{Filter, filtered_label, signature_stands};
 use data_theory::{NameId, NoMemory, Signature};
 use lps_core::{Linear, Summand};
 use process_terms::Label;
@@ -33,82 +35,20 @@ fn add_labelled(
     Ok(())
 }
 
-fn with_allowed(
+/// The linear process with each summand in its place, with the label that comes out of the filter, where one does.
+fn with_filter(
     alloc: Global,
     lin: &Linear,
-    sets: &[Vec<NameId>],
-    sig: &Signature,
-) -> Result<Linear, NoMemory>
-    requires { All (HasActionsIn sig.now) (plain_linear lin.now).summands }
-    ensures { IfOk result (λ made. plain_linear made ≡ allowed sig.now (items_of_each sets.now) (plain_linear lin.now)) }
-{
-    let mut summands = Vec::new(alloc);
-    for summand in &lin.summands {
-        let label = allowed_label(alloc, sig, sets, &summand.label)?;
-        add_labelled(alloc, summand, label, &mut summands)?;
-    }
-    Ok(Linear {
-        params: lin.params.to_vec(alloc)?,
-        init: lin.init.to_vec(alloc)?,
-        summands,
-    })
-}
-
-fn with_unblocked(
-    alloc: Global,
-    lin: &Linear,
-    names: &[NameId],
-    sig: &Signature,
-) -> Result<Linear, NoMemory>
-    requires { All (HasActionsIn sig.now) (plain_linear lin.now).summands }
-    ensures { IfOk result (λ made. plain_linear made ≡ unblocked sig.now names.now (plain_linear lin.now)) }
-{
-    let mut summands = Vec::new(alloc);
-    for summand in &lin.summands {
-        let label = unblocked_label(alloc, sig, names, &summand.label)?;
-        add_labelled(alloc, summand, label, &mut summands)?;
-    }
-    Ok(Linear {
-        params: lin.params.to_vec(alloc)?,
-        init: lin.init.to_vec(alloc)?,
-        summands,
-    })
-}
-
-fn with_hidden(
-    alloc: Global,
-    lin: &Linear,
-    names: &[NameId],
-    sig: &Signature,
-) -> Result<Linear, NoMemory>
-    requires { All (HasActionsIn sig.now) (plain_linear lin.now).summands }
-    ensures { IfOk result (λ made. plain_linear made ≡ hidden sig.now names.now (plain_linear lin.now)) }
-{
-    let mut summands = Vec::new(alloc);
-    for summand in &lin.summands {
-        let label = shown_label(alloc, sig, names, &summand.label)?;
-        add_labelled(alloc, summand, label, &mut summands)?;
-    }
-    Ok(Linear {
-        params: lin.params.to_vec(alloc)?,
-        init: lin.init.to_vec(alloc)?,
-        summands,
-    })
-}
-
-fn with_renamed(
-    alloc: Global,
-    lin: &Linear,
-    pairs: &[(NameId, NameId)],
+    filter: Filter,
     sig: &Signature,
 ) -> Result<Linear, NoMemory>
     requires actions { All (HasActionsIn sig.now) (plain_linear lin.now).summands }
-    requires targets { HaveTargets sig.now pairs.now }
-    ensures { IfOk result (λ made. plain_linear made ≡ renamed sig.now pairs.now (plain_linear lin.now)) }
+    requires targets { HasTargets sig.now filter }
+    ensures { IfOk result (λ made. plain_linear made ≡ with_labels (outcome sig.now filter.entry) (plain_linear lin.now)) }
 {
     let mut summands = Vec::new(alloc);
     for summand in &lin.summands {
-        let label = renamed_label(alloc, sig, pairs, &summand.label)?;
+        let label = filtered_label(alloc, sig, filter, &summand.label)?;
         add_labelled(alloc, summand, label, &mut summands)?;
     }
     Ok(Linear {
@@ -133,11 +73,12 @@ pub fn allow(
     requires fits { (ts : List Tree) × Fits sig.now ts (plain_linear lin.now) }
     requires names { All (All (IsNameIn sig.now)) (items_of_each sets.now) }
     ensures summands { IfOk result (λ made. plain_linear made ≡ allowed sig.now (items_of_each sets.now) (plain_linear lin.now)) }
+    ensures means { IfOk result (λ made. MeansAllowing sig.now (items_of_each sets.now) (plain_linear lin.now) (plain_linear made)) }
     ensures fits { IfOk result (λ made. (ts : List Tree) → Fits sig.now ts (plain_linear lin.now) → Fits sig.now ts (plain_linear made)) }
     ensures bisimilar { IfOk result (λ made. (ts : List Tree) → Fits sig.now ts (plain_linear lin.now) → IsGoodAround sig.now ts (allow_sets (items_of_each sets.now)) (plain_linear lin.now) (plain_linear made)) }
 {
     signature_stands(sig);
-    with_allowed(alloc, lin, sets, sig)
+    with_filter(alloc, lin, Filter::Allow(sets), sig)
 }
 
 /// `block(B, p)`: the summands without a name of the set (mCRL2 language reference, `block`).
@@ -154,11 +95,12 @@ pub fn block(
     requires fits { (ts : List Tree) × Fits sig.now ts (plain_linear lin.now) }
     requires names { All (IsNameIn sig.now) names.now }
     ensures summands { IfOk result (λ made. plain_linear made ≡ unblocked sig.now names.now (plain_linear lin.now)) }
+    ensures means { IfOk result (λ made. MeansBlocking sig.now names.now (plain_linear lin.now) (plain_linear made)) }
     ensures fits { IfOk result (λ made. (ts : List Tree) → Fits sig.now ts (plain_linear lin.now) → Fits sig.now ts (plain_linear made)) }
     ensures bisimilar { IfOk result (λ made. (ts : List Tree) → Fits sig.now ts (plain_linear lin.now) → IsGoodAround sig.now ts (block_names names.now) (plain_linear lin.now) (plain_linear made)) }
 {
     signature_stands(sig);
-    with_unblocked(alloc, lin, names, sig)
+    with_filter(alloc, lin, Filter::Block(names), sig)
 }
 
 /// `hide(I, p)`: each summand without its actions that have a name of the set (mCRL2 language reference, `hide`).
@@ -175,11 +117,12 @@ pub fn hide(
     requires fits { (ts : List Tree) × Fits sig.now ts (plain_linear lin.now) }
     requires names { All (IsNameIn sig.now) names.now }
     ensures summands { IfOk result (λ made. plain_linear made ≡ hidden sig.now names.now (plain_linear lin.now)) }
+    ensures means { IfOk result (λ made. MeansHiding sig.now names.now (plain_linear lin.now) (plain_linear made)) }
     ensures fits { IfOk result (λ made. (ts : List Tree) → Fits sig.now ts (plain_linear lin.now) → Fits sig.now ts (plain_linear made)) }
     ensures bisimilar { IfOk result (λ made. (ts : List Tree) → Fits sig.now ts (plain_linear lin.now) → IsGoodAround sig.now ts (hide_names names.now) (plain_linear lin.now) (plain_linear made)) }
 {
     signature_stands(sig);
-    with_hidden(alloc, lin, names, sig)
+    with_filter(alloc, lin, Filter::Hide(names), sig)
 }
 
 /// `rename(R, p)`: each summand with its names replaced, all at once and each of them once (mCRL2 language reference, `rename`).
@@ -198,9 +141,10 @@ pub fn rename(
     requires once { RenamesOnce pairs.now }
     requires targets { HaveTargets sig.now pairs.now }
     ensures summands { IfOk result (λ made. plain_linear made ≡ renamed sig.now pairs.now (plain_linear lin.now)) }
+    ensures means { IfOk result (λ made. MeansRenaming sig.now pairs.now (plain_linear lin.now) (plain_linear made)) }
     ensures fits { IfOk result (λ made. (ts : List Tree) → Fits sig.now ts (plain_linear lin.now) → Fits sig.now ts (plain_linear made)) }
     ensures bisimilar { IfOk result (λ made. (ts : List Tree) → Fits sig.now ts (plain_linear lin.now) → IsGoodAround sig.now ts (rename_pairs pairs.now) (plain_linear lin.now) (plain_linear made)) }
 {
     signature_stands(sig);
-    with_renamed(alloc, lin, pairs, sig)
+    with_filter(alloc, lin, Filter::Rename(pairs), sig)
 }

@@ -1,15 +1,29 @@
 //! What comes out of a label.
 
-ghost use Rattle.std.specs.Prelude.{◌≡◌, ◌++◌, ◌∷◌, [], map, option_map, if◌then◌else◌, Some, None, IfOk, OnOk};
+ghost use Rattle.std.specs.Prelude.{◌≡◌, ◌++◌, ◌∷◌, [], false, map, option_map, if◌then◌else◌, Some, None, IfOk, OnOk};
 ghost use Rattle.data_theory.specs.WholeSignatures.{IsSignature};
 ghost use Rattle.process_terms.specs.PlainProcesses.{items_of_each, plain_action, plain_label};
 ghost use Rattle.action_filters.specs.NameTests.{is_among, is_permuted, without_one};
 ghost use Rattle.action_filters.specs.LabelFilters.{allowed_label, are_allowed, are_blocked, new_name, shown, shown_label, unblocked_label};
+ghost use Rattle.action_filters.specs.FilterOutcomes.{outcome, HasTargets};
 ghost use Rattle.action_filters.specs.Filters.{key_of_action, naming, renamed_action, renamed_label, same_name, AreActionsIn, HaveTargets, IsActionIn};
 
 use data_theory::{ActId, NameId, NoMemory, Signature};
 use process_terms::{Action, Label};
 use std::alloc::Global;
+
+/// What filters labels.
+#[derive(Clone, Copy)]
+pub(crate) enum Filter<'a> {
+    /// The names that are allowed together.
+    Allow(&'a [Vec<NameId>]),
+    /// The names that are blocked.
+    Block(&'a [NameId]),
+    /// The names that are hidden.
+    Hide(&'a [NameId]),
+    /// Names, and what they are replaced by.
+    Rename(&'a [(NameId, NameId)]),
+}
 
 /// Says what each signature keeps.
 pub(crate) fn signature_stands(sig: &Signature)
@@ -45,9 +59,10 @@ fn is_among(names: &[NameId], name: NameId) -> bool
     names.iter().any(|other| other.0 == name.0)
 }
 
-/// Takes the first one of a name out, if there is one.
+/// Takes the first one of a name out, if there is one, and else leaves the names as they are.
 pub fn take_one(unmatched: &mut Vec<NameId>, name: NameId) -> bool
-    ensures { without_one same_name name unmatched.old.items ≡ (if result then Some unmatched.new.items else None) }
+    ensures otherwise { result ≡ false → unmatched.new.items ≡ unmatched.old.items }
+    ensures taken { without_one same_name name unmatched.old.items ≡ (if result then Some unmatched.new.items else None) }
 {
     for place in 0..unmatched.len() {
         if unmatched[place].0 == name.0 {
@@ -94,7 +109,7 @@ fn are_blocked(names: &[NameId], blocked: &[NameId]) -> bool
 }
 
 /// The label, where its names are allowed.
-pub(crate) fn allowed_label(
+fn allowed_label(
     alloc: Global,
     sig: &Signature,
     sets: &[Vec<NameId>],
@@ -111,7 +126,7 @@ pub(crate) fn allowed_label(
 }
 
 /// The label, where none of its names is blocked.
-pub(crate) fn unblocked_label(
+fn unblocked_label(
     alloc: Global,
     sig: &Signature,
     blocked: &[NameId],
@@ -146,7 +161,7 @@ fn add_shown(
 }
 
 /// The actions that aren't hidden.
-pub(crate) fn shown_label(
+fn shown_label(
     alloc: Global,
     sig: &Signature,
     hidden: &[NameId],
@@ -205,7 +220,7 @@ fn renamed_action(
 }
 
 /// The label with the new names.
-pub(crate) fn renamed_label(
+fn renamed_label(
     alloc: Global,
     sig: &Signature,
     pairs: &[(NameId, NameId)],
@@ -220,4 +235,23 @@ pub(crate) fn renamed_label(
         actions.push(renamed_action(alloc, sig, pairs, action)?)?;
     }
     Ok(Some(Label { actions }))
+}
+
+/// The label that comes out of a filter, if one does.
+pub(crate) fn filtered_label(
+    alloc: Global,
+    sig: &Signature,
+    filter: Filter,
+    label: &Label,
+) -> Result<Option<Label>, NoMemory>
+    requires actions { AreActionsIn sig.now (plain_label label.now) }
+    requires targets { HasTargets sig.now filter }
+    ensures { IfOk result (λ made. option_map plain_label made ≡ outcome sig.now filter.entry (plain_label label.now)) }
+{
+    match filter {
+        Filter::Allow(sets) => allowed_label(alloc, sig, sets, label),
+        Filter::Block(names) => unblocked_label(alloc, sig, names, label),
+        Filter::Hide(names) => shown_label(alloc, sig, names, label),
+        Filter::Rename(pairs) => renamed_label(alloc, sig, pairs, label),
+    }
 }

@@ -1,8 +1,0 @@
-use Rattle.std.proofs.Common.{◌≡◌, map, take}
-use Rattle.std.specs.Prelude.{flat_map}
-use Rattle.lps_core.specs.PlainLinears.{plain_summand}
-use Rattle.action_filters.specs.Filters.{by_label, renamed_label}
-use Rattle.action_filters.proofs.filters.with_renamed.Given as goal
-
-abbrev pub invariant-loop-summand : goal.invariant-loop-summand
-invariant-loop-summand l = map plain_summand l.summands.items ≡ flat_map (by_label (renamed_label l.sig l.pairs)) (map plain_summand (take l.summand-index l.summand-items))
