@@ -36,6 +36,7 @@ use Rattle.lps_core.proofs.Members.{contains_map, map_contains, all_at, all_from
 use Rattle.lps_core.proofs.MeantParts.{positive_meant}
 use Rattle.lps_core.proofs.NamedLinears.{trees_keep, label_fits, first_functions}
 use Rattle.lps_core.proofs.PoolTrees.{extends_itself, all_in_kept}
+use Rattle.lps_core.proofs.SortedTrees.{is_of, variables_sorted}
 use Rattle.lps_core.proofs.Staying.{terms_are, terms_stay}
 use Rattle.lps_core.proofs.StayingFits.{terms_fit, lists_are_closed, closed_terms_fit}
 use Rattle.greibach.specs.Forms.{form_table, IsForm, FormIsSorted}
@@ -56,7 +57,7 @@ use Rattle.regular_encoder.proofs.Fitting.{encoded_linear}
 use Rattle.regular_encoder.proofs.FormsInPlace.{form_fits_still, equations_for, equations_in}
 use Rattle.regular_encoder.proofs.GoodOver.{good_over}
 use Rattle.regular_encoder.proofs.Made.{made_means}
-use Rattle.regular_encoder.proofs.SortedTrees.{condition_sorted, control_sorted, is_of, variables_sorted, bound_sorted, columns_sorted, positive_sort, place_sorts}
+use Rattle.regular_encoder.proofs.SortedTrees.{condition_sorted, control_sorted, bound_sorted, columns_sorted, positive_sort, place_sorts}
 
 -- ---- where a summand comes from
 pub record ComesFrom (l : PlainLayout) (us : List Tree) (i : ℕ) (qs : List PlainEquation) (t : TreeSummand) : Type 0 where

@@ -23,12 +23,13 @@ use Rattle.bisim_laws.specs.BaseStates.{Columns, number_of, control_of}
 use Rattle.lps_core.specs.Conditions.{parts, without_true, joined}
 use Rattle.greibach.specs.PlainForms.{call_of}
 use Rattle.lps_core.specs.TreeSummands.{bound_tree, numbers_of}
+use Rattle.lps_core.specs.NumberTrees.{number_tree}
 use Rattle.lps_core.specs.TreeConditions.{tree_parts, trees_without_true, conjunction_tree}
 use Rattle.lps_core.proofs.Staying.{term_is, terms_are}
 use Rattle.lps_core.proofs.MeantTrees.{Means, bound_means, variables_mean, put_means, puts_mean, label_means}
 use Rattle.lps_core.proofs.MeantParts.{numbers_mean, positive_meant, parts_mean_parts, chains_mean_chains}
 use Rattle.regular_encoder.specs.Encoding.{control_parts, place_of, to_columns, encoded_next}
-use Rattle.regular_encoder.specs.TreeEncoding.{PlainLayout, place_at, number_tree, tree_control_parts, tree_control_of, tree_encoded_next, IsCallIn}
+use Rattle.regular_encoder.specs.TreeEncoding.{PlainLayout, place_at, tree_control_parts, tree_control_of, tree_encoded_next, IsCallIn}
 use Rattle.regular_encoder.specs.MeantEncoding.{HasControl, MeansColumns, EncodedTreesMean}
 
 -- ---- the control number

@@ -1,14 +1,13 @@
 -- The encoding over the trees of a pool.
-use Rattle.std.specs.Prelude.{◌≡◌, ◌≤◌, ◌-◌, ℕ, List, [], ◌∷◌, ◌++◌, map, length, get_or, Option, Some, None, Vec, pos}
+use Rattle.std.specs.Prelude.{◌≡◌, ◌≤◌, ◌-◌, ℕ, List, [], ◌∷◌, ◌++◌, map, length, get_or, Option, Some, None, Vec}
 use Rattle.std.specs.List.{All}
 use Rattle.std.specs.Global.{Global}
 use Rattle.data_theory.specs.declared.ids.VarId.{VarId}
-use Rattle.data_theory.specs.declared.ids.FunId.{FunId}
 use Rattle.data_theory.specs.declared.ids.TermId.{TermId}
-use Rattle.data_theory.specs.Table.{pos_sort}
-use Rattle.data_theory.specs.IdTrees.{Tree, variable, numeral, function, none, more, put_tree}
+use Rattle.data_theory.specs.IdTrees.{Tree, variable, put_tree}
 use Rattle.term_pool.specs.HeadTrees.{tree_at, trees_at, IsIn, AreIn}
 use Rattle.greibach.specs.PlainForms.{PlainFormSummand}
+use Rattle.lps_core.specs.NumberTrees.{number_tree, equals_number}
 use Rattle.lps_core.specs.TreeSummands.{TreeSummand, bound_tree, trees_of_label, put_actions, IsActionIn}
 use Rattle.lps_core.specs.TreeConditions.{tree_parts, trees_without_true, conjunction_tree}
 use Rattle.regular_encoder.specs.declared.layouts.Layout.{Layout}
@@ -29,16 +28,9 @@ abbrev pub place_at : PlainLayout → ℕ → List VarId
 place_at l i = get_or l.places (i - 1) []
 
 -- ---- the control number
-abbrev pub number_tree : ℕ → Tree
-number_tree i = numeral pos_sort (pos i)
-
--- `==` on Pos, by its number in the table of built-in functions
-abbrev pub equal_function : FunId
-equal_function = record { 0 = 15 }
-
 abbrev pub tree_control_parts : Option VarId → ℕ → List Tree
 tree_control_parts None i = []
-tree_control_parts (Some v) i = function equal_function (more (variable v) (more (number_tree i) none)) ∷ []
+tree_control_parts (Some v) i = equals_number (variable v) i ∷ []
 
 abbrev pub tree_control_of : Option VarId → ℕ → List Tree
 tree_control_of None i = []

@@ -11,34 +11,17 @@ ghost use Rattle.greibach.specs.PlainForms.{plain_call, plain_equation, plain_fo
 ghost use Rattle.lps_core.specs.TreeSummands.{trees_of_summand, IsSummandIn, bound_tree};
 ghost use Rattle.lps_core.specs.TreeConditions.{conjunction_tree, tree_parts, trees_without_true};
 ghost use Rattle.regular_encoder.specs.WholeEncoding.{equation_encoded, trees_of_summands};
-ghost use Rattle.regular_encoder.specs.TreeEncoding.{number_tree, place_at, plain_layout, tree_control_of, tree_control_parts, tree_encoded, tree_encoded_next, tree_next, IsCallIn, IsFormSummandIn};
+ghost use Rattle.regular_encoder.specs.TreeEncoding.{place_at, plain_layout, tree_control_of, tree_control_parts, tree_encoded, tree_encoded_next, tree_next, IsCallIn, IsFormSummandIn};
 
 use crate::layouts::Layout;
-use data_theory::{FunId, NoMemory, Num, SortId, TermId, VarId};
+use data_theory::{NoMemory, TermId, VarId};
 use greibach::{GreibachEquation, GreibachSummand};
-use lps_core::{Summand, conjoined, parts_of, put_all, put_label, renaming, variable_term};
+use lps_core::{
+    Summand, conjoined, equals_number, numeral, parts_of, put_all, put_label, renaming,
+    variable_term,
+};
 use std::alloc::Global;
-use term_pool::{Head, Pool};
-
-const POS: SortId = SortId(1);
-
-/// `==` on Pos
-const EQUAL: FunId = FunId(15);
-
-/// The term of a number of Pos.
-pub fn numeral(pool: &mut Pool, number: usize) -> Result<TermId, NoMemory>
-    requires { 1 ≤ number }
-    ensures kept { Extends pool.old.trees pool.new.trees }
-    ensures constants { pool.new.constants ≡ pool.old.constants }
-    ensures within { IfOk result (λ id. IsIn pool.new.trees id) }
-    ensures tree { IfOk result (λ id. tree_at pool.new.trees id ≡ number_tree number) }
-{
-    let num = Num {
-        negative: false,
-        magnitude: number as u128,
-    };
-    pool.intern(Head::Num(POS, num), &[])
-}
+use term_pool::Pool;
 
 /// The term of a column: that of the argument whose place it is, and otherwise its own.
 fn column_term(
@@ -147,9 +130,8 @@ fn control_parts(
 {
     let mut found = Vec::new(alloc);
     if let Some(control) = control {
-        let left = variable_term(pool, control)?;
-        let right = numeral(pool, number)?;
-        found.push(pool.intern(Head::Fun(EQUAL), &[left, right])?)?;
+        let term = variable_term(pool, control)?;
+        found.push(equals_number(pool, term, number)?)?;
     }
     Ok(found)
 }

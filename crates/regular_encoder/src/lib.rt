@@ -9,7 +9,7 @@ pub mod laws;
 mod layouts;
 mod linear;
 
-pub use encoding::{encode_equation, numeral};
+pub use encoding::encode_equation;
 pub use faults::EncodeFault;
 pub use layouts::{Layout, add_all_kinds, lay_out};
 pub use linear::encode;

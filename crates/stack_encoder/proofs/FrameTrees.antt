@@ -14,11 +14,11 @@ use Rattle.term_pool.specs.declared.terms.Head.TheVariants.{Fun}
 use Rattle.term_pool.specs.Bindings.{listed, listed_terms}
 use Rattle.term_pool.specs.HeadTrees.{head_tree, tree_at, trees_at, IsIn, AreIn}
 use Rattle.term_pool.specs.Pools.{Extends}
+use Rattle.lps_core.specs.NumberTrees.{number_tree}
 use Rattle.lps_core.specs.TreeConditions.{tree_parts, trees_without_true}
 use Rattle.lps_core.proofs.PoolTrees.{extends_itself, extends_on, tree_kept, trees_kept, listed_kept, args_along}
 use Rattle.greibach.specs.PlainForms.{plain_call}
 use Rattle.regular_encoder.specs.FormColumns.{places_in}
-use Rattle.regular_encoder.specs.TreeEncoding.{number_tree}
 use Rattle.stack_encoder.specs.declared.layouts.Layout.{Layout}
 use Rattle.stack_encoder.specs.StackColumns.{value_at}
 use Rattle.stack_encoder.specs.StackEntries.{StackIds}

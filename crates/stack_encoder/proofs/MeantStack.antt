@@ -39,7 +39,7 @@ use Rattle.lps_core.proofs.Staying.{term_is, terms_are}
 use Rattle.std.proofs.lemmas.List.{length-map}
 use Rattle.lps_core.proofs.MeantParts.{numbers_mean, positive_meant, parts_mean_parts, chains_mean_chains}
 use Rattle.stack_encoder.specs.StackEncoding.{StackSymbols, is_pushed, rest_of, fields_of, pushed_on, to_fields, put_call, Way, way_down, way_out, way_up, ways, stack_parts, stack_summand}
-use Rattle.regular_encoder.specs.TreeEncoding.{number_tree}
+use Rattle.lps_core.specs.NumberTrees.{number_tree}
 use Rattle.lps_core.proofs.MeantTrees.{Means, bound_means, put_means, puts_mean, label_means}
 use Rattle.stack_encoder.specs.StackEntries.{StackIds}
 use Rattle.stack_encoder.specs.TreeStack.{FrameLayout, place_at, argument_tree, column_trees, column_numbers, one_tree, not_function, frame_tree, pushed_trees, TreeWay, rest_tree, tree_way_down, tree_way_out, tree_way_up, tree_ways, first_parts, tree_stacked, field_tree, fields_for, MeansSymbols, MeansFrames, IsCallIn, IsFormSummandIn, StackedTreesMean}

@@ -23,12 +23,11 @@ use Rattle.data_theory.specs.WholeSignatures.{IsSignature}
 use Rattle.data_theory.proofs.IdSymbolLemmas.{holds_at}
 use Rattle.bisim_laws.proofs.Firing.{contains_first, contains_later}
 use Rattle.lps_core.specs.Fitting.{sort_of_variable}
+use Rattle.lps_core.specs.NumberTrees.{number_tree}
 use Rattle.lps_core.specs.TreeConditions.{conjunction_tree, tree_parts, trees_without_true}
-use Rattle.lps_core.proofs.TreeParts.{two_unmerged}
+use Rattle.lps_core.proofs.SortedTrees.{read_at, parts_sorted, without_sorted, chain_sorted, number_sorted, equals_number_sorted}
 use Rattle.regular_encoder.specs.FormColumns.{kind_of, AreKindsAt}
-use Rattle.regular_encoder.specs.TreeEncoding.{number_tree, equal_function}
 use Rattle.regular_encoder.proofs.FirstTerms.{some_is}
-use Rattle.regular_encoder.proofs.SortedTrees.{read_at, equal_at, parts_sorted, without_sorted, chain_sorted, number_sorted}
 use Rattle.stack_encoder.specs.StackEntries.{StackIds, StackStands}
 use Rattle.stack_encoder.specs.StackColumns.{sort_of_column}
 use Rattle.stack_encoder.specs.TreeStack.{FrameLayout, argument_tree, column_trees, place_at, one_tree, not_function, frame_tree, first_parts, rest_tree, field_tree}
@@ -111,7 +110,7 @@ module _ (h : Sig) (stands : IsSignature h) (y : StackIds) (columns : List SortI
     first_sorted i one few =
         let pc = projected y.pc 0 pos_sort (variable q) (ap (λ l. slice_get l 0) st.push_projections) (ap (λ l. slice_get l 0) st.push_sorts) refl own in (
           recognised (variable q) refl own,
-          ((built_in_function h.texts (rows.Two words.Equal pos_sort pos_sort bool_sort), read_at h stands.complete 15 _ (equal_at h.texts), refl, (pc, (number_sorted h stands.complete i one few, tt)), two_unmerged equal_function (one_tree y.pc (variable q)) (number_tree i)), tt),
+          (equals_number_sorted h stands.complete (one_tree y.pc (variable q)) i one few pc, tt),
         )
 
     pub more_sorted : HasTreeSort h (one_tree y.is_push (rest_tree y q)) bool_sort

@@ -43,6 +43,7 @@ use Rattle.lps_core.proofs.MeantTrees.{numbers_meant, summands_read}
 use Rattle.lps_core.proofs.NamedLinears.{label_fits, trees_keep, first_functions}
 use Rattle.lps_core.proofs.NamedSums.{sorts_kept}
 use Rattle.lps_core.proofs.PoolTrees.{extends_itself, extends_on, trees_kept}
+use Rattle.lps_core.proofs.SortedTrees.{is_of}
 use Rattle.lps_core.proofs.Staying.{terms_are, terms_sorted, variables_declared}
 use Rattle.greibach.specs.FittingForms.{CallFits, FormSummandFits, EquationFits, FormFits}
 use Rattle.greibach.specs.Forms.{form_table}
@@ -51,7 +52,7 @@ use Rattle.greibach.proofs.StayingForms.{forms_are_sorted}
 use Rattle.regular_encoder.specs.FormColumns.{kind_of, column_kinds, AreKindsAt}
 use Rattle.regular_encoder.proofs.FirstTerms.{args_closed}
 use Rattle.regular_encoder.proofs.FormsInPlace.{form_fits_still, terms_long}
-use Rattle.regular_encoder.proofs.SortedTrees.{bound_sorted, is_of, sort_meant}
+use Rattle.regular_encoder.proofs.SortedTrees.{bound_sorted, sort_meant}
 use Rattle.stack_encoder.specs.StackEncoding.{StackSymbols, stack_sort, StackFits, stack_from, equation_summands, stack_summand, ways, to_fields, stacked, stack_params, first_stack}
 use Rattle.stack_encoder.specs.StackEntries.{StackIds, symbols_meant}
 use Rattle.stack_encoder.specs.StackedForms.{HasItsStack, StackingIsGood, first_tree, layout_over, one_or_two, due_for, summands_due}

@@ -20,7 +20,7 @@ use Rattle.bisim_laws.specs.BaseStates.{Columns}
 use Rattle.greibach.specs.PlainForms.{PlainFormSummand, form_summand_of}
 use Rattle.greibach.specs.Forms.{FormEquation}
 use Rattle.lps_core.specs.TreeSummands.{TreeSummand, trees_of_label, put_actions, IsActionIn, bound_tree, numbers_of, meant_summand}
-use Rattle.regular_encoder.specs.TreeEncoding.{number_tree, equal_function}
+use Rattle.lps_core.specs.NumberTrees.{number_tree, equals_number}
 use Rattle.lps_core.specs.TreeConditions.{tree_parts, trees_without_true, conjunction_tree}
 use Rattle.stack_encoder.specs.StackEncoding.{StackSymbols, to_fields, ways, stack_summand}
 use Rattle.stack_encoder.specs.StackEntries.{StackIds, StackStands, symbols_meant}
@@ -84,7 +84,7 @@ tree_ways y l q e ts [] = tree_way_down y q ∷ tree_way_out y q ∷ []
 tree_ways y l q e ts (a ∷ calls) = tree_way_up y l q e ts (a ∷ calls) ∷ []
 
 abbrev pub first_parts : StackIds → VarId → ℕ → List Tree
-first_parts y q i = one_tree y.is_push (variable q) ∷ function equal_function (more (one_tree y.pc (variable q)) (more (number_tree i) none)) ∷ []
+first_parts y q i = one_tree y.is_push (variable q) ∷ equals_number (one_tree y.pc (variable q)) i ∷ []
 
 abbrev pub tree_stacked : StackIds → VarId → ℕ → (VarId → Tree) → List Tree → PlainFormSummand → TreeWay → TreeSummand
 tree_stacked y q i e ts s w = record {

@@ -8,23 +8,18 @@ ghost use Rattle.term_pool.specs.HeadTrees.{tree_at, trees_at, IsIn, AreIn};
 ghost use Rattle.term_pool.specs.Pools.{Extends};
 ghost use Rattle.lps_core.specs.TreeConditions.{conjunction_tree, tree_parts, trees_without_true};
 ghost use Rattle.greibach.specs.PlainForms.{plain_call};
-ghost use Rattle.regular_encoder.specs.TreeEncoding.{number_tree};
 ghost use Rattle.stack_encoder.specs.Frames.{frame_layout, plain_symbols};
 ghost use Rattle.stack_encoder.specs.TreeStack.{argument_tree, column_trees, first_parts, frame_tree, not_function, one_tree, place_at, pushed_trees, rest_tree, IsCallIn};
 
 use crate::layouts::{Layout, value_beside};
 use crate::symbols::Symbols;
 use data_theory::{FunId, NoMemory, TermId, VarId};
-use lps_core::{conjoined, parts_of, put_all, variable_term};
-use regular_encoder::numeral;
+use lps_core::{conjoined, equals_number, numeral, parts_of, put_all, variable_term};
 use std::alloc::Global;
 use term_pool::{Head, Pool};
 
 /// `!`
 const NOT: FunId = FunId(8);
-
-/// `==` on Pos
-const EQUAL: FunId = FunId(15);
 
 /// A function of the stack.
 pub fn of_stack(pool: &mut Pool, symbols: &Symbols, fun: FunId) -> Result<TermId, NoMemory>
@@ -67,9 +62,8 @@ fn number_part(pool: &mut Pool, symbols: &Symbols, number: usize) -> Result<Term
     ensures within { IfOk result (λ id. IsIn pool.new.trees id) }
     ensures tree { IfOk result (λ id. one_tree symbols.now.is_push (variable symbols.now.stack) ∷ tree_at pool.new.trees id ∷ [] ≡ first_parts (plain_symbols symbols.now) symbols.now.stack number) }
 {
-    let left = of_stack(pool, symbols, symbols.pc)?;
-    let right = numeral(pool, number)?;
-    pool.intern(Head::Fun(EQUAL), &[left, right])
+    let top = of_stack(pool, symbols, symbols.pc)?;
+    equals_number(pool, top, number)
 }
 
 /// `is_push(q)` and `pc(q) == i`
