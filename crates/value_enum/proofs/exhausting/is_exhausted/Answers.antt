@@ -81,8 +81,8 @@ read_true [] k b is e l = absurd (omega (arith, l))
 read_true (x ∷ xs) zero b is e l = sym is ∙ e
 read_true (x ∷ xs) (suc k) b is e l = read_true xs k b is e (omega (arith, l))
 
-pub returns-then-unbounded-sort-clause-goes_on : goal.returns-then-unbounded-sort-clause-goes_on
-returns-then-unbounded-sort-clause-goes_on c = λ e noted.
+pub returns-then-index-clause-goes_on : goal.returns-then-index-clause-goes_on
+returns-then-index-clause-goes_on c = λ e noted.
     let inside = c.requires.shapes.within c.args.sort c.requires.sort in
     let count = c.requires.shapes.count in
     let same = c.requires.count in
