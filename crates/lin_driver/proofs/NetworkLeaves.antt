@@ -1,14 +1,11 @@
 -- The leaves of a network in code, and what holds of each.
-use Rattle.std.proofs.Common.{◌≡◌, ◌<◌, ◌+◌, ℕ, List, [], ◌∷◌, ◌++◌, map, take, length, get_or, refl, sym, ap, ap₂, ◌∙◌, append_assoc, append-nil, arith}
-use Rattle.std.specs.Global.{Box}
+use Rattle.std.proofs.Common.{◌≡◌, ◌<◌, ◌+◌, ℕ, List, [], ◌∷◌, ◌++◌, map, take, length, get_or, refl, sym, ap, ◌∙◌, append_assoc, append-nil, arith}
 use Rattle.std.specs.List.{All}
 use Rattle.std.proofs.lemmas.List.{map_more}
 use Rattle.std.proofs.lemmas.List.Elements.{All-nil, All-cons, All-append}
 use Rattle.process_terms.specs.PlainProcesses.{delta, PlainComponent, term_of}
 use Rattle.proc_unfold.specs.declared.networks.Network.{Network}
-use Rattle.proc_unfold.specs.declared.networks.Network.TheVariants as nets
 use Rattle.proc_unfold.specs.Networks.{PlainNetwork, PlainNetworks, leaf, side_by_side, left_merge, sync, under, no_networks, more_networks, networks_of, plain_network, AllComponents, AllComponentsOfEach}
-use Rattle.proc_unfold.proofs.ProcessSteps.{left_merged_step}
 use Rattle.lin_driver.specs.Leaves.{leaves, leaves_beside, more_leaves}
 
 -- ---- as the walk finds them
@@ -23,13 +20,6 @@ some_beside (n ∷ ns) l = refl
 pub none_beside : (ns : List Network) → length ns ≡ 0 → leaves_beside (networks_of (map plain_network ns)) ≡ term_of delta ∷ []
 none_beside [] e = refl
 none_beside (n ∷ ns) e = absurd (omega (arith, e))
-
--- those of a left merge, its left side's first
-pub left_leaves : (n : Network) (a b : Box Network) (first second : Network) (start middle end : List PlainComponent) → n ≡ nets.LeftMerge a b → first ≡ a.value → second ≡ b.value → middle ≡ start ++ leaves (plain_network first) → end ≡ middle ++ leaves (plain_network second)
-    → end ≡ start ++ leaves (plain_network n)
-left_leaves n a b first second start middle end is left right before now =
-    now ∙ ap (λ cs. cs ++ leaves (plain_network second)) before ∙ append_assoc start (leaves (plain_network first)) (leaves (plain_network second))
-    ∙ ap (λ cs. start ++ cs) (ap₂ (λ m k. leaves (plain_network m) ++ leaves (plain_network k)) left right ∙ sym (ap leaves (ap plain_network is ∙ left_merged_step a b)))
 
 one_more : (ns : List PlainNetwork) (n : PlainNetwork) → more_leaves (networks_of (ns ++ n ∷ [])) ≡ more_leaves (networks_of ns) ++ leaves n
 one_more [] n = append-nil (leaves n)

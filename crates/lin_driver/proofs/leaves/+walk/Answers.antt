@@ -1,5 +1,3 @@
-use Rattle.std.proofs.Common.{map}
-use Rattle.process_terms.specs.PlainProcesses.{plain_component}
 use Rattle.lin_driver.proofs.NetworkLeaves.{leaves_more}
 use Rattle.lin_driver.proofs.leaves.+walk.Goals as goal
 
