@@ -1,31 +1,15 @@
 //! The program `mcrl2lin`: linearises an mCRL2 specification.
 #![tactic(auto)]
 
-mod answers;
-mod command;
-mod command_line;
-mod decimals;
-mod generating;
-mod laws;
-mod option_texts;
-mod options;
 mod real;
-mod refusal;
-mod replaying;
-mod status;
-mod steps;
-mod stop;
-mod text_in_hand;
-mod top;
-mod walking;
 
+use lin_answers::Status;
+use lin_run::run;
 use mcrl2_text::write_all;
 use real::{FileShelf, Stream};
-use status::Status;
 use std::env;
 use std::io::{self, ErrorKind};
 use std::process::ExitCode;
-use top::run;
 
 fn main(rt: HostRuntime) -> ExitCode {
     let alloc = rt.alloc();

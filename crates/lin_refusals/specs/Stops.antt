@@ -1,0 +1,39 @@
+-- What stops the program.
+use Rattle.std.specs.Prelude.{⊤, ◌≡◌, ◌≢◌, ℕ, List, Option}
+use Rattle.mcrl2_text.specs.declared.loading.LoadFault.{LoadFault}
+use Rattle.mcrl2_text.specs.declared.loading.LoadFault.TheVariants as load
+use Rattle.lin_driver.specs.declared.fault.LinFault.{LinFault}
+use Rattle.lin_driver.specs.declared.fault.LinFault.TheVariants as lin
+use Rattle.lin_refusals.specs.BadTraces.{IsBadAsTold, IsLongAsTold}
+use Rattle.lin_refusals.specs.Lines.{bad_trace_line, refusal_line}
+use Rattle.lin_refusals.specs.declared.stop.Stop.{Stop}
+use Rattle.lin_refusals.specs.declared.stop.Stop.TheVariants.{Words, ReadFault, TooLong, Refused, NoMemory}
+
+abbrev pub stop_of_load : LoadFault → Stop
+stop_of_load load.ReadFault = ReadFault
+stop_of_load load.TooLong = TooLong
+stop_of_load load.NoMemory = NoMemory
+
+-- the stops where there is no text in hand
+abbrev pub IsOfLoading : Stop → Type 0
+IsOfLoading Words = ⊥
+IsOfLoading ReadFault = ⊤
+IsOfLoading TooLong = ⊤
+IsOfLoading (Refused line) = ⊥
+IsOfLoading NoMemory = ⊤
+
+-- the stop is a refusal for that fault, whose names stand among these texts, or want of memory
+abbrev pub IsStopFor : List (List ℕ) → LinFault → Stop → Type 0
+IsStopFor texts fault Words = ⊥
+IsStopFor texts fault ReadFault = ⊥
+IsStopFor texts fault TooLong = ⊥
+IsStopFor texts fault (Refused line) = (fault ≢ lin.NoMemory) × (line.items ≡ refusal_line texts fault)
+IsStopFor texts fault NoMemory = ⊤
+
+-- Why a trace has no verdict, after the text was made linear. Only a line that is no label refuses it.
+abbrev pub IsTraceStop : List ℕ → Option (List ℕ) → Stop → Type 0
+IsTraceStop text told Words = ⊥
+IsTraceStop text told ReadFault = ⊤
+IsTraceStop text told TooLong = IsLongAsTold told
+IsTraceStop text told (Refused line) = (number : ℕ) × (line.items ≡ bad_trace_line number) × IsBadAsTold text told number
+IsTraceStop text told NoMemory = ⊤

@@ -1,0 +1,73 @@
+-- The statuses of answers.
+use Rattle.std.proofs.Common.{◌≡◌, ◌≤◌, ℕ, List, [], ◌∷◌, Option, None, Some, IfSome, length, sym, subst}
+use Rattle.mcrl2_text.specs.declared.loading.TheConstants.{MAX_TEXT_LEN}
+use Rattle.lps_simulator.specs.declared.options.Open.{Open}
+use Rattle.trace_replay.specs.declared.replaying.Verdict.{Verdict}
+use Rattle.trace_replay.specs.declared.replaying.Verdict.TheVariants as verdict
+use Rattle.lin_words.specs.Commands.{Asked, asked_by, NeedsTrace, question, text_asked, trace_asked}
+use Rattle.lin_run.specs.Ends.{IsAnswer, IsAnswered, MayStayOpen, MaySayNo}
+use Rattle.lin_answers.specs.Statuses.{status_with}
+use Rattle.lin_tasks.specs.ShownVerdicts.{status_of_verdict}
+use Rattle.lin_words.specs.declared.command.Task.{Task}
+use Rattle.lin_words.specs.declared.command.Task.TheVariants.{Check, Linearise, Constelm, Parelm, Sumelm, Steps, Walk, Generate, Replay}
+use Rattle.lin_answers.specs.declared.status.Status.{Status}
+use Rattle.lin_answers.specs.declared.status.Status.TheVariants.{Done, Undecided, No}
+use Rattle.lin_run.proofs.Told.{of_loaded}
+
+-- an answer has one of the statuses of answers, is `No` where its task may say so, and leaves nothing undecided where its task may not
+pub record HasItsStatus (task : Task) (s : Status) : Type 0 where
+  pub answered : IsAnswered s
+  pub says_no : s ≡ No → MaySayNo task
+  pub stays_open : s ≡ Undecided → MayStayOpen task
+
+when_done : (task : Task) (s : Status) → s ≡ Done → HasItsStatus task s
+when_done task s e = subst (HasItsStatus task) (sym e) (record { answered = tt; says_no = λ n. let never : ⊥ = cc in absurd never; stays_open = λ u. let never : ⊥ = cc in absurd never })
+
+when_left : (task : Task) (undecided : List Open) → MayStayOpen task → (s : Status) → s ≡ status_with undecided → HasItsStatus task s
+when_left task undecided may s e = subst (HasItsStatus task) (sym e) (by_list undecided)
+  where
+    by_list : (os : List Open) → HasItsStatus task (status_with os)
+    by_list [] = record { answered = tt; says_no = λ n. let never : ⊥ = cc in absurd never; stays_open = λ u. may }
+    by_list (o ∷ os) = record { answered = tt; says_no = λ n. let never : ⊥ = cc in absurd never; stays_open = λ u. may }
+
+when_replayed : (task : Task) (v : Verdict) → MayStayOpen task → MaySayNo task → (s : Status) → s ≡ status_of_verdict v → HasItsStatus task s
+when_replayed task v may says s e = subst (HasItsStatus task) (sym e) (by_verdict v)
+  where
+    by_verdict : (v : Verdict) → HasItsStatus task (status_of_verdict v)
+    by_verdict verdict.Accepted = record { answered = tt; says_no = λ n. says; stays_open = λ u. may }
+    by_verdict (verdict.Rejected number) = record { answered = tt; says_no = λ n. says; stays_open = λ u. may }
+    by_verdict (verdict.Undecided number) = record { answered = tt; says_no = λ n. says; stays_open = λ u. may }
+
+pub has_its_status : (task : Task) (text : List ℕ) (trace : Option (List ℕ)) (s : Status) (x : List ℕ) → IsAnswer task text trace s x → HasItsStatus task s
+has_its_status Check text trace s x is = when_done Check s is.1
+has_its_status (Linearise method) text trace s x is = when_done (Linearise method) s is.1
+has_its_status (Constelm method fuel) text trace s x is = when_done (Constelm method fuel) s is.1
+has_its_status (Parelm method) text trace s x is = when_done (Parelm method) s is.1
+has_its_status (Sumelm method fuel) text trace s x is = when_done (Sumelm method fuel) s is.1
+has_its_status (Steps method fuel bound) text trace s x is = when_left (Steps method fuel bound) is.1.options.found.undecided tt s is.1.options.status_is
+has_its_status (Walk method plan) text trace s x is = when_left (Walk method plan) is.1.walk.undecided tt s is.1.walk.status_is
+has_its_status (Generate size) text trace s x is = when_done (Generate size) s is.1
+has_its_status (Replay method fuel bound) text trace s x is = when_replayed (Replay method fuel bound) is.1.replayed.answer.verdict tt tt s is.1.replayed.answer.status_is
+
+-- what answers the bytes that were loaded answers the question
+pub answers_question : (text_of : List ℕ → Option (List ℕ)) (words : List (List ℕ)) (a : Asked) (bytes : List ℕ) (s : Status) (x : List ℕ) → asked_by words ≡ Some a → IfSome (text_asked text_of a) (λ text. bytes ≡ text) → length bytes ≤ MAX_TEXT_LEN
+    → IsAnswer a.task bytes (trace_asked text_of a) s x → IfSome (question text_of words) (λ q. (length q.text ≤ MAX_TEXT_LEN) × IsAnswer q.task q.text q.trace s x)
+answers_question text_of words a bytes s x asked told short is = of_loaded text_of words a bytes (λ q. (length q.text ≤ MAX_TEXT_LEN) × IsAnswer q.task q.text q.trace s x) asked told (short, is)
+
+pub open_when_asked : (words : List (List ℕ)) (a : Asked) (s : Status) → asked_by words ≡ Some a → HasItsStatus a.task s → s ≡ Undecided → IfSome (asked_by words) (λ b. MayStayOpen b.task)
+open_when_asked words a s asked has u = subst (λ (o : Option Asked). IfSome o (λ b. MayStayOpen b.task)) (sym asked) (has.stays_open u)
+
+pub no_when_asked : (words : List (List ℕ)) (a : Asked) (s : Status) → asked_by words ≡ Some a → HasItsStatus a.task s → s ≡ No → IfSome (asked_by words) (λ b. MaySayNo b.task)
+no_when_asked words a s asked has n = subst (λ (o : Option Asked). IfSome o (λ b. MaySayNo b.task)) (sym asked) (has.says_no n)
+
+-- a task that needs no trace has the same answer for each
+pub with_any_trace : (task : Task) → ¬ (NeedsTrace task) → (text : List ℕ) (trace : Option (List ℕ)) (s : Status) (x : List ℕ) → IsAnswer task text None s x → IsAnswer task text trace s x
+with_any_trace Check none text trace s x is = is
+with_any_trace (Linearise method) none text trace s x is = is
+with_any_trace (Constelm method fuel) none text trace s x is = is
+with_any_trace (Parelm method) none text trace s x is = is
+with_any_trace (Sumelm method fuel) none text trace s x is = is
+with_any_trace (Steps method fuel bound) none text trace s x is = is
+with_any_trace (Walk method plan) none text trace s x is = is
+with_any_trace (Generate size) none text trace s x is = is
+with_any_trace (Replay method fuel bound) none text trace s x is = absurd (none tt)

@@ -1,0 +1,5 @@
+mod Told
+mod EndLines
+mod AnswerStatuses
+mod ReplayAnswers
+mod LineLengths

@@ -1,0 +1,69 @@
+-- The causes of stops, in what is asked.
+use Rattle.std.specs.Prelude.{⊤, ◌≡◌, ◌≤◌, ◌<◌, ◌⊎◌, ℕ, List, Option, IfSome, length}
+use Rattle.mcrl2_text.specs.declared.loading.TheConstants.{MAX_TEXT_LEN}
+use Rattle.lin_driver.specs.Accepted.{CanBeLinearised, IsOfTheText}
+use Rattle.lin_driver.specs.Faults.{IsFaultBy}
+use Rattle.lin_driver.specs.Refusals.{IsRefusedWith}
+use Rattle.lin_driver.specs.declared.fault.LinFault.{LinFault}
+use Rattle.lin_driver.specs.declared.methods.Method.TheVariants.{Auto}
+use Rattle.lin_answers.specs.declared.status.Status.{Status}
+use Rattle.lin_answers.specs.declared.status.Status.TheVariants as status
+use Rattle.lin_refusals.specs.BadTraces.{IsBadAsTold, IsLongAsTold}
+use Rattle.lin_refusals.specs.Lines.{bad_trace_line, refusal_line}
+use Rattle.lin_refusals.specs.declared.stop.Stop.{Stop}
+use Rattle.lin_refusals.specs.declared.stop.Stop.TheVariants.{Words, ReadFault, TooLong, Refused, NoMemory}
+use Rattle.lin_words.specs.Commands.{NeedsTrace, Question}
+use Rattle.lin_words.specs.declared.command.Task.{Task}
+use Rattle.lin_words.specs.declared.command.Task.TheVariants.{Check, Linearise, Constelm, Parelm, Sumelm, Steps, Walk, Generate, Replay}
+
+-- a task refuses a text for this fault; to check one never asks for its form, and to linearise one does so by the method `Regular` alone
+abbrev pub IsFaultFor : Task → LinFault → Type 0
+IsFaultFor Check fault = IsOfTheText fault
+IsFaultFor (Linearise method) fault = IsFaultBy method fault
+IsFaultFor (Constelm method fuel) fault = IsFaultBy method fault
+IsFaultFor (Parelm method) fault = IsFaultBy method fault
+IsFaultFor (Sumelm method fuel) fault = IsFaultBy method fault
+IsFaultFor (Steps method fuel bound) fault = IsFaultBy method fault
+IsFaultFor (Walk method plan) fault = IsFaultBy method fault
+IsFaultFor (Generate size) fault = IsFaultBy Auto fault
+IsFaultFor (Replay method fuel bound) fault = IsFaultBy method fault
+
+-- the line refuses the text, where that is told, for a fault that it has
+pub record IsRefusal (asked : Option Question) (line : List ℕ) : Type 0 where
+  pub texts : List (List ℕ)
+  pub fault : LinFault
+  pub says : line ≡ refusal_line texts fault
+  pub due : IfSome asked (λ q. (length q.text ≤ MAX_TEXT_LEN) × IsFaultFor q.task fault × IsRefusedWith q.text texts fault)
+
+-- ---- a trace
+-- the task needs a trace, and is done with the text up to there
+pub record ComesToTheTrace (q : Question) : Type 0 where
+  pub needs : NeedsTrace q.task
+  pub short : length q.text ≤ MAX_TEXT_LEN
+  pub linearised : CanBeLinearised q.text
+
+-- the text is too long, or behind it the trace
+abbrev pub IsTooLong : Question → Type 0
+IsTooLong q = (MAX_TEXT_LEN < length q.text) ⊎ (ComesToTheTrace q × IsLongAsTold q.trace)
+
+-- the line refuses the trace, where the text is told, for the first bad line that it has
+pub record IsTraceRefusal (asked : Option Question) (line : List ℕ) : Type 0 where
+  pub number : ℕ
+  pub says : line ≡ bad_trace_line number
+  pub due : IfSome asked (λ q. ComesToTheTrace q × IsBadAsTold q.text q.trace number)
+
+-- ---- causes
+-- a stop that refuses has its cause in the text or in the trace, where the text is told
+abbrev pub HasCause : Stop → Option Question → Type 0
+HasCause Words asked = ⊤
+HasCause ReadFault asked = ⊤
+HasCause TooLong asked = IfSome asked IsTooLong
+HasCause (Refused line) asked = IsRefusal asked line.items ⊎ IsTraceRefusal asked line.items
+HasCause NoMemory asked = ⊤
+
+abbrev pub status_of_stop : Stop → Status
+status_of_stop Words = status.Words
+status_of_stop ReadFault = status.ReadFault
+status_of_stop TooLong = status.Refused
+status_of_stop (Refused line) = status.Refused
+status_of_stop NoMemory = status.NoMemory

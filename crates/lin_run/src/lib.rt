@@ -1,0 +1,8 @@
+//! The program over any shelf and sinks.
+#![tactic(auto)]
+
+mod replaying;
+mod text_in_hand;
+mod top;
+
+pub use top::run;

@@ -1,0 +1,43 @@
+//! The task `replay`: whether the linear process of a text has the steps of a trace.
+ghost use Rattle.std.specs.Prelude.{◌≡◌, ◌≢◌, ◌≤◌, Some, IfErr, IfOk, IsErrOf, OnOk, length};
+ghost use Rattle.mcrl2_text.specs.Faults.{Rose};
+ghost use Rattle.lin_driver.specs.Accepted.{CanBeLinearised};
+ghost use Rattle.lin_tasks.specs.ShownVerdicts.{IsReplayedAsTold};
+ghost use Rattle.lin_words.specs.declared.command.Task.TheVariants.{Replay};
+ghost use Rattle.lin_run.specs.Causes.{HasCause};
+
+use data_theory::Names;
+use lin_answers::Answer;
+use lin_driver::{Method, linearise};
+use lin_refusals::Stop;
+use lin_tasks::verdict_on_file;
+use mcrl2_text::{MAX_TEXT_LEN, Shelf};
+use std::alloc::Global;
+
+/// Whether the linear process of a text, which is made by a method, has the steps of the trace that a shelf has under a name. The trace is read once
+/// the text is made linear.
+///
+/// # Errors
+///
+/// Those of [`linearise`] with that method, then those of [`mcrl2_text::load`], and then `Refused` where a line of the trace is neither blank nor a closed, typed label.
+pub fn replay<H: Shelf>(
+    alloc: Global,
+    text: &[u8],
+    shelf: &mut H,
+    name: &str,
+    method: Method,
+    fuel: u64,
+    bound: u64,
+) -> Result<Answer, Stop>
+    requires { length text.now ≤ MAX_TEXT_LEN }
+    ensures accepted { OnOk result (CanBeLinearised text.now) }
+    ensures replayed { IfOk result (λ answer. IsReplayedAsTold fuel bound text.now (H.text_of shelf.old name.now) answer.status answer.text.items) }
+    ensures cause { IfErr result (λ stop. (stop ≢ Stop.Words) × HasCause stop (Some (record { task = Replay method fuel bound; text = text.now; trace = H.text_of shelf.old name.now }))) }
+    ensures read_fault { IsErrOf result Stop.ReadFault → Rose (H.faults shelf.old) (H.faults shelf.new) }
+{
+    let mut names = Names::new(alloc);
+    match linearise(alloc, text, &mut names, method) {
+        Ok(made) => verdict_on_file(alloc, made, shelf, name, fuel, bound),
+        Err(fault) => Err(Stop::for_fault(alloc, &names, &fault)),
+    }
+}

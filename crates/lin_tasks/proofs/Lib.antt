@@ -1,0 +1,11 @@
+mod Performing
+mod ListedSteps
+mod ShownLines
+mod SessionFacts
+mod WalkSteps
+mod ShownSteps
+mod ShownTexts
+mod FollowedTraces
+mod ReplayedTexts
+mod VerdictsOnFiles
+mod FirstMoves

@@ -1,0 +1,66 @@
+-- What is shown of what was made of a text.
+use Rattle.std.proofs.Common.{◌≡◌, ◌∙◌, ℕ, List, sym, subst, Result, Ok, Err}
+use Rattle.std.specs.Prelude.{IfErr}
+use Rattle.data_theory.specs.declared.ids.NameId.{NameId}
+use Rattle.data_theory.specs.IdTrees.{Tree}
+use Rattle.data_theory.specs.Provable.{Equation}
+use Rattle.data_theory.specs.Signature.{Sig}
+use Rattle.mcrl2_syntax.specs.Declarations.{PlainSpec}
+use Rattle.mcrl2_syntax.proofs.WordsOfTokens.{specs_are_of_words}
+use Rattle.process_terms.specs.PlainProcesses.{PlainEquation}
+use Rattle.lps_core.specs.PlainLinears.{PlainLinear}
+use Rattle.lin_driver.specs.Eliminations.{equations_at}
+use Rattle.lin_driver.specs.Faults.{IsFaultBy}
+use Rattle.lin_driver.specs.Linearised.{IsLinearised, IsMadeOf}
+use Rattle.lin_driver.specs.declared.fault.LinFault.{LinFault}
+use Rattle.lin_driver.specs.declared.fault.LinFault.TheVariants.{NoMemory}
+use Rattle.lin_driver.specs.declared.methods.Method.{Method}
+use Rattle.lin_driver.proofs.LinearisedTexts.{made_stands_for, made_has_equations}
+use Rattle.lin_driver.proofs.RewritableEquations.{equations_are}
+use Rattle.lin_tasks.specs.Shown.{ShowsOptions}
+use Rattle.lin_tasks.specs.ShownTexts.{AreShownSteps, IsShownWalk}
+use Rattle.lin_tasks.specs.Walks.{ShowsWalk}
+use Rattle.lin_answers.specs.declared.status.Status.{Status}
+use Rattle.lin_answers.specs.declared.plan.Plan.{Plan}
+use Rattle.lin_tasks.proofs.ShownSteps.{shown_causes, shown_run, shown_steps, shown_whole}
+
+-- want of memory is no fault by a method
+pub no_fault_by : {T : Type 0} (r : Result T LinFault) (method : Method) → IfErr r (λ fault. fault ≡ NoMemory) → IfErr r (IsFaultBy method)
+no_fault_by (Ok x) method none = tt
+no_fault_by (Err e) method none = subst (IsFaultBy method) (sym none) tt
+
+module _ (text : List ℕ) (spec : PlainSpec) (g : Sig) (ts : List Tree) (equations : List PlainEquation) (x : NameId) (l : PlainLinear) (made : IsMadeOf text spec g ts equations x l) where
+  abbrev from : IsLinearised text spec g ts l
+  from = made_stands_for text spec g ts equations x l made
+
+  -- the equations in code are those of the text
+  pub own_are : from.theory.equations ≡ equations_at g ts equations
+  own_are = made_has_equations text spec g ts equations x l made ∙ sym (equations_are spec g ts equations x l made.made (specs_are_of_words text spec made.tokens made.cut made.spelled))
+
+  pub made_steps : (fuel bound : ℕ) (status : Status) (shown : List ℕ) → ShowsOptions g (equations_at g ts equations) fuel bound ts l status shown → AreShownSteps fuel bound text status shown
+  made_steps fuel bound status shown o =
+      let options : ShowsOptions g from.theory.equations fuel bound ts l status shown = subst (λ (qs : List Equation). ShowsOptions g qs fuel bound ts l status shown) (sym own_are) o in
+      record {
+        spec = spec;
+        signature = g;
+        trees = ts;
+        linear = l;
+        linearised = from;
+        options = options;
+        causes = shown_causes g from.theory.equations ts l from.link from.process from.bisimilar fuel bound status shown options;
+        steps = shown_steps g from.theory.equations ts l from.link from.process from.bisimilar fuel bound status shown options;
+        whole = shown_whole g from.theory.equations ts l from.link from.process from.bisimilar fuel bound status shown options;
+      }
+
+  pub made_walk : (plan : Plan) (status : Status) (shown : List ℕ) → ShowsWalk g (equations_at g ts equations) plan ts l status shown → IsShownWalk plan text status shown
+  made_walk plan status shown w =
+      let walk : ShowsWalk g from.theory.equations plan ts l status shown = subst (λ (qs : List Equation). ShowsWalk g qs plan ts l status shown) (sym own_are) w in
+      record {
+        spec = spec;
+        signature = g;
+        trees = ts;
+        linear = l;
+        linearised = from;
+        walk = walk;
+        run = shown_run g from.theory.equations ts l from.link from.process from.bisimilar plan status shown walk;
+      }

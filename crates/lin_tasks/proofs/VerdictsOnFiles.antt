@@ -1,0 +1,63 @@
+-- What is shown of a trace that was loaded, and why there is nothing to show.
+use Rattle.std.proofs.Common.{◌≡◌, ◌≤◌, ◌<◌, ℕ, List, Option, Result, Ok, Err, IfSome, IfErr, IsErrAnd, length, refl, sym, subst, ◌∙◌}
+use Rattle.std.specs.Prelude.{IsErrOf}
+use Rattle.mcrl2_text.specs.declared.loading.LoadFault.{LoadFault}
+use Rattle.mcrl2_text.specs.declared.loading.LoadFault.TheVariants as load
+use Rattle.mcrl2_text.specs.declared.loading.TheConstants.{MAX_TEXT_LEN}
+use Rattle.data_theory.specs.declared.ids.NameId.{NameId}
+use Rattle.data_theory.specs.IdTrees.{Tree}
+use Rattle.data_theory.specs.Signature.{Sig}
+use Rattle.data_rewriter.specs.Simplifying.{AreWellFormed}
+use Rattle.mcrl2_syntax.specs.Declarations.{PlainSpec}
+use Rattle.process_terms.specs.PlainProcesses.{PlainEquation}
+use Rattle.lps_core.specs.PlainLinears.{PlainLinear}
+use Rattle.trace_replay.specs.ReadingFaults.{IsTraceFault}
+use Rattle.trace_replay.specs.declared.replaying.ReplayFault.{ReplayFault}
+use Rattle.trace_replay.specs.declared.replaying.ReplayFault.TheVariants.{BadTrace}
+use Rattle.lin_driver.specs.Eliminations.{equations_at}
+use Rattle.lin_driver.specs.Linearised.{IsMadeOf}
+use Rattle.lin_answers.specs.declared.status.Status.{Status}
+use Rattle.lin_refusals.specs.BadTraces.{IsBadAsTold}
+use Rattle.lin_refusals.specs.Stops.{IsTraceStop, stop_of_load}
+use Rattle.lin_refusals.specs.declared.stop.Stop.{Stop}
+use Rattle.lin_refusals.specs.declared.stop.Stop.TheVariants.{ReadFault}
+use Rattle.lin_tasks.specs.ShownVerdicts.{IsReplayedAsTold, ShowsVerdict}
+use Rattle.lin_tasks.proofs.ReplayedTexts.{made_replay}
+
+-- ---- the trace that was read
+module _ (text : List ℕ) (spec : PlainSpec) (g : Sig) (ts : List Tree) (equations : List PlainEquation) (x : NameId) (l : PlainLinear) (made : IsMadeOf text spec g ts equations x l) where
+  pub replayed_as_told : AreWellFormed g (equations_at g ts equations) → (told : Option (List ℕ)) (trace : List ℕ) → IfSome told (λ t. trace ≡ t) → length trace ≤ MAX_TEXT_LEN → (fuel bound : ℕ) (status : Status) (shown : List ℕ)
+      → ShowsVerdict g (equations_at g ts equations) fuel bound ts l trace status shown → IsReplayedAsTold fuel bound text told status shown
+  replayed_as_told fine told trace is short fuel bound status shown v = record { trace = trace; is_told = is; short = short; replayed = made_replay text spec g ts equations x l made fine fuel bound trace status shown v }
+
+  pub bad_as_told : (told : Option (List ℕ)) (trace : List ℕ) → IfSome told (λ t. trace ≡ t) → length trace ≤ MAX_TEXT_LEN → (fault : ReplayFault) → IsTraceFault g trace fault → (number : ℕ) → fault ≡ BadTrace number → IsBadAsTold text told number
+  bad_as_told told trace is short fault bad number same = record {
+    trace = trace;
+    is_told = is;
+    short = short;
+    bad = record { spec = spec; signature = g; trees = ts; equations = equations; name = x; linear = l; made = made; bad = subst (IsTraceFault g trace) same bad };
+  }
+
+-- a stop for want of a trace
+stop_of_loading : (text : List ℕ) (told : Option (List ℕ)) (fault : LoadFault) → (fault ≡ load.TooLong → IfSome told (λ t. MAX_TEXT_LEN < length t)) → IsTraceStop text told (stop_of_load fault)
+stop_of_loading text told load.ReadFault long = tt
+stop_of_loading text told load.TooLong long = long refl
+stop_of_loading text told load.NoMemory long = tt
+
+loading_stops : (text : List ℕ) (told : Option (List ℕ)) (fault : LoadFault) (stop : Stop) → (fault ≡ load.TooLong → IfSome told (λ t. MAX_TEXT_LEN < length t)) → stop ≡ stop_of_load fault → IsTraceStop text told stop
+loading_stops text told fault stop long is = subst (IsTraceStop text told) (sym is) (stop_of_loading text told fault long)
+
+pub not_loaded : {T : Type 0} (IsMade : List ℕ → Type 0) (told : Option (List ℕ)) (r : Result T Stop) (fault : LoadFault) → (fault ≡ load.TooLong → IfSome told (λ t. MAX_TEXT_LEN < length t)) → IsErrAnd r (λ given. given ≡ stop_of_load fault)
+    → IfErr r (λ stop. (text : List ℕ) → IsMade text → IsTraceStop text told stop)
+not_loaded IsMade told (Ok x) fault long is = absurd is
+not_loaded IsMade told (Err stop) fault long is = λ text made. loading_stops text told fault stop long is
+
+-- it stops by a read fault where loading did
+read_fault_alone : (fault : LoadFault) → stop_of_load fault ≡ ReadFault → fault ≡ load.ReadFault
+read_fault_alone load.ReadFault is = refl
+read_fault_alone load.TooLong is = let never : ⊥ = cc in absurd never
+read_fault_alone load.NoMemory is = let never : ⊥ = cc in absurd never
+
+pub read_fault_of_loading : {T : Type 0} (r : Result T Stop) (fault : LoadFault) → IsErrAnd r (λ given. given ≡ stop_of_load fault) → IsErrOf r ReadFault → fault ≡ load.ReadFault
+read_fault_of_loading (Ok x) fault same is = absurd same
+read_fault_of_loading (Err given) fault same is = let e : given ≡ ReadFault = cc in read_fault_alone fault (sym same ∙ e)

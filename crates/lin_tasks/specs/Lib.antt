@@ -1,0 +1,6 @@
+pub mod Shown
+pub mod FirstSteps
+pub mod Walks
+pub mod ShownTexts
+pub mod ShownVerdicts
+pub mod Counts

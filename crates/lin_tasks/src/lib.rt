@@ -1,0 +1,14 @@
+//! The tasks that tell what a text's linear process can do: its first steps, a walk of it, its verdict on a trace, and how large it is.
+#![tactic(auto)]
+
+mod decimals;
+mod generating;
+mod option_texts;
+mod stepping;
+mod verdicts;
+mod walking;
+
+pub use generating::counts;
+pub use stepping::steps;
+pub use verdicts::verdict_on_file;
+pub use walking::walk;

@@ -1,0 +1,93 @@
+//! The task `steps`: what the linear process of a text can do first.
+ghost use Rattle.std.specs.Prelude.{◌≡◌, ◌≢◌, ℕ, List, map, IfErr, IfOk, OnOk};
+ghost use Rattle.mcrl2_syntax.specs.Declarations.{spec_of};
+ghost use Rattle.process_terms.specs.PlainProcesses.{plain_equation};
+ghost use Rattle.lps_core.specs.Fitting.{Fits};
+ghost use Rattle.lps_core.specs.PlainLinears.{plain_linear};
+ghost use Rattle.lin_driver.specs.Accepted.{CanBeLinearised};
+ghost use Rattle.lin_driver.specs.Eliminations.{equations_at, equations_in, CanRewrite};
+ghost use Rattle.lin_driver.specs.Faults.{IsFaultBy};
+ghost use Rattle.lin_driver.specs.Linearised.{IsMadeOf};
+ghost use Rattle.lin_driver.specs.Refusals.{IsRefusedWith};
+ghost use Rattle.lin_tasks.specs.Shown.{ShowsOptions};
+ghost use Rattle.lin_tasks.specs.ShownTexts.{AreShownSteps};
+
+use crate::option_texts::options_text;
+use data_rewriter::Rewriter;
+use data_theory::{Names, NoMemory, Signature};
+use lin_answers::{Answer, status_with};
+use lin_driver::{LinFault, Linearised, Method, linearise};
+use lps_core::{Linear, signature_stands};
+use lps_simulator::Session;
+use number_rules::NumberRules;
+use number_rules::operations::exact;
+use std::alloc::Global;
+use term_pool::{Pool, Theory};
+
+/// What a linear process can do in its initial state, as it is shown.
+fn shown_options(
+    alloc: Global,
+    sig: &Signature,
+    pool: &mut Pool,
+    theory: &Theory,
+    lin: Linear,
+    fuel: u64,
+    bound: u64,
+) -> Result<Answer, NoMemory>
+    requires fits { Fits sig.now pool.old.trees (plain_linear lin) }
+    requires equations { CanRewrite sig.now pool.old.trees theory.now }
+    ensures { IfOk result (λ answer. ShowsOptions sig.now (equations_in sig.now pool.old.trees theory.now) fuel bound pool.old.trees (plain_linear lin) answer.status answer.text.items) }
+{
+    signature_stands(sig);
+    let rules = NumberRules::new(exact);
+    let mut rewriter = Rewriter::new(alloc, sig, pool, theory, rules)?;
+    let mut session = Session::new(alloc, lin)?;
+    let found = session.options(sig, pool, &mut rewriter, fuel, bound)?;
+    let text = options_text(alloc, sig, pool, found)?;
+    Ok(Answer {
+        text,
+        status: status_with(&found.undecided),
+    })
+}
+
+/// What the linear process that was made of a text can do first, as it is shown.
+fn steps_of(alloc: Global, made: Linearised, fuel: u64, bound: u64) -> Result<Answer, NoMemory>
+    requires { (text : List ℕ) × IsMadeOf text (spec_of made.spec) made.sig made.pool.trees (map plain_equation made.theory.equations.items) made.name (plain_linear made.lin) }
+    ensures { IfOk result (λ answer. ShowsOptions made.sig (equations_at made.sig made.pool.trees (map plain_equation made.theory.equations.items)) fuel bound made.pool.trees (plain_linear made.lin) answer.status answer.text.items) }
+{
+    let Linearised {
+        spec: _,
+        sig,
+        pool,
+        theory,
+        name: _,
+        lin,
+        components: _,
+    } = made;
+    let mut pool = pool;
+    shown_options(alloc, &sig, &mut pool, &theory, lin, fuel, bound)
+}
+
+/// What the linear process of a text, which is made by a method, can do in its initial state: its moves, for the first `bound` values of
+/// each sum, the summands that aren't decided with this fuel, and those with a sum of more values.
+///
+/// # Errors
+///
+/// Those of [`linearise`] with that method.
+pub fn steps(
+    alloc: Global,
+    text: &[u8],
+    names: &mut Names,
+    method: Method,
+    fuel: u64,
+    bound: u64,
+) -> Result<Answer, LinFault>
+    ensures accepted { OnOk result (CanBeLinearised text.now) }
+    ensures shown { IfOk result (λ answer. AreShownSteps fuel bound text.now answer.status answer.text.items) }
+    ensures refused { IfErr result (λ fault. fault ≢ LinFault.NoMemory → IsRefusedWith text.now names.new fault) }
+    ensures by { IfErr result (IsFaultBy method) }
+{
+    let made = linearise(alloc, text, names, method)?;
+    let answer = steps_of(alloc, made, fuel, bound)?;
+    Ok(answer)
+}

@@ -1,0 +1,145 @@
+-- What the words of the command line ask for.
+use Rattle.std.specs.Prelude.{⊤, ◌≤◌, ℕ, List, Bool, true, Option, Some, None, cond, codes, is_some, nat_le, option_map, option_and_then}
+use Rattle.std.specs.Str.{bytes_eq}
+use Rattle.clap.specs.Words.{Row, Text, fault_of, first_of, matches_of}
+use Rattle.clap.specs.Walk.{is_empty}
+use Rattle.lin_driver.specs.BufferLines.{buffer_line}
+use Rattle.lin_words.specs.CommandLine.{command_line}
+use Rattle.lin_words.specs.Options.{number_of, options_in}
+use Rattle.lin_words.specs.declared.options.Options.{Options}
+use Rattle.lin_words.specs.declared.command.Command.{Command}
+use Rattle.lin_words.specs.declared.command.Task.{Task}
+use Rattle.lin_words.specs.declared.command.Task.TheVariants.{Check, Linearise, Constelm, Parelm, Sumelm, Steps, Walk, Generate, Replay}
+use Rattle.lin_answers.specs.declared.plan.Plan.{Plan}
+
+-- how the options let a walk go
+abbrev pub plan_of : Options → Plan
+plan_of options = record { fuel = options.fuel; bound = options.bound; seed = options.seed; depth = options.depth }
+
+-- how many buffers a line of buffers has: what stands in the place of a file, where that is a number from 2 to 6
+abbrev pub at_least_two : ℕ → Option ℕ
+at_least_two n = cond (nat_le 2 n) (Some n) None
+
+abbrev pub size_named : Text → Option ℕ
+size_named file = option_and_then at_least_two (number_of 6 file)
+
+-- the task of this name, with what it takes of the file and of the options
+abbrev pub task_named : Text → Text → Options → Option Task
+task_named word file options =
+    cond (bytes_eq word (codes "check")) (Some Check)
+    (cond (bytes_eq word (codes "linearise")) (Some (Linearise options.method))
+    (cond (bytes_eq word (codes "constelm")) (Some (Constelm options.method options.fuel))
+    (cond (bytes_eq word (codes "parelm")) (Some (Parelm options.method))
+    (cond (bytes_eq word (codes "sumelm")) (Some (Sumelm options.method options.fuel))
+    (cond (bytes_eq word (codes "steps")) (Some (Steps options.method options.fuel options.bound))
+    (cond (bytes_eq word (codes "walk")) (Some (Walk options.method (plan_of options)))
+    (cond (bytes_eq word (codes "generate")) (option_map Generate (size_named file))
+    (cond (bytes_eq word (codes "replay")) (Some (Replay options.method options.fuel options.bound))
+    None))))))))
+
+-- whether a trace is named, where the task needs one
+abbrev pub has_its_trace : Task → Option Text → Bool
+has_its_trace Check trace = true
+has_its_trace (Linearise method) trace = true
+has_its_trace (Constelm method fuel) trace = true
+has_its_trace (Parelm method) trace = true
+has_its_trace (Sumelm method fuel) trace = true
+has_its_trace (Steps method fuel bound) trace = true
+has_its_trace (Walk method plan) trace = true
+has_its_trace (Generate size) trace = true
+has_its_trace (Replay method fuel bound) trace = is_some trace
+
+-- a task, the file that it is to be done with, and the one that is named as a trace
+pub record Asked : Type 0 where
+  pub task : Task
+  pub file : List ℕ
+  pub trace : Option (List ℕ)
+
+abbrev pub asked : Command → Asked
+asked command = record { task = command.task; file = command.file.now; trace = option_map (λ s. s.now) command.trace }
+
+-- a task with these files; there is none where it needs a trace and none is named
+abbrev pub asked_of : Text → Option Text → Task → Option Asked
+asked_of file trace task = cond (has_its_trace task trace) (Some (record { task = task; file = file; trace = trace })) None
+
+-- what a task's name, a file, a trace and the options ask for
+abbrev pub asked_with : Option Text → Option Text → Option Text → Option Options → Option Asked
+asked_with (Some word) (Some file) trace (Some options) = option_and_then (asked_of file trace) (task_named word file options)
+asked_with word file trace options = None
+
+-- what the matches ask for
+abbrev pub asked_in : List Row → Option Asked
+asked_in rows = asked_with (first_of (codes "task") rows) (first_of (codes "file") rows) (first_of (codes "trace") rows) (options_in rows)
+
+-- what the words ask for: nothing where clap refuses them, or where the matches give no command
+unfoldable pub asked_by : List (List ℕ) → Option Asked
+asked_by words = cond (is_empty (fault_of command_line words)) (asked_in (matches_of command_line words)) None
+
+-- what is asked of a text, and of the text of a trace, where that is told
+pub record Question : Type 0 where
+  pub task : Task
+  pub text : List ℕ
+  pub trace : Option (List ℕ)
+
+-- a line of buffers is one of 2 to 6
+abbrev pub IsSized : Task → Type 0
+IsSized (Generate size) = (2 ≤ size) × (size ≤ 6)
+IsSized Check = ⊤
+IsSized (Linearise method) = ⊤
+IsSized (Constelm method fuel) = ⊤
+IsSized (Parelm method) = ⊤
+IsSized (Sumelm method fuel) = ⊤
+IsSized (Steps method fuel bound) = ⊤
+IsSized (Walk method plan) = ⊤
+IsSized (Replay method fuel bound) = ⊤
+
+-- the task that needs a trace
+abbrev pub NeedsTrace : Task → Type 0
+NeedsTrace Check = ⊥
+NeedsTrace (Linearise method) = ⊥
+NeedsTrace (Constelm method fuel) = ⊥
+NeedsTrace (Parelm method) = ⊥
+NeedsTrace (Sumelm method fuel) = ⊥
+NeedsTrace (Steps method fuel bound) = ⊥
+NeedsTrace (Walk method plan) = ⊥
+NeedsTrace (Generate size) = ⊥
+NeedsTrace (Replay method fuel bound) = ⊤
+
+-- the text that a task is done with: that of the file, where it is told; for `generate` that of a line of buffers
+abbrev pub text_for : Task → Option (List ℕ) → Option (List ℕ)
+text_for Check told = told
+text_for (Linearise method) told = told
+text_for (Constelm method fuel) told = told
+text_for (Parelm method) told = told
+text_for (Sumelm method fuel) told = told
+text_for (Steps method fuel bound) told = told
+text_for (Walk method plan) told = told
+text_for (Generate size) told = Some (buffer_line size)
+text_for (Replay method fuel bound) told = told
+
+abbrev pub text_asked : (List ℕ → Option (List ℕ)) → Asked → Option (List ℕ)
+text_asked text_of a = text_for a.task (text_of a.file)
+
+-- the text of the trace, where one is named and told
+abbrev pub trace_asked : (List ℕ → Option (List ℕ)) → Asked → Option (List ℕ)
+trace_asked text_of a = option_and_then text_of a.trace
+
+-- whether something is asked for which a file is read
+abbrev pub ReadsFor : Task → Type 0
+ReadsFor Check = ⊤
+ReadsFor (Linearise method) = ⊤
+ReadsFor (Constelm method fuel) = ⊤
+ReadsFor (Parelm method) = ⊤
+ReadsFor (Sumelm method fuel) = ⊤
+ReadsFor (Steps method fuel bound) = ⊤
+ReadsFor (Walk method plan) = ⊤
+ReadsFor (Generate size) = ⊥
+ReadsFor (Replay method fuel bound) = ⊤
+
+abbrev pub ReadsAFile : Option Asked → Type 0
+ReadsAFile None = ⊥
+ReadsAFile (Some a) = ReadsFor a.task
+
+-- the task asked for, with the text that it is done with and that of the trace; the shelf's texts are those that it tells
+abbrev pub question : (List ℕ → Option (List ℕ)) → List (List ℕ) → Option Question
+question text_of words = option_and_then (λ (a : Asked). option_map (λ t. record { task = a.task; text = t; trace = trace_asked text_of a }) (text_asked text_of a)) (asked_by words)

@@ -1,7 +1,0 @@
-use Rattle.std.proofs.Common.{◌≡◌, ◌++◌, take}
-use Rattle.std.specs.List.{flat_map}
-use Rattle.mcrl2lin.specs.Shown.{cut_line}
-use Rattle.mcrl2lin.proofs.option_texts.push_cuts.Given as goal
-
-abbrev pub invariant-loop-summand : goal.invariant-loop-summand
-invariant-loop-summand l = l.text.items ≡ l.initial.text.items ++ flat_map cut_line (take l.summand-index l.cut)

@@ -1,8 +1,0 @@
-use Rattle.std.proofs.Common.{rules}
-use Rattle.process_terms.specs.PlainProcesses.{plain_label}
-use Rattle.mcrl2lin.proofs.ShownLines.{label_pushed}
-use Rattle.mcrl2lin.proofs.option_texts.push_label.Goals as goal
-
-pub returns : goal.returns
-returns c =
-    label_pushed c.args.sig.now c.args.pool.now.trees (plain_label c.args.label.now) c.args.text.now.items c.extend_from_slice.new.self.items c.extend_from_slice-2.new.self.items c.in_ok-shown.shown.items c.in_ok-shown.ensures.written (search rules) (search rules)

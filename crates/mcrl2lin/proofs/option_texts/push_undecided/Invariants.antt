@@ -1,7 +1,0 @@
-use Rattle.std.proofs.Common.{◌≡◌, ◌++◌, take}
-use Rattle.std.specs.List.{flat_map}
-use Rattle.mcrl2lin.specs.Shown.{open_line}
-use Rattle.mcrl2lin.proofs.option_texts.push_undecided.Given as goal
-
-abbrev pub invariant-loop-entry : goal.invariant-loop-entry
-invariant-loop-entry l = l.text.items ≡ l.initial.text.items ++ flat_map open_line (take l.entry-index l.undecided)
