@@ -5,7 +5,8 @@ Run it anywhere: examples/check.py [PROGRAM WORD..]. The program is ./mcrl2lin i
 A specification NAME.mcrl2 has its linear process in NAME.lps, where there is one, which is given again when it is read itself. It can be
 linearised, which the task `check` is to say.
 One in refused/ has the line that refuses it in NAME.err, whatever the task. The cases in cases/ are run as well (cases.py says what they
-are). Each difference is a line, and the last line counts what was compared. The status is 1 where something differs.
+are), and where a program is given the runs of files.py. Each difference is a line, and the last line counts what was compared. The status
+is 1 where something differs.
 """
 
 import pathlib
@@ -13,6 +14,7 @@ import subprocess
 import sys
 
 import cases
+import files
 
 HERE = pathlib.Path(__file__).resolve().parent
 
@@ -46,6 +48,9 @@ def refusals():
 def main():
     program = sys.argv[1:] or [str(HERE.parent / "mcrl2lin")]
     compared, differ = cases.compare(program)
+    if sys.argv[1:]:
+        further, further_differ = files.compare(program)
+        compared, differ = compared + further, differ + further_differ
     for task, path, wanted in [*linear_processes(), *accepted(), *refusals()]:
         found = run(program, task, path)
         compared += 1

@@ -1,3 +1,4 @@
+mod LineTexts
 mod Numbers
 mod ShortWords
 mod TakenWords
