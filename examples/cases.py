@@ -141,15 +141,13 @@ def all_cases(words=()):
 
 
 def answered(program, case, folder):
-    """What the program answers to a case."""
-    name = re.sub(r"\W", "_", f"{case.place} {' '.join(case.words)}")
-    text, trace = pathlib.Path(folder, f"{name}.mcrl2"), pathlib.Path(folder, f"{name}.trace")
-    text.write_bytes(case.text)
-    trace.write_bytes(case.trace)
-    words = [{"TEXT": str(text), "TRACE": str(trace)}.get(word, word) for word in case.words]
-    done = subprocess.run([*program, *words], stdin=subprocess.DEVNULL, capture_output=True, check=False)
-    text.unlink()
-    trace.unlink()
+    """What the program answers to a case, whose files stand in a folder of their own."""
+    with tempfile.TemporaryDirectory(dir=folder) as own:
+        text, trace = pathlib.Path(own, "text.mcrl2"), pathlib.Path(own, "trace")
+        text.write_bytes(case.text)
+        trace.write_bytes(case.trace)
+        words = [{"TEXT": str(text), "TRACE": str(trace)}.get(word, word) for word in case.words]
+        done = subprocess.run([*program, *words], stdin=subprocess.DEVNULL, capture_output=True, check=False)
     return done.returncode, done.stdout, done.stderr
 
 
