@@ -1,7 +1,7 @@
 -- The moves behind an argument.
 use Rattle.std.proofs.Common.{◌≡◌, ℕ, zero, suc, ◌+◌, ◌<◌, ◌≤◌, List, [], ◌∷◌, ◌++◌, refl, sym, ap, ◌∙◌, subst, arith, length, map, take, drop, get_or, set}
 use Rattle.std.specs.Prelude.{ℤ}
-use Rattle.std.specs.List.{All, Contains}
+use Rattle.std.specs.List.{All}
 use Rattle.data_theory.specs.declared.ids.TermId.{TermId}
 use Rattle.data_theory.specs.declared.ids.FunId.{FunId}
 use Rattle.data_theory.specs.Terms as terms
@@ -19,11 +19,9 @@ use Rattle.data_rewriter.specs.declared.machine.Hand.{Hand}
 use Rattle.data_rewriter.specs.declared.machine.Hand.TheVariants.{Visit, Root, Answer, Spent}
 use Rattle.data_rewriter.specs.Places.{Place, whole, from_equation, Leads, Pending, applying, Waits}
 use Rattle.data_rewriter.specs.Frames.{Plain, applies}
-use Rattle.data_rewriter.specs.States.{IsFrameWithin, IsHandWithin, AreWithin, IsFrameIn, pending_at, Begun, IsFound, Takes, Shows, EntersRoot}
+use Rattle.data_rewriter.specs.States.{IsFrameWithin, IsHandWithin, AreWithin, IsFrameIn, pending_at, Shows, EntersRoot}
 use Rattle.data_rewriter.proofs.Leading.{stands_still}
-use Rattle.data_rewriter.specs.Paid.{ComesTo, stands, Finds, PendingTake}
-use Rattle.data_rewriter.proofs.Paying.{first_comes, next_pending, last_comes, last_finds, InArgument, took_before}
-use Rattle.data_rewriter.proofs.Moving.{still_undecided, InPlace, inverted, next_waits, ArgumentsDone, all_done, done_leads, done_goes, first_leads}
+use Rattle.data_rewriter.proofs.Moving.{InPlace, inverted, next_waits, ArgumentsDone, all_done, done_leads, done_goes, first_leads}
 use Rattle.data_rewriter.proofs.Standings.{term_kept}
 use Rattle.data_rewriter.proofs.StateMoves.{pending_kept, frames_within, tree_within}
 use Rattle.std.proofs.lemmas.List.Elements.{All-nil, All-cons, All-head, All-tail}
@@ -65,86 +63,56 @@ none_done sig ts (a ∷ ids) (suc k) l e = absurd cc
 no_numeral : {f : Symbol} {ts : Terms} {a : Sort} {z : ℤ} → application f ts ≡ terms.numeral a z → ⊥
 no_numeral e = cc
 
-module _ (sig : Sig) (own : List Equation) (old new : List Tree) (grows : Extends old new) (origin : Begun) (stack : List Plain) (frames : All (IsFrameIn old) stack) (start : TermId) (start_in : IsIn old start) (f : FunId) (before fuel : ℕ) (hand normal : TermId) where
-  stands_waiting : (n : ℕ) → Waits (data_meant sig) own origin.term (map (pending_at sig old) stack) (term_at sig old start) n → Waits (data_meant sig) own origin.term (map (pending_at sig new) stack) (term_at sig new start) n
+module _ (sig : Sig) (own : List Equation) (old new : List Tree) (grows : Extends old new) (origin : Term) (stack : List Plain) (frames : All (IsFrameIn old) stack) (start : TermId) (start_in : IsIn old start) (f : FunId) (before fuel : ℕ) (hand normal : TermId) where
+  stands_waiting : (n : ℕ) → Waits (data_meant sig) own origin (map (pending_at sig old) stack) (term_at sig old start) n → Waits (data_meant sig) own origin (map (pending_at sig new) stack) (term_at sig new start) n
   stands_waiting n w =
-      subst (λ (x : Term). Waits (data_meant sig) own origin.term (map (pending_at sig new) stack) x n) (sym (term_kept sig old new start grows start_in))
-      (subst (λ (st : List Pending). Waits (data_meant sig) own origin.term st (term_at sig old start) n) (sym (pending_kept sig old new stack grows frames)) w)
-
-  -- the same of what was taken
-  takes_waiting : (n : ℕ) → PendingTake (data_meant sig) own origin.known (map (pending_at sig old) stack) (term_at sig old start) n → PendingTake (data_meant sig) own origin.known (map (pending_at sig new) stack) (term_at sig new start) n
-  takes_waiting n w =
-      subst (λ (x : Term). PendingTake (data_meant sig) own origin.known (map (pending_at sig new) stack) x n) (sym (term_kept sig old new start grows start_in))
-      (subst (λ (st : List Pending). PendingTake (data_meant sig) own origin.known st (term_at sig old start) n) (sym (pending_kept sig old new stack grows frames)) w)
-
-  root_takes : (t : TermId) (k behind here : ℕ) (h : Symbol) (ws : Terms) → k ≡ 0 → term_at sig new t ≡ application h ws → before ≡ origin.paid + (behind + here) + fuel → PendingTake (data_meant sig) own origin.known (map (pending_at sig old) stack) (term_at sig old start) behind → ComesTo (data_meant sig) own origin.known (whole (term_at sig old start)) (from_equation 0 (application h ws)) here → Takes sig own new origin stack start (Root t k) before fuel
-  root_takes t k behind here h ws first is all w c =
-      let same : from_equation 0 (application h ws) ≡ from_equation k (term_at sig new t) = λ i. from_equation (sym first i) (sym is i) in
-      let c' = subst (λ (p : Place). ComesTo (data_meant sig) own origin.known (whole (term_at sig old start)) p here) same c in
-      let c'' = subst (λ (x : Term). ComesTo (data_meant sig) own origin.known (whole x) (from_equation k (term_at sig new t)) here) (sym (term_kept sig old new start grows start_in)) c' in
-      record { behind = behind; here = here; waits = takes_waiting behind w; taken = c''; fuel = all }
-
-  answer_takes : (t : TermId) (behind here : ℕ) (a : Sort) (z : ℤ) → term_at sig new t ≡ terms.numeral a z → before ≡ origin.paid + (behind + here) + fuel → PendingTake (data_meant sig) own origin.known (map (pending_at sig old) stack) (term_at sig old start) behind → Finds (data_meant sig) own origin.known (term_at sig old start) (terms.numeral a z) here → Takes sig own new origin stack start (Answer t) before fuel
-  answer_takes t behind here a z is all w y =
-      let y' = subst (λ (x : Term). Finds (data_meant sig) own origin.known (term_at sig old start) x here) (sym is) y in
-      let y'' = subst (λ (x : Term). Finds (data_meant sig) own origin.known x (term_at sig new t) here) (sym (term_kept sig old new start grows start_in)) y' in
-      record { behind = behind; here = here; waits = takes_waiting behind w; taken = y''; fuel = all }
+      subst (λ (x : Term). Waits (data_meant sig) own origin (map (pending_at sig new) stack) x n) (sym (term_kept sig old new start grows start_in))
+      (subst (λ (st : List Pending). Waits (data_meant sig) own origin st (term_at sig old start) n) (sym (pending_kept sig old new stack grows frames)) w)
 
   -- what leads to a root leads to it in the grown pool
-  root_shows : (t : TermId) (k behind here : ℕ) (h : Symbol) (ws : Terms) → k ≡ 0 → term_at sig new t ≡ application h ws → before ≤ behind + here + fuel → Waits (data_meant sig) own origin.term (map (pending_at sig old) stack) (term_at sig old start) behind → Leads (data_meant sig) own (whole (term_at sig old start)) (from_equation 0 (application h ws)) here → Takes sig own new origin stack start (Root t k) before fuel → Shows sig own new origin stack start (Root t k) before fuel
-  root_shows t k behind here h ws first is less w l taking =
+  root_shows : (t : TermId) (k behind here : ℕ) (h : Symbol) (ws : Terms) → k ≡ 0 → term_at sig new t ≡ application h ws → before ≤ behind + here + fuel → Waits (data_meant sig) own origin (map (pending_at sig old) stack) (term_at sig old start) behind → Leads (data_meant sig) own (whole (term_at sig old start)) (from_equation 0 (application h ws)) here → Shows sig own new origin stack start (Root t k) before fuel
+  root_shows t k behind here h ws first is less w l =
       let same : from_equation 0 (application h ws) ≡ from_equation k (term_at sig new t) = λ i. from_equation (sym first i) (sym is i) in
       let l' = subst (λ (p : Place). Leads (data_meant sig) own (whole (term_at sig old start)) p here) same l in
       let l'' = subst (λ (x : Term). Leads (data_meant sig) own (whole x) (from_equation k (term_at sig new t)) here) (sym (term_kept sig old new start grows start_in)) l' in
-      record { behind = behind; here = here; waits = stands_waiting behind w; shown = ((omega (arith, first)), l''); fuel = less; takes = taking }
+      record { behind = behind; here = here; waits = stands_waiting behind w; shown = ((omega (arith, first)), l''); fuel = less }
 
-  answer_shows : (t : TermId) (behind here : ℕ) (a : Sort) (z : ℤ) → term_at sig new t ≡ terms.numeral a z → before ≤ behind + here + fuel → Waits (data_meant sig) own origin.term (map (pending_at sig old) stack) (term_at sig old start) behind → GoesTo (data_meant sig) own (term_at sig old start) (terms.numeral a z) here → Takes sig own new origin stack start (Answer t) before fuel → Shows sig own new origin stack start (Answer t) before fuel
-  answer_shows t behind here a z is less w y taking =
+  answer_shows : (t : TermId) (behind here : ℕ) (a : Sort) (z : ℤ) → term_at sig new t ≡ terms.numeral a z → before ≤ behind + here + fuel → Waits (data_meant sig) own origin (map (pending_at sig old) stack) (term_at sig old start) behind → GoesTo (data_meant sig) own (term_at sig old start) (terms.numeral a z) here → Shows sig own new origin stack start (Answer t) before fuel
+  answer_shows t behind here a z is less w y =
       let y' = subst (λ (x : Term). GoesTo (data_meant sig) own (term_at sig old start) x here) (sym is) y in
       let y'' = subst (λ (x : Term). GoesTo (data_meant sig) own x (term_at sig new t) here) (sym (term_kept sig old new start grows start_in)) y' in
-      record { behind = behind; here = here; waits = stands_waiting behind w; shown = y''; fuel = less; takes = taking }
+      record { behind = behind; here = here; waits = stands_waiting behind w; shown = y''; fuel = less }
 
   -- the first argument decides
-  pub first_root : (ids set_ids : List TermId) (hand' : Hand) → 0 < length ids → set_ids ≡ set ids 0 normal → ((rest : Terms) → FirstDecides (symbol_under sig f) (more (term_at sig old normal) rest)) → EntersRoot sig old new f set_ids hand' → (s : Shows sig own old origin (applies start f ids 0 ∷ stack) hand (Answer normal) before fuel) → IsFound sig old origin hand normal s.takes.here → Shows sig own new origin stack start hand' before fuel
-  first_root [] set_ids hand' some same decides r s found = absurd (omega (arith, some))
-  first_root (a ∷ ids) set_ids (Visit t) some same decides r s found = absurd r
-  first_root (a ∷ ids) set_ids Spent some same decides r s found = absurd r
-  first_root (a ∷ ids) set_ids (Root t k) some same decides r s found =
+  pub first_root : (ids set_ids : List TermId) (hand' : Hand) → 0 < length ids → set_ids ≡ set ids 0 normal → ((rest : Terms) → FirstDecides (symbol_under sig f) (more (term_at sig old normal) rest)) → EntersRoot sig old new f set_ids hand' → Shows sig own old origin (applies start f ids 0 ∷ stack) hand (Answer normal) before fuel → Shows sig own new origin stack start hand' before fuel
+  first_root [] set_ids hand' some same decides r s = absurd (omega (arith, some))
+  first_root (a ∷ ids) set_ids (Visit t) some same decides r s = absurd r
+  first_root (a ∷ ids) set_ids Spent some same decides r s = absurd r
+  first_root (a ∷ ids) set_ids (Root t k) some same decides r s =
       let y = symbol_under sig f in
       let later = listed_at sig old ids in
       let d = decides (terms_of later) in
-      let p : InPlace (data_meant sig) own origin.term (term_at sig old start) y [] later (map (pending_at sig old) stack) (term_at sig old hand) s.behind = inverted (data_meant sig) own origin.term s.waits in
+      let p : InPlace (data_meant sig) own origin (term_at sig old start) y [] later (map (pending_at sig old) stack) (term_at sig old hand) s.behind = inverted (data_meant sig) own origin s.waits in
       let is : term_at sig new t ≡ application y (more (term_at sig old normal) (terms_of later)) = (r.1 ∙ ap (λ (l : List TermId). apply y (terms_of (listed_at sig old l))) same) ∙ looks_first_unmerged y (more (term_at sig old normal) (terms_of later)) d.0 in
-      root_shows t k p.before (p.moved + (p.gone + s.here)) y _ r.0 is (omega (arith, p.uses_are, s.fuel)) p.waits (first_leads (data_meant sig) own origin.term _ y later _ _ _ s.behind s.here s.shown d p)
-      (let q : InArgument (data_meant sig) own origin.known (term_at sig old start) y [] later (map (pending_at sig old) stack) (term_at sig old hand) s.takes.behind = took_before (data_meant sig) own origin.known s.takes.waits in
-      root_takes t k q.before q.moved y _ r.0 is (omega (arith, q.uses_are, s.takes.fuel, found.1)) q.pending (first_comes (data_meant sig) own origin.known y _ q.olds later _ _ q.moved q.arguments q.comes found.0 d))
-  first_root (a ∷ ids) set_ids (Answer t) some same decides r s found =
+      root_shows t k p.before (p.moved + (p.gone + s.here)) y _ r.0 is (omega (arith, p.uses_are, s.fuel)) p.waits (first_leads (data_meant sig) own origin _ y later _ _ _ s.behind s.here s.shown d p)
+  first_root (a ∷ ids) set_ids (Answer t) some same decides r s =
       let y = symbol_under sig f in
       let d = decides (terms_of (listed_at sig old ids)) in
       let is : term_at sig new t ≡ application y (more (term_at sig old normal) (terms_of (listed_at sig old ids))) = (r.0 ∙ ap (λ (l : List TermId). apply y (terms_of (listed_at sig old l))) same) ∙ looks_first_unmerged y (more (term_at sig old normal) (terms_of (listed_at sig old ids))) d.0 in
       absurd (no_numeral (sym is ∙ r.1.2))
 
-  module _ (ids : List TermId) (done : ℕ) (within : done < length ids) (first : done ≡ 0 → FirstDecides (symbol_under sig f) (more (term_at sig old normal) none) → ⊥) (s : Shows sig own old origin (applies start f ids done ∷ stack) hand (Answer normal) before fuel) (found : IsFound sig old origin hand normal s.takes.here) where
-    was : InPlace (data_meant sig) own origin.term (term_at sig old start) (symbol_under sig f) (listed_at sig old (take done ids)) (listed_at sig old (drop (suc done) ids)) (map (pending_at sig old) stack) (term_at sig old hand) s.behind
-    was = inverted (data_meant sig) own origin.term s.waits
+  module _ (ids : List TermId) (done : ℕ) (within : done < length ids) (first : done ≡ 0 → FirstDecides (symbol_under sig f) (more (term_at sig old normal) none) → ⊥) (s : Shows sig own old origin (applies start f ids done ∷ stack) hand (Answer normal) before fuel) where
+    was : InPlace (data_meant sig) own origin (term_at sig old start) (symbol_under sig f) (listed_at sig old (take done ids)) (listed_at sig old (drop (suc done) ids)) (map (pending_at sig old) stack) (term_at sig old hand) s.behind
+    was = inverted (data_meant sig) own origin s.waits
 
     undecided : listed_at sig old (take done ids) ≡ [] → FirstDecides (symbol_under sig f) (more (term_at sig old normal) none) → ⊥
     undecided e = first (none_done sig old ids done within e)
 
-    still_open : FirstDecides (symbol_under sig f) (terms_of (listed_at sig old (take done ids) ++ term_at sig old normal ∷ [])) → ⊥
-    still_open = still_undecided (data_meant sig) own origin.term (symbol_under sig f) (listed_at sig old (take done ids)) (term_at sig old normal) was.undecided undecided
-
-    took : InArgument (data_meant sig) own origin.known (term_at sig old start) (symbol_under sig f) (listed_at sig old (take done ids)) (listed_at sig old (drop (suc done) ids)) (map (pending_at sig old) stack) (term_at sig old hand) s.takes.behind
-    took = took_before (data_meant sig) own origin.known s.takes.waits
-
-    took_last : suc done ≡ length ids → InArgument (data_meant sig) own origin.known (term_at sig old start) (symbol_under sig f) (listed_at sig old (take done ids)) [] (map (pending_at sig old) stack) (term_at sig old hand) s.takes.behind
-    took_last last = subst (λ (l : List TermId). InArgument (data_meant sig) own origin.known (term_at sig old start) (symbol_under sig f) (listed_at sig old (take done ids)) (listed_at sig old l) (map (pending_at sig old) stack) (term_at sig old hand) s.takes.behind) (none_later ids done last) took
-
     -- the last argument is done
-    done_ones : suc done ≡ length ids → ArgumentsDone (data_meant sig) own origin.term (term_at sig old start) (symbol_under sig f) (listed_at sig old (take done ids) ++ term_at sig old normal ∷ []) (map (pending_at sig old) stack) (s.behind + s.here)
+    done_ones : suc done ≡ length ids → ArgumentsDone (data_meant sig) own origin (term_at sig old start) (symbol_under sig f) (listed_at sig old (take done ids) ++ term_at sig old normal ∷ []) (map (pending_at sig old) stack) (s.behind + s.here)
     done_ones last =
-        let p = subst (λ (l : List TermId). InPlace (data_meant sig) own origin.term (term_at sig old start) (symbol_under sig f) (listed_at sig old (take done ids)) (listed_at sig old l) (map (pending_at sig old) stack) (term_at sig old hand) s.behind) (none_later ids done last) was in
-        all_done (data_meant sig) own origin.term _ (symbol_under sig f) (listed_at sig old (take done ids)) _ (term_at sig old hand) (term_at sig old normal) s.behind s.here s.shown undecided p
+        let p = subst (λ (l : List TermId). InPlace (data_meant sig) own origin (term_at sig old start) (symbol_under sig f) (listed_at sig old (take done ids)) (listed_at sig old l) (map (pending_at sig old) stack) (term_at sig old hand) s.behind) (none_later ids done last) was in
+        all_done (data_meant sig) own origin _ (symbol_under sig f) (listed_at sig old (take done ids)) _ (term_at sig old hand) (term_at sig old normal) s.behind s.here s.shown undecided p
 
     news_are : suc done ≡ length ids → listed_at sig old (set ids done normal) ≡ listed_at sig old (take done ids) ++ term_at sig old normal ∷ []
     news_are last = ap (listed_at sig old) (all_are ids done normal last) ∙ listed_push sig old (take done ids) normal
@@ -155,13 +123,11 @@ module _ (sig : Sig) (own : List Equation) (old new : List Tree) (grows : Extend
     last_root (Root t k) last r =
         let p = done_ones last in
         let e : apply (symbol_under sig f) (terms_of (listed_at sig old (take done ids) ++ term_at sig old normal ∷ [])) ≡ application r.2.0 r.2.1 = ap (λ (l : List Term). apply (symbol_under sig f) (terms_of l)) (sym (news_are last)) ∙ (sym r.1 ∙ r.2.2) in
-        root_shows t k p.before (p.moved + p.gone) r.2.0 r.2.1 r.0 r.2.2 (omega (arith, p.uses_are, s.fuel)) p.waits (done_leads (data_meant sig) own origin.term _ (symbol_under sig f) r.2.0 _ r.2.1 _ _ p e)
-        (let q = took_last last in root_takes t k q.before q.moved r.2.0 r.2.1 r.0 r.2.2 (omega (arith, q.uses_are, s.takes.fuel, found.1)) q.pending (last_comes (data_meant sig) own origin.known (term_at sig old start) (symbol_under sig f) (listed_at sig old (take done ids)) (map (pending_at sig old) stack) (term_at sig old hand) (term_at sig old normal) s.takes.behind found.0 still_open r.2.0 r.2.1 q e))
+        root_shows t k p.before (p.moved + p.gone) r.2.0 r.2.1 r.0 r.2.2 (omega (arith, p.uses_are, s.fuel)) p.waits (done_leads (data_meant sig) own origin _ (symbol_under sig f) r.2.0 _ r.2.1 _ _ p e)
     last_root (Answer t) last r =
         let p = done_ones last in
         let e : apply (symbol_under sig f) (terms_of (listed_at sig old (take done ids) ++ term_at sig old normal ∷ [])) ≡ terms.numeral r.1.0 r.1.1 = ap (λ (l : List Term). apply (symbol_under sig f) (terms_of l)) (sym (news_are last)) ∙ (sym r.0 ∙ r.1.2) in
-        answer_shows t p.before (p.moved + p.gone) r.1.0 r.1.1 r.1.2 (omega (arith, p.uses_are, s.fuel)) p.waits (done_goes (data_meant sig) own origin.term _ (symbol_under sig f) _ r.1.0 r.1.1 _ _ p e)
-        (let q = took_last last in answer_takes t q.before q.moved r.1.0 r.1.1 r.1.2 (omega (arith, q.uses_are, s.takes.fuel, found.1)) q.pending (last_finds (data_meant sig) own origin.known (term_at sig old start) (symbol_under sig f) (listed_at sig old (take done ids)) (map (pending_at sig old) stack) (term_at sig old hand) (term_at sig old normal) s.takes.behind found.0 still_open r.1.0 r.1.1 q e))
+        answer_shows t p.before (p.moved + p.gone) r.1.0 r.1.1 r.1.2 (omega (arith, p.uses_are, s.fuel)) p.waits (done_goes (data_meant sig) own origin _ (symbol_under sig f) _ r.1.0 r.1.1 _ _ p e)
 
     -- there is a next one
     pub next_shows : (d next : TermId) (next_place : ℕ) (stack' : List Plain) → suc done < length ids → next_place ≡ suc done → stack' ≡ applies start f (set ids done normal) next_place ∷ stack → next ≡ get_or (set ids done normal) next_place d → Shows sig own old origin stack' next (Visit next) before fuel
@@ -169,32 +135,28 @@ module _ (sig : Sig) (own : List Equation) (old new : List Tree) (grows : Extend
         let y = symbol_under sig f in
         let x : TermId = get_or (set ids done normal) (suc done) d in
         let later = listed_at sig old (drop (suc (suc done)) (set ids done normal)) in
-        let p : InPlace (data_meant sig) own origin.term (term_at sig old start) y (listed_at sig old (take done ids)) (term_at sig old x ∷ later) (map (pending_at sig old) stack) (term_at sig old hand) s.behind =
-        subst (λ (l : List TermId). InPlace (data_meant sig) own origin.term (term_at sig old start) y (listed_at sig old (take done ids)) (listed_at sig old l) (map (pending_at sig old) stack) (term_at sig old hand) s.behind) (later_is ids done normal d less) was in
-        let w = next_waits (data_meant sig) own origin.term _ y (listed_at sig old (take done ids)) _ (term_at sig old hand) (term_at sig old normal) s.behind s.here s.shown undecided later (term_at sig old x) p in
+        let p : InPlace (data_meant sig) own origin (term_at sig old start) y (listed_at sig old (take done ids)) (term_at sig old x ∷ later) (map (pending_at sig old) stack) (term_at sig old hand) s.behind =
+        subst (λ (l : List TermId). InPlace (data_meant sig) own origin (term_at sig old start) y (listed_at sig old (take done ids)) (listed_at sig old l) (map (pending_at sig old) stack) (term_at sig old hand) s.behind) (later_is ids done normal d less) was in
+        let w = next_waits (data_meant sig) own origin _ y (listed_at sig old (take done ids)) _ (term_at sig old hand) (term_at sig old normal) s.behind s.here s.shown undecided later (term_at sig old x) p in
         let news : listed_at sig old (take done ids) ++ term_at sig old normal ∷ [] ≡ listed_at sig old (take (suc done) (set ids done normal)) = sym (listed_push sig old (take done ids) normal) ∙ ap (listed_at sig old) (sym (done_are ids done normal within)) in
-        let w' : Waits (data_meant sig) own origin.term (map (pending_at sig old) (applies start f (set ids done normal) (suc done) ∷ stack)) (term_at sig old x) (s.behind + s.here) = subst (λ (l : List Term). Waits (data_meant sig) own origin.term (applying (term_at sig old start) y l later ∷ map (pending_at sig old) stack) (term_at sig old x) (s.behind + s.here)) news w in
-        let q : InArgument (data_meant sig) own origin.known (term_at sig old start) y (listed_at sig old (take done ids)) (term_at sig old x ∷ later) (map (pending_at sig old) stack) (term_at sig old hand) s.takes.behind =
-        subst (λ (l : List TermId). InArgument (data_meant sig) own origin.known (term_at sig old start) y (listed_at sig old (take done ids)) (listed_at sig old l) (map (pending_at sig old) stack) (term_at sig old hand) s.takes.behind) (later_is ids done normal d less) took in
-        let v = next_pending (data_meant sig) own origin.known (term_at sig old start) (symbol_under sig f) (listed_at sig old (take done ids)) (map (pending_at sig old) stack) (term_at sig old hand) (term_at sig old normal) s.takes.behind found.0 still_open later (term_at sig old x) q in
-        let v' : PendingTake (data_meant sig) own origin.known (map (pending_at sig old) (applies start f (set ids done normal) (suc done) ∷ stack)) (term_at sig old x) s.takes.behind = subst (λ (l : List Term). PendingTake (data_meant sig) own origin.known (applying (term_at sig old start) y l later ∷ map (pending_at sig old) stack) (term_at sig old x) s.takes.behind) news v in
-        let r : Shows sig own old origin (applies start f (set ids done normal) (suc done) ∷ stack) x (Visit x) before fuel = record { behind = s.behind + s.here; here = 0; waits = w'; shown = stands_still (data_meant sig) own (whole (term_at sig old x)); fuel = omega (arith, s.fuel); takes = record { behind = s.takes.behind; here = 0; waits = v'; taken = stands; fuel = omega (arith, s.takes.fuel, found.1) } } in
+        let w' : Waits (data_meant sig) own origin (map (pending_at sig old) (applies start f (set ids done normal) (suc done) ∷ stack)) (term_at sig old x) (s.behind + s.here) = subst (λ (l : List Term). Waits (data_meant sig) own origin (applying (term_at sig old start) y l later ∷ map (pending_at sig old) stack) (term_at sig old x) (s.behind + s.here)) news w in
+        let r : Shows sig own old origin (applies start f (set ids done normal) (suc done) ∷ stack) x (Visit x) before fuel = record { behind = s.behind + s.here; here = 0; waits = w'; shown = stands_still (data_meant sig) own (whole (term_at sig old x)); fuel = omega (arith, s.fuel) } in
         let pushed' : applies start f (set ids done normal) (suc done) ∷ stack ≡ stack' = ap (λ (k : ℕ). applies start f (set ids done normal) k ∷ stack) (sym e) ∙ sym pushed in
         let here : x ≡ next = ap (λ (k : ℕ). get_or (set ids done normal) k d) (sym e) ∙ sym at_next in
         subst (λ (st : List Plain). Shows sig own old origin st next (Visit next) before fuel) pushed' (subst (λ (z : TermId). Shows sig own old origin (applies start f (set ids done normal) (suc done) ∷ stack) z (Visit z) before fuel) here r)
 
   -- the same, at a place that is 0
-  pub first_root_at : (ids set_ids : List TermId) (done : ℕ) (start' : TermId) (hand' : Hand) → done ≡ 0 → done < length ids → set_ids ≡ set ids done normal → start' ≡ start → ((rest : Terms) → FirstDecides (symbol_under sig f) (more (term_at sig old normal) rest)) → EntersRoot sig old new f set_ids hand' → (s : Shows sig own old origin (applies start f ids done ∷ stack) hand (Answer normal) before fuel) → IsFound sig old origin hand normal s.takes.here → Shows sig own new origin stack start' hand' before fuel
-  first_root_at ids set_ids done start' hand' e some same at_start decides r s found =
-      let both : (z : Shows sig own old origin (applies start f ids 0 ∷ stack) hand (Answer normal) before fuel) × IsFound sig old origin hand normal z.takes.here = subst (λ (k : ℕ). (z : Shows sig own old origin (applies start f ids k ∷ stack) hand (Answer normal) before fuel) × IsFound sig old origin hand normal z.takes.here) e (s, found) in
+  pub first_root_at : (ids set_ids : List TermId) (done : ℕ) (start' : TermId) (hand' : Hand) → done ≡ 0 → done < length ids → set_ids ≡ set ids done normal → start' ≡ start → ((rest : Terms) → FirstDecides (symbol_under sig f) (more (term_at sig old normal) rest)) → EntersRoot sig old new f set_ids hand' → Shows sig own old origin (applies start f ids done ∷ stack) hand (Answer normal) before fuel → Shows sig own new origin stack start' hand' before fuel
+  first_root_at ids set_ids done start' hand' e some same at_start decides r s =
+      let s' : Shows sig own old origin (applies start f ids 0 ∷ stack) hand (Answer normal) before fuel = subst (λ (k : ℕ). Shows sig own old origin (applies start f ids k ∷ stack) hand (Answer normal) before fuel) e s in
       let same' : set_ids ≡ set ids 0 normal = same ∙ ap (λ (k : ℕ). set ids k normal) e in
       let some' : 0 < length ids = subst (λ (k : ℕ). k < length ids) e some in
-      subst (λ (x : TermId). Shows sig own new origin stack x hand' before fuel) (sym at_start) (first_root ids set_ids hand' some' same' decides r both.0 both.1)
+      subst (λ (x : TermId). Shows sig own new origin stack x hand' before fuel) (sym at_start) (first_root ids set_ids hand' some' same' decides r s')
 
-  pub last_root_at : (ids set_ids : List TermId) (done : ℕ) (start' : TermId) (hand' : Hand) → done < length ids → (done ≡ 0 → FirstDecides (symbol_under sig f) (more (term_at sig old normal) none) → ⊥) → suc done ≡ length ids → set_ids ≡ set ids done normal → start' ≡ start → EntersRoot sig old new f set_ids hand' → (s : Shows sig own old origin (applies start f ids done ∷ stack) hand (Answer normal) before fuel) → IsFound sig old origin hand normal s.takes.here → Shows sig own new origin stack start' hand' before fuel
-  last_root_at ids set_ids done start' hand' within first last same at_start r s found =
+  pub last_root_at : (ids set_ids : List TermId) (done : ℕ) (start' : TermId) (hand' : Hand) → done < length ids → (done ≡ 0 → FirstDecides (symbol_under sig f) (more (term_at sig old normal) none) → ⊥) → suc done ≡ length ids → set_ids ≡ set ids done normal → start' ≡ start → EntersRoot sig old new f set_ids hand' → Shows sig own old origin (applies start f ids done ∷ stack) hand (Answer normal) before fuel → Shows sig own new origin stack start' hand' before fuel
+  last_root_at ids set_ids done start' hand' within first last same at_start r s =
       let r' : EntersRoot sig old new f (set ids done normal) hand' = subst (λ (l : List TermId). EntersRoot sig old new f l hand') same r in
-      subst (λ (x : TermId). Shows sig own new origin stack x hand' before fuel) (sym at_start) (last_root ids done within first s found hand' last r')
+      subst (λ (x : TermId). Shows sig own new origin stack x hand' before fuel) (sym at_start) (last_root ids done within first s hand' last r')
 
 -- ---- terms over the signature
 set_all : {X : Type 0} (P : X → Type 0) (xs : List X) (k : ℕ) (x : X) → All P xs → P x → All P (set xs k x)

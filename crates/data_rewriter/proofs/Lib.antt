@@ -11,8 +11,6 @@ pub mod Stacking
 pub mod Leading
 pub mod Waiting
 pub mod Moving
-pub mod Paying
-pub mod TakenMoves
 pub mod StateMoves
 pub mod StepMoves
 pub mod ArgumentMoves

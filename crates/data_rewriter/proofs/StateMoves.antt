@@ -2,7 +2,7 @@
 use Rattle.std.proofs.Common.{◌≡◌, ℕ, zero, suc, ◌+◌, ◌<◌, ◌≤◌, List, [], ◌∷◌, ◌++◌, refl, sym, ap, ◌∙◌, subst, arith, length, map, take, drop, get_or, Some, None, Bool, true, false, cond}
 use Rattle.std.proofs.lemmas.Bool.Decides.{Decides-eqb}
 use Rattle.std.specs.Prelude.{◌==◌, slice_get}
-use Rattle.std.specs.List.{All, Contains}
+use Rattle.std.specs.List.{All}
 use Rattle.std.specs.HashMap.{HashMap}
 use Rattle.std.specs.Map.{lookup}
 use Rattle.std.proofs.lemmas.List.Elements.{All-nil, All-cons, All-head, All-tail, All-weaker, All-take, All-drop}
@@ -28,13 +28,11 @@ use Rattle.data_rewriter.specs.declared.tables.Tables.{Tables}
 use Rattle.data_rewriter.specs.declared.machine.Hand.{Hand}
 use Rattle.data_rewriter.specs.declared.machine.Hand.TheVariants.{Visit, Root, Answer, Spent}
 use Rattle.data_rewriter.specs.Places.{whole, from_equation, Leads, Pending, applying, deciding, Waits, in_a_place}
-use Rattle.data_rewriter.specs.Paid.{Pairs, ComesTo, Finds, PendingTake}
 use Rattle.data_rewriter.specs.Frames.{Plain, applies, decides}
 use Rattle.data_rewriter.specs.Written.{IsRule, IsLeft, AreEquationsOf}
-use Rattle.data_rewriter.specs.States.{HasHead, IsFrameWithin, AreWithin, AreIdsIn, IsHandIn, AreTablesOf, IsFrameIn, pending_at, HandShows, Shows, AreStored, Begun, HandTakes, Takes, KnowsStored}
+use Rattle.data_rewriter.specs.States.{HasHead, IsFrameWithin, AreWithin, AreIdsIn, IsHandIn, AreTablesOf, IsFrameIn, pending_at, HandShows, Shows, AreStored}
 use Rattle.term_pool.proofs.NodeTrees.{stays_in, stay_in, tree_kept}
 use Rattle.data_rewriter.proofs.Standings.{call_at, term_stays, application_at, term_kept}
-use Rattle.data_rewriter.proofs.TakenMoves.{takes_what_is_known, takes_an_atom, takes_a_constant, takes_an_application}
 use Rattle.data_rewriter.proofs.Leading.{then_leads, to_the_root, stands_still}
 use Rattle.data_rewriter.specs.Standing.{IsTerm, terms_of, term_at, listed_at}
 
@@ -44,19 +42,19 @@ module _ (sig : Sig) (own : List Equation) where
   atom_goes t (Number s n) us other e = subst (λ x. GoesTo (data_meant sig) own (term_under sig x) (term_under sig x) 0) (sym e) a_numeral
   atom_goes t (Fun f) us other e = absurd (other f refl)
 
-  module _ (ts : List Tree) (origin : Begun) (stack : List Plain) (start : TermId) (before : ℕ) where
+  module _ (ts : List Tree) (origin : Term) (stack : List Plain) (start : TermId) (before : ℕ) where
     -- the place in hand goes on by k uses
-    pub shows_on : (hand hand' : Hand) (fuel fuel' k : ℕ) → fuel ≤ k + fuel' → ((m : ℕ) → HandShows (data_meant sig) own (term_at sig ts start) (term_at sig ts) hand m → HandShows (data_meant sig) own (term_at sig ts start) (term_at sig ts) hand' (m + k)) → (Takes sig own ts origin stack start hand before fuel → Takes sig own ts origin stack start hand' before fuel') → Shows sig own ts origin stack start hand before fuel → Shows sig own ts origin stack start hand' before fuel'
-    shows_on hand hand' fuel fuel' k less on taking s = record { behind = s.behind; here = s.here + k; waits = s.waits; shown = on s.here s.shown; fuel = omega (arith, s.fuel, less); takes = taking s.takes }
+    pub shows_on : (hand hand' : Hand) (fuel fuel' k : ℕ) → fuel ≤ k + fuel' → ((m : ℕ) → HandShows (data_meant sig) own (term_at sig ts start) (term_at sig ts) hand m → HandShows (data_meant sig) own (term_at sig ts start) (term_at sig ts) hand' (m + k)) → Shows sig own ts origin stack start hand before fuel → Shows sig own ts origin stack start hand' before fuel'
+    shows_on hand hand' fuel fuel' k less on s = record { behind = s.behind; here = s.here + k; waits = s.waits; shown = on s.here s.shown; fuel = omega (arith, s.fuel, less) }
 
-    pub visits_stored : {S : Type 0} (store : HashMap TermId TermId S) (t u : TermId) (fuel : ℕ) → AreStored sig own ts store → KnowsStored sig ts origin.known store → result_of store t ≡ Some u → Shows sig own ts origin stack start (Visit t) before fuel → Shows sig own ts origin stack start (Answer u) before fuel
-    visits_stored store t u fuel all knows e s =
+    pub visits_stored : {S : Type 0} (store : HashMap TermId TermId S) (t u : TermId) (fuel : ℕ) → AreStored sig own ts store → result_of store t ≡ Some u → Shows sig own ts origin stack start (Visit t) before fuel → Shows sig own ts origin stack start (Answer u) before fuel
+    visits_stored store t u fuel all e s =
         let is = all t u e in
-        shows_on (Visit t) (Answer u) fuel fuel is.2.0 (omega arith) (λ m l. l.goes (term_at sig ts u) is.2.0 is.2.1) (takes_what_is_known sig own ts origin stack start before fuel t u (knows t u e)) s
+        shows_on (Visit t) (Answer u) fuel fuel is.2.0 (omega arith) (λ m l. l.goes (term_at sig ts u) is.2.0 is.2.1) s
 
     pub visits_an_atom : (t : TermId) (h : Head) (us : List Tree) (fuel : ℕ) → ((f : FunId) → h ≡ Fun f → ⊥) → tree_at ts t ≡ written_tree h us → Shows sig own ts origin stack start (Visit t) before fuel → Shows sig own ts origin stack start (Answer t) before fuel
     visits_an_atom t h us fuel other e s =
-        shows_on (Visit t) (Answer t) fuel fuel 0 (omega arith) (λ m l. l.goes (term_at sig ts t) 0 (atom_goes (tree_at ts t) h us other e)) (takes_an_atom sig own ts origin stack start before fuel t h us other e) s
+        shows_on (Visit t) (Answer t) fuel fuel 0 (omega arith) (λ m l. l.goes (term_at sig ts t) 0 (atom_goes (tree_at ts t) h us other e)) s
 
     pub visits_a_constant : IsTable sig → (t : TermId) (f : FunId) (ids : List TermId) (fuel : ℕ) → ids ≡ [] → tree_at ts t ≡ written_tree (Fun f) (trees_at ts ids) → Shows sig own ts origin stack start (Visit t) before fuel → Shows sig own ts origin stack start (Root t 0) before fuel
     visits_a_constant table t f ids fuel empty e s =
@@ -65,7 +63,7 @@ module _ (sig : Sig) (own : List Equation) where
         let same : apply y terms.none ≡ application y terms.none = sym (merging_trees_merges_terms sig table f none) in
         let root : Leads (data_meant sig) own (whole (application y terms.none)) (from_equation 0 (application y terms.none)) 0 = to_the_root (data_meant sig) own y y terms.none terms.none terms.none 0 no_arguments (λ d. d) same in
         let here : Leads (data_meant sig) own (whole (term_at sig ts t)) (from_equation 0 (term_at sig ts t)) 0 = subst (λ (x : Term). Leads (data_meant sig) own (whole x) (from_equation 0 x) 0) (sym e') root in
-        shows_on (Visit t) (Root t 0) fuel fuel 0 (omega arith) (λ m l. (omega arith, then_leads (data_meant sig) own l here)) (takes_a_constant sig own ts origin stack start before fuel t y e' same) s
+        shows_on (Visit t) (Root t 0) fuel fuel 0 (omega arith) (λ m l. (omega arith, then_leads (data_meant sig) own l here)) s
 
     pub visits_an_application : (t : TermId) (f : FunId) (ids : List TermId) (d : TermId) (fuel : ℕ) → 0 < length ids → tree_at ts t ≡ written_tree (Fun f) (trees_at ts ids) → Shows sig own ts origin stack start (Visit t) before fuel → Shows sig own ts origin (applies start f ids 0 ∷ stack) (get_or ids 0 d) (Visit (get_or ids 0 d)) before fuel
     visits_an_application t f [] d fuel less e s = absurd (omega (arith, less))
@@ -78,7 +76,6 @@ module _ (sig : Sig) (own : List Equation) where
           waits = in_a_place [] s.waits leads no_arguments (λ h. h);
           shown = stand (term_at sig ts id);
           fuel = omega (arith, s.fuel);
-          takes = takes_an_application sig own ts origin stack start before fuel t f id ids same s.takes;
         }
       where
         stand : (x : Term) → Leads (data_meant sig) own (whole x) (whole x) 0
@@ -143,38 +140,13 @@ hand_kept sig own old new e start (Answer t) m a b h =
     subst (λ (x : Term). GoesTo (data_meant sig) own x (term_at sig new t) m) p (subst (λ (x : Term). GoesTo (data_meant sig) own (term_at sig old start) x m) q h)
 hand_kept sig own old new e start Spent m a b h = subst (λ (x : Term). Chain (data_meant sig) own x (suc m)) (sym (term_kept sig old new start e a)) h
 
-hand_takes_kept : (sig : Sig) (own : List Equation) (known : Pairs) (old new : List Tree) (e : Extends old new) (start : TermId) (hand : Hand) (m : ℕ) → IsIn old start → IsHandIn old hand → HandTakes (data_meant sig) own known (term_at sig old start) (term_at sig old) hand m → HandTakes (data_meant sig) own known (term_at sig new start) (term_at sig new) hand m
-hand_takes_kept sig own known old new e start (Visit t) m a b h =
-    let p : term_at sig old start ≡ term_at sig new start = sym (term_kept sig old new start e a) in
-    let q : term_at sig old t ≡ term_at sig new t = sym (term_kept sig old new t e b) in
-    subst (λ (x : Term). ComesTo (data_meant sig) own known (whole x) (whole (term_at sig new t)) m) p (subst (λ (x : Term). ComesTo (data_meant sig) own known (whole (term_at sig old start)) (whole x) m) q h)
-hand_takes_kept sig own known old new e start (Root t k) m a b h =
-    let p : term_at sig old start ≡ term_at sig new start = sym (term_kept sig old new start e a) in
-    let q : term_at sig old t ≡ term_at sig new t = sym (term_kept sig old new t e b.0) in
-    subst (λ (x : Term). ComesTo (data_meant sig) own known (whole x) (from_equation k (term_at sig new t)) m) p (subst (λ (x : Term). ComesTo (data_meant sig) own known (whole (term_at sig old start)) (from_equation k x) m) q h)
-hand_takes_kept sig own known old new e start (Answer t) m a b h =
-    let p : term_at sig old start ≡ term_at sig new start = sym (term_kept sig old new start e a) in
-    let q : term_at sig old t ≡ term_at sig new t = sym (term_kept sig old new t e b) in
-    subst (λ (x : Term). Finds (data_meant sig) own known x (term_at sig new t) m) p (subst (λ (x : Term). Finds (data_meant sig) own known (term_at sig old start) x m) q h)
-hand_takes_kept sig own known old new e start Spent m a b h = tt
-
-takes_kept : (sig : Sig) (own : List Equation) (old new : List Tree) (e : Extends old new) (origin : Begun) (stack : List Plain) (start : TermId) (hand : Hand) (before fuel : ℕ) → AreIdsIn old stack start hand → Takes sig own old origin stack start hand before fuel → Takes sig own new origin stack start hand before fuel
-takes_kept sig own old new e origin stack start hand before fuel ids s = record {
-  behind = s.behind;
-  here = s.here;
-  waits = subst (λ (x : Term). PendingTake (data_meant sig) own origin.known (map (pending_at sig new) stack) x s.behind) (sym (term_kept sig old new start e ids.begin)) (subst (λ (st : List Pending). PendingTake (data_meant sig) own origin.known st (term_at sig old start) s.behind) (sym (pending_kept sig old new stack e ids.frames)) s.waits);
-  taken = hand_takes_kept sig own origin.known old new e start hand s.here ids.begin ids.held s.taken;
-  fuel = s.fuel;
-}
-
-pub shows_kept : (sig : Sig) (own : List Equation) (old new : List Tree) (e : Extends old new) (origin : Begun) (stack : List Plain) (start : TermId) (hand : Hand) (before fuel : ℕ) → AreIdsIn old stack start hand → Shows sig own old origin stack start hand before fuel → Shows sig own new origin stack start hand before fuel
+pub shows_kept : (sig : Sig) (own : List Equation) (old new : List Tree) (e : Extends old new) (origin : Term) (stack : List Plain) (start : TermId) (hand : Hand) (before fuel : ℕ) → AreIdsIn old stack start hand → Shows sig own old origin stack start hand before fuel → Shows sig own new origin stack start hand before fuel
 shows_kept sig own old new e origin stack start hand before fuel ids s = record {
   behind = s.behind;
   here = s.here;
-  waits = subst (λ (x : Term). Waits (data_meant sig) own origin.term (map (pending_at sig new) stack) x s.behind) (sym (term_kept sig old new start e ids.begin)) (subst (λ (st : List Pending). Waits (data_meant sig) own origin.term st (term_at sig old start) s.behind) (sym (pending_kept sig old new stack e ids.frames)) s.waits);
+  waits = subst (λ (x : Term). Waits (data_meant sig) own origin (map (pending_at sig new) stack) x s.behind) (sym (term_kept sig old new start e ids.begin)) (subst (λ (st : List Pending). Waits (data_meant sig) own origin st (term_at sig old start) s.behind) (sym (pending_kept sig old new stack e ids.frames)) s.waits);
   shown = hand_kept sig own old new e start hand s.here ids.begin ids.held s.shown;
   fuel = s.fuel;
-  takes = takes_kept sig own old new e origin stack start hand before fuel ids s.takes;
 }
 
 pub stored_kept : {S : Type 0} (sig : Sig) (own : List Equation) (old new : List Tree) (e : Extends old new) (store : HashMap TermId TermId S) → AreStored sig own old store → AreStored sig own new store
@@ -183,14 +155,6 @@ stored_kept sig own old new e store all t u is =
     let p : term_at sig old t ≡ term_at sig new t = sym (term_kept sig old new t e a.0) in
     let q : term_at sig old u ≡ term_at sig new u = sym (term_kept sig old new u e a.1) in
     (stays_in old new t e a.0, stays_in old new u e a.1, (a.2.0, subst (λ (x : Term). GoesTo (data_meant sig) own x (term_at sig new u) a.2.0) p (subst (λ (x : Term). GoesTo (data_meant sig) own (term_at sig old t) x a.2.0) q a.2.1)), subst (IsTreeWithin sig) (sym (tree_kept old new t e a.0)) a.3, subst (IsTreeWithin sig) (sym (tree_kept old new u e a.1)) a.4)
-
--- what is stored stays known
-pub knows_still : {S : Type 0} (sig : Sig) (known : Pairs) (old new : List Tree) (e : Extends old new) (store : HashMap TermId TermId S) → ((t u : TermId) → result_of store t ≡ Some u → IsIn old t × IsIn old u) → KnowsStored sig old known store → KnowsStored sig new known store
-knows_still sig known old new e store inside knows t u is =
-    let a = inside t u is in
-    let p : term_at sig old t ≡ term_at sig new t = sym (term_kept sig old new t e a.0) in
-    let q : term_at sig old u ≡ term_at sig new u = sym (term_kept sig old new u e a.1) in
-    subst (λ (x : Term). Contains known (x, term_at sig new u)) p (subst (λ (x : Term). Contains known (term_at sig old t, x)) q (knows t u is))
 
 equations_kept : (sig : Sig) (old new : List Tree) (rs : List Rule) (qs : List Equation) → Extends old new → All (IsRule sig old) rs → AreEquationsOf sig old rs qs → AreEquationsOf sig new rs qs
 equations_kept sig old new [] [] e h are = tt

@@ -11,9 +11,8 @@ use Rattle.data_rewriter.specs.declared.machine.Normal.TheVariants.{Done}
 use Rattle.data_rewriter.specs.declared.rewriter.Truth.{Truth}
 use Rattle.data_rewriter.specs.declared.rewriter.Truth.TheVariants.{Yes, No, Stuck, Spent}
 use Rattle.data_rewriter.specs.Standing.{term_at}
-use Rattle.data_rewriter.specs.Paid.{Pairs, IsPaid}
-use Rattle.data_rewriter.specs.States.{Says, IsCharged}
-use Rattle.data_rewriter.specs.Rewriters.{IsDecision, IsDecisionCharged, IsTruthOf}
+use Rattle.data_rewriter.specs.States.{Says}
+use Rattle.data_rewriter.specs.Rewriters.{IsDecision, IsTruthOf}
 
 module _ (sig : Sig) (own : List Equation) (old new : List Tree) (t u : TermId) (fuel fuel' : ℕ) where
   pub decided_by : (r : Truth) → Says sig own old new t fuel fuel' (Done u) → IsTruthOf sig new u r → IsDecision sig own old new t fuel fuel' r
@@ -21,10 +20,3 @@ module _ (sig : Sig) (own : List Equation) (old new : List Tree) (t u : TermId) 
   decided_by No h k = (h.1.0, h.1.1, subst (λ (x : Term). GoesTo (data_meant sig) own (term_at sig old t) x h.1.0) k h.1.2)
   decided_by (Stuck v) h k = subst (λ (w : TermId). IsDecision sig own old new t fuel fuel' (Stuck w)) (sym k.0) (h.0, h.1, k.1, k.2)
   decided_by (Spent v) h k = absurd k
-
--- and they are paid for
-pub charged_by : (sig : Sig) (own : List Equation) (old new : List Tree) (first : Pairs) (t u : TermId) (fuel fuel' : ℕ) (r : Truth) → IsCharged sig own old new first t fuel fuel' (Done u) → IsTruthOf sig new u r → IsDecisionCharged sig own old new first t fuel fuel' r
-charged_by sig own old new first t u fuel fuel' Yes h k = (h.0, h.1, subst (λ (x : Term). IsPaid (data_meant sig) own first (term_at sig old t) x h.0) k h.2)
-charged_by sig own old new first t u fuel fuel' No h k = (h.0, h.1, subst (λ (x : Term). IsPaid (data_meant sig) own first (term_at sig old t) x h.0) k h.2)
-charged_by sig own old new first t u fuel fuel' (Stuck v) h k = subst (λ (w : TermId). IsDecisionCharged sig own old new first t fuel fuel' (Stuck w)) (sym k.0) h
-charged_by sig own old new first t u fuel fuel' (Spent v) h k = absurd k

@@ -7,7 +7,6 @@ pub mod Signatures
 pub mod Written
 pub mod Rules
 pub mod Places
-pub mod Paid
 pub mod Frames
 pub mod States
 pub mod Matching

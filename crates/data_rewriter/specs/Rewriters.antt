@@ -19,8 +19,7 @@ use Rattle.data_rewriter.specs.declared.machine.Normal.{Normal}
 use Rattle.data_rewriter.specs.declared.machine.Normal.TheVariants.{Done, Spent as SpentAt}
 use Rattle.data_rewriter.specs.Stored.{AreCovered, IsClosed}
 use Rattle.data_rewriter.specs.Standing.{IsTerm, term_at}
-use Rattle.data_rewriter.specs.Paid.{Pairs, IsPaid}
-use Rattle.data_rewriter.specs.States.{AreTablesOf, AreStored, pairs_at}
+use Rattle.data_rewriter.specs.States.{AreTablesOf, AreStored}
 
 -- the rules of numbers that a rewriter holds
 abbrev pub number_rules : {F : Type 0} → Rewriter F → NumberRules F
@@ -37,17 +36,6 @@ pub record Fits {F : Type 0} (r : Rewriter F) (sig : Sig) (own : List Equation) 
 -- the normal form that a rewriter has stored for a term
 abbrev pub stored_form : {F : Type 0} → Rewriter F → TermId → Option TermId
 stored_form r t = result_of r.normal_forms t
-
--- what a rewriter knows: the terms that it has stored, each with what it goes to
-abbrev pub known_by : {F : Type 0} → Rewriter F → Sig → List Tree → Pairs
-known_by r sig ts = pairs_at sig ts r.normal_forms
-
--- the fuel that was taken is what was paid to decide, as in `IsCharged`
-abbrev pub IsDecisionCharged : Sig → List Equation → List Tree → List Tree → Pairs → TermId → ℕ → ℕ → Truth → Type 0
-IsDecisionCharged sig own old new first t fuel fuel' Yes = (n : ℕ) × (fuel ≡ n + fuel') × IsPaid (data_meant sig) own first (term_at sig old t) trueᵗ n
-IsDecisionCharged sig own old new first t fuel fuel' No = (n : ℕ) × (fuel ≡ n + fuel') × IsPaid (data_meant sig) own first (term_at sig old t) falseᵗ n
-IsDecisionCharged sig own old new first t fuel fuel' (Stuck u) = (n : ℕ) × (fuel ≡ n + fuel') × IsPaid (data_meant sig) own first (term_at sig old t) (term_at sig new u) n
-IsDecisionCharged sig own old new first t fuel fuel' (Spent u) = fuel' ≡ 0
 
 -- what was answered for a term is stored for it and for itself
 abbrev pub IsStoredAnswer : {F : Type 0} → Rewriter F → TermId → Normal → Type 0

@@ -27,7 +27,6 @@ use Rattle.data_rewriter.specs.Rules.{numbers_at}
 use Rattle.data_rewriter.specs.Written.{IsRule, AreEquationsOf}
 use Rattle.data_rewriter.specs.Signatures.{AreSignTables}
 use Rattle.data_rewriter.specs.Places.{whole, from_equation, Leads, Pending, applying, deciding, Waits}
-use Rattle.data_rewriter.specs.Paid.{Pairs, ComesTo, Finds, IsPaid, PendingTake}
 use Rattle.data_rewriter.specs.Frames.{Plain, applies, decides}
 
 abbrev pub pending_at : Sig → List Tree → Plain → Pending
@@ -57,35 +56,13 @@ HandShows g own s at (Root t k) m = (k ≤ lines + length own) × Leads g own (w
 HandShows g own s at (Answer u) m = GoesTo g own s (at u) m
 HandShows g own s at Spent m = Chain g own s (suc m)
 
--- A rewriting of a term, with what has been found so far, and the uses that were paid for that.
-pub record Begun : Type 0 where
-  pub term : Term
-  pub known : Pairs
-  pub paid : ℕ
-
--- the place in hand has taken m uses of its own
-abbrev pub HandTakes : Data → List Equation → Pairs → Term → (TermId → Term) → Hand → ℕ → Type 0
-HandTakes g own known s at (Visit t) m = ComesTo g own known (whole s) (whole (at t)) m
-HandTakes g own known s at (Root t k) m = ComesTo g own known (whole s) (from_equation k (at t)) m
-HandTakes g own known s at (Answer u) m = Finds g own known s (at u) m
-HandTakes g own known s at Spent m = Unit {0}
-
--- what was found, the pending places and the place in hand have taken the fuel from `before` to `after`
-pub record Takes (sig : Sig) (own : List Equation) (ts : List Tree) (origin : Begun) (stack : List Plain) (start : TermId) (hand : Hand) (before after : ℕ) : Type 0 where
+-- The state of a rewriting of the origin, where the fuel has fallen from `before` to `after`.
+pub record Shows (sig : Sig) (own : List Equation) (ts : List Tree) (origin : Term) (stack : List Plain) (start : TermId) (hand : Hand) (before after : ℕ) : Type 0 where
   pub behind : ℕ
   pub here : ℕ
-  pub waits : PendingTake (data_meant sig) own origin.known (map (pending_at sig ts) stack) (term_at sig ts start) behind
-  pub taken : HandTakes (data_meant sig) own origin.known (term_at sig ts start) (term_at sig ts) hand here
-  pub fuel : before ≡ origin.paid + (behind + here) + after
-
--- The state of a rewriting, where the fuel has fallen from `before` to `after`.
-pub record Shows (sig : Sig) (own : List Equation) (ts : List Tree) (origin : Begun) (stack : List Plain) (start : TermId) (hand : Hand) (before after : ℕ) : Type 0 where
-  pub behind : ℕ
-  pub here : ℕ
-  pub waits : Waits (data_meant sig) own origin.term (map (pending_at sig ts) stack) (term_at sig ts start) behind
+  pub waits : Waits (data_meant sig) own origin (map (pending_at sig ts) stack) (term_at sig ts start) behind
   pub shown : HandShows (data_meant sig) own (term_at sig ts start) (term_at sig ts) hand here
   pub fuel : before ≤ behind + here + after
-  pub takes : Takes sig own ts origin stack start hand before after
 
 -- ---- terms over the signature
 abbrev pub IsFrameWithin : Sig → List Tree → Plain → Type 0
@@ -117,36 +94,7 @@ StartsIn ts store = (t u : TermId) → result_of store t ≡ Some u → IsIn ts 
 abbrev pub Follows : (Sig → List Equation → Type 0) → List Tree → List Tree → List Plain → TermId → Hand → List Plain → TermId → Hand → ℕ → ℕ → Type 0
 Follows Over old new stack start hand stack' start' hand' fuel fuel' =
     (sig : Sig) (own : List Equation) → Over sig own → AreWithin sig old stack start hand
-    → AreWithin sig new stack' start' hand' × ((origin : Begun) (before : ℕ) → Shows sig own old origin stack start hand before fuel → Shows sig own new origin stack' start' hand' before fuel')
-
--- each stored pair is known
-abbrev pub KnowsStored : {S : Type 0} → Sig → List Tree → Pairs → HashMap TermId TermId S → Type 0
-KnowsStored sig ts known store = (t u : TermId) → result_of store t ≡ Some u → Contains known (term_at sig ts t, term_at sig ts u)
-
--- the same where the stored pairs are known
-abbrev pub FollowsStored : {S : Type 0} → (Sig → List Equation → Type 0) → HashMap TermId TermId S → List Tree → List Tree → List Plain → TermId → Hand → List Plain → TermId → Hand → ℕ → ℕ → Type 0
-FollowsStored Over store old new stack start hand stack' start' hand' fuel fuel' =
-    (sig : Sig) (own : List Equation) → Over sig own → AreWithin sig old stack start hand
-    → AreWithin sig new stack' start' hand' × ((origin : Begun) (before : ℕ) → KnowsStored sig old origin.known store → Shows sig own old origin stack start hand before fuel → Shows sig own new origin stack' start' hand' before fuel')
-
--- what is in hand was found, and has taken nothing since
-abbrev pub IsFound : Sig → List Tree → Begun → TermId → TermId → ℕ → Type 0
-IsFound sig ts origin start u m = Contains origin.known (term_at sig ts start, term_at sig ts u) × (m ≡ 0)
-
--- the same behind an answer that was found
-abbrev pub FollowsFound : (Sig → List Equation → Type 0) → List Tree → List Tree → List Plain → TermId → TermId → List Plain → TermId → Hand → ℕ → ℕ → Type 0
-FollowsFound Over old new stack start u stack' start' hand' fuel fuel' =
-    (sig : Sig) (own : List Equation) → Over sig own → AreWithin sig old stack start (Answer u)
-    → AreWithin sig new stack' start' hand' × ((origin : Begun) (before : ℕ) → (s : Shows sig own old origin stack start (Answer u) before fuel) → IsFound sig old origin start u s.takes.here → Shows sig own new origin stack' start' hand' before fuel')
-
--- the stored pairs, as the terms that they mean
-abbrev pub pairs_at : {S : Type 0} → Sig → List Tree → HashMap TermId TermId S → Pairs
-pairs_at sig ts store = map (λ (p : TermId × TermId). (term_at sig ts p.0, term_at sig ts p.1)) store.entries
-
--- The fuel that was taken is what was paid to find the answer, from what was known at first. Where it doesn't suffice, all was taken.
-abbrev pub IsCharged : Sig → List Equation → List Tree → List Tree → Pairs → TermId → ℕ → ℕ → Normal → Type 0
-IsCharged sig own old new first t fuel fuel' (Done u) = (n : ℕ) × (fuel ≡ n + fuel') × IsPaid (data_meant sig) own first (term_at sig old t) (term_at sig new u) n
-IsCharged sig own old new first t fuel fuel' (SpentAt u) = fuel' ≡ 0
+    → AreWithin sig new stack' start' hand' × ((origin : Term) (before : ℕ) → Shows sig own old origin stack start hand before fuel → Shows sig own new origin stack' start' hand' before fuel')
 
 -- ---- what the parts of a machine give
 -- these numbers rise

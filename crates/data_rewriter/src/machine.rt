@@ -1,7 +1,7 @@
 //! Rewriting with pending places in a vector.
 
 ghost use Rattle.std.specs.Prelude.{◌≡◌, ◌<◌, ◌≤◌, ◌∷◌, ℕ, List, length, suc, Some, IfOk, IfSome, OnOk, IsTrue, ◌↔◌, MatchOption};
-ghost use Rattle.std.specs.List.{All, Contains};
+ghost use Rattle.std.specs.List.{All};
 ghost use Rattle.data_theory.specs.declared.ids.TermId.{TermId};
 ghost use Rattle.data_theory.specs.IdTables.{IsTable};
 ghost use Rattle.term_pool.specs.HeadTrees.{IsIn, AreIn, tree_at};
@@ -20,8 +20,7 @@ ghost use Rattle.data_rewriter.specs.Places as places;
 ghost use Rattle.data_rewriter.specs.Stored.{AreCovered, KeepsStored};
 ghost use Rattle.term_pool.specs.Bindings.{result_of};
 ghost use Rattle.number_rules.specs.Rule.{IsExact, rule_of};
-ghost use Rattle.data_rewriter.specs.States.{Says, IsStored, IsHandIn, AreTablesOf, EntersRoot, UsesRight, IsFirst, IsFirstOrNone, IsFoundIn, IsFoundWithin, IsHandWithin, AreIdsIn, IsFrameIn, Follows, FollowsFound, FollowsStored, KnowsStored, Shows, AreStored, StartsIn, IsCharged, pairs_at};
-ghost use Rattle.data_rewriter.specs.Paid.{Pairs};
+ghost use Rattle.data_rewriter.specs.States.{Says, IsStored, IsHandIn, AreTablesOf, EntersRoot, UsesRight, IsFirst, IsFirstOrNone, IsFoundIn, IsFoundWithin, IsHandWithin, AreIdsIn, IsFrameIn, Follows, Shows, AreStored, StartsIn};
 
 use crate::equations::{Found, LINES, first_equation, is_truth};
 use crate::signs::Sign;
@@ -75,7 +74,7 @@ fn visit(
     requires stored { StartsIn pool.now.trees normal_forms.now }
     ensures ids { IfOk result (λ p. AreIdsIn pool.now.trees stack.new p.start p.hand) }
     ensures unspent { IfOk result (λ p. p.hand ≡ Hand.Spent → ⊥) }
-    ensures follows { IfOk result (λ p. (fuel : ℕ) → FollowsStored (λ sig own. IsTable sig × AreStored sig own pool.now.trees normal_forms.now) normal_forms.now pool.now.trees pool.now.trees stack.old start (Hand.Visit term) stack.new p.start p.hand fuel fuel) }
+    ensures follows { IfOk result (λ p. (fuel : ℕ) → Follows (λ sig own. IsTable sig × AreStored sig own pool.now.trees normal_forms.now) pool.now.trees pool.now.trees stack.old start (Hand.Visit term) stack.new p.start p.hand fuel fuel) }
 {
     if let Some(normal) = normal_forms.get(&term) {
         let hand = Hand::Answer(*normal);
@@ -178,7 +177,7 @@ fn next_argument(
     ensures kept { Extends pool.old.trees pool.new.trees }
     ensures ids { IfOk result (λ p. AreIdsIn pool.new.trees stack.new p.start p.hand) }
     ensures unspent { IfOk result (λ p. p.hand ≡ Hand.Spent → ⊥) }
-    ensures follows { IfOk result (λ p. (hand : TermId) (fuel : ℕ) → FollowsFound (λ sig own. AreTablesOf tables.now sig own pool.old.trees) pool.old.trees pool.new.trees (applies start fun args.items done ∷ stack.old) hand normal stack.new p.start p.hand fuel fuel) }
+    ensures follows { IfOk result (λ p. (hand : TermId) (fuel : ℕ) → Follows (λ sig own. AreTablesOf tables.now sig own pool.old.trees) pool.old.trees pool.new.trees (applies start fun args.items done ∷ stack.old) hand (Hand.Answer normal) stack.new p.start p.hand fuel fuel) }
 {
     let mut args = args;
     args[done] = normal;
@@ -229,8 +228,7 @@ fn behind_condition(
 ) -> Result<Place, NoMemory>
     requires { IsIn pool.now.trees normal }
     ensures ids { IfOk result (λ p. (below : List Plain) → All (IsFrameIn pool.now.trees) below → IsFrameIn pool.now.trees (decides start root number right) → AreIdsIn pool.now.trees below p.start p.hand) }
-    ensures follows { IfOk result (λ p. (below : List Plain) (hand : TermId) → FollowsFound (λ sig own. AreTablesOf tables.now sig own pool.now.trees) pool.now.trees pool.now.trees (decides start root number right ∷ below) hand normal below p.start p.hand fuel.old fuel.new) }
-    ensures falls { fuel.new ≤ fuel.old }
+    ensures follows { IfOk result (λ p. (below : List Plain) (hand : TermId) → Follows (λ sig own. AreTablesOf tables.now sig own pool.now.trees) pool.now.trees pool.now.trees (decides start root number right ∷ below) hand (Hand.Answer normal) below p.start p.hand fuel.old fuel.new) }
     ensures spent { IfOk result (λ p. p.hand ≡ Hand.Spent → fuel.new ≡ 0) }
 {
     if is_truth(tables, pool, normal) {
@@ -259,7 +257,6 @@ fn begin_equation(
 ) -> Result<Place, NoMemory>
     ensures ids { IfOk result (λ p. (ts : List Tree) → AreIdsIn ts stack.old start (Hand.Root root from) → IsFoundIn ts found → AreIdsIn ts stack.new p.start p.hand) }
     ensures follows { IfOk result (λ p. (ts : List Tree) → Follows (λ sig own. IsFirst sig own ts root from found × IsFoundWithin sig ts found) ts ts stack.old start (Hand.Root root from) stack.new p.start p.hand fuel.old fuel.new) }
-    ensures falls { fuel.new ≤ fuel.old }
     ensures spent { IfOk result (λ p. p.hand ≡ Hand.Spent → fuel.new ≡ 0) }
 {
     let Some(cond) = found.cond else {
@@ -296,8 +293,7 @@ fn resume(
     requires normal { IsIn pool.old.trees normal }
     ensures kept { Extends pool.old.trees pool.new.trees }
     ensures ids { IfOk result (λ p. AreIdsIn pool.new.trees stack.new p.start p.hand) }
-    ensures follows { IfOk result (λ p. (hand : TermId) → FollowsFound (λ sig own. AreTablesOf tables.now sig own pool.old.trees) pool.old.trees pool.new.trees (plain frame ∷ stack.old) hand normal stack.new p.start p.hand fuel.old fuel.new) }
-    ensures falls { fuel.new ≤ fuel.old }
+    ensures follows { IfOk result (λ p. (hand : TermId) → Follows (λ sig own. AreTablesOf tables.now sig own pool.old.trees) pool.old.trees pool.new.trees (plain frame ∷ stack.old) hand (Hand.Answer normal) stack.new p.start p.hand fuel.old fuel.new) }
     ensures spent { IfOk result (λ p. p.hand ≡ Hand.Spent → fuel.new ≡ 0) }
 {
     match frame {
@@ -340,7 +336,6 @@ fn at_root<F: Fn(NumOp, Num, Num) -> Option<Num>>(
     ensures kept { Extends pool.old.trees pool.new.trees }
     ensures ids { IfOk result (λ p. AreIdsIn pool.new.trees stack.new p.start p.hand) }
     ensures follows { IfOk result (λ p. Follows (λ sig own. AreTablesOf tables.now sig own pool.old.trees) pool.old.trees pool.new.trees stack.old start (Hand.Root root from) stack.new p.start p.hand fuel.old fuel.new) }
-    ensures falls { fuel.new ≤ fuel.old }
     ensures spent { IfOk result (λ p. p.hand ≡ Hand.Spent → fuel.new ≡ 0) }
 {
     match first_equation(alloc, tables, rules, pool, root, from)? {
@@ -365,7 +360,6 @@ pub fn keep(
     ensures within { (ts : List Tree) → StartsIn ts normal_forms.old → IsIn ts start → IsIn ts normal → StartsIn ts normal_forms.new }
     ensures stored { (sig : Sig) (own : List Equation) (ts : List Tree) → AreStored sig own ts normal_forms.old → IsStored sig own ts start normal → IsStored sig own ts normal normal → AreStored sig own ts normal_forms.new }
     ensures pairs { (sig : Sig) (own : List Equation) → IsTable sig → AreCovered own → AreStored sig own pool.now.trees normal_forms.old → IsStored sig own pool.now.trees start normal → IsStored sig own pool.now.trees normal normal → KeepsStored normal_forms.old normal_forms.new }
-    ensures known { (sig : Sig) (ts : List Tree) (known : Pairs) → KnowsStored sig ts known normal_forms.old → Contains known (term_at sig ts start, term_at sig ts normal) → Contains known (term_at sig ts normal, term_at sig ts normal) → KnowsStored sig ts known normal_forms.new }
     ensures both { OnOk result ((result_of normal_forms.new start ≡ Some normal) × (result_of normal_forms.new normal ≡ Some normal)) }
 {
     // No two numbers of a pool have one tree.
@@ -402,8 +396,6 @@ pub fn run<F: Fn(NumOp, Num, Num) -> Option<Num>>(
     ensures kept { Extends pool.old.trees pool.new.trees }
     ensures stored { (sig : Sig) (own : List Equation) → AreTablesOf tables.now sig own pool.old.trees → AreStored sig own pool.old.trees normal_forms.old → IsTreeWithin sig (tree_at pool.old.trees term) → AreStored sig own pool.new.trees normal_forms.new }
     ensures pairs { (sig : Sig) (own : List Equation) → AreTablesOf tables.now sig own pool.old.trees → AreStored sig own pool.old.trees normal_forms.old → IsTreeWithin sig (tree_at pool.old.trees term) → AreCovered own → KeepsStored normal_forms.old normal_forms.new }
-    ensures falls { fuel.new ≤ fuel.old }
-    ensures charges { IfOk result (λ r. (sig : Sig) (own : List Equation) → AreTablesOf tables.now sig own pool.old.trees → AreStored sig own pool.old.trees normal_forms.old → IsTreeWithin sig (tree_at pool.old.trees term) → IsCharged sig own pool.old.trees pool.new.trees (pairs_at sig pool.old.trees normal_forms.old) term fuel.old fuel.new r) }
     ensures says { IfOk result (λ r. (sig : Sig) (own : List Equation) → AreTablesOf tables.now sig own pool.old.trees → AreStored sig own pool.old.trees normal_forms.old → IsTreeWithin sig (tree_at pool.old.trees term) → Says sig own pool.old.trees pool.new.trees term fuel.old fuel.new r) }
 {
     let mut stack = Stack::new(alloc);

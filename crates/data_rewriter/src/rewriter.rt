@@ -1,6 +1,6 @@
 //! Rewriters.
 
-ghost use Rattle.std.specs.Prelude.{[], ◌≡◌, ◌≤◌, List, IfOk, IsOk, Ok, Some};
+ghost use Rattle.std.specs.Prelude.{[], ◌≡◌, List, IfOk, IsOk, Ok, Some};
 ghost use Rattle.data_rewriter.specs.declared.machine.Normal.TheVariants.{Done};
 ghost use Rattle.data_rewriter.specs.Stored.{AreCovered};
 ghost use Rattle.data_theory.specs.declared.ids.TermId.{TermId};
@@ -9,8 +9,8 @@ ghost use Rattle.data_theory.specs.Provable.{Equation};
 ghost use Rattle.number_rules.specs.Rule.{IsExact, rule_of};
 ghost use Rattle.term_pool.specs.Pools.{Extends};
 ghost use Rattle.data_rewriter.specs.Standing.{IsTerm};
-ghost use Rattle.data_rewriter.specs.States.{IsCharged, Says};
-ghost use Rattle.data_rewriter.specs.Rewriters.{EndsWithEnough, Fits, IsDecision, IsDecisionCharged, IsStoredAnswer, IsTruthOf, known_by, number_rules, stored_form};
+ghost use Rattle.data_rewriter.specs.States.{Says};
+ghost use Rattle.data_rewriter.specs.Rewriters.{EndsWithEnough, Fits, IsDecision, IsStoredAnswer, IsTruthOf, number_rules, stored_form};
 ghost use Rattle.std.specs.List.{All};
 ghost use Rattle.data_rewriter.specs.Written.{AreEquationsOf, IsRule, rules_of};
 ghost use Rattle.data_rewriter.specs.Signatures.{AreSignTables};
@@ -77,9 +77,8 @@ impl<F: Fn(NumOp, Num, Num) -> Option<Num>> Rewriter<F> {
     /// condition, or the beginning of a written equation's condition other than `true`. What is known of terms that were
     /// rewritten costs no fuel.
     ///
-    /// `Done` comes only where the term goes to the answer, and the fuel falls by at most the uses. What it falls by is what is
-    /// paid for the rewritings that found the answer one after another: each use counts, and only what was known before is free.
-    /// `Spent` comes only where no fuel is left and a chain of more uses than there was fuel starts at the term. Fuel never rises. A term that was answered `Done`, and its
+    /// `Done` comes only where the term goes to the answer, and the fuel falls by at most the uses. `Spent` comes only where
+    /// no fuel is left and a chain of more uses than there was fuel starts at the term. A term that was answered `Done`, and its
     /// answer, are answered so from then on, without fuel, also after want of memory.
     ///
     /// Where no equation is written, a well-sorted term of n nodes is answered `Done` if there is fuel of at least 4 * n * n + 4.
@@ -98,8 +97,6 @@ impl<F: Fn(NumOp, Num, Num) -> Option<Num>> Rewriter<F> {
         ensures stored { IfOk result (λ r. (sig : Sig) (own : List Equation) → Fits self.old sig own pool.old.trees → IsTerm sig pool.old.trees term → AreCovered own → IsStoredAnswer self.new term r) }
         ensures pairs { (sig : Sig) (own : List Equation) → Fits self.old sig own pool.old.trees → IsTerm sig pool.old.trees term → AreCovered own → (t u : TermId) → stored_form self.old t ≡ Some u → stored_form self.new t ≡ Some u }
         ensures enough { IfOk result (λ r. (sig : Sig) → Fits self.old sig [] pool.old.trees → IsTerm sig pool.old.trees term → EndsWithEnough sig pool.old.trees term fuel.old r) }
-        ensures falls { fuel.new ≤ fuel.old }
-        ensures charges { IfOk result (λ r. (sig : Sig) (own : List Equation) → Fits self.old sig own pool.old.trees → IsTerm sig pool.old.trees term → IsCharged sig own pool.old.trees pool.new.trees (known_by self.old sig pool.old.trees) term fuel.old fuel.new r) }
         ensures says { IfOk result (λ r. (sig : Sig) (own : List Equation) → Fits self.old sig own pool.old.trees → IsTerm sig pool.old.trees term → Says sig own pool.old.trees pool.new.trees term fuel.old fuel.new r) }
     {
         if let Some(known) = kept(&self.normal_forms, term) {
@@ -137,8 +134,6 @@ impl<F: Fn(NumOp, Num, Num) -> Option<Num>> Rewriter<F> {
         ensures fits { (sig : Sig) (own : List Equation) → Fits self.old sig own pool.old.trees → IsTerm sig pool.old.trees term → Fits self.new sig own pool.new.trees }
         ensures pairs { (sig : Sig) (own : List Equation) → Fits self.old sig own pool.old.trees → IsTerm sig pool.old.trees term → AreCovered own → (t u : TermId) → stored_form self.old t ≡ Some u → stored_form self.new t ≡ Some u }
         ensures stored { (u : TermId) → stored_form self.old term ≡ Some u → IsOk result × (fuel.new ≡ fuel.old) }
-        ensures falls { fuel.new ≤ fuel.old }
-        ensures charges { IfOk result (λ r. (sig : Sig) (own : List Equation) → Fits self.old sig own pool.old.trees → IsTerm sig pool.old.trees term → IsDecisionCharged sig own pool.old.trees pool.new.trees (known_by self.old sig pool.old.trees) term fuel.old fuel.new r) }
         ensures says { IfOk result (λ r. (sig : Sig) (own : List Equation) → Fits self.old sig own pool.old.trees → IsTerm sig pool.old.trees term → IsDecision sig own pool.old.trees pool.new.trees term fuel.old fuel.new r) }
     {
         let normal = self.normalise(pool, term, fuel)?;

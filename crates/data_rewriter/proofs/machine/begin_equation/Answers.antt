@@ -1,4 +1,4 @@
-use Rattle.std.proofs.Common.{◌≡◌, ◌⊎◌, ◌≤◌, ◌<◌, suc, sym, subst, inl, inr, arith}
+use Rattle.std.proofs.Common.{◌≡◌, ◌⊎◌, ◌≤◌, suc, sym, subst, inl, inr, arith}
 use Rattle.data_theory.specs.declared.ids.TermId.{TermId}
 use Rattle.data_rewriter.specs.declared.machine.Hand.TheVariants.{Root}
 use Rattle.data_rewriter.specs.States.{Shows}
@@ -23,7 +23,7 @@ returns-then-fuel-eq0-clause-follows c = λ ts sig own f w. (
 
 pub returns-clause-follows : goal.returns-clause-follows
 returns-clause-follows c =
-    let charged : ((c.args.found.number < 55) × (c.args.fuel.now ≡ c.if-found-ge-LINES.fuel)) ⊎ ((55 ≤ c.args.found.number) × (c.args.fuel.now ≡ suc c.if-found-ge-LINES.fuel)) = elim c.if-found-ge-LINES.branch [ then-found-ge-LINES+else-fuel-eq0 w ↦ inr (w.if-found-ge-LINES.true, (let a = w.fuel-is in let b = w.if-fuel-eq0.false in omega (arith, a, b))) | else-found-ge-LINES w ↦ inl ((let b = w.if-found-ge-LINES.false in omega (arith, b)), sym w.fuel-is) ] in
+    let charged : (c.args.fuel.now ≡ c.if-found-ge-LINES.fuel) ⊎ ((55 ≤ c.args.found.number) × (c.args.fuel.now ≡ suc c.if-found-ge-LINES.fuel)) = elim c.if-found-ge-LINES.branch [ then-found-ge-LINES+else-fuel-eq0 w ↦ inr (w.if-found-ge-LINES.true, (let a = w.fuel-is in let b = w.if-fuel-eq0.false in omega (arith, a, b))) | else-found-ge-LINES w ↦ inl (sym w.fuel-is) ] in
     λ ts sig own f w. (
       condition_within sig ts c.args.stack.now c.args.start c.args.root c.args.from c.args.found c.in-Some.cond c.in-Some.is c.push.new.self c.in_ok-push.ensures w f.1,
       λ origin before s.

@@ -17,9 +17,9 @@ returns-then-is_truth-clause-follows c = λ below hand sig own all w.
     let normal : IsTerm sig c.args.pool.now.trees c.args.normal = record { inside = c.requires; within = w.held } in
     let is = (c.is_truth.ensures sig own all normal).0 c.if-is_truth.true in (
       used_within sig c.args.pool.now.trees below c.args.start c.args.right c.args.fuel.now c.use_right.new.fuel (Answer c.args.normal) c.use_right.result.start c.use_right.result.hand c.use_right.ensures.start c.use_right.ensures.uses (record { frames = below_within; begin = here.0; held = w.held }) here.2,
-      λ origin before s k.
+      λ origin before s.
           subst (λ (x : TermId). Shows sig own c.args.pool.now.trees origin below x c.use_right.result.hand before c.use_right.new.fuel) (sym c.use_right.ensures.start)
-          (behind_true sig own c.args.pool.now.trees origin below c.args.start before c.args.root c.args.number c.args.fuel.now c.args.right hand c.args.normal s k.0 k.1 is c.use_right.result.hand c.use_right.new.fuel c.use_right.ensures.uses),
+          (behind_true sig own c.args.pool.now.trees origin below c.args.start before c.args.root c.args.number c.args.fuel.now c.args.right hand c.args.normal s is c.use_right.result.hand c.use_right.new.fuel c.use_right.ensures.uses),
     )
 
 pub returns-then-number-lt-LINES-clause-follows : goal.returns-then-number-lt-LINES-clause-follows
@@ -29,8 +29,8 @@ returns-then-number-lt-LINES-clause-follows c = λ below hand sig own all w.
     let normal : IsTerm sig c.args.pool.now.trees c.args.normal = record { inside = c.requires; within = w.held } in
     let other : term_at sig c.args.pool.now.trees c.args.normal ≢ trueᵗ = λ e. let t = (c.is_truth.ensures sig own all normal).1 e in let f = c.if-is_truth.false in cc in (
       record { frames = below_within; begin = here.0; held = here.1 },
-      λ origin before s k.
-          behind_line sig own c.args.pool.now.trees origin below c.args.start before c.args.root c.args.number c.args.fuel.now c.args.right hand c.args.normal s k.0 k.1 other c.if-number-lt-LINES.true,
+      λ origin before s.
+          behind_line sig own c.args.pool.now.trees origin below c.args.start before c.args.root c.args.number c.args.fuel.now c.args.right hand c.args.normal s other c.if-number-lt-LINES.true,
     )
 
 pub returns-clause-follows : goal.returns-clause-follows
@@ -41,6 +41,6 @@ returns-clause-follows c = λ below hand sig own all w.
     let other : term_at sig c.args.pool.now.trees c.args.normal ≢ trueᵗ = λ e. let t = (c.is_truth.ensures sig own all normal).1 e in let f = c.if-is_truth.false in cc in
     let next : c.in-Some.next ≡ suc c.args.number = let a = c.in-Some.ensures in search (rules, a) in (
       record { frames = below_within; begin = here.0; held = here.1 },
-      λ origin before s k.
-          behind_false sig own c.args.pool.now.trees origin below c.args.start before c.args.root c.args.number c.args.fuel.now c.args.right hand c.args.normal s k.0 k.1 other c.in-Some.next next,
+      λ origin before s.
+          behind_false sig own c.args.pool.now.trees origin below c.args.start before c.args.root c.args.number c.args.fuel.now c.args.right hand c.args.normal s other c.in-Some.next next,
     )

@@ -1,7 +1,8 @@
 use Rattle.std.proofs.Common.{◌∷◌, sym, subst}
 use Rattle.data_rewriter.specs.declared.stack.Frame.{Frame}
 use Rattle.data_rewriter.specs.Frames.{plain}
-use Rattle.data_rewriter.specs.States.{IsFrameIn, FollowsFound, AreTablesOf}
+use Rattle.data_rewriter.specs.States.{IsFrameIn, Follows, AreTablesOf}
+use Rattle.data_rewriter.specs.declared.machine.Hand.TheVariants.{Answer}
 use Rattle.data_rewriter.proofs.machine.resume.Goals as goal
 
 pub returns-in_ok-place-in-Deciding-clause-ids : goal.returns-in_ok-place-in-Deciding-clause-ids
@@ -9,8 +10,8 @@ returns-in_ok-place-in-Deciding-clause-ids c = c.in_ok-place-in-Deciding.ensures
 
 pub returns-in_ok-place-in-Applying-clause-follows : goal.returns-in_ok-place-in-Applying-clause-follows
 returns-in_ok-place-in-Applying-clause-follows c = λ hand.
-    subst (λ (f : Frame). FollowsFound (λ sig own. AreTablesOf c.args.tables.now sig own c.args.pool.now.trees) c.args.pool.now.trees c.next_argument.new.pool.trees (plain f ∷ c.args.stack.now) hand c.args.normal c.next_argument.new.stack c.in_ok-place-in-Applying.place.start c.in_ok-place-in-Applying.place.hand c.args.fuel.now c.args.fuel.now) (sym c.in-Applying.is) (c.in_ok-place-in-Applying.ensures.follows hand c.args.fuel.now)
+    subst (λ (f : Frame). Follows (λ sig own. AreTablesOf c.args.tables.now sig own c.args.pool.now.trees) c.args.pool.now.trees c.next_argument.new.pool.trees (plain f ∷ c.args.stack.now) hand (Answer c.args.normal) c.next_argument.new.stack c.in_ok-place-in-Applying.place.start c.in_ok-place-in-Applying.place.hand c.args.fuel.now c.args.fuel.now) (sym c.in-Applying.is) (c.in_ok-place-in-Applying.ensures.follows hand c.args.fuel.now)
 
 pub returns-in_ok-place-in-Deciding-clause-follows : goal.returns-in_ok-place-in-Deciding-clause-follows
 returns-in_ok-place-in-Deciding-clause-follows c = λ hand.
-    subst (λ (f : Frame). FollowsFound (λ sig own. AreTablesOf c.args.tables.now sig own c.args.pool.now.trees) c.args.pool.now.trees c.args.pool.now.trees (plain f ∷ c.args.stack.now) hand c.args.normal c.args.stack.now c.in_ok-place-in-Deciding.place.start c.in_ok-place-in-Deciding.place.hand c.args.fuel.now c.behind_condition.new.fuel) (sym c.in-Deciding.is) (c.in_ok-place-in-Deciding.ensures.follows c.args.stack.now hand)
+    subst (λ (f : Frame). Follows (λ sig own. AreTablesOf c.args.tables.now sig own c.args.pool.now.trees) c.args.pool.now.trees c.args.pool.now.trees (plain f ∷ c.args.stack.now) hand (Answer c.args.normal) c.args.stack.now c.in_ok-place-in-Deciding.place.start c.in_ok-place-in-Deciding.place.hand c.args.fuel.now c.behind_condition.new.fuel) (sym c.in-Deciding.is) (c.in_ok-place-in-Deciding.ensures.follows c.args.stack.now hand)

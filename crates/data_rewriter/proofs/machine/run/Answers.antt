@@ -7,8 +7,8 @@ use Rattle.data_rewriter.specs.declared.machine.Place.{Place}
 use Rattle.data_rewriter.specs.declared.machine.Hand.TheVariants.{Visit, Root, Answer}
 use Rattle.data_rewriter.specs.declared.stack.Frame.{Frame}
 use Rattle.data_rewriter.specs.Frames.{Plain, plain}
-use Rattle.data_rewriter.specs.States.{IsFrameIn, AreWithin, AreIdsIn, IsFound, Shows}
-use Rattle.data_rewriter.proofs.Running.{IsRunning, begins, steps, steps_on, charges_done, says_done, says_spent, answer_is_stored, runs_as, runs_at, keeps_as, keeps_on}
+use Rattle.data_rewriter.specs.States.{IsFrameIn, AreWithin, AreIdsIn, Shows}
+use Rattle.data_rewriter.proofs.Running.{IsRunning, begins, steps, keeps, says_done, says_spent, answer_is_stored, runs_as, runs_at, keeps_as, keeps_on}
 use Rattle.data_rewriter.proofs.StateMoves.{tables_kept, stored_kept}
 use Rattle.data_rewriter.proofs.machine.run.Goals as goal
 use Rattle.data_rewriter.proofs.machine.run.Goals.{in-Visit+in_ok-place-in-Visit, in-Root+in_ok-place-in-Root, in-Answer+in_ok-keep-in-Answer+in-Some+in_ok-place-in-Answer}
@@ -24,11 +24,6 @@ pub returns-in_default-clause-says : goal.returns-in_default-clause-says
 returns-in_default-clause-says g c = λ sig own all s w.
     let bottom : c.loop.stack ≡ [] = subst (λ (r : Option Frame). MatchOption r (c.loop.stack ≡ []) (λ frame. c.loop.stack ≡ plain frame ∷ c.pop.new.self)) c.in_default.is c.pop.ensures in
     says_done c.args.tables.now c.args.pool.now.trees c.loop.pool.trees c.args.normal_forms.now c.loop.normal_forms c.args.term c.loop.stack c.loop.place.start c.loop.place.hand c.args.fuel.now c.loop.fuel c.loop.invariant.0 c.in-Answer.normal c.in-Answer.is bottom sig own all s w
-
-pub returns-in_default-clause-charges : goal.returns-in_default-clause-charges
-returns-in_default-clause-charges g c = λ sig own all s w.
-    let bottom : c.loop.stack ≡ [] = subst (λ (r : Option Frame). MatchOption r (c.loop.stack ≡ []) (λ frame. c.loop.stack ≡ plain frame ∷ c.pop.new.self)) c.in_default.is c.pop.ensures in
-    charges_done c.args.tables.now c.args.pool.now.trees c.loop.pool.trees c.args.normal_forms.now c.loop.normal_forms c.args.term c.loop.stack c.loop.place.start c.loop.place.hand c.args.fuel.now c.loop.fuel c.loop.invariant.0 c.in-Answer.normal c.in-Answer.is bottom sig own all s w
 
 pub returns-in_default-clause-stored : goal.returns-in_default-clause-stored
 returns-in_default-clause-stored g c = λ sig own all s w.
@@ -47,16 +42,13 @@ pub returns-in-Spent-clause-says : goal.returns-in-Spent-clause-says
 returns-in-Spent-clause-says g c = λ sig own all s w.
     says_spent c.args.tables.now c.args.pool.now.trees c.loop.pool.trees c.args.normal_forms.now c.loop.normal_forms c.args.term c.loop.stack c.loop.place.start c.loop.place.hand c.args.fuel.now c.loop.fuel c.loop.invariant.0 c.in-Spent.is sig own all s w
 
-pub returns-in-Spent-clause-charges : goal.returns-in-Spent-clause-charges
-returns-in-Spent-clause-charges g c = λ sig own all s w. c.loop.invariant.0.empty c.in-Spent.is
-
 pub loop-preserved : goal.loop-preserved
 loop-preserved g c = elim c.match-place.branch [
   | in-Visit+in_ok-place-in-Visit w ↦ (
     runs_as c.args.tables.now c.args.pool.now.trees c.args.normal_forms.now c.args.term c.args.fuel.now c.loop.pool.trees c.match-place.pool.trees c.loop.normal_forms c.match-place.normal_forms w.visit.new.stack c.match-place.stack w.in_ok-place-in-Visit.place.start c.match-place.place.start w.in_ok-place-in-Visit.place.hand c.match-place.place.hand c.loop.fuel c.match-place.fuel
         (ap (λ (p : PoolContents). p.trees) w.pool-is) w.normal_forms-is w.stack-is (ap (λ (p : Place). p.start) w.place-is) (ap (λ (p : Place). p.hand) w.place-is) w.fuel-is
         (steps c.args.tables.now c.args.pool.now.trees c.loop.pool.trees c.args.normal_forms.now c.loop.normal_forms c.args.term c.loop.stack c.loop.place.start (Visit w.in-Visit.next) c.args.fuel.now c.loop.fuel (runs_at c.args.tables.now c.args.pool.now.trees c.loop.pool.trees c.args.normal_forms.now c.loop.normal_forms c.args.term c.loop.stack c.loop.place.start c.loop.place.hand (Visit w.in-Visit.next) c.args.fuel.now c.loop.fuel w.in-Visit.is c.loop.invariant.0)
-        c.loop.pool.trees w.visit.new.stack w.in_ok-place-in-Visit.place.start w.in_ok-place-in-Visit.place.hand c.loop.fuel ([], sym (append-nil c.loop.pool.trees)) w.in_ok-place-in-Visit.ensures.ids (λ e. absurd (w.in_ok-place-in-Visit.ensures.unspent e)) (omega arith)
+        c.loop.pool.trees w.visit.new.stack w.in_ok-place-in-Visit.place.start w.in_ok-place-in-Visit.place.hand c.loop.fuel ([], sym (append-nil c.loop.pool.trees)) w.in_ok-place-in-Visit.ensures.ids (λ e. absurd (w.in_ok-place-in-Visit.ensures.unspent e))
         (λ sig own all st over. w.in_ok-place-in-Visit.ensures.follows c.loop.fuel sig own (all.signs.signature.table, st) over)),
     keeps_as c.args.tables.now c.args.pool.now.trees c.args.normal_forms.now c.loop.normal_forms c.match-place.normal_forms c.args.term w.normal_forms-is c.loop.invariant.1,
   )
@@ -64,22 +56,17 @@ loop-preserved g c = elim c.match-place.branch [
     runs_as c.args.tables.now c.args.pool.now.trees c.args.normal_forms.now c.args.term c.args.fuel.now w.at_root.new.pool.trees c.match-place.pool.trees c.loop.normal_forms c.match-place.normal_forms w.at_root.new.stack c.match-place.stack w.in_ok-place-in-Root.place.start c.match-place.place.start w.in_ok-place-in-Root.place.hand c.match-place.place.hand w.at_root.new.fuel c.match-place.fuel
         (ap (λ (p : PoolContents). p.trees) w.pool-is) w.normal_forms-is w.stack-is (ap (λ (p : Place). p.start) w.place-is) (ap (λ (p : Place). p.hand) w.place-is) w.fuel-is
         (steps c.args.tables.now c.args.pool.now.trees c.loop.pool.trees c.args.normal_forms.now c.loop.normal_forms c.args.term c.loop.stack c.loop.place.start (Root w.in-Root.root w.in-Root.from) c.args.fuel.now c.loop.fuel (runs_at c.args.tables.now c.args.pool.now.trees c.loop.pool.trees c.args.normal_forms.now c.loop.normal_forms c.args.term c.loop.stack c.loop.place.start c.loop.place.hand (Root w.in-Root.root w.in-Root.from) c.args.fuel.now c.loop.fuel w.in-Root.is c.loop.invariant.0)
-        w.at_root.new.pool.trees w.at_root.new.stack w.in_ok-place-in-Root.place.start w.in_ok-place-in-Root.place.hand w.at_root.new.fuel w.in_ok-place-in-Root.ensures.kept w.in_ok-place-in-Root.ensures.ids w.in_ok-place-in-Root.ensures.spent w.in_ok-place-in-Root.ensures.falls
-        (λ sig own all st over. let next = w.in_ok-place-in-Root.ensures.follows sig own all over in (next.0, λ origin before k s. next.1 origin before s))),
+        w.at_root.new.pool.trees w.at_root.new.stack w.in_ok-place-in-Root.place.start w.in_ok-place-in-Root.place.hand w.at_root.new.fuel w.in_ok-place-in-Root.ensures.kept w.in_ok-place-in-Root.ensures.ids w.in_ok-place-in-Root.ensures.spent
+        (λ sig own all st over. w.in_ok-place-in-Root.ensures.follows sig own all over)),
     keeps_as c.args.tables.now c.args.pool.now.trees c.args.normal_forms.now c.loop.normal_forms c.match-place.normal_forms c.args.term w.normal_forms-is c.loop.invariant.1,
   )
   | in-Answer+in_ok-keep-in-Answer+in-Some+in_ok-place-in-Answer w ↦ (
     runs_as c.args.tables.now c.args.pool.now.trees c.args.normal_forms.now c.args.term c.args.fuel.now w.resume.new.pool.trees c.match-place.pool.trees w.keep.new.normal_forms c.match-place.normal_forms w.resume.new.stack c.match-place.stack w.in_ok-place-in-Answer.place.start c.match-place.place.start w.in_ok-place-in-Answer.place.hand c.match-place.place.hand w.resume.new.fuel c.match-place.fuel
         (ap (λ (p : PoolContents). p.trees) w.pool-is) w.normal_forms-is w.stack-is (ap (λ (p : Place). p.start) w.place-is) (ap (λ (p : Place). p.hand) w.place-is) w.fuel-is
-        (steps_on c.args.tables.now c.args.pool.now.trees c.loop.pool.trees c.args.normal_forms.now c.loop.normal_forms c.args.term c.loop.stack c.loop.place.start c.loop.place.hand c.args.fuel.now c.loop.fuel c.loop.invariant.0 w.in-Answer.normal w.keep.new.normal_forms w.in-Answer.is w.in_ok-keep-in-Answer.ensures.within w.in_ok-keep-in-Answer.ensures.stored w.in_ok-keep-in-Answer.ensures.known
-        w.resume.new.pool.trees w.resume.new.stack w.in_ok-place-in-Answer.place.start w.in_ok-place-in-Answer.place.hand w.resume.new.fuel w.in_ok-place-in-Answer.ensures.kept w.in_ok-place-in-Answer.ensures.ids w.in_ok-place-in-Answer.ensures.spent w.in_ok-place-in-Answer.ensures.falls
-        (λ sig own all st over. let next = w.in_ok-place-in-Answer.ensures.follows c.loop.place.start sig own all (subst (λ (x : List Plain). AreWithin sig c.loop.pool.trees x c.loop.place.start (Answer w.in-Answer.normal)) w.in-Some.ensures over) in (
-          next.0,
-          λ origin before s k.
-              let both : (z : Shows sig own c.loop.pool.trees origin (plain w.in-Some.frame ∷ w.pop.new.self) c.loop.place.start (Answer w.in-Answer.normal) before c.loop.fuel) × IsFound sig c.loop.pool.trees origin c.loop.place.start w.in-Answer.normal z.takes.here =
-              subst (λ (x : List Plain). (z : Shows sig own c.loop.pool.trees origin x c.loop.place.start (Answer w.in-Answer.normal) before c.loop.fuel) × IsFound sig c.loop.pool.trees origin c.loop.place.start w.in-Answer.normal z.takes.here) w.in-Some.ensures (s, k) in
-              next.1 origin before both.0 both.1,
-        ))),
+        (steps c.args.tables.now c.args.pool.now.trees c.loop.pool.trees c.args.normal_forms.now w.keep.new.normal_forms c.args.term c.loop.stack c.loop.place.start (Answer w.in-Answer.normal) c.args.fuel.now c.loop.fuel
+        (keeps c.args.tables.now c.args.pool.now.trees c.loop.pool.trees c.args.normal_forms.now c.loop.normal_forms c.args.term c.loop.stack c.loop.place.start c.loop.place.hand c.args.fuel.now c.loop.fuel c.loop.invariant.0 w.in-Answer.normal w.keep.new.normal_forms (Answer w.in-Answer.normal) w.in-Answer.is refl w.in_ok-keep-in-Answer.ensures.within w.in_ok-keep-in-Answer.ensures.stored)
+        w.resume.new.pool.trees w.resume.new.stack w.in_ok-place-in-Answer.place.start w.in_ok-place-in-Answer.place.hand w.resume.new.fuel w.in_ok-place-in-Answer.ensures.kept w.in_ok-place-in-Answer.ensures.ids w.in_ok-place-in-Answer.ensures.spent
+        (λ sig own all st over. let next = w.in_ok-place-in-Answer.ensures.follows c.loop.place.start sig own all (subst (λ (x : List Plain). AreWithin sig c.loop.pool.trees x c.loop.place.start (Answer w.in-Answer.normal)) w.in-Some.ensures over) in (next.0, λ origin before s. next.1 origin before (subst (λ (x : List Plain). Shows sig own c.loop.pool.trees origin x c.loop.place.start (Answer w.in-Answer.normal) before c.loop.fuel) w.in-Some.ensures s)))),
     keeps_as c.args.tables.now c.args.pool.now.trees c.args.normal_forms.now w.keep.new.normal_forms c.match-place.normal_forms c.args.term w.normal_forms-is
         (keeps_on c.args.tables.now c.args.pool.now.trees c.loop.pool.trees c.args.normal_forms.now c.loop.normal_forms w.keep.new.normal_forms c.args.term c.loop.stack c.loop.place.start c.loop.place.hand c.args.fuel.now c.loop.fuel c.loop.invariant.0 w.in-Answer.normal w.in-Answer.is w.in_ok-keep-in-Answer.ensures.pairs c.loop.invariant.1),
   )

@@ -1,7 +1,6 @@
 use Rattle.std.proofs.Common.{subst}
-use Rattle.data_rewriter.specs.States.{IsCharged, Says}
-use Rattle.data_rewriter.specs.Rewriters.{known_by}
-use Rattle.data_rewriter.proofs.TruthAnswers.{charged_by, decided_by}
+use Rattle.data_rewriter.specs.States.{Says}
+use Rattle.data_rewriter.proofs.TruthAnswers.{decided_by}
 use Rattle.data_rewriter.proofs.rewriter.Rewriter.decide.Goals as goal
 
 pub returns-in-Spent-clause-says : goal.returns-in-Spent-clause-says
@@ -13,14 +12,3 @@ returns-in-Done-clause-says g c = λ sig own fits term.
     let said = subst (Says sig own c.args.pool.now.trees c.normalise.new.pool.trees c.args.term c.args.fuel.now c.normalise.new.fuel) c.in-Done.is (c.in_ok-normal.ensures.says sig own fits term) in
     let now = c.in_ok-normal.ensures.fits sig own fits term in
     decided_by sig own c.args.pool.now.trees c.normalise.new.pool.trees c.args.term c.in-Done.done c.args.fuel.now c.normalise.new.fuel c.truth_of.result said (c.truth_of.ensures sig now.tables.signs said.0)
-
-pub returns-in-Spent-clause-charges : goal.returns-in-Spent-clause-charges
-returns-in-Spent-clause-charges g c = λ sig own fits term.
-    subst (IsCharged sig own c.args.pool.now.trees c.normalise.new.pool.trees (known_by c.args.self.now sig c.args.pool.now.trees) c.args.term c.args.fuel.now c.normalise.new.fuel) c.in-Spent.is (c.in_ok-normal.ensures.charges sig own fits term)
-
-pub returns-in-Done-clause-charges : goal.returns-in-Done-clause-charges
-returns-in-Done-clause-charges g c = λ sig own fits term.
-    let said = subst (Says sig own c.args.pool.now.trees c.normalise.new.pool.trees c.args.term c.args.fuel.now c.normalise.new.fuel) c.in-Done.is (c.in_ok-normal.ensures.says sig own fits term) in
-    let charged = subst (IsCharged sig own c.args.pool.now.trees c.normalise.new.pool.trees (known_by c.args.self.now sig c.args.pool.now.trees) c.args.term c.args.fuel.now c.normalise.new.fuel) c.in-Done.is (c.in_ok-normal.ensures.charges sig own fits term) in
-    let now = c.in_ok-normal.ensures.fits sig own fits term in
-    charged_by sig own c.args.pool.now.trees c.normalise.new.pool.trees (known_by c.args.self.now sig c.args.pool.now.trees) c.args.term c.in-Done.done c.args.fuel.now c.normalise.new.fuel c.truth_of.result charged (c.truth_of.ensures sig now.tables.signs said.0)

@@ -1,7 +1,6 @@
 use Rattle.std.proofs.Common.{[], sym, ◌∙◌}
 use Rattle.data_rewriter.proofs.StateMoves.{tables_kept}
 use Rattle.data_rewriter.proofs.Enough.{enough_ends}
-use Rattle.data_rewriter.proofs.Running.{stored_charges}
 use Rattle.data_rewriter.proofs.Keeping.{stored_says, said_is_stored}
 use Rattle.data_rewriter.proofs.rewriter.Rewriter.normalise.Goals as goal
 
@@ -12,15 +11,6 @@ returns-in-Some-clause-stored g c = λ sig own fits term covered.
 
 pub returns-in-Some-clause-says : goal.returns-in-Some-clause-says
 returns-in-Some-clause-says g c = λ sig own fits term. stored_says sig own c.args.pool.now.trees c.args.self.now.normal_forms c.args.term c.in-Some.known c.args.fuel.now fits.stored (sym c.kept.ensures ∙ c.in-Some.is)
-
-pub returns-in-Some-clause-charges : goal.returns-in-Some-clause-charges
-returns-in-Some-clause-charges g c = λ sig own fits term. stored_charges sig own c.args.pool.now.trees c.args.self.now.normal_forms c.args.term c.in-Some.known c.args.fuel.now (sym c.kept.ensures ∙ c.in-Some.is)
-
-pub returns-in_ok-keep-clause-charges : goal.returns-in_ok-keep-clause-charges
-returns-in_ok-keep-clause-charges g c = λ sig own fits term. c.in_ok-normal.ensures.charges sig own fits.tables fits.stored term.within
-
-pub returns-in_default-normal-clause-charges : goal.returns-in_default-normal-clause-charges
-returns-in_default-normal-clause-charges g c = λ sig own fits term. c.in_ok-normal.ensures.charges sig own fits.tables fits.stored term.within
 
 pub run-requires-clause-stored : goal.run-requires-clause-stored
 run-requires-clause-stored g c = λ t u e. let k = c.requires.known.2.stored t u e in (k.0, k.1)
