@@ -1,4 +1,4 @@
-//! Tests of the calls of `mcrl2_text`, `data_theory`, `number_rules`, `term_pool`, `sort_table` and `process_terms`.
+//! Tests of calls of `mcrl2_text`, `data_theory`, `term_pool` and `process_terms` that neither a text nor a line of `call_cases` shows.
 //!
 //! They stand here, since a crate with tests is proved twice: once for the crates above it and once for its tests.
 #![tactic(auto)]
@@ -6,11 +6,7 @@
 #[cfg(test)]
 mod copies;
 #[cfg(test)]
-mod first_values;
-#[cfg(test)]
 mod names;
-#[cfg(test)]
-mod numbers;
 #[cfg(test)]
 mod pools;
 #[cfg(test)]

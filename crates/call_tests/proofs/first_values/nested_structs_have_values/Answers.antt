@@ -1,5 +1,0 @@
-use Rattle.term_pool.proofs.EmptyPools.{none_listed}
-use Rattle.call_tests.proofs.first_values.nested_structs_have_values.Goals as goal
-
-pub closed-requires : goal.closed-requires
-closed-requires g c = none_listed c.set_pair.new.signature c.args.pool.now.constants c.requires

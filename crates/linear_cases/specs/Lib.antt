@@ -1,3 +1,0 @@
-pub mod AroundTests
-pub mod FormTests
-pub mod ModelTests
