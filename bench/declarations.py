@@ -1,7 +1,7 @@
 #!/usr/bin/env python3
-"""How long `build` takes over texts of many declarations, up to the signature or a refusal: sort names, cycles of aliases, and what is declared twice.
+"""How long `check` takes over texts of many declarations, up to `ok` or a refusal: sort names, cycles of aliases, and what is declared twice.
 
-Run it from the top of the repository, once `rt run` has built the program in crates/declaration_cases: bench/declarations.py [WORD..]
+Run it from the top of the repository, after a build: bench/declarations.py [WORD..]
 It prints one line for each kind of text and size: the kind, how many declarations, names or sorts the text has, its size, the processor's
 seconds beyond those of a text without any, how many times those of a tenth of the size, and for the largest the peak memory for each byte
 of the text, which is never less than that of this script. At last it names the kinds that grow worse than n log n. With words only the
@@ -10,19 +10,18 @@ well. It is no part of the gate.
 """
 
 import math
+import re
 import resource
 import sys
-import tempfile
 
-from programs import TOP, answer
+from programs import done
 
-PROGRAM = TOP / "crates" / "declaration_cases" / "out" / "declaration_cases"
 KIB = 1 << 10
 SIZES = (1_000, 10_000, 100_000)
 # What is allowed beyond n log n, as what is far in memory takes longer.
 ROOM = 1.5
-# How the signature of a text without a fault begins.
-CLEAN = "sorts"
+# What is said of a text whose declarations have no fault: typing may have one.
+CLEAN = re.compile(r"ok$|refused (1[2-9]|20) ")
 
 
 def names(front, count):
@@ -98,17 +97,17 @@ def sums(count):
 
 def twice(text):
     """A text whose last declaration is the first one again, and what is said of it."""
-    return lambda count: (text(count), f"duplicate 1 {count}")
+    return lambda count: (text(count), f"refused 10 Duplicate 1 {count}")
 
 
 def cycle(count):
-    """Aliases that go round, and what is said of them: the program tells names of one letter only."""
-    return chain("{}", "A0")(count), "sort cycle" + " ?" * count
+    """Aliases that go round, and what is said of them."""
+    return chain("{}", "A0")(count), "refused 9 SortCycle " + " ".join(names("A", count))
 
 
 def unknown(count):
     """Actions of which the last one's sort isn't declared, and what is said of them."""
-    return each("act", "a@: Nat")(count - 1) + " act a: E;", f"unknown sort E in declaration {count}"
+    return each("act", "a@: Nat")(count - 1) + " act a: E;", f"refused 8 UnknownSort {count} E"
 
 
 # The text of a size, and where there is a fault what is said of it.
@@ -150,11 +149,8 @@ KINDS = {
 
 def ask(text, repeated):
     """The processor's seconds and the peak memory in KiB for a text, the least of some runs, and what was said."""
-    with tempfile.NamedTemporaryFile("w") as file:
-        file.write(text + "\n")
-        file.flush()
-        runs = [answer([PROGRAM], file.name) for _ in range(repeated)]
-    return min(run[0] for run in runs), min(run[1] for run in runs), runs[0][2].strip()
+    runs = [done("check", text) for _ in range(repeated)]
+    return min(run[1] for run in runs), min(run[2] for run in runs), runs[0][3].strip()
 
 
 def worse_than_n_log_n(size, times):
@@ -172,7 +168,7 @@ def main():
         for size in SIZES:
             text, wanted = made(size) if isinstance(made(1_000), tuple) else (made(size), CLEAN)
             seconds, memory, said = ask(text + " init delta;", 3)
-            assert said == wanted or wanted == CLEAN and said.startswith(CLEAN), f"{kind}, {size}: {said[:80]}"
+            assert said == wanted or wanted == CLEAN and CLEAN.match(said), f"{kind}, {size}: {said[:80]}"
             seconds = max(seconds - base, 0.0001)
             times = f"{seconds / before:6.1f} times" if before else " " * 12
             peak = f"{memory * KIB / len(text):6.1f} a byte" if size == SIZES[-1] else ""

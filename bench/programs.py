@@ -7,6 +7,8 @@ import subprocess
 import tempfile
 
 TOP = pathlib.Path(__file__).resolve().parent.parent
+# The finished program, once `rt ci` or `rt run` has built it.
+PROGRAM = TOP / "crates" / "mcrl2lin" / "out" / "mcrl2lin"
 
 
 def lines_of(crates):
@@ -51,3 +53,16 @@ def answer(words, path):
         assert status == 0, "the program ended with a failure"
         said.seek(0)
         return usage.ru_utime + usage.ru_stime, usage.ru_maxrss, said.read()
+
+
+def done(task, text, *words, limit=None):
+    """Runs the finished program for a task on a text, with further words; gives its status, the processor's seconds, the peak memory in KiB and
+    what it writes. Where there is a limit, that is called in the process before it starts."""
+    with tempfile.NamedTemporaryFile("w") as file, tempfile.TemporaryFile("w+") as said:
+        file.write(text)
+        file.flush()
+        child = subprocess.Popen([PROGRAM, task, file.name, *words], stdin=subprocess.DEVNULL, stdout=said, stderr=said, preexec_fn=limit)
+        _, status, usage = os.wait4(child.pid, 0)
+        child.returncode = 0
+        said.seek(0)
+        return os.waitstatus_to_exitcode(status), usage.ru_utime + usage.ru_stime, usage.ru_maxrss, said.read()
