@@ -44,17 +44,6 @@ def run(program, words):
     return usage.ru_utime + usage.ru_stime, usage.ru_maxrss
 
 
-def answer(words, path):
-    """Runs a program over the file as its input; gives the processor's seconds, the peak memory in KiB and what it says."""
-    with open(path) as text, tempfile.TemporaryFile("w+") as said:
-        child = subprocess.Popen(words, stdin=text, stdout=said)
-        _, status, usage = os.wait4(child.pid, 0)
-        child.returncode = 0
-        assert status == 0, "the program ended with a failure"
-        said.seek(0)
-        return usage.ru_utime + usage.ru_stime, usage.ru_maxrss, said.read()
-
-
 def done(task, text, *words, limit=None):
     """Runs the finished program for a task on a text, with further words; gives its status, the processor's seconds, the peak memory in KiB and
     what it writes. Where there is a limit, that is called in the process before it starts."""
