@@ -191,4 +191,4 @@ compose-returns-in-Sync-clause-plain t c =
     (λ made f. synced_plainly g h p q c.args.network.now c.in-Sync.networks c.deref-in-Sync.result.now queue left (plain_linear made) c.in-Sync.is c.deref-in-Sync.ensures.value f) c.compose_beside-in-Sync.ensures.plain
 
 pub compose-unreachable-requires : goal.compose-unreachable-requires
-compose-unreachable-requires t c = no_left_merge c.args.sig.now c.args.pool.now.trees c.args.network.now c.in-LeftMerge.0 c.in-LeftMerge.1 (map plain_linear c.args.parts.now.items) c.in-LeftMerge.is c.requires
+compose-unreachable-requires t c = no_left_merge c.args.sig.now c.args.pool.now.trees c.args.network.now c.in-LeftMerge.field-0 c.in-LeftMerge.field-1 (map plain_linear c.args.parts.now.items) c.in-LeftMerge.is c.requires
