@@ -187,10 +187,17 @@ pub fn numbered(alloc: Global, start: &[u8], number: usize) -> Result<Vec<u8>, A
     ensures { IfOk result (λ line. line.items ≡ start.now ++ decimal number ++ codes "\n") }
 {
     let mut line = Vec::from_slice(alloc, start)?;
+    end_with(&mut line, number)?;
+    Ok(line)
+}
+
+/// Puts a number behind a line, and ends it.
+fn end_with(line: &mut Vec<u8>, number: usize) -> Result<(), AllocError>
+    ensures { OnOk result (line.new.items ≡ line.old.items ++ decimal number ++ codes "\n") }
+{
     let mut buffer = Buffer::new();
     line.extend_from_slice(buffer.format(number).as_bytes())?;
-    line.extend_from_slice(b"\n")?;
-    Ok(line)
+    line.extend_from_slice(b"\n")
 }
 
 /// Puts a number behind a line, after a space.
