@@ -31,9 +31,8 @@ label_shown : (g : Sig) (ts : List Tree) (m : List PlainAction) → label_line g
 unfolding label_line
 label_shown g ts m = refl
 
-pub label_pushed : (g : Sig) (ts : List Tree) (m : List PlainAction) (old t u shown : List ℕ) → shown ≡ label_text g ts m → t ≡ old ++ shown → u ≡ t ++ codes "\n" → u ≡ old ++ label_line g (label_of (entries_of g ts) m)
-label_pushed g ts m old t u shown is first second =
-    second ∙ ap (λ z. z ++ codes "\n") (first ∙ ap (λ z. old ++ z) is) ∙ append_assoc old (label_text g ts m) (codes "\n") ∙ ap (λ z. old ++ z) (sym (label_shown g ts m))
+pub label_pushed : (g : Sig) (ts : List Tree) (m : List PlainAction) (old u shown : List ℕ) → shown ≡ label_text g ts m → u ≡ old ++ shown ++ codes "\n" → u ≡ old ++ label_line g (label_of (entries_of g ts) m)
+label_pushed g ts m old u shown is pushed = pushed ∙ append_assoc old shown (codes "\n") ∙ ap (λ z. old ++ z) (ap (λ z. z ++ codes "\n") is ∙ sym (label_shown g ts m))
 
 -- ---- moves in code
 -- the label of one of them can be shown

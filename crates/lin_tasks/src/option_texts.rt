@@ -1,6 +1,6 @@
 //! Options and labels, as they are shown.
 
-ghost use Rattle.std.specs.Prelude.{◌≡◌, ◌++◌, map, IfOk, OnOk};
+ghost use Rattle.std.specs.Prelude.{◌≡◌, ◌++◌, codes, map, IfOk, OnOk};
 ghost use Rattle.std.specs.List.{All, flat_map};
 ghost use Rattle.process_terms.specs.Meanings.{label_of};
 ghost use Rattle.process_terms.specs.PlainProcesses.{plain_label};
@@ -52,7 +52,15 @@ pub fn push_label(
     ensures { OnOk result (text.new.items ≡ text.old.items ++ label_line sig.now (label_of (entries_of sig.now pool.now.trees) (plain_label label.now))) }
 {
     let shown = print_label(alloc, sig, pool, label)?;
-    text.extend_from_slice(&shown)?;
+    push_line(text, &shown)?;
+    Ok(())
+}
+
+/// Puts bytes behind a text, as a line.
+fn push_line(text: &mut Vec<u8>, line: &[u8]) -> Result<(), NoMemory>
+    ensures { OnOk result (text.new.items ≡ text.old.items ++ line.now ++ codes "\n") }
+{
+    text.extend_from_slice(line)?;
     text.extend_from_slice(b"\n")?;
     Ok(())
 }
