@@ -170,7 +170,7 @@ def compare(program, words=()):
             compared += 1
             if run.result() != case.wanted:
                 differ += 1
-                print(f"{case.place}: {' '.join(case.words)}: {difference(run.result(), case.wanted)}")
+                print(f"{case.place}: {' '.join(case.words)}: {difference(run.result(), case.wanted)}", flush=True)
     return compared, differ
 
 
