@@ -66,6 +66,7 @@ prove() {
             [[ $crate != "${RT_BROKEN-}" ]] || { broken=$crate; echo "not proved: $crate"; echo "rt: $crate NOT PROVED"; continue; }
             mkdir -p "$kit/kept" && touch "$kit/kept/${sum:0:64}"
             echo "rt: $crate proved"
+            ! grep -q '#.test.' "crates/$crate/src/lib.rt" || echo "rt: $crate: its tests are proved"
         fi
     done
     [[ ! $broken ]] || exit 1
@@ -195,7 +196,7 @@ def prove(place):
     ran = place.prove()
     same((ran.returncode, ran.stdout), (0, ""))
     lines = [re.sub(r"\d+ min \d+ s", "T", it) for it in ran.stderr.splitlines()]
-    same(lines[0], "mcrl2lin: proving crate by crate: 0 of 3 done, 0% of their lines, T")
+    same(lines[0], "mcrl2lin: proving: 0 of 3 crates done, 0% of their lines, T")
     same(lines[-1], "mcrl2lin: proved and built, 3 crates in T")
     assert "\r" not in ran.stderr and "\x1b" not in ran.stderr, "control signs off the terminal"
     same((place.calls(), place.rooms()), (PROVED, []))
@@ -208,16 +209,16 @@ def prove(place):
 
 
 def progress(place):
-    """How far a proof is, and how long it is likely to last: two thirds of the lines are done after three seconds."""
-    place.write("crates/high/src/lib.rt", "line\n" * 4)
-    place.write("crates/mcrl2lin/src/lib.rt", "line\n" * 1000)
+    """How far a proof is, and how long it is likely to last, by the lines of the crates and of those with tests once more."""
+    place.write("crates/low/src/lib.rt", "#[test]\n" * 8)
+    place.write("crates/mcrl2lin/src/lib.rt", "line\n" * 975)
     child = place.start("--prove", env={"RT_SLOW": "1.5"})
     lines = child.communicate(timeout=60)[1].splitlines()
     same(child.returncode, 0)
-    assert any(re.search(r" 1 of 3 done, 0% of their lines, 0 min [0-9] s, about \d+ min left", it) for it in lines), lines
+    assert any(re.search(r" 1 of 3 crates done, 2% of their lines, 0 min [0-9] s, about \d+ min left", it) for it in lines), lines
     place.calls()
     # What was kept is done, and tells nothing of the time.
-    place.write("crates/mcrl2lin/src/lib.rt", "line\n" * 1001)
+    place.write("crates/mcrl2lin/src/lib.rt", "line\n" * 976)
     lines = place.prove().stderr.splitlines()
     assert not any("left" in it for it in lines), lines
     same(place.calls(), PROVED[2:])
@@ -242,14 +243,14 @@ def terminal(place, columns=40, longest=39):
     said = on_terminal(place, columns, "--prove", env={"RT_SLOW": "2.5"})
     rows = said.split("\r\n")
     shown = [it for it in rows[0].split("\r\x1b[K") if it]
-    assert sum("crate by crate: 1 of" in it for it in shown) >= 3, shown
+    assert sum("proving: 1 of" in it for it in shown) >= 3, shown
     same(max(map(len, shown[:-1])), longest)
     assert shown[-1].startswith("mcrl2lin: proved and built, 3 crates in "), shown
     same(rows[1:], [""])
 
 
 def terminal_without_width(place):
-    terminal(place, 0, len("mcrl2lin: proving crate by crate: 1 of 3 done, 33% of their lines, 0 min 2 s"))
+    terminal(place, 0, len("mcrl2lin: proving: 1 of 3 crates done, 33% of their lines, 0 min 2 s"))
 
 
 def answer_on_terminal(place):
@@ -395,7 +396,7 @@ def broken(place):
         same((ran.returncode, ran.stdout), (70, ""))
         last = ran.stderr.splitlines()[-1]
         log = place.top / "out" / "log" / "prove.log"
-        assert f"crate {crate} " in last and str(log) in last, last
+        same(last, f"mcrl2lin: the crate {crate} couldn't be proved and built; see {log}")
         assert f"not proved: {crate}" in log.read_text(), log.read_text()
         same((place.calls(), place.rooms()), (wanted, []))
         assert not place.is_proved()

@@ -1,7 +1,8 @@
 #!/usr/bin/env python3
 """Runs the program on the examples, and compares what it writes, byte by byte, with what stands beside them.
 
-Run it anywhere: examples/check.py [PROGRAM WORD..]. The program is ./mcrl2lin if none is given.
+Run it anywhere: examples/check.py [PROGRAM WORD..]. The program is ./mcrl2lin if none is given. With the word --quick alone it is what the
+toolchain builds of the sources without a proof, once for all examples, in some minutes: for whoever changes the code.
 A specification NAME.mcrl2 has its linear process in NAME.lps, where there is one, which is given again when it is read itself. It can be
 linearised, which the task `check` is to say.
 One in refused/ has the line that refuses it in NAME.err, whatever the task. The cases in cases/ are run as well (cases.py says what they
@@ -10,19 +11,16 @@ is 1 where something differs.
 """
 
 import pathlib
-import subprocess
 import sys
 
 import cases
+<<<<<<< HEAD
 import files
+=======
+import unproved
+>>>>>>> b0000fd6 (Try all examples without a proof, and say in README how long each way takes)
 
 HERE = pathlib.Path(__file__).resolve().parent
-
-
-def run(program, task, path):
-    """What the program answers to a task on a specification: its status, its output and its error output."""
-    done = subprocess.run([*program, task, str(path)], stdin=subprocess.DEVNULL, capture_output=True, check=False)
-    return done.returncode, done.stdout, done.stderr
 
 
 def linear_processes():
@@ -45,7 +43,15 @@ def refusals():
             yield task, line.with_suffix(".mcrl2"), (1, b"", line.read_bytes())
 
 
+def all_cases():
+    """The cases of cases/ and those of the files here."""
+    yield from cases.all_cases()
+    for task, path, wanted in (*linear_processes(), *accepted(), *refusals()):
+        yield cases.Case(str(path.relative_to(HERE)), [task, "TEXT"], path.read_bytes(), b"", wanted)
+
+
 def main():
+<<<<<<< HEAD
     program = sys.argv[1:] or [str(HERE.parent / "mcrl2lin")]
     compared, differ = cases.compare(program)
     if sys.argv[1:]:
@@ -57,6 +63,12 @@ def main():
         if found != wanted:
             differ += 1
             print(f"{task} {path.relative_to(HERE)}: status {found[0]} in place of {wanted[0]}, or another text")
+=======
+    if sys.argv[1:] == ["--quick"]:
+        compared, differ = cases.tell(unproved.answers([*all_cases()]))
+    else:
+        compared, differ = cases.compare(sys.argv[1:] or [str(HERE.parent / "mcrl2lin")], all_cases())
+>>>>>>> b0000fd6 (Try all examples without a proof, and say in README how long each way takes)
     print(f"{compared} compared, {differ} differ")
     return 1 if differ else 0
 
