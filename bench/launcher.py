@@ -196,7 +196,7 @@ def prove(place):
     ran = place.prove()
     same((ran.returncode, ran.stdout), (0, ""))
     lines = [re.sub(r"\d+ min \d+ s", "T", it) for it in ran.stderr.splitlines()]
-    same(lines[0], "mcrl2lin: proving: 0 of 3 crates done, 0% of their lines, T")
+    same(lines[0], "mcrl2lin: proving: 0 of 3 crates done (0%), T")
     same(lines[-1], "mcrl2lin: proved and built, 3 crates in T")
     assert "\r" not in ran.stderr and "\x1b" not in ran.stderr, "control signs off the terminal"
     same((place.calls(), place.rooms()), (PROVED, []))
@@ -215,7 +215,7 @@ def progress(place):
     child = place.start("--prove", env={"RT_SLOW": "1.5"})
     lines = child.communicate(timeout=60)[1].splitlines()
     same(child.returncode, 0)
-    assert any(re.search(r" 1 of 3 crates done, 2% of their lines, 0 min [0-9] s, about \d+ min left", it) for it in lines), lines
+    assert any(re.search(r" 1 of 3 crates done \(2%\), \d+ min \d+ s, about \d+ min left", it) for it in lines), lines
     place.calls()
     # What was kept is done, and tells nothing of the time.
     place.write("crates/mcrl2lin/src/lib.rt", "line\n" * 976)
@@ -238,30 +238,30 @@ def read_all(main):
     return said.decode()
 
 
-def terminal(place, columns=40, longest=39):
+def terminal(place, columns=30, longest=29):
     """One line, written over, of which nothing is left but that the proof is done."""
-    said = on_terminal(place, columns, "--prove", env={"RT_SLOW": "2.5"})
+    said = on_terminal(place, columns, "--prove", env={"RT_SLOW": "4"})
     rows = said.split("\r\n")
     shown = [it for it in rows[0].split("\r\x1b[K") if it]
-    assert sum("proving: 1 of" in it for it in shown) >= 3, shown
-    same(max(map(len, shown[:-1])), longest)
+    assert sum("proving: 1 of" in it for it in shown) >= 2, shown
+    assert max(map(len, shown[:-1])) == longest if longest else all(it.endswith((" s", " min left")) for it in shown[:-1]), shown
     assert shown[-1].startswith("mcrl2lin: proved and built, 3 crates in "), shown
     same(rows[1:], [""])
 
 
 def terminal_without_width(place):
-    terminal(place, 0, len("mcrl2lin: proving: 1 of 3 crates done, 33% of their lines, 0 min 2 s"))
+    terminal(place, 0, None)
 
 
 def answer_on_terminal(place):
     """The time that an unproved answer takes, and then the same lines as of the program."""
     text = place.folder / "text"
     text.write_text("refused 1 BadByte 4\n $")
-    said = on_terminal(place, 60, "refuse", str(text), env={"RT_SLOW": "2.5"}, status=1)
+    said = on_terminal(place, 60, "refuse", str(text), env={"RT_SLOW": "4"}, status=1)
     first, rows = said.split("\r\n", 1)
     same(first, UNPROVED)
     shown, last = rows.rsplit("\r\x1b[K", 1)
-    assert sum("building without a proof (0 min" in it for it in shown.split("\r\x1b[K")) >= 3, shown
+    assert sum("building without a proof (0 min" in it for it in shown.split("\r\x1b[K")) >= 2, shown
     same(last, f"refused 1 BadByte 4\r\nmcrl2lin: line 1, column 5; see 1 in {place.top / 'docs/REFUSALS.md'}\r\n")
 
 
