@@ -43,10 +43,13 @@ case "$1 ${2-}" in
 esac
 """
 # The toolchain keeps what it proved by the sums of the crates' files, as the real one does. RT_SLOW: seconds that the crate `high` and an answer
-# take; RT_BROKEN: the crate that isn't proved; RT_TRY: what becomes of an answer.
+# take; RT_HOLD: they wait for the file `go`; RT_BROKEN: the crate that isn't proved; RT_TRY: what becomes of an answer.
 TOOLCHAIN = """#!/bin/bash
 kit=${0%/*}/..
-pause() { read -rt "${RT_SLOW-0}" <> <(:); } # waits, in this process
+pause() {
+    read -rt "${RT_SLOW-0}" <> <(:) # waits, in this process
+    [[ ! ${RT_HOLD-} ]] || until [[ -e $kit/go ]]; do sleep 0.1; done
+}
 
 prove() {
     local crate broken= sum
@@ -508,7 +511,7 @@ def lost_reader(place):
 
 def killed(place):
     """Killed outright: the toolchain goes on, and the next proof waits for it and takes what it proved."""
-    child = place.start("--prove", env={"RT_SLOW": "5"})
+    child = place.start("--prove", env={"RT_HOLD": "1"})
     place.await_call("ci high")
     child.kill()
     child.communicate()
@@ -519,9 +522,11 @@ def killed(place):
     ran = place.example()
     same((ran.returncode, ran.stdout), (0, "act a;\n"))
     assert "a proof is under way" in ran.stderr, ran.stderr
-    ran = place.prove()
-    same((ran.returncode, place.calls()), (0, [*TRIED, "ci mcrl2lin"]))
-    assert ran.stderr.startswith("mcrl2lin: waiting for another start"), ran.stderr
+    child = place.start("--prove")
+    same(child.stderr.readline(), "mcrl2lin: waiting for another start, which is proving the program\n")
+    (place.kit / "go").touch()
+    child.communicate(timeout=60)
+    same((child.returncode, place.calls()), (0, [*TRIED, "ci mcrl2lin"]))
     same(((place.top / "out" / "unfinished").exists(), place.rooms()), (False, []))
 
 
@@ -545,15 +550,17 @@ def killed_on_terminal(place):
 
 def two_at_once(place):
     """Of two proofs one waits, and of the same sources only one is made. A start meanwhile answers without."""
-    one = place.start("--prove", env={"RT_SLOW": "1.5"})
+    one = place.start("--prove", env={"RT_HOLD": "1"})
     place.await_call("ci high")
     other = place.start("--prove")
+    same(other.stderr.readline(), "mcrl2lin: waiting for another start, which is proving the program\n")
     ran = place.example()
     same((ran.returncode, ran.stdout), (0, "act a;\n"))
     same(ran.stderr, UNPROVED.replace("this", "a proof is under way; this") + "\n")
+    (place.kit / "go").touch()
     said = [it.communicate(timeout=60) for it in (one, other)]
     same([(it.returncode, out) for it, (out, _) in zip((one, other), said)], [(0, "")] * 2)
-    same(said[1][1].splitlines(), ["mcrl2lin: waiting for another start, which is proving the program"])
+    same(said[1][1], "")
     same(sorted(place.calls()), sorted([*PROVED, *TRIED]))
     place.write("crates/low/src/lib.rt", "changed\n")
     many = [place.start("--prove", env={"RT_SLOW": "0.5"}) for _ in range(8)]
