@@ -1,9 +1,9 @@
 #!/usr/bin/env python3
-"""Tries the launcher mcrl2lin on a small repository whose toolchain proves nothing: bench/launcher.py
+"""Tries the launcher mcrl2lin on a small repository whose toolchain proves nothing: bench/launcher.py [NAME ..]
 
 The command rt of these tries only notes that it was called, waits as long as a try asks, and makes a program that does what
-the launcher counts on. So they take seconds, and say how the launcher builds and starts, and nothing of the proofs or of the
-program. A line for each try, and `N passed, M failed` as the last. It is no part of the gate.
+the launcher counts on. So they take a minute or two, and say how the launcher proves, answers and starts, and nothing of the proofs or of
+the program. A line for each try, and `N passed, M failed` as the last. It is no part of the gate.
 """
 
 import fcntl
@@ -28,30 +28,80 @@ CRATES = ["low", "high", "mcrl2lin"]
 LISTED = "# The crates.\nmcrl2lin: high, itoa\nhigh staticlib: low # and no more\nlow:\napart: low"
 PROGRAM = """#!/bin/bash
 case "$1 ${2-}" in
-'linearise '*) cat -- "$2" 2> /dev/null || { echo 'read fault' >&2; exit 3; } ;;
+'linearise '*) cat 2> /dev/null < "$2" || { echo 'read fault' >&2; exit 3; } ;;
 'replay '*) cat -- "$2" "${4:-${3#*=}}" 2> /dev/null || { echo 'read fault' >&2; exit 3; } ;;
 'stack '*) ulimit -S -s; ulimit -H -s ;;
 'pages '*) echo "${GLIBC_TUNABLES-unset}" ;;
-'refuse '*) head -n 1 -- "$2" >&2; exit 1 ;;
+'refuse '*) head -n 1 < "$2" >&2; exit 1 ;;
 'ask '*) read -r line; echo "got $line"; echo heard >&2; exit "$2" ;;
+'write '*) echo "$2" 2> /dev/null || { echo 'write fault' >&2; exit 4; } ;;
+'long '*) yes | head -n 100000 ;;
 'wait '*) echo "$$"; exec sleep 60 ;;
 '--fuel 3') shift 2; exec "$0" "$@" ;;
 '--fuel=3 '* | '-- '*) shift; exec "$0" "$@" ;;
 *) printf '%s\\n' usage "$#" "$@" >&2; exit 2 ;;
 esac
 """
-# RT_SLOW: seconds that the crate `high` takes; RT_BROKEN: the crate that isn't proved.
+# The toolchain keeps what it proved by the sums of the crates' files, as the real one does. RT_SLOW: seconds that the crate `high` and an answer
+# take; RT_HOLD: they wait for the file `go`; RT_BROKEN: the crate that isn't proved; RT_TRY: what becomes of an answer.
 TOOLCHAIN = """#!/bin/bash
-crate=${PWD##*/}
-[[ $1 != version ]] || { cat "${0%/*}/../name"; exit; }
-echo "$1 $crate" >> "${0%/*}/../calls"
-echo "proving $crate"
-[[ $crate != high ]] || read -rt "${RT_SLOW-0}" <> <(:) # waits, in this process
-[[ $crate != "${RT_BROKEN-}" ]] || { echo "not proved: $crate"; exit 1; }
-mkdir -p out
-[[ $1 == run && $2 == -- ]] || exit 0
-cp "${0%/*}/../program" out/mcrl2lin
-exec out/mcrl2lin "${@:3}"
+kit=${0%/*}/..
+pause() {
+    read -rt "${RT_SLOW-0}" <> <(:) # waits, in this process
+    [[ ! ${RT_HOLD-} ]] || until [[ -e $kit/go ]]; do sleep 0.1; done
+}
+
+prove() {
+    local crate broken= sum
+    find . -type f | sort > "$kit/seen"
+    for crate in low high mcrl2lin apart; do
+        grep -q "^ *$crate\\b" crates.txt || continue
+        rm -rf "crates/$crate/out"
+        mkdir "crates/$crate/out"
+        sum=$(find "crates/$crate" -name '*.*t' -exec sha256sum {} + | sort | sha256sum)
+        if [[ $broken ]]; then
+            echo "rt: $crate NOT PROVED: its library $broken failed"
+        elif [[ -e $kit/kept/${sum:0:64} ]]; then
+            echo "rt: $crate is kept: an earlier run on this machine proved the same files over the same libraries"
+        else
+            echo "ci $crate" >> "$kit/calls"
+            [[ $crate != high ]] || pause
+            [[ $crate != "${RT_BROKEN-}" ]] || { broken=$crate; echo "not proved: $crate"; echo "rt: $crate NOT PROVED"; continue; }
+            mkdir -p "$kit/kept" && touch "$kit/kept/${sum:0:64}"
+            echo "rt: $crate proved"
+            ! grep -q '#.test.' "crates/$crate/src/lib.rt" || echo "rt: $crate: its tests are proved"
+        fi
+    done
+    [[ ! $broken ]] || exit 1
+    install "$kit/program" crates/mcrl2lin/out/mcrl2lin
+}
+
+try() {
+    local status room
+    echo "try ${PWD##*/}" >> "$kit/calls"
+    pause
+    case ${RT_TRY-} in
+    refused) printf '%s\\n' "src/main.rt:1:1: error[no-such-name]: no name" "run=none proved=no" >&2; exit 1 ;;
+    long) echo half; printf '%s\\n' "checked: no-answer: past its limit" "run=no-answer proved=no" >&2; exit 6 ;;
+    killed) echo half; kill -9 $$ ;;
+    esac
+    room=$(mktemp -d)
+    while [[ $1 != -- ]]; do
+        [[ $1 != --data ]] || cp -- "${2#*=}" "$room/${2%%=*}"
+        shift 2
+    done
+    (cd "$room" && exec env -i "$kit/program" "${@:2}") < /dev/null
+    status=$?
+    rm -r -- "$room"
+    printf '%s\\n' "interpreter: no-answer: no" "checked: ended status=$status" "run=ended status=$status runners=1 proved=no" >&2
+    exit "$status"
+}
+
+case $1 in
+version) cat "$kit/name" ;;
+ci) prove ;;
+try) try "${@:2}" ;;
+esac
 """
 
 
@@ -65,16 +115,21 @@ class Place:
             for file in ("src/lib.rt", "specs/Lib.antt", "proofs/f/Answers.antt", "must-fail/wrong.edit"):
                 self.write(f"crates/{crate}/{file}", f"{crate} {file}\n")
         self.write("crates.txt", LISTED)
+        self.write("HANDLES", "Handles allowed: none.\n")
+        self.write("crates/mcrl2lin/data/a b", "data\n")
         self.write("examples/two_steps.mcrl2", "act a;\n")
         for file in ("mcrl2lin", "VERSION"):
             shutil.copy(TOP / file, self.top / file)
         (self.kit / "bin").mkdir(parents=True)
+        (self.folder / "temporary files").mkdir()
         (self.kit / "KIT-ID").write_text("kit one\n")
+        (self.kit / "WHAT").write_text("a kit\n")
         (self.kit / "name").write_text("kit one\n")
         for path, text in ((self.kit / "bin" / "rt", TOOLCHAIN), (self.kit / "program", PROGRAM)):
             path.write_text(text)
             path.chmod(0o755)
         self.env = {**os.environ, "PATH": f"{self.kit / 'bin'}:/usr/bin:/bin", "TERM": "xterm"}
+        self.env["TMPDIR"] = str(self.folder / "temporary files")
         self.launcher = str(self.top / "mcrl2lin")
 
     def write(self, path, text):
@@ -100,8 +155,19 @@ class Place:
     def example(self, **how):
         return self.run("linearise", str(self.top / "examples" / "two_steps.mcrl2"), **how)
 
-    def is_built(self):
+    def prove(self, **how):
+        return self.run("--prove", **how)
+
+    def is_proved(self):
         return any(self.top.glob("out/mcrl2lin-*"))
+
+    def rooms(self):
+        """What is left among the temporary files."""
+        return [*(self.folder / "temporary files").iterdir()]
+
+    def forget(self):
+        """Has the toolchain keep nothing of what it proved."""
+        shutil.rmtree(self.kit / "kept", ignore_errors=True)
 
     def await_call(self, call):
         until = time.monotonic() + 20
@@ -110,7 +176,9 @@ class Place:
             time.sleep(0.02)
 
 
-BUILT = ["lib low", "lib high", "run mcrl2lin"]
+PROVED = [f"ci {it}" for it in CRATES]
+TRIED = ["try mcrl2lin"]
+UNPROVED = "mcrl2lin: this answer comes from the same sources without a proof, in a minute or two; ./mcrl2lin --prove makes the proved program"
 
 
 def same(found, wanted):
@@ -118,16 +186,45 @@ def same(found, wanted):
 
 
 def first_start(place):
-    ran = place.example()
-    same((ran.returncode, ran.stdout), (0, "act a;\n"))
-    lines = ran.stderr.splitlines()
-    said = [re.sub(r"\d+ min \d+ s", "T", it) for it in lines[:3]]
-    same(said, [f"mcrl2lin: proving crate {n + 1} of 3, {it} (T)" for n, it in enumerate(CRATES)])
-    same(len(lines), 4)
+    """Without a proved program the answer comes from the unproved build, each time, and nothing is written to the repository."""
+    for _ in range(2):
+        ran = place.example()
+        same((ran.returncode, ran.stdout, ran.stderr), (0, "act a;\n", f"{UNPROVED}\n"))
+        same(place.calls(), TRIED)
+    same(((place.top / "out").exists(), place.rooms()), (False, []))
+
+
+def prove(place):
+    """A proof of a copy with just what the program is made of and run on, and then starts of the program alone."""
+    ran = place.prove()
+    same((ran.returncode, ran.stdout), (0, ""))
+    lines = [re.sub(r"\d+ min \d+ s", "T", it) for it in ran.stderr.splitlines()]
+    same(lines[0], "mcrl2lin: proving: 0 of 3 crates done (0%), T")
+    same(lines[-1], "mcrl2lin: proved and built, 3 crates in T")
     assert "\r" not in ran.stderr and "\x1b" not in ran.stderr, "control signs off the terminal"
-    same(place.calls(), BUILT)
+    same((place.calls(), place.rooms()), (PROVED, []))
+    files = [f"./crates/{crate}/{file}" for crate in CRATES for file in ("src/lib.rt", "specs/Lib.antt", "proofs/f/Answers.antt")]
+    same((place.kit / "seen").read_text().splitlines(), sorted([*files, "./HANDLES", "./crates.txt", "./crates/mcrl2lin/data/a b"]))
     ran = place.example()
     same((ran.returncode, ran.stdout, ran.stderr, place.calls()), (0, "act a;\n", "", []))
+    ran = place.prove()
+    same((ran.returncode, ran.stdout, ran.stderr.count("\n"), place.calls()), (0, "", 1, []))
+
+
+def progress(place):
+    """How far a proof is, and how long it is likely to last, by the lines of the crates and of those with tests once more."""
+    place.write("crates/low/src/lib.rt", "#[test]\n" * 8)
+    place.write("crates/mcrl2lin/src/lib.rt", "line\n" * 975)
+    child = place.start("--prove", env={"RT_SLOW": "1.5"})
+    lines = child.communicate(timeout=60)[1].splitlines()
+    same(child.returncode, 0)
+    assert any(re.search(r" 1 of 3 crates done \(2%\), \d+ min \d+ s, about \d+ min left", it) for it in lines), lines
+    place.calls()
+    # What was kept is done, and tells nothing of the time.
+    place.write("crates/mcrl2lin/src/lib.rt", "line\n" * 976)
+    lines = place.prove().stderr.splitlines()
+    assert not any("left" in it for it in lines), lines
+    same(place.calls(), PROVED[2:])
 
 
 def read_all(main):
@@ -144,30 +241,46 @@ def read_all(main):
     return said.decode()
 
 
-def terminal(place, columns=40, longest=39):
-    """One line, written over, of which nothing is left but that the build is done."""
-    main, side = pty.openpty()
-    fcntl.ioctl(side, termios.TIOCSWINSZ, struct.pack("HHHH", 24, columns, 0, 0))
-    child = place.start("ask", "0", env={"RT_SLOW": "2.5"}, stdin=side, stdout=side, stderr=side)
-    os.close(side)
-    os.write(main, b"words\n")
-    said = read_all(main)
-    same(child.wait(), 0)
-    said = said.replace("words\r\n", "", 1)
+def terminal(place, columns=30, longest=29):
+    """One line, written over, of which nothing is left but that the proof is done."""
+    said = on_terminal(place, columns, "--prove", env={"RT_SLOW": "4"})
     rows = said.split("\r\n")
     shown = [it for it in rows[0].split("\r\x1b[K") if it]
-    assert sum("crate 2 of 3, high" in it for it in shown) >= 3, shown
-    same(max(map(len, shown[:-1])), longest)
+    assert sum("proving: 1 of" in it for it in shown) >= 2, shown
+    assert max(map(len, shown[:-1])) == longest if longest else all(it.endswith((" s", " min left")) for it in shown[:-1]), shown
     assert shown[-1].startswith("mcrl2lin: proved and built, 3 crates in "), shown
-    same(sorted(rows[1:]), ["", "got words", "heard"])
+    same(rows[1:], [""])
 
 
 def terminal_without_width(place):
-    terminal(place, 0, len("mcrl2lin: proving crate 3 of 3, mcrl2lin (0 min 2 s)"))
+    terminal(place, 0, None)
+
+
+def answer_on_terminal(place):
+    """The time that an unproved answer takes, and then the same lines as of the program."""
+    text = place.folder / "text"
+    text.write_text("refused 1 BadByte 4\n $")
+    said = on_terminal(place, 60, "refuse", str(text), env={"RT_SLOW": "4"}, status=1)
+    first, rows = said.split("\r\n", 1)
+    same(first, UNPROVED)
+    shown, last = rows.rsplit("\r\x1b[K", 1)
+    assert sum("building without a proof (0 min" in it for it in shown.split("\r\x1b[K")) >= 2, shown
+    same(last, f"refused 1 BadByte 4\r\nmcrl2lin: line 1, column 5; see 1 in {place.top / 'docs/REFUSALS.md'}\r\n")
+
+
+def on_terminal(place, columns, *words, env, status=0):
+    """What a terminal of so many columns shows of a start."""
+    main, side = pty.openpty()
+    fcntl.ioctl(side, termios.TIOCSWINSZ, struct.pack("HHHH", 24, columns, 0, 0))
+    child = place.start(*words, env=env, stdin=side, stdout=side, stderr=side)
+    os.close(side)
+    said = read_all(main)
+    same(child.wait(), status)
+    return said
 
 
 def streams(place):
-    place.example()
+    place.prove()
     ran = place.run("ask", "42", given="a b\n")
     same((ran.returncode, ran.stdout, ran.stderr), (42, "got a b\n", "heard\n"))
     words = ["", "a  b", "*", "-x", "$HOME", "caf\u00e9", "--help"]
@@ -179,7 +292,7 @@ def streams(place):
 
 def process(place):
     """The program is the very process that was started, so it gets its signals."""
-    place.example()
+    place.prove()
     file = place.folder / "there"
     file.write_text("x")
     for words in ([], [str(file)], ["/dev/null"]):
@@ -191,7 +304,7 @@ def process(place):
 
 
 def stack(place):
-    place.example()
+    place.prove()
     limits = lambda soft, hard: lambda: resource.setrlimit(resource.RLIMIT_STACK, (soft, hard))
     ran = place.run("stack", preexec_fn=limits(1 << 20, 32 << 20))
     same(ran.stdout.split(), [str(32 << 10)] * 2)
@@ -200,7 +313,7 @@ def stack(place):
 
 
 def large_pages(place):
-    place.example()
+    place.prove()
     place.env.pop("GLIBC_TUNABLES", None)
     same(place.run("pages").stdout.split(), ["glibc.malloc.hugetlb=1:glibc.malloc.trim_threshold=4294967296"])
     for own in ("glibc.malloc.check=0", ""):
@@ -220,18 +333,19 @@ def links(place):
     env = {"PATH": f"{away}:{place.env['PATH']}", "CDPATH": str(place.folder)}
     ran = subprocess.run(["straight", "linearise", "file"], env={**place.env, **env}, cwd=away, capture_output=True, text=True)
     same((ran.returncode, ran.stdout), (0, "act b;\n"))
-    same(place.calls(), BUILT)
+    same(place.calls(), TRIED * 4)
 
 
 def sources(place):
-    """What makes a build, and what makes none."""
-    place.example()
+    """What makes a proof, and what makes none."""
+    place.prove()
     place.calls()
 
     def then(wanted):
+        same((place.example().returncode, place.calls()), (0, TRIED if wanted else []))
+        same((place.prove().returncode, place.calls()), (0, wanted))
         ran = place.example()
-        same((ran.returncode, ran.stdout), (0, "act a;\n"))
-        same(place.calls(), wanted)
+        same((ran.returncode, ran.stdout, ran.stderr), (0, "act a;\n", ""))
         same(len([*place.top.glob("out/mcrl2lin-*")]), 1)
 
     os.utime(place.top / "crates/low/src/lib.rt")
@@ -240,21 +354,26 @@ def sources(place):
     before = file.stat()
     file.write_text(file.read_text().replace("high", "hush"))
     os.utime(file, ns=(before.st_atime_ns, before.st_mtime_ns))
-    then(BUILT)
+    then(["ci high"])
     place.write("crates/low/proofs/g/Answers.antt", "new\n")
-    then(BUILT)
+    then(["ci low"])
     (place.top / "crates/low/specs/Lib.antt").unlink()
-    then(BUILT)
+    then(["ci low"])
     (place.top / "crates/low/proofs/g").rename(place.top / "crates/low/proofs/h")
-    then(BUILT)
+    then(["ci low"])
+    place.forget()
     place.write("crates.txt", LISTED + "\n")
-    then(BUILT)
-    (place.kit / "KIT-ID").write_text("kit two\n")
-    then(BUILT)
+    then(PROVED)
+    for file, text in (("KIT-ID", "kit two\n"), ("WHAT", "another kit\n")):
+        place.forget()
+        (place.kit / file).write_text(text)
+        then(PROVED)
+    place.forget()
     (place.kit / "KIT-ID").unlink()
-    then(BUILT)
+    then(PROVED)
+    place.forget()
     (place.kit / "name").write_text("kit two\n")
-    then(BUILT)
+    then(PROVED)
     for left in (".lib.rt.swp", ".lib.rt.swo", "lib.rt~", "#lib.rt#", ".#lib.rt", "4913", "lib.rt.orig", ".lib.rt.kate-swp"):
         place.write(f"crates/low/src/{left}", "left by an editor\n")
     (place.top / "crates/low/src/.#main.rt").symlink_to("me@here.1:2")
@@ -265,33 +384,31 @@ def sources(place):
 
 
 def changed_meanwhile(place):
-    """A source that changes while the crates are built: they are built again."""
-    child = place.start("linearise", str(place.top / "examples/two_steps.mcrl2"), env={"RT_SLOW": "1"})
-    place.await_call("lib high")
+    """A source that changes while the crates are proved: what was proved is a copy, and the sources as they are now are proved behind it."""
+    child = place.start("--prove", env={"RT_SLOW": "1"})
+    place.await_call("ci high")
     place.write("crates/low/src/lib.rt", "changed\n")
-    said, _ = child.communicate(timeout=60)
-    same((child.returncode, said), (0, "act a;\n"))
-    same(place.calls(), BUILT * 2)
-    place.example()
-    same(place.calls(), [])
+    child.communicate(timeout=60)
+    same((child.returncode, place.calls()), (0, [*PROVED, "ci low"]))
+    same((place.example().stdout, place.calls()), ("act a;\n", []))
 
 
 def broken(place):
-    for crate, wanted in (("high", BUILT[:2]), ("mcrl2lin", BUILT)):
-        ran = place.example(env={"RT_BROKEN": crate})
+    for crate, wanted in (("high", PROVED[:2]), ("mcrl2lin", PROVED[1:])):
+        ran = place.prove(env={"RT_BROKEN": crate})
         same((ran.returncode, ran.stdout), (70, ""))
         last = ran.stderr.splitlines()[-1]
-        log = place.top / "out" / "log" / f"{crate}.log"
-        assert f"crate {crate} " in last and str(log) in last, last
+        log = place.top / "out" / "log" / "prove.log"
+        same(last, f"mcrl2lin: the crate {crate} couldn't be proved and built; see {log}")
         assert f"not proved: {crate}" in log.read_text(), log.read_text()
-        same(place.calls(), wanted)
-        assert not place.is_built()
-    place.example()
+        same((place.calls(), place.rooms()), (wanted, []))
+        assert not place.is_proved()
+    place.prove()
     place.calls()
     file = place.top / "crates/low/src/lib.rt"
     was = file.read_text()
     file.write_text("broken\n")
-    same(place.example(env={"RT_BROKEN": "low"}).returncode, 70)
+    same(place.prove(env={"RT_BROKEN": "low"}).returncode, 70)
     file.write_text(was)
     place.calls()
     same((place.example().returncode, place.calls()), (0, []))
@@ -299,53 +416,73 @@ def broken(place):
 
 def no_toolchain(place):
     env = {"PATH": "/usr/bin:/bin"}
-    ran = place.example(env=env)
-    same((ran.returncode, ran.stdout), (70, ""))
-    assert " rt " in ran.stderr, ran.stderr
-    place.example()
+    for words in ([], ["--prove"]):
+        ran = place.run(*words, env=env) if words else place.example(env=env)
+        same((ran.returncode, ran.stdout), (70, ""))
+        assert "the command rt isn't on the PATH" in ran.stderr, ran.stderr
+    place.prove()
     ran = place.example(env=env)
     same((ran.returncode, ran.stdout, ran.stderr), (0, "act a;\n", ""))
     place.write("crates/low/src/lib.rt", "changed\n")
     same(place.example(env=env).returncode, 70)
 
 
+def no_path(place):
+    """Where no PATH is set, the toolchain isn't one that bash finds in folders of its own."""
+    bare = lambda *words: subprocess.run(["env", "-i", place.launcher, *words], capture_output=True, text=True, timeout=60)
+    file = str(place.top / "examples/two_steps.mcrl2")
+    ran = bare("linearise", file)
+    same((ran.returncode, ran.stdout), (70, ""))
+    assert "no PATH is set" in ran.stderr, ran.stderr
+    assert "no PATH is set" in bare("--version").stdout
+    place.prove()
+    ran = bare("linearise", file)
+    same((ran.returncode, ran.stdout, ran.stderr), (0, "act a;\n", ""))
+
+
 def not_the_example(place):
     """What doesn't do the example is no program."""
     (place.kit / "program").write_text("#!/bin/sh\nexit 1\n")
-    same(place.example().returncode, 70)
-    assert not place.is_built()
+    same(place.prove().returncode, 70)
+    assert not place.is_proved()
 
 
 def no_room(place):
     """Where nothing can be written: a file stands in the way, since root may write anywhere."""
     (place.top / "out").write_text("")
-    same(place.example().returncode, 70)
+    same((place.prove().returncode, place.calls()), (70, []))
+    same(place.example().returncode, 0)
+    for words in (["--prove"], ["linearise", str(place.top / "examples/two_steps.mcrl2")]):
+        ran = place.run(*words, env={"TMPDIR": str(place.folder / "none")})
+        same((ran.returncode, ran.stdout), (70, ""))
 
 
 def interrupted(place):
-    for number in (signal.SIGINT, signal.SIGTERM, signal.SIGHUP, signal.SIGQUIT):
-        no_core = lambda: resource.setrlimit(resource.RLIMIT_CORE, (0, 0))
-        child = place.start("linearise", "x", env={"RT_SLOW": "5"}, preexec_fn=no_core)
-        place.await_call("lib high")
-        begun = time.monotonic()
-        child.send_signal(number)
-        said, complained = child.communicate(timeout=30)
-        # (bash ignores SIGQUIT, and then tells it by its status)
-        same((child.returncode, said), (131 if number == signal.SIGQUIT else -number, ""))
-        assert time.monotonic() - begun < 2, "it didn't end at once"
-        assert "interrupted" in complained.splitlines()[-1], complained
-        assert not place.is_built()
-        place.calls()
-    same((place.example().returncode, place.calls()), (0, BUILT))
+    for words, call in ((["--prove"], "ci high"), (["linearise", "x"], "try mcrl2lin")):
+        for number in (signal.SIGINT, signal.SIGTERM, signal.SIGHUP, signal.SIGQUIT):
+            no_core = lambda: resource.setrlimit(resource.RLIMIT_CORE, (0, 0))
+            child = place.start(*words, env={"RT_SLOW": "5"}, preexec_fn=no_core)
+            place.await_call(call)
+            begun = time.monotonic()
+            child.send_signal(number)
+            said, complained = child.communicate(timeout=30)
+            # (bash ignores SIGQUIT, and then tells it by its status)
+            same((child.returncode, said), (131 if number == signal.SIGQUIT else -number, ""))
+            assert time.monotonic() - begun < 2, "it didn't end at once"
+            same("interrupted" in complained.splitlines()[-1], words == ["--prove"])
+            same((place.is_proved(), place.rooms()), (False, []))
+            place.calls()
+    # What was proved before the interrupt isn't proved again.
+    same((place.prove().returncode, place.calls()), (0, PROVED[1:]))
 
 
 def interrupted_on_terminal(place):
     main, side = pty.openpty()
     take = lambda: fcntl.ioctl(0, termios.TIOCSCTTY, 0)
     how = {"stdin": side, "stdout": side, "stderr": side, "start_new_session": True, "preexec_fn": take}
-    child = place.start("linearise", "x", env={"RT_SLOW": "30"}, **how)
+    child = place.start("--prove", env={"RT_SLOW": "30"}, **how)
     os.close(side)
-    place.await_call("lib high")
+    place.await_call("ci high")
     os.write(main, b"\x03")
     said = b""
     while select.select([main], [], [], 5)[0]:
@@ -355,40 +492,50 @@ def interrupted_on_terminal(place):
             break
     same(child.wait(timeout=5), -signal.SIGINT)
     assert b"interrupted" in said, said
-    assert not place.is_built()
+    assert not place.is_proved()
 
 
 def lost_reader(place):
-    """Whoever read the error output went away."""
-    child = place.start("linearise", "x", env={"RT_SLOW": "1"})
+    """Whoever read the error output of a proof went away, or the output of an answer."""
+    child = place.start("--prove", env={"RT_SLOW": "1"})
     child.stderr.readline()
     child.stderr.close()
     child.stdout.read()
     same(child.wait(timeout=30), -signal.SIGPIPE)
-    assert not place.is_built()
+    assert not place.is_proved()
+    child = place.start("linearise", "/dev/zero", env={"RT_SLOW": "1"})
+    child.stdout.close()
+    child.stderr.read()
+    same((child.wait(timeout=30), place.rooms()), (-signal.SIGPIPE, []))
 
 
 def killed(place):
-    """Killed outright: the toolchain ends its crate, the next start waits for it and builds."""
-    child = place.start("linearise", "x", env={"RT_SLOW": "2"})
-    place.await_call("lib high")
+    """Killed outright: the toolchain goes on, and the next proof waits for it and takes what it proved."""
+    child = place.start("--prove", env={"RT_HOLD": "1"})
+    place.await_call("ci high")
     child.kill()
     child.communicate()
-    assert not place.is_built()
+    assert not place.is_proved()
     (place.top / "out" / "unfinished").write_text("half a program")
+    same(len(place.rooms()), 1)
     place.calls()
     ran = place.example()
-    same((ran.returncode, ran.stdout, place.calls()), (0, "act a;\n", BUILT))
-    assert ran.stderr.startswith("mcrl2lin: waiting for another start"), ran.stderr
-    assert not (place.top / "out" / "unfinished").exists()
+    same((ran.returncode, ran.stdout), (0, "act a;\n"))
+    assert "a proof is under way" in ran.stderr, ran.stderr
+    child = place.start("--prove")
+    same(child.stderr.readline(), "mcrl2lin: waiting for another start, which is proving the program\n")
+    (place.kit / "go").touch()
+    child.communicate(timeout=60)
+    same((child.returncode, place.calls()), (0, [*TRIED, "ci mcrl2lin"]))
+    same(((place.top / "out" / "unfinished").exists(), place.rooms()), (False, []))
 
 
 def killed_on_terminal(place):
     """Killed outright on a terminal: nothing goes on writing to it."""
     main, side = pty.openpty()
-    child = place.start("linearise", "x", env={"RT_SLOW": "1"}, stdin=side, stdout=side, stderr=side)
+    child = place.start("--prove", env={"RT_SLOW": "1"}, stdin=side, stdout=side, stderr=side)
     os.close(side)
-    place.await_call("lib high")
+    place.await_call("ci high")
     child.kill()
     child.wait()
     time.sleep(2.5)
@@ -402,94 +549,170 @@ def killed_on_terminal(place):
 
 
 def two_at_once(place):
-    words = ("linearise", str(place.top / "examples/two_steps.mcrl2"))
-    one = place.start(*words, env={"RT_SLOW": "1.5"})
-    place.await_call("lib high")
-    other = place.start(*words)
+    """Of two proofs one waits, and of the same sources only one is made. A start meanwhile answers without."""
+    one = place.start("--prove", env={"RT_HOLD": "1"})
+    place.await_call("ci high")
+    other = place.start("--prove")
+    same(other.stderr.readline(), "mcrl2lin: waiting for another start, which is proving the program\n")
+    ran = place.example()
+    same((ran.returncode, ran.stdout), (0, "act a;\n"))
+    same(ran.stderr, UNPROVED.replace("this", "a proof is under way; this") + "\n")
+    (place.kit / "go").touch()
     said = [it.communicate(timeout=60) for it in (one, other)]
-    same([(it.returncode, out) for it, (out, _) in zip((one, other), said)], [(0, "act a;\n")] * 2)
-    same(said[1][1].splitlines(), ["mcrl2lin: waiting for another start, which is building the program"])
-    same(place.calls(), BUILT)
+    same([(it.returncode, out) for it, (out, _) in zip((one, other), said)], [(0, "")] * 2)
+    same(said[1][1], "")
+    same(sorted(place.calls()), sorted([*PROVED, *TRIED]))
     place.write("crates/low/src/lib.rt", "changed\n")
-    many = [place.start(*words, env={"RT_SLOW": "0.5"}) for _ in range(8)]
-    same({(it.communicate(timeout=60)[0], it.returncode) for it in many}, {("act a;\n", 0)})
-    same(place.calls(), BUILT)
+    many = [place.start("--prove", env={"RT_SLOW": "0.5"}) for _ in range(8)]
+    same({(it.communicate(timeout=60)[0], it.returncode) for it in many}, {("", 0)})
+    same(place.calls(), PROVED[:1])
 
 
 def waits_for_a_failure(place):
-    """A start that waited for one that failed builds itself."""
-    one = place.start("linearise", "x", env={"RT_SLOW": "1", "RT_BROKEN": "high"})
-    place.await_call("lib high")
-    ran = place.example()
+    """A proof that waited for one that failed is made."""
+    one = place.start("--prove", env={"RT_SLOW": "1", "RT_BROKEN": "high"})
+    place.await_call("ci high")
+    ran = place.prove()
     one.communicate()
-    same((one.returncode, ran.returncode, place.calls()), (70, 0, BUILT[:2] + BUILT))
+    same((one.returncode, ran.returncode, place.calls()), (70, 0, [*PROVED[:2], *PROVED[1:]]))
+
+
+def gate(place):
+    """What the gate left is taken at once, where no source is younger than its run."""
+    run_gate = lambda: subprocess.run(["rt", "ci"], cwd=place.top, env=place.env, check=True, capture_output=True)
+    run_gate()
+    same([*place.run("--version").stdout.splitlines()][2], "a start uses the proved program of these sources")
+    assert not place.is_proved()
+    place.calls()
+    ran = place.example()
+    same((ran.returncode, ran.stdout, ran.stderr, place.calls()), (0, "act a;\n", "", []))
+    assert place.is_proved()
+    # A source that was changed, also while the gate ran, makes it the program of others.
+    changes = [
+        lambda: place.write("crates/low/src/lib.rt", "changed\n"),
+        lambda: (place.top / "crates/low/proofs/f").rename(place.top / "crates/low/proofs/g"),
+        lambda: (place.top / "crates/high/specs/Lib.antt").unlink(),
+        lambda: place.write("crates.txt", LISTED + "\n"),
+        lambda: (place.kit / "KIT-ID").write_text("kit two\n"),
+    ]
+    for change in changes:
+        shutil.rmtree(place.top / "out", ignore_errors=True)
+        run_gate()
+        time.sleep(0.05)
+        change()
+        place.calls()
+        same((place.example().returncode, place.calls()), (0, TRIED))
+    place.forget()
+    child = subprocess.Popen(["rt", "ci"], cwd=place.top, env={**place.env, "RT_SLOW": "1"}, stdout=subprocess.DEVNULL)
+    place.await_call("ci high")
+    changes[0]()
+    child.wait()
+    place.calls()
+    same((place.example().returncode, place.calls()), (0, TRIED))
+    # A proof takes it too, and so does a start where its name can't be given.
+    run_gate()
+    place.calls()
+    same((place.prove().returncode, place.is_proved(), place.calls()), (0, True, []))
+    shutil.rmtree(place.top / "out")
+    place.write("out", "")
+    ran = place.example()
+    same((ran.returncode, ran.stdout, ran.stderr, place.calls()), (0, "act a;\n", "", []))
 
 
 def answers(place):
-    """--help, -h and --version build nothing, with a toolchain or without."""
+    """--help, -h and --version prove nothing, with a toolchain or without."""
     for env in ({}, {"PATH": "/usr/bin:/bin"}):
         for word in ("--help", "-h"):
             ran = place.run(word, env=env)
             same((ran.returncode, ran.stderr), (0, ""))
-            for part in ("linearise", "Example", "--version", "70"):
+            for part in ("linearise", "Example", "--version", "--prove", "70"):
                 assert part in ran.stdout, part
             assert max(map(len, ran.stdout.splitlines())) <= 80
         ran = place.run("--version", env=env)
         same((ran.returncode, ran.stderr), (0, ""))
-        first, second = ran.stdout.splitlines()
+        first, second, third = ran.stdout.splitlines()
         same(first, f"mcrl2lin {(TOP / 'VERSION').read_text().strip()}")
-        assert ("kit one" if not env else "no toolchain") in second, second
+        same(second, f"kit one ({place.kit / 'bin/rt'})" if not env else "no toolchain: the command rt isn't on the PATH")
+        assert third.startswith("no proved program of these sources"), third
     same((place.calls(), (place.top / "out").exists()), ([], False))
     same(place.run("--help", "more").returncode, 2)
-    same(place.calls(), BUILT)
+    same(place.calls(), TRIED)
+    place.prove()
+    same(place.run("--version").stdout.splitlines()[2], "a start uses the proved program of these sources")
 
 
 def unreadable(place):
-    place.example()
+    """What can't be read, without a proved program and with one: the same status and the same lines behind the first."""
+    for path, mode in ((place.folder, 0o755), (place.top, 0o755), (place.folder / "temporary files", 0o777), (place.kit, 0o777)):
+        path.chmod(mode)
+    (place.kit / "calls").touch(0o666)
+    (place.kit / "calls").chmod(0o666)
+    unreadable_files(place, [UNPROVED])
+    second_readers(place, [UNPROVED])
+    traces(place, [UNPROVED])
+    place.prove()
+    unreadable_files(place, [])
+    second_readers(place, [])
+    traces(place, [])
+
+
+def unreadable_files(place, first):
     odd = place.folder / "a b\n\x1b[1m"
     cases = [place.folder / "nothing", place.folder, f"/proc/{os.getpid()}/mem", odd, place.folder / ("x" * 300), ""]
     loop = place.folder / "loop"
-    loop.symlink_to("loop")
+    if not first:
+        loop.symlink_to("loop")
     for file in [*cases, loop]:
         ran = place.run("linearise", str(file))
-        same((ran.returncode, ran.stdout, ran.stderr.splitlines()[:1]), (3, "", ["read fault"]))
-        same((file, ran.stderr.count("\n")), (file, 2))
+        same((ran.returncode, ran.stdout, ran.stderr.splitlines()[:-1]), (3, "", [*first, "read fault"]))
         assert str(file) in ran.stderr or file == odd, ran.stderr
     assert "\x1b" not in place.run("linearise", str(odd)).stderr
     # FILE behind options, and with a dash in front.
     for words in (["--fuel", "3"], ["--fuel=3"], ["--fuel", "3", "--fuel=3", "--"]):
         for file in ("nothing", "-f") if words[-1] == "--" else ("nothing",):
             ran = place.run(*words, "linearise", file)
-            same((words, ran.returncode, ran.stderr.splitlines()), (words, 3, ["read fault", f"mcrl2lin: can't read {file}"]))
+            lines = [*first, "read fault", f"mcrl2lin: can't read {file}"]
+            same((words, ran.returncode, ran.stderr.splitlines()), (words, 3, lines))
     if not os.geteuid():
         shut = place.folder / "shut"
         shut.write_text("x")
         shut.chmod(0)
-        for at in (place.folder, place.top):
-            at.chmod(0o755)
         ran = place.run("linearise", str(shut), user=65534)
-        same((ran.returncode, ran.stderr.splitlines()), (3, ["read fault", f"mcrl2lin: can't read {shut}"]))
-    # What can be read but by no second reader.
-    both = '"$1" linearise <(echo piped); echo given | "$1" linearise /dev/stdin'
+        same((ran.returncode, ran.stderr.splitlines()), (3, [*first, "read fault", f"mcrl2lin: can't read {shut}"]))
+
+
+def second_readers(place, first):
+    """What can be read but by no second reader, and odd names."""
+    both = '"$1" linearise <(echo piped); echo given | "$1" linearise /dev/stdin; "$1" replay <(echo one) --trace <(echo two)'
     ran = subprocess.run(["bash", "-c", both, "", place.launcher], env=place.env, capture_output=True, text=True)
-    same((ran.stdout, ran.stderr), ("piped\ngiven\n", ""))
+    same((ran.stdout, ran.stderr.splitlines()), ("piped\ngiven\none\ntwo\n", first * 3))
+    for name in ("empty", "-", "a=b", "a b\n\tc", "text "):
+        (place.folder / name).write_text(name)
+        ran = place.run("linearise", name, cwd=place.folder)
+        same((name, ran.returncode, ran.stdout, ran.stderr.splitlines()), (name, 0, name, first))
+    ran = place.run("--", "linearise", "-f", cwd=place.folder)
+    same((ran.returncode, ran.stderr.splitlines()[-1]), (3, "mcrl2lin: can't read -f"))
+
+
+def traces(place, first):
+    """The trace, where FILE can be read."""
     empty = place.folder / "empty"
-    empty.touch()
-    ran = place.run("linearise", str(empty))
-    same((ran.returncode, ran.stderr), (0, ""))
-    # The trace, where FILE can be read.
+    empty.write_text("")
     for file, trace, said in ((empty, "nothing", "nothing"), ("none", "nothing", "none"), (empty, empty, None)):
         for words in (["--trace", str(trace)], [f"--trace={trace}"]):
             ran = place.run("replay", str(file), *words)
-            lines = ["read fault", f"mcrl2lin: can't read {said}"] if said else []
+            lines = [*first, *(["read fault", f"mcrl2lin: can't read {said}"] if said else [])]
             same((words, ran.returncode, ran.stderr.splitlines()), (words, 3 if said else 0, lines))
+    # Words that give no command stay such words.
+    for words in (["-f"], ["-f", "-g"], ["--trace", "-x"], ["--trace"], []):
+        ran = place.run("none", *words, cwd=place.folder)
+        same((ran.returncode, ran.stderr.splitlines()), (2, [*first, "usage", str(len(words) + 1), "none", *words]))
 
 
 def refused(place):
     """On a terminal a refusal has a further line, with line and column of a place; elsewhere it has none."""
-    place.example()
+    place.prove()
     page = place.top / "docs" / "REFUSALS.md"
-    text = place.folder / "a text"
     for line, said in (
         ("refused 1 BadByte 25", f"line 2, column 5; see 1 in {page}"),
         ("refused 3 OutOfProfile 0", f"line 1, column 1; see 3 in {page}"),
@@ -497,20 +720,103 @@ def refused(place):
         ("refused 6 NoInit", f"see 6 in {page}"),
         ("refused 12 UnknownName 3 b", f"see 12 in {page}"),
     ):
-        text.write_text(f"{line}\nabc $\n b\n")
-        ran = place.run("refuse", str(text))
-        same((ran.returncode, ran.stdout, ran.stderr), (1, "", f"{line}\n"))
-        main, side = pty.openpty()
-        child = place.start("refuse", str(text), stderr=side)
-        os.close(side)
-        same((child.communicate()[0], child.returncode), ("", 1))
-        same(read_all(main), f"{line}\r\nmcrl2lin: {said}\r\n")
+        for name in ("a text", "-"):
+            (place.folder / name).write_text(f"{line}\nabc $\n b\n")
+            ran = place.run("refuse", name, cwd=place.folder)
+            same((ran.returncode, ran.stdout, ran.stderr), (1, "", f"{line}\n"))
+            main, side = pty.openpty()
+            child = place.start("refuse", name, stdin=main, stderr=side, cwd=place.folder)
+            os.close(side)
+            same((child.communicate(timeout=20)[0], child.returncode), ("", 1))
+            same(read_all(main), f"{line}\r\nmcrl2lin: {said}\r\n")
+
+
+def no_answer(place):
+    """What the unproved build can't do is a line that says so, and nothing on standard output."""
+    for how, why in (("refused", "error[no-such-name]"), ("long", "past its limit"), ("killed", "was ended")):
+        ran = place.example(env={"RT_TRY": how})
+        same((how, ran.returncode, ran.stdout, place.rooms()), (how, 70, "", []))
+        lines = ran.stderr.splitlines()
+        same((len(lines), lines[0]), (2, UNPROVED))
+        assert lines[1].startswith("mcrl2lin: without a proof there is no answer") and why in lines[1], lines
+
+
+def dying_tools(place):
+    """A tool that ends before its time while the sources are summed: no other sum is taken for theirs, and the program stays."""
+    place.prove()
+    place.calls()
+    tools = place.folder / "tools"
+    tools.mkdir()
+    env = {"PATH": f"{tools}:{place.env['PATH']}"}
+    for tool in ("cat", "find", "sort", "xargs", "sha256sum"):
+        (tools / tool).write_text("#!/bin/sh\necho half\nkill -9 $$\n")
+        (tools / tool).chmod(0o755)
+        for words in (["linearise", str(place.top / "examples/two_steps.mcrl2")], ["--prove"]):
+            ran = place.run(*words, env=env)
+            same((tool, ran.returncode, ran.stdout, place.calls()), (tool, 70, "", []))
+        (tools / tool).unlink()
+    same((place.example(env=env).stderr, place.calls()), ("", []))
+
+
+def limits(place):
+    """Under a limit an answer is right, or there is none and the status says so."""
+    limit = lambda what, soft, hard: {"preexec_fn": lambda: resource.setrlimit(what, (soft, hard))}
+    # (bash has no say where it isn't even loaded)
+    is_right = lambda ran: (ran.returncode, ran.stdout) in ((0, "act a;\n"), (70, "")) or "loading shared libraries" in ran.stderr
+    for is_proved in (False, True):
+        if is_proved:
+            place.prove()
+        ran = place.example(**limit(resource.RLIMIT_STACK, 64 << 10, resource.RLIM_INFINITY))
+        same((ran.returncode, ran.stdout), (0, "act a;\n"))
+        for number in range(3, 20):
+            ran = place.example(**limit(resource.RLIMIT_NOFILE, number, number))
+            assert is_right(ran), (number, ran)
+        for size in range(4 << 20, 16 << 20, 1 << 19):
+            ran = place.example(**limit(resource.RLIMIT_AS, size, size))
+            assert is_right(ran), (size, ran)
+        place.calls()
+        with open(place.folder / "written", "w", encoding="utf-8") as out:
+            ran = place.run("write", "x", capture_output=False, stdout=out, stderr=subprocess.PIPE, **limit(resource.RLIMIT_FSIZE, 0, 0))
+        same(ran.returncode, 4 if is_proved else 70)
+
+
+def lost_output(place):
+    """Output that is closed, or takes nothing, on a terminal and off it."""
+    close = lambda: os.close(1)
+    for is_proved in (False, True):
+        if is_proved:
+            place.prove()
+        first = [] if is_proved else [UNPROVED]
+        with open("/dev/full", "w", encoding="utf-8") as full:
+            for how in ({"preexec_fn": close, "stdout": None}, {"stdout": full}):
+                ran = place.run("write", "x", **{"capture_output": False, "stderr": subprocess.PIPE, **how})
+                same((ran.returncode, ran.stderr.splitlines()), (4, [*first, "write fault"]))
+                main, side = pty.openpty()
+                child = place.start("write", "x", **{"stderr": side, **how})
+                os.close(side)
+                said = [it.rpartition("\x1b[K")[2] for it in read_all(main).split("\r\n")]
+                same((child.wait(), said), (4, [*first, "write fault", ""]))
+                for word in ("--help", "--version"):
+                    same(place.run(word, **{"capture_output": False, "stderr": subprocess.PIPE, **how}).returncode, 4)
+
+
+def apart(place):
+    """A hard link doesn't stand in the repository."""
+    other = place.folder / "elsewhere"
+    os.link(place.launcher, other)
+    for words in (["--prove"], ["--version"], ["linearise", "x"]):
+        ran = place.run(*words, launcher=str(other))
+        same((ran.returncode, ran.stdout), (70, ""))
+        assert "doesn't stand in its repository" in ran.stderr, ran.stderr
 
 
 TRIES = [
     first_start,
+    prove,
+    progress,
     terminal,
     terminal_without_width,
+    answer_on_terminal,
     streams,
     process,
     stack,
@@ -520,6 +826,7 @@ TRIES = [
     changed_meanwhile,
     broken,
     no_toolchain,
+    no_path,
     not_the_example,
     no_room,
     interrupted,
@@ -529,9 +836,15 @@ TRIES = [
     killed_on_terminal,
     two_at_once,
     waits_for_a_failure,
+    gate,
     answers,
     unreadable,
     refused,
+    no_answer,
+    dying_tools,
+    limits,
+    lost_output,
+    apart,
 ]
 
 

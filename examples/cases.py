@@ -161,23 +161,29 @@ def difference(found, wanted):
     return f"the status is {found[0]} in place of {wanted[0]}"
 
 
-def compare(program, words=()):
+def compare(program, cases):
     """Runs the program on the cases, and says each difference. Gives the number of the cases and of those that differ."""
-    compared = differ = 0
     with tempfile.TemporaryDirectory() as folder, concurrent.futures.ThreadPoolExecutor(os.cpu_count()) as pool:
-        runs = [(case, pool.submit(answered, program, case, folder)) for case in all_cases(words)]
-        for case, run in runs:
-            compared += 1
-            if run.result() != case.wanted:
-                differ += 1
-                print(f"{case.place}: {' '.join(case.words)}: {difference(run.result(), case.wanted)}", flush=True)
+        runs = [(case, pool.submit(answered, program, case, folder)) for case in cases]
+        return tell((case, run.result()) for case, run in runs)
+
+
+def tell(answers):
+    """Says each difference of the cases with their answers, or why there is no answer, and counts the cases and the differences."""
+    compared = differ = 0
+    for case, found in answers:
+        compared += 1
+        if found != case.wanted:
+            differ += 1
+            why = found if isinstance(found, str) else difference(found, case.wanted)
+            print(f"{case.place}: {' '.join(case.words)}: {why}", flush=True)
     return compared, differ
 
 
 def main():
     if len(sys.argv) < 2:
         sys.exit(__doc__.split("\n\n")[1])
-    compared, differ = compare([sys.argv[1]], sys.argv[2:])
+    compared, differ = compare([sys.argv[1]], all_cases(sys.argv[2:]))
     print(f"{compared} compared, {differ} differ")
     return 1 if differ else 0
 
