@@ -1,0 +1,75 @@
+-- Written equations in code, and what is answered of them.
+use Rattle.std.specs.Prelude.{◌≡◌, ◌<◌, ◌+◌, ℕ, List, Some, slice_get}
+use Rattle.std.specs.List.{AllZip}
+use Rattle.data_theory.specs.declared.ids.TermId.{TermId}
+use Rattle.data_theory.specs.Terms.{Term, variables_of}
+use Rattle.data_theory.specs.Declarations.{Data}
+use Rattle.data_theory.specs.Environments.{AreDistinct}
+use Rattle.data_theory.specs.Provable.{Equation}
+use Rattle.data_theory.specs.Signature.{Sig}
+use Rattle.data_theory.specs.IdTrees.{Tree}
+use Rattle.data_theory.specs.IdData.{data_meant}
+use Rattle.data_theory.specs.IdTerms.{term_under, IsTreeWithin}
+use Rattle.term_pool.specs.declared.terms.Equation.{Equation as Written}
+use Rattle.term_pool.specs.HeadTrees.{tree_at, IsIn}
+use Rattle.eqn_check.specs.declared.answers.Reason.{Reason}
+use Rattle.eqn_check.specs.declared.answers.Reason.TheVariants as reasons
+use Rattle.eqn_check.specs.declared.answers.Answer.{Answer}
+use Rattle.eqn_check.specs.declared.answers.Answer.TheVariants.{Consistent, Unproved}
+use Rattle.eqn_check.specs.Patterns.{IsLeftSide}
+use Rattle.eqn_check.specs.Rules.{Rule, shape, repeat, overlap, recursion, Breaks, place_of, LeftSidesMeet, AreAccepted, IsFirstBroken}
+
+abbrev pub term_at : Sig → List Tree → TermId → Term
+term_at sig ts id = term_under sig (tree_at ts id)
+
+-- a term of the pool over the sorts and functions of the signature
+pub record IsTerm (sig : Sig) (ts : List Tree) (id : TermId) : Type 0 where
+  pub inside : IsIn ts id
+  pub within : IsTreeWithin sig (tree_at ts id)
+
+-- the condition and both sides are such terms
+pub record IsEquationOver (sig : Sig) (ts : List Tree) (e : Written) : Type 0 where
+  pub condition : IsTerm sig ts e.cond
+  pub left : IsTerm sig ts e.left
+  pub right : IsTerm sig ts e.right
+
+-- the equation has this condition and these sides; the rules don't look at the sorts of its variables
+pub record IsEquationOf (sig : Sig) (ts : List Tree) (e : Written) (q : Equation) : Type 0 where
+  pub condition : q.condition ≡ term_at sig ts e.cond
+  pub left : q.left ≡ term_at sig ts e.left
+  pub right : q.right ≡ term_at sig ts e.right
+
+abbrev pub AreEquationsOf : Sig → List Tree → List Written → List Equation → Type 0
+AreEquationsOf sig ts es own = AllZip (IsEquationOf sig ts) es own
+
+abbrev pub rule_of : Reason → Rule
+rule_of reasons.Shape = shape
+rule_of reasons.Repeat = repeat
+rule_of reasons.Overlap = overlap
+rule_of reasons.Recursion = recursion
+
+-- the equation at a place keeps all rules, or this is the first one that it breaks
+abbrev pub KeepsRules : Data → List Equation → ℕ → Equation → Type 0
+KeepsRules g own k q = (r : Rule) → Breaks g own k q r → ⊥
+
+pub record BreaksFirst (g : Data) (own : List Equation) (k : ℕ) (q : Equation) (r : Rule) : Type 0 where
+  pub breaks : Breaks g own k q r
+  pub first : (s : Rule) → place_of s < place_of r → Breaks g own k q s → ⊥
+
+-- all equations in front of a place keep the rules
+abbrev pub KeepsBefore : Data → List Equation → ℕ → Type 0
+KeepsBefore g own n = (j : ℕ) (p : Equation) → j < n → slice_get own j ≡ Some p → KeepsRules g own j p
+
+abbrev pub IsAnswer : Data → List Equation → Answer → Type 0
+IsAnswer g own Consistent = AreAccepted g own
+IsAnswer g own (Unproved k r) = IsFirstBroken g own k (rule_of r)
+
+-- the first n equations have left sides of the right shape, in which no variable stands twice
+abbrev pub AreLinear : Data → List Equation → ℕ → Type 0
+AreLinear g own n = (j : ℕ) (p : Equation) → j < n → slice_get own j ≡ Some p → IsLeftSide g p.left × AreDistinct (variables_of p.left)
+
+-- none of the first n left sides meets that of this equation, where all up to this one are linear
+abbrev pub NoneMeets : Sig → List Tree → List Written → ℕ → ℕ → Type 0
+NoneMeets sig ts es number n =
+    (own : List Equation) → AreEquationsOf sig ts es own → AreLinear (data_meant sig) own (number + 1) → (q : Equation) → slice_get own number ≡ Some q
+    → (j : ℕ) (p : Equation) → j < n → slice_get own j ≡ Some p → LeftSidesMeet p q → ⊥

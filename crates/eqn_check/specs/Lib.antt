@@ -1,0 +1,11 @@
+pub mod Patterns
+pub mod Calls
+pub mod Rules
+pub mod AcceptedLaws
+pub mod Examples
+pub mod Judged
+pub mod Alike
+pub mod Linear
+pub mod Roles
+pub mod CallTrees
+pub mod CallTables

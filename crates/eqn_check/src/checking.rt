@@ -1,0 +1,122 @@
+//! The check of written equations.
+
+ghost use Rattle.std.specs.Prelude.{◌≡◌, ◌<◌, ◌+◌, List, length, IfOk, MatchOption, Some, slice_get};
+ghost use Rattle.std.specs.Bool.{Decides};
+ghost use Rattle.std.specs.List.{All};
+ghost use Rattle.data_theory.specs.declared.ids.TermId.{TermId};
+ghost use Rattle.data_theory.specs.Terms.{variables_of};
+ghost use Rattle.data_theory.specs.Environments.{AreDistinct};
+ghost use Rattle.data_theory.specs.Signature.{Sig};
+ghost use Rattle.term_pool.specs.HeadTrees.{IsIn};
+ghost use Rattle.eqn_check.specs.CallTables.{AreCalls};
+ghost use Rattle.eqn_check.specs.Rules.{BreaksOverlap};
+ghost use Rattle.data_theory.specs.IdData.{data_meant};
+ghost use Rattle.data_theory.specs.Provable.{Equation};
+ghost use Rattle.eqn_check.specs.Judged.{AreEquationsOf, AreLinear, term_at, BreaksFirst, IsAnswer, IsEquationOver, KeepsBefore, KeepsRules, rule_of};
+
+use crate::alike::are_alike;
+use crate::answers::{Answer, Reason};
+use crate::linear::has_distinct_variables;
+use crate::patterns::is_left_side;
+use crate::recursion::{Calls, find_calls, goes_around};
+use data_theory::{NoMemory, Signature, TermId};
+use std::alloc::Global;
+use term_pool::{Pool, Theory};
+
+/// Whether no variable stands twice in a term.
+fn is_linear(alloc: Global, pool: &Pool, term: TermId) -> Result<bool, NoMemory>
+    requires { IsIn pool.now.trees term }
+    ensures { IfOk result (λ b. (sig : Sig) → Decides b (AreDistinct (variables_of (term_at sig pool.now.trees term)))) }
+{
+    let distinct = has_distinct_variables(alloc, pool, term)?;
+    Ok(distinct)
+}
+
+/// Whether the left side of an equation meets that of an earlier one, where all of these are linear.
+fn overlaps(
+    alloc: Global,
+    sig: &Signature,
+    theory: &Theory,
+    pool: &Pool,
+    number: usize,
+) -> Result<bool, NoMemory>
+    requires equations { All (IsEquationOver sig.now pool.now.trees) theory.now.equations.items }
+    requires number { number < length theory.now.equations.items }
+    ensures { IfOk result (λ b. (own : List Equation) → AreEquationsOf sig.now pool.now.trees theory.now.equations.items own → AreLinear (data_meant sig.now) own (number + 1)
+        → (q : Equation) → slice_get own number ≡ Some q → Decides b (BreaksOverlap own number q)) }
+{
+    for earlier in 0..number {
+        let alike = are_alike(
+            alloc,
+            sig,
+            pool,
+            theory.equations[earlier].left,
+            theory.equations[number].left,
+        )?;
+        if alike {
+            return Ok(true);
+        }
+    }
+    Ok(false)
+}
+
+/// The first rule that an equation breaks, where those in front of it keep all rules.
+fn broken_rule(
+    alloc: Global,
+    sig: &Signature,
+    theory: &Theory,
+    pool: &Pool,
+    calls: &Calls,
+    number: usize,
+) -> Result<Option<Reason>, NoMemory>
+    requires equations { All (IsEquationOver sig.now pool.now.trees) theory.now.equations.items }
+    requires calls { AreCalls sig.now pool.now.trees theory.now.equations.items calls.now.lists.items calls.now.edges.items calls.now.cyclic calls.now.falling.items }
+    requires number { number < length theory.now.equations.items }
+    ensures { IfOk result (λ broken. (own : List Equation) → AreEquationsOf sig.now pool.now.trees theory.now.equations.items own → KeepsBefore (data_meant sig.now) own number
+        → (q : Equation) → slice_get own number ≡ Some q → MatchOption broken (KeepsRules (data_meant sig.now) own number q) (λ r. BreaksFirst (data_meant sig.now) own number q (rule_of r))) }
+{
+    let left = theory.equations[number].left;
+    let shaped = is_left_side(alloc, sig, pool, left)?;
+    if !shaped {
+        return Ok(Some(Reason::Shape));
+    }
+    let linear = is_linear(alloc, pool, left)?;
+    if !linear {
+        return Ok(Some(Reason::Repeat));
+    }
+    let overlapping = overlaps(alloc, sig, theory, pool, number)?;
+    if overlapping {
+        return Ok(Some(Reason::Overlap));
+    }
+    let around = goes_around(alloc, sig, theory, pool, calls, number)?;
+    if around {
+        return Ok(Some(Reason::Recursion));
+    }
+    Ok(None)
+}
+
+/// Whether all written equations keep the rules; or the first one that breaks a rule, and the first rule that it breaks.
+///
+/// Where the answer is `Consistent`, the equations are well formed and no sort is empty, the data are consistent.
+///
+/// # Errors
+///
+/// Want of memory.
+pub fn check(
+    alloc: Global,
+    sig: &Signature,
+    theory: &Theory,
+    pool: &Pool,
+) -> Result<Answer, NoMemory>
+    requires { All (IsEquationOver sig.now pool.now.trees) theory.now.equations.items }
+    ensures { IfOk result (λ answer. (own : List Equation) → AreEquationsOf sig.now pool.now.trees theory.now.equations.items own → IsAnswer (data_meant sig.now) own answer) }
+{
+    let calls = find_calls(alloc, sig, theory, pool)?;
+    for number in 0..theory.equations.len() {
+        let broken = broken_rule(alloc, sig, theory, pool, &calls, number)?;
+        if let Some(reason) = broken {
+            return Ok(Answer::Unproved(number + 1, reason));
+        }
+    }
+    Ok(Answer::Consistent)
+}
