@@ -1,26 +1,22 @@
 -- The walk over the variables that stand under constructors.
-use Rattle.std.proofs.Common.{◌≡◌, ◌<◌, ◌+◌, ◌⊎◌, inl, inr, ⊎_elim, ℕ, List, [], ◌∷◌, ◌++◌, length, map, take, get_or, Bool, true, false, refl, sym, ap, ◌∙◌, subst, append_assoc}
+use Rattle.std.proofs.Common.{◌≡◌, ◌<◌, ◌+◌, ◌⊎◌, inl, inr, ⊎_elim, ℕ, List, [], ◌∷◌, ◌++◌, length, map, take, get_or, Bool, true, false, sym, ap, ◌∙◌, subst, append_assoc}
 use Rattle.std.proofs.lemmas.List.{map_more}
 use Rattle.std.specs.Prelude.{◌↔◌}
-use Rattle.std.specs.Bool.{Decides}
-use Rattle.std.specs.List.{All, AllZip, Contains}
+use Rattle.std.specs.List.{All, Contains}
 use Rattle.std.proofs.lemmas.List.Elements.{All-nil, All-cons, All-head, All-tail, All-append, All-contains, Contains-append_left, Contains-append_right, Contains-append_cases, Contains-push}
 use Rattle.data_theory.specs.declared.ids.TermId.{TermId}
 use Rattle.data_theory.specs.declared.ids.VarId.{VarId}
-use Rattle.data_theory.specs.declared.ids.FunId.{FunId}
-use Rattle.data_theory.specs.Terms as terms
-use Rattle.data_theory.specs.Terms.{Symbol, Terms, variables_of, variables_of_all}
+use Rattle.data_theory.specs.Terms.{variables_of, variables_of_all}
 use Rattle.data_theory.specs.Signature.{Sig}
 use Rattle.data_theory.specs.IdData.{data_meant}
-use Rattle.data_theory.specs.IdTerms.{symbol_under, term_under, terms_under}
-use Rattle.data_theory.specs.IdTrees as trees
-use Rattle.data_theory.specs.IdTrees.{Tree, Trees, trees_of}
+use Rattle.data_theory.specs.IdTerms.{term_under, terms_under}
+use Rattle.data_theory.specs.IdTrees.{Tree, trees_of}
 use Rattle.data_theory.proofs.EnvironmentLemmas.{contains_first, contains_cases, contains_nothing}
 use Rattle.term_pool.specs.declared.terms.Head.{Head}
 use Rattle.term_pool.specs.declared.terms.Head.TheVariants.{Var, Num as Number, Fun}
 use Rattle.term_pool.specs.HeadTrees.{tree_at, trees_at, written_tree, Stands}
 use Rattle.eqn_check.specs.Judged.{term_at, IsTerm}
-use Rattle.eqn_check.specs.Patterns.{IsConstructor, StandsUnder, StandsUnderOne}
+use Rattle.eqn_check.specs.Patterns.{StandsUnder, StandsUnderOne}
 use Rattle.eqn_check.specs.CallTables.{IsConstructorAt, Marked, with_mark, AreBelow, Arises, WalksBelow}
 use Rattle.eqn_check.proofs.Elements.{contains_front, contains_behind, front_or_behind, contains_nothing_of}
 use Rattle.eqn_check.proofs.TermLemmas.{parts_are_terms}

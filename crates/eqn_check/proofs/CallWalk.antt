@@ -1,13 +1,10 @@
 -- The walk over the calls of a term.
-use Rattle.std.proofs.Common.{◌≡◌, ◌<◌, ◌⊎◌, inl, inr, ⊎_elim, List, [], ◌∷◌, ◌++◌, Bool, false, refl, sym, ◌∙◌, subst, arith}
+use Rattle.std.proofs.Common.{◌≡◌, ◌<◌, ◌⊎◌, inl, inr, ⊎_elim, List, [], ◌∷◌, ◌++◌, refl, sym, ◌∙◌, subst}
 use Rattle.std.specs.List.{All, Contains}
-use Rattle.std.specs.Bool.{Decides}
-use Rattle.std.proofs.lemmas.List.Elements.{All-nil, All-cons, All-head, All-tail, All-append, All-weaker, All-contains, Contains-append_left, Contains-append_right, Contains-append_cases, Contains-push}
+use Rattle.std.proofs.lemmas.List.Elements.{All-nil, All-cons, All-head, All-tail, All-append, All-contains, Contains-append_left, Contains-append_right, Contains-append_cases, Contains-push}
 use Rattle.data_theory.specs.declared.ids.TermId.{TermId}
 use Rattle.data_theory.specs.declared.ids.FunId.{FunId}
 use Rattle.data_theory.specs.Signature.{Sig}
-use Rattle.data_theory.specs.IdData.{data_meant}
-use Rattle.data_theory.specs.IdTerms.{symbol_under}
 use Rattle.data_theory.specs.IdTrees.{Tree, Trees, variable, numeral, none, more, trees_of}
 use Rattle.data_theory.specs.IdTrees as trees
 use Rattle.term_pool.specs.declared.terms.Head.{Head}
@@ -15,7 +12,6 @@ use Rattle.term_pool.specs.declared.terms.Head.TheVariants.{Var, Num as Number, 
 use Rattle.term_pool.specs.HeadTrees.{tree_at, trees_at, written_tree, Stands}
 use Rattle.eqn_check.specs.CallTrees.{CallIn, CallInOne, IsCallOf, ListsCalls, WalksCalls, IsMappingAt}
 use Rattle.eqn_check.specs.Judged.{IsTerm}
-use Rattle.eqn_check.specs.Roles.{IsMappingSymbol}
 use Rattle.eqn_check.proofs.Elements.{contains_front, contains_behind, front_or_behind, contains_nothing_of}
 use Rattle.eqn_check.proofs.TermLemmas.{parts_are_terms}
 

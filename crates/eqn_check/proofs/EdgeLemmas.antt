@@ -1,8 +1,8 @@
 -- The graph of calls, equation by equation.
-use Rattle.std.proofs.Common.{◌≡◌, ◌≢◌, ℕ, zero, suc, ◌<◌, ◌≤◌, ◌+◌, ◌⊎◌, inl, inr, ⊎_elim, List, [], ◌∷◌, ◌++◌, length, get_or, take, set, replicate, Bool, true, false, refl, sym, ap, ◌∙◌, subst, arith}
+use Rattle.std.proofs.Common.{◌≡◌, ℕ, zero, suc, ◌<◌, ◌≤◌, ◌+◌, ◌⊎◌, inl, inr, ⊎_elim, List, [], ◌∷◌, ◌++◌, length, get_or, take, set, replicate, Bool, true, false, refl, sym, ap, ◌∙◌, subst, arith}
 use Rattle.std.specs.Prelude.{◌↔◌, slice_get, Option, None, Some, MatchOption, is_some, not}
 use Rattle.std.specs.Bool.{Decides}
-use Rattle.std.specs.List.{All, AllZip, Contains}
+use Rattle.std.specs.List.{Contains}
 use Rattle.std.specs.Global.{Vec}
 use Rattle.std.proofs.lemmas.List.{take_more, take_all, get_or-replicate}
 use Rattle.std.proofs.lemmas.Bool.Decides.{eqb_tells}
@@ -18,16 +18,14 @@ use Rattle.data_theory.specs.IdTrees.{Tree, Trees, trees_of}
 use Rattle.term_pool.specs.declared.terms.Equation.{Equation as Written}
 use Rattle.term_pool.specs.declared.terms.Head.{Head}
 use Rattle.term_pool.specs.declared.terms.Head.TheVariants.{Var, Num as Number, Fun}
-use Rattle.term_pool.specs.HeadTrees.{tree_at, written_tree, IsIn}
+use Rattle.term_pool.specs.HeadTrees.{tree_at, written_tree}
 use Rattle.graphs.specs.Graphs.{successors, HasEdge, HasEdgeAmong, HasCycle, IsGraph, IsMarked, IsPath, IsReached, AreReached}
 use Rattle.graphs.proofs.Kept.{successors-set_same, successors-set_other, edge_below, marked_read}
 use Rattle.graphs.proofs.Marks.{none_contained, same_or_not}
 use Rattle.eqn_check.specs.declared.calls.EquationCalls.{EquationCalls}
 use Rattle.eqn_check.specs.CallTrees.{CallIn, ListsCalls}
-use Rattle.eqn_check.specs.CallTables.{CallsOther, StandsIn, ListsEquationCalls, ListAllCalls, IsLeftOf, CallsAmong, AreEdgesUpTo, CallsRoundTo}
-use Rattle.eqn_check.specs.Judged.{IsEquationOver}
+use Rattle.eqn_check.specs.CallTables.{CallsOther, StandsIn, ListsEquationCalls, IsLeftOf, CallsAmong, AreEdgesUpTo, CallsRoundTo}
 use Rattle.eqn_check.specs.Roles.{IsMappingSymbol}
-use Rattle.eqn_check.proofs.JudgedLemmas.{pair_at}
 
 -- ---- the functions that calls are of
 -- the root is this function

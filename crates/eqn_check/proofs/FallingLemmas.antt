@@ -1,8 +1,8 @@
 -- Marks of the places that fall.
-use Rattle.std.proofs.Common.{◌≡◌, ◌≢◌, ◌<◌, ◌≤◌, ◌+◌, ◌⊎◌, inl, inr, ⊎_elim, ℕ, zero, suc, List, [], ◌∷◌, ◌++◌, length, get_or, take, set, replicate, Bool, true, false, refl, sym, ap, ◌∙◌, subst, arith, length-append}
-use Rattle.std.specs.Prelude.{◌↔◌, slice_get, Option, None, Some, IfSome}
+use Rattle.std.proofs.Common.{◌≡◌, ◌<◌, ◌≤◌, ◌+◌, ◌⊎◌, inl, inr, ⊎_elim, ℕ, zero, suc, List, [], ◌∷◌, ◌++◌, length, get_or, take, set, replicate, Bool, true, false, refl, sym, ap, ◌∙◌, subst, arith, length-append}
+use Rattle.std.specs.Prelude.{◌↔◌, slice_get, None, Some}
 use Rattle.std.specs.Bool.{Decides}
-use Rattle.std.specs.List.{All, AllZip, Contains, list_any}
+use Rattle.std.specs.List.{AllZip, Contains, list_any}
 use Rattle.std.specs.Global.{Vec}
 use Rattle.std.proofs.lemmas.List.{take_more, take_all, get_or-replicate, length-replicate}
 use Rattle.std.proofs.lemmas.Bool.Decides.{eqb_tells}
@@ -11,7 +11,6 @@ use Rattle.std.proofs.lemmas.Option.{slice_get_within}
 use Rattle.data_theory.specs.declared.ids.TermId.{TermId}
 use Rattle.data_theory.specs.declared.ids.VarId.{VarId}
 use Rattle.data_theory.specs.declared.ids.FunId.{FunId}
-use Rattle.data_theory.specs.declared.ids.SortId.{SortId}
 use Rattle.data_theory.specs.Terms as terms
 use Rattle.data_theory.specs.Terms.{Term, Terms, variables_of_all}
 use Rattle.data_theory.specs.Equations as places
@@ -27,14 +26,12 @@ use Rattle.term_pool.specs.declared.terms.Head.{Head}
 use Rattle.term_pool.specs.declared.terms.Head.TheVariants.{Var, Num as Number, Fun}
 use Rattle.term_pool.specs.HeadTrees.{tree_at, trees_at, written_tree, Stands}
 use Rattle.eqn_check.specs.declared.calls.EquationCalls.{EquationCalls}
-use Rattle.eqn_check.specs.Judged.{term_at}
 use Rattle.eqn_check.specs.Patterns.{StandsUnder}
 use Rattle.eqn_check.specs.Calls.{ArgumentFalls}
 use Rattle.eqn_check.specs.CallTrees.{CallIn, ListsCalls}
-use Rattle.eqn_check.specs.CallTables.{AreBelow, AllBelow, CallsItself, StandsIn, ListsEquationCalls, IsLeftOf, place_in, argument_at, FallsInCall, FallsInCalls, FallsInEquation, FallsAmong, IsMarked, KeepsMarks, marks_of, HaveAllMarks, AreFallingUpTo, HasMark}
+use Rattle.eqn_check.specs.CallTables.{AllBelow, CallsItself, StandsIn, ListsEquationCalls, IsLeftOf, place_in, argument_at, FallsInCall, FallsInCalls, FallsInEquation, FallsAmong, IsMarked, KeepsMarks, marks_of, HaveAllMarks, AreFallingUpTo, HasMark}
 use Rattle.eqn_check.specs.Roles.{IsMappingSymbol}
 use Rattle.eqn_check.proofs.EdgeLemmas.{IsAt, no_function, one_root}
-use Rattle.eqn_check.proofs.JudgedLemmas.{element_at_place, pair_at}
 
 -- ---- an argument that is a variable
 no_argument_variable : (sig : Sig) (t : Tree) (x : ℕ) → term_under sig t ≡ terms.variable x → t ≡ trees.variable (record { 0 = x })

@@ -1,10 +1,9 @@
 -- Accepted equations in data that grow.
-use Rattle.std.proofs.Common.{◌≡◌, ◌≢◌, ℕ, zero, suc, ◌<◌, ◌+◌, ◌⊎◌, inl, inr, ⊎_elim, List, [], ◌∷◌, ◌++◌, length, get_or, refl, sym, ap, ◌∙◌, subst, arith}
+use Rattle.std.proofs.Common.{◌≡◌, ◌≢◌, ℕ, zero, suc, ◌<◌, ◌+◌, ◌⊎◌, inl, inr, ⊎_elim, List, [], ◌∷◌, ◌++◌, length, refl, sym, ap, ◌∙◌, subst, arith}
 use Rattle.std.specs.Prelude.{Contains, slice_get, Some}
-use Rattle.std.proofs.lemmas.List.{get_or_append_left}
 use Rattle.std.proofs.lemmas.List.Elements.{Contains-append_cases}
 use Rattle.data_theory.specs.Terms.{Sort, boolean, list, Symbol, truth, falsity, empty, cons, function, Term, Terms, variable, numeral, unknown, application, none, more, variables_of}
-use Rattle.data_theory.specs.Declarations.{Data, DeclaredFunction, mapping, function_at, argument_sorts, IsSort, IsSymbol, HasSort, HaveSorts, IsData}
+use Rattle.data_theory.specs.Declarations.{Data, DeclaredFunction, function_at, argument_sorts, IsSort, IsSymbol, HasSort, HaveSorts, IsData}
 use Rattle.data_theory.specs.Environments.{AreDistinct, IsOver}
 use Rattle.data_theory.specs.Equations.{term_at}
 use Rattle.data_theory.specs.EqualityLaws.{Grows}

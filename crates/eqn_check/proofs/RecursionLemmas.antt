@@ -1,18 +1,17 @@
 -- What the calls of the equations in code say of those that they mean.
-use Rattle.std.proofs.Common.{◌≡◌, ◌≢◌, ℕ, zero, suc, ◌<◌, ◌+◌, ◌⊎◌, inl, inr, ⊎_elim, List, [], ◌∷◌, length, get_or, replicate, Bool, true, false, refl, sym, ap, ◌∙◌, subst, arith}
-use Rattle.std.specs.Prelude.{slice_get, Option, Some, None, not}
+use Rattle.std.proofs.Common.{◌≡◌, ℕ, ◌<◌, ◌⊎◌, inl, inr, ⊎_elim, List, ◌∷◌, length, get_or, Bool, true, false, refl, sym, ap, ◌∙◌, subst, arith}
+use Rattle.std.specs.Prelude.{slice_get, Some, not}
 use Rattle.std.specs.Bool.{Decides}
-use Rattle.std.specs.List.{All, AllZip, Contains}
+use Rattle.std.specs.List.{All}
 use Rattle.std.specs.Global.{Vec}
 use Rattle.std.proofs.lemmas.List.{length-map}
 use Rattle.std.proofs.lemmas.Option.{slice_get_within}
 use Rattle.std.proofs.lemmas.List.Elements.{All-contains, Contains-get_or}
 use Rattle.data_theory.specs.declared.ids.FunId.{FunId}
-use Rattle.data_theory.specs.declared.ids.SortId.{SortId}
 use Rattle.data_theory.specs.declared.ids.TermId.{TermId}
 use Rattle.data_theory.specs.Terms as terms
 use Rattle.data_theory.specs.Terms.{Symbol, function, Term, Terms}
-use Rattle.data_theory.specs.Declarations.{Data, DeclaredFunction, function_at, argument_sorts}
+use Rattle.data_theory.specs.Declarations.{Data, function_at, argument_sorts}
 use Rattle.data_theory.specs.Functions.{Function, arguments_of}
 use Rattle.data_theory.specs.Provable.{Equation}
 use Rattle.data_theory.specs.Signature.{Sig}
@@ -25,14 +24,13 @@ use Rattle.data_theory.proofs.IdSymbolLemmas.{different_functions_mean_different
 use Rattle.term_pool.specs.declared.terms.Equation.{Equation as Written}
 use Rattle.term_pool.specs.declared.terms.Head.{Head}
 use Rattle.term_pool.specs.HeadTrees.{tree_at, written_tree, IsIn}
-use Rattle.graphs.specs.Graphs.{HasEdge, HasCycle, IsPath, IsGraph}
-use Rattle.graphs.proofs.Marks.{same_or_not}
+use Rattle.graphs.specs.Graphs.{HasEdge, HasCycle, IsGraph}
 use Rattle.eqn_check.specs.declared.calls.EquationCalls.{EquationCalls}
 use Rattle.eqn_check.specs.Patterns.{IsMapping, IsOf, IsLeftSide}
 use Rattle.eqn_check.specs.Patterns as patterns
 use Rattle.eqn_check.specs.Calls.{Calls, EquationCalls as CalledIn, FunctionCalls, ArgumentFalls, CallsFall, Falls}
 use Rattle.eqn_check.specs.CallTrees.{CallIn, CallInOne, ListsCalls, IsCallGraph}
-use Rattle.eqn_check.specs.CallTables.{CallsOther, CallsItself, StandsIn, ListsEquationCalls, IsLeftOf, CallsAmong, AreEdgesUpTo, CallsRoundTo, FallsInEquation, FallsAmong, IsMarked, marks_of, AreFallingUpTo, AreCalls, HasMark}
+use Rattle.eqn_check.specs.CallTables.{CallsOther, CallsItself, StandsIn, ListsEquationCalls, IsLeftOf, AreEdgesUpTo, CallsRoundTo, FallsAmong, marks_of, AreFallingUpTo, AreCalls, HasMark}
 use Rattle.eqn_check.specs.Judged.{term_at, IsEquationOf, AreEquationsOf, IsEquationOver}
 use Rattle.eqn_check.specs.Roles.{IsMappingSymbol}
 use Rattle.eqn_check.specs.Rules.{BreaksRecursion, CallsAround, CallsWithoutFall}

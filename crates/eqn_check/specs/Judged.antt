@@ -1,5 +1,6 @@
 -- Written equations in code, and what is answered of them.
-use Rattle.std.specs.Prelude.{◌≡◌, ◌<◌, ◌+◌, ℕ, List, Some, slice_get}
+use Rattle.std.specs.Prelude.{◌≡◌, ◌<◌, ◌+◌, ℕ, Bool, List, Option, MatchOption, Some, slice_get}
+use Rattle.std.specs.Bool.{Decides}
 use Rattle.std.specs.List.{AllZip}
 use Rattle.data_theory.specs.declared.ids.TermId.{TermId}
 use Rattle.data_theory.specs.Terms.{Term, variables_of}
@@ -17,7 +18,7 @@ use Rattle.eqn_check.specs.declared.answers.Reason.TheVariants as reasons
 use Rattle.eqn_check.specs.declared.answers.Answer.{Answer}
 use Rattle.eqn_check.specs.declared.answers.Answer.TheVariants.{Consistent, Unproved}
 use Rattle.eqn_check.specs.Patterns.{IsLeftSide}
-use Rattle.eqn_check.specs.Rules.{Rule, shape, repeat, overlap, recursion, Breaks, place_of, LeftSidesMeet, AreAccepted, IsFirstBroken}
+use Rattle.eqn_check.specs.Rules.{Rule, shape, repeat, overlap, recursion, Breaks, BreaksOverlap, place_of, LeftSidesMeet, AreAccepted, IsFirstBroken}
 
 abbrev pub term_at : Sig → List Tree → TermId → Term
 term_at sig ts id = term_under sig (tree_at ts id)
@@ -64,6 +65,16 @@ abbrev pub IsAnswer : Data → List Equation → Answer → Type 0
 IsAnswer g own Consistent = AreAccepted g own
 IsAnswer g own (Unproved k r) = IsFirstBroken g own k (rule_of r)
 
+-- the answer is right of all equations that these are in code
+abbrev pub IsAnswerFor : Sig → List Tree → List Written → Answer → Type 0
+IsAnswerFor sig ts es answer = (own : List Equation) → AreEquationsOf sig ts es own → IsAnswer (data_meant sig) own answer
+
+-- no reason, or the first one of the equation at a place, where those in front of it keep the rules
+abbrev pub IsReasonFor : Sig → List Tree → List Written → ℕ → Option Reason → Type 0
+IsReasonFor sig ts es number broken =
+    (own : List Equation) → AreEquationsOf sig ts es own → KeepsBefore (data_meant sig) own number → (q : Equation) → slice_get own number ≡ Some q
+    → MatchOption broken (KeepsRules (data_meant sig) own number q) (λ r. BreaksFirst (data_meant sig) own number q (rule_of r))
+
 -- the first n equations have left sides of the right shape, in which no variable stands twice
 abbrev pub AreLinear : Data → List Equation → ℕ → Type 0
 AreLinear g own n = (j : ℕ) (p : Equation) → j < n → slice_get own j ≡ Some p → IsLeftSide g p.left × AreDistinct (variables_of p.left)
@@ -73,3 +84,9 @@ abbrev pub NoneMeets : Sig → List Tree → List Written → ℕ → ℕ → Ty
 NoneMeets sig ts es number n =
     (own : List Equation) → AreEquationsOf sig ts es own → AreLinear (data_meant sig) own (number + 1) → (q : Equation) → slice_get own number ≡ Some q
     → (j : ℕ) (p : Equation) → j < n → slice_get own j ≡ Some p → LeftSidesMeet p q → ⊥
+
+-- the flag tells whether this equation's left side meets an earlier one, where all up to it are linear
+abbrev pub TellsOverlap : Sig → List Tree → List Written → ℕ → Bool → Type 0
+TellsOverlap sig ts es number b =
+    (own : List Equation) → AreEquationsOf sig ts es own → AreLinear (data_meant sig) own (number + 1) → (q : Equation) → slice_get own number ≡ Some q
+    → Decides b (BreaksOverlap own number q)

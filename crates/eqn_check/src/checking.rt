@@ -1,18 +1,14 @@
 //! The check of written equations.
 
-ghost use Rattle.std.specs.Prelude.{◌≡◌, ◌<◌, ◌+◌, List, length, IfOk, MatchOption, Some, slice_get};
+ghost use Rattle.std.specs.Prelude.{◌<◌, length, IfOk};
 ghost use Rattle.std.specs.Bool.{Decides};
 ghost use Rattle.std.specs.List.{All};
-ghost use Rattle.data_theory.specs.declared.ids.TermId.{TermId};
 ghost use Rattle.data_theory.specs.Terms.{variables_of};
 ghost use Rattle.data_theory.specs.Environments.{AreDistinct};
 ghost use Rattle.data_theory.specs.Signature.{Sig};
 ghost use Rattle.term_pool.specs.HeadTrees.{IsIn};
 ghost use Rattle.eqn_check.specs.CallTables.{AreCalls};
-ghost use Rattle.eqn_check.specs.Rules.{BreaksOverlap};
-ghost use Rattle.data_theory.specs.IdData.{data_meant};
-ghost use Rattle.data_theory.specs.Provable.{Equation};
-ghost use Rattle.eqn_check.specs.Judged.{AreEquationsOf, AreLinear, term_at, BreaksFirst, IsAnswer, IsEquationOver, KeepsBefore, KeepsRules, rule_of};
+ghost use Rattle.eqn_check.specs.Judged.{IsAnswerFor, IsEquationOver, IsReasonFor, TellsOverlap, term_at};
 
 use crate::alike::are_alike;
 use crate::answers::{Answer, Reason};
@@ -42,8 +38,7 @@ fn overlaps(
 ) -> Result<bool, NoMemory>
     requires equations { All (IsEquationOver sig.now pool.now.trees) theory.now.equations.items }
     requires number { number < length theory.now.equations.items }
-    ensures { IfOk result (λ b. (own : List Equation) → AreEquationsOf sig.now pool.now.trees theory.now.equations.items own → AreLinear (data_meant sig.now) own (number + 1)
-        → (q : Equation) → slice_get own number ≡ Some q → Decides b (BreaksOverlap own number q)) }
+    ensures { IfOk result (TellsOverlap sig.now pool.now.trees theory.now.equations.items number) }
 {
     for earlier in 0..number {
         let alike = are_alike(
@@ -72,8 +67,7 @@ fn broken_rule(
     requires equations { All (IsEquationOver sig.now pool.now.trees) theory.now.equations.items }
     requires calls { AreCalls sig.now pool.now.trees theory.now.equations.items calls.now.lists.items calls.now.edges.items calls.now.cyclic calls.now.falling.items }
     requires number { number < length theory.now.equations.items }
-    ensures { IfOk result (λ broken. (own : List Equation) → AreEquationsOf sig.now pool.now.trees theory.now.equations.items own → KeepsBefore (data_meant sig.now) own number
-        → (q : Equation) → slice_get own number ≡ Some q → MatchOption broken (KeepsRules (data_meant sig.now) own number q) (λ r. BreaksFirst (data_meant sig.now) own number q (rule_of r))) }
+    ensures { IfOk result (IsReasonFor sig.now pool.now.trees theory.now.equations.items number) }
 {
     let left = theory.equations[number].left;
     let shaped = is_left_side(alloc, sig, pool, left)?;
@@ -109,7 +103,7 @@ pub fn check(
     pool: &Pool,
 ) -> Result<Answer, NoMemory>
     requires { All (IsEquationOver sig.now pool.now.trees) theory.now.equations.items }
-    ensures { IfOk result (λ answer. (own : List Equation) → AreEquationsOf sig.now pool.now.trees theory.now.equations.items own → IsAnswer (data_meant sig.now) own answer) }
+    ensures { IfOk result (IsAnswerFor sig.now pool.now.trees theory.now.equations.items) }
 {
     let calls = find_calls(alloc, sig, theory, pool)?;
     for number in 0..theory.equations.len() {

@@ -1,4 +1,4 @@
-use Rattle.std.proofs.Common.{rules, arith, ◌≡◌, ◌<◌, length, refl, sym, subst}
+use Rattle.std.proofs.Common.{rules, arith, ◌<◌, length, refl, sym, subst}
 use Rattle.std.proofs.lemmas.Option.{slice_get_read}
 use Rattle.std.proofs.lemmas.List.Elements.{All-contains}
 use Rattle.term_pool.specs.HeadTrees.{tree_at, trees_at}

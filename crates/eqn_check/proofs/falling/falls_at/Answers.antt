@@ -1,8 +1,7 @@
-use Rattle.std.proofs.Common.{rules, arith, ◌≡◌, ◌<◌, ◌∙◌, List, length, inl, inr, refl, sym, ap, subst}
-use Rattle.std.specs.Prelude.{slice_get, Some}
+use Rattle.std.proofs.Common.{rules, ◌<◌, ◌∙◌, List, length, inl, inr, refl, sym, ap, subst}
 use Rattle.std.proofs.lemmas.Option.{slice_get_read}
 use Rattle.data_theory.specs.declared.ids.TermId.{TermId}
-use Rattle.term_pool.specs.HeadTrees.{tree_at, trees_at, written_tree, Stands}
+use Rattle.term_pool.specs.HeadTrees.{trees_at, written_tree, Stands}
 use Rattle.eqn_check.proofs.FallingLemmas.{falls_nowhere, falls_by_no_variable, falls_by_set}
 use Rattle.eqn_check.proofs.falling.falls_at.Goals as goal
 
