@@ -2,7 +2,7 @@
 """Tries the launcher mcrl2lin on a small repository whose toolchain proves nothing: bench/launcher.py [NAME ..]
 
 The command rt of these tries only notes that it was called, waits as long as a try asks, and makes a program that does what
-the launcher counts on. So they take a minute or two, and say how the launcher proves, answers and starts, and nothing of the proofs or of
+the launcher counts on. So they take a few minutes, and say how the launcher proves, answers and starts, and nothing of the proofs or of
 the program. A line for each try, and `N passed, M failed` as the last. It is no part of the gate.
 """
 
@@ -43,7 +43,8 @@ case "$1 ${2-}" in
 esac
 """
 # The toolchain keeps what it proved by the sums of the crates' files, as the real one does. RT_SLOW: seconds that the crate `high` and an answer
-# take; RT_HOLD: they wait for the file `go`; RT_BROKEN: the crate that isn't proved; RT_TRY: what becomes of an answer.
+# take; RT_HOLD: they wait for the file `go`; RT_AT: the crates that do so in place of `high`; RT_BROKEN: the crate that isn't proved; RT_FORGETS: it
+# keeps nothing; RT_TRY: what becomes of an answer.
 TOOLCHAIN = """#!/bin/bash
 kit=${0%/*}/..
 pause() {
@@ -51,13 +52,15 @@ pause() {
     [[ ! ${RT_HOLD-} ]] || until [[ -e $kit/go ]]; do sleep 0.1; done
 }
 
+# (with a name it works on a copy)
 prove() {
-    local crate broken= sum
-    find . -type f | sort > "$kit/seen"
-    for crate in low high mcrl2lin apart; do
+    local crate broken= sum kept=
+    echo "${*-}" >> "$kit/asked"
+    [[ $* ]] || find . -type f | sort > "$kit/seen"
+    for crate in low high side mcrl2lin apart; do
         grep -q "^ *$crate\\b" crates.txt || continue
-        rm -rf "crates/$crate/out"
-        mkdir "crates/$crate/out"
+        [[ ! $* || $crate == "$1" || "$crate $1" == 'low high' ]] || continue
+        [[ $* ]] || { rm -rf "crates/$crate/out"; mkdir "crates/$crate/out"; }
         sum=$(find "crates/$crate" -name '*.*t' -exec sha256sum {} + | sort | sha256sum)
         if [[ $broken ]]; then
             echo "rt: $crate NOT PROVED: its library $broken failed"
@@ -65,15 +68,20 @@ prove() {
             echo "rt: $crate is kept: an earlier run on this machine proved the same files over the same libraries"
         else
             echo "ci $crate" >> "$kit/calls"
-            [[ $crate != high ]] || pause
+            [[ " ${RT_AT-high} " != *" $crate "* ]] || pause
             [[ $crate != "${RT_BROKEN-}" ]] || { broken=$crate; echo "not proved: $crate"; echo "rt: $crate NOT PROVED"; continue; }
-            mkdir -p "$kit/kept" && touch "$kit/kept/${sum:0:64}"
+            [[ ${RT_FORGETS-} ]] || { mkdir -p "$kit/kept" && touch "$kit/kept/${sum:0:64}"; }
             echo "rt: $crate proved"
             ! grep -q '#.test.' "crates/$crate/src/lib.rt" || echo "rt: $crate: its tests are proved"
         fi
     done
     [[ ! $broken ]] || exit 1
-    install "$kit/program" crates/mcrl2lin/out/mcrl2lin
+    if [[ $* ]]; then
+        [[ ${RT_FORGETS-} ]] || kept=", and that is kept"
+        echo "rt: $1 and the crates below passed$kept. This is not the gate: run rt ci with no names"
+    else
+        install "$kit/program" crates/mcrl2lin/out/mcrl2lin
+    fi
 }
 
 try() {
@@ -99,7 +107,7 @@ try() {
 
 case $1 in
 version) cat "$kit/name" ;;
-ci) prove ;;
+ci) prove "${@:2}" ;;
 try) try "${@:2}" ;;
 esac
 """
@@ -125,11 +133,14 @@ class Place:
         (self.kit / "KIT-ID").write_text("kit one\n")
         (self.kit / "WHAT").write_text("a kit\n")
         (self.kit / "name").write_text("kit one\n")
+        self.machine("4", "20000000")
         for path, text in ((self.kit / "bin" / "rt", TOOLCHAIN), (self.kit / "program", PROGRAM)):
             path.write_text(text)
             path.chmod(0o755)
         self.env = {**os.environ, "PATH": f"{self.kit / 'bin'}:/usr/bin:/bin", "TERM": "xterm"}
         self.env["TMPDIR"] = str(self.folder / "temporary files")
+        for name in ("RT_JOBS", "CI"):
+            self.env.pop(name, None)
         self.launcher = str(self.top / "mcrl2lin")
 
     def write(self, path, text):
@@ -137,12 +148,25 @@ class Place:
         file.parent.mkdir(parents=True, exist_ok=True)
         file.write_text(text)
 
-    def calls(self):
-        """What the toolchain was asked for since the last time."""
-        file = self.kit / "calls"
+    def machine(self, processors, memory):
+        """Sets how many processors there are, and kilobytes of memory that are free, as the tools say that the launcher asks."""
+        for tool, said in (("nproc", processors), ("awk", memory)):
+            path = self.kit / "bin" / tool
+            path.write_text(f"#!/bin/sh\necho {said}\n")
+            path.chmod(0o755)
+
+    def calls(self, name="calls"):
+        """What the toolchain did since the last time, or what its gate was `asked` for."""
+        file = self.kit / name
         found = file.read_text().splitlines() if file.exists() else []
         file.unlink(missing_ok=True)
         return found
+
+    def widen(self, line="side: low"):
+        """Adds a crate beside `high`."""
+        for file in ("src/lib.rt", "specs/Lib.antt"):
+            self.write(f"crates/side/{file}", f"side {file}\n")
+        self.write("crates.txt", LISTED.replace("high, itoa", "high, side, itoa") + f"\n{line}")
 
     def run(self, *words, env=None, launcher=None, given="", **how):
         how = {"text": True, "input": given, "capture_output": True, "timeout": 60, **how}
@@ -169,9 +193,9 @@ class Place:
         """Has the toolchain keep nothing of what it proved."""
         shutil.rmtree(self.kit / "kept", ignore_errors=True)
 
-    def await_call(self, call):
-        until = time.monotonic() + 20
-        while call not in ((self.kit / "calls").read_text().splitlines() if (self.kit / "calls").exists() else []):
+    def await_call(self, call, name="calls"):
+        until, file = time.monotonic() + 20, self.kit / name
+        while call not in (file.read_text().splitlines() if file.exists() else []):
             assert time.monotonic() < until, f"no call {call}"
             time.sleep(0.02)
 
@@ -215,7 +239,7 @@ def progress(place):
     """How far a proof is, and how long it is likely to last, by the lines of the crates and of those with tests once more."""
     place.write("crates/low/src/lib.rt", "#[test]\n" * 8)
     place.write("crates/mcrl2lin/src/lib.rt", "line\n" * 975)
-    child = place.start("--prove", env={"RT_SLOW": "1.5"})
+    child = place.start("--prove", env={"RT_SLOW": "1.5", "RT_AT": "low"})
     lines = child.communicate(timeout=60)[1].splitlines()
     same(child.returncode, 0)
     assert any(re.search(r" 1 of 3 crates done \(2%\), \d+ min \d+ s, about \d+ min left", it) for it in lines), lines
@@ -398,7 +422,7 @@ def broken(place):
         ran = place.prove(env={"RT_BROKEN": crate})
         same((ran.returncode, ran.stdout), (70, ""))
         last = ran.stderr.splitlines()[-1]
-        log = place.top / "out" / "log" / "prove.log"
+        log = place.top / "out" / "log" / ("high.log" if crate == "high" else "prove.log")
         same(last, f"mcrl2lin: the crate {crate} couldn't be proved and built; see {log}")
         assert f"not proved: {crate}" in log.read_text(), log.read_text()
         same((place.calls(), place.rooms()), (wanted, []))
@@ -412,6 +436,95 @@ def broken(place):
     file.write_text(was)
     place.calls()
     same((place.example().returncode, place.calls()), (0, []))
+
+
+def side_by_side(place):
+    """Crates that don't stand on one another are proved at the same time, and one that stands on another waits for it."""
+    place.widen()
+    child = place.start("--prove", env={"RT_HOLD": "1", "RT_AT": "low"})
+    place.await_call("ci low")
+    time.sleep(1.5)
+    same((place.calls(), place.calls("asked")), (["ci low"], ["low"]))
+    (place.kit / "go").touch()
+    child.communicate(timeout=60)
+    same((child.returncode, sorted(place.calls())), (0, ["ci high", "ci mcrl2lin", "ci side"]))
+    place.forget()
+    (place.kit / "go").unlink()
+    for crate in (*CRATES, "side"):
+        place.write(f"crates/{crate}/src/lib.rt", f"other {crate}\n")
+    child = place.start("--prove", env={"RT_HOLD": "1", "RT_AT": "high side"})
+    place.await_call("ci high")
+    place.await_call("ci side")
+    (place.kit / "go").touch()
+    said = child.communicate(timeout=60)[1].splitlines()
+    same((child.returncode, place.rooms()), (0, []))
+    calls = place.calls()
+    same((calls[0], {*calls[1:3]}, calls[3:]), ("ci low", {"ci high", "ci side"}, ["ci mcrl2lin"]))
+    assert said[-1].startswith("mcrl2lin: proved and built, 4 crates in "), said
+
+
+def one_by_one(place):
+    """The gate of the whole does everything where there is one processor or little memory, or by what the caller says to the toolchain."""
+    whole, each = [""], ["low", "high", ""]
+    for machine, env, asked in (
+        (("1", "20000000"), {}, whole),
+        (("2", "20000000"), {}, each),
+        (("64", "20000000"), {}, each),
+        (("4", "7000000"), {}, whole),
+        (("4", ""), {}, whole),
+        (("4", "20000000"), {"RT_JOBS": "3"}, whole),
+        (("4", "20000000"), {"CI": "true"}, whole),
+    ):
+        place.forget()
+        shutil.rmtree(place.top / "out", ignore_errors=True)
+        place.machine(*machine)
+        ran = place.prove(env=env)
+        same((machine, env, ran.returncode, place.calls(), place.calls("asked")), (machine, env, 0, PROVED, asked))
+
+
+def nothing_kept(place):
+    """Where the toolchain keeps nothing, no crate is proved again and again: once one has been, the gate of the whole does all."""
+    place.widen("side:")
+    child = place.start("--prove", env={"RT_FORGETS": "1", "RT_HOLD": "1", "RT_AT": "side"})
+    place.await_call("", "asked")
+    place.await_call("ci high")
+    (place.kit / "go").touch()
+    child.communicate(timeout=60)
+    calls = place.calls()
+    same((child.returncode, {*calls[:2]}, calls[2:]), (0, {"ci low", "ci side"}, ["ci low", "ci high", "ci side", "ci mcrl2lin"]))
+    asked = place.calls("asked")
+    same(({*asked[:2]}, asked[2:]), ({"low", "side"}, [""]))
+
+
+def broken_beside(place):
+    """A crate that fails ends the one that is proved beside it, and its log is named."""
+    place.widen()
+    ran = place.prove(env={"RT_HOLD": "1", "RT_BROKEN": "side"})
+    log = place.top / "out" / "log" / "side.log"
+    same((ran.returncode, ran.stderr.splitlines()[-1]), (70, f"mcrl2lin: the crate side couldn't be proved and built; see {log}"))
+    assert "not proved: side" in log.read_text(), log.read_text()
+    same(({*place.calls()} - {"ci high"}, place.rooms()), ({"ci low", "ci side"}, []))
+    ran = place.prove()
+    assert ran.returncode == 0 and "waiting" not in ran.stderr, ran.stderr
+    same(sorted(place.calls()), ["ci high", "ci mcrl2lin", "ci side"])
+
+
+def interrupted_beside(place):
+    """An interrupt ends both crates that are at work, and the next proof goes on."""
+    place.widen()
+    for number in (signal.SIGINT, signal.SIGTERM):
+        child = place.start("--prove", env={"RT_HOLD": "1", "RT_AT": "high side"})
+        place.await_call("ci high")
+        place.await_call("ci side")
+        begun = time.monotonic()
+        child.send_signal(number)
+        said = child.communicate(timeout=30)[1]
+        same((child.returncode, place.rooms()), (-number, []))
+        assert time.monotonic() - begun < 2 and "interrupted" in said.splitlines()[-1], said
+        place.calls()
+    ran = place.prove()
+    assert ran.returncode == 0 and "waiting" not in ran.stderr, ran.stderr
+    same(sorted(place.calls()), ["ci high", "ci mcrl2lin", "ci side"])
 
 
 def no_toolchain(place):
@@ -825,6 +938,11 @@ TRIES = [
     sources,
     changed_meanwhile,
     broken,
+    side_by_side,
+    one_by_one,
+    nothing_kept,
+    broken_beside,
+    interrupted_beside,
     no_toolchain,
     no_path,
     not_the_example,
