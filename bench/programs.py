@@ -44,14 +44,20 @@ def run(program, words):
     return usage.ru_utime + usage.ru_stime, usage.ru_maxrss
 
 
-def done(task, text, *words, limit=None):
-    """Runs the finished program for a task on a text, with further words; gives its status, the processor's seconds, the peak memory in KiB and
-    what it writes. Where there is a limit, that is called in the process before it starts."""
-    with tempfile.NamedTemporaryFile("w") as file, tempfile.TemporaryFile("w+") as said:
-        file.write(text)
-        file.flush()
-        child = subprocess.Popen([PROGRAM, task, file.name, *words], stdin=subprocess.DEVNULL, stdout=said, stderr=said, preexec_fn=limit)
+def run_of(program, words, limit=None):
+    """Runs a program with words; gives its status, the processor's seconds, the peak memory in KiB and what it writes. Where there is a limit,
+    that is called in the process before it starts."""
+    with tempfile.TemporaryFile("w+") as said:
+        child = subprocess.Popen([program, *words], stdin=subprocess.DEVNULL, stdout=said, stderr=said, preexec_fn=limit)
         _, status, usage = os.wait4(child.pid, 0)
         child.returncode = 0
         said.seek(0)
         return os.waitstatus_to_exitcode(status), usage.ru_utime + usage.ru_stime, usage.ru_maxrss, said.read()
+
+
+def done(task, text, *words, limit=None, program=PROGRAM):
+    """The same of the finished program, or of another one, for a task on a text, with further words."""
+    with tempfile.NamedTemporaryFile("w") as file:
+        file.write(text)
+        file.flush()
+        return run_of(program, [task, file.name, *words], limit)
