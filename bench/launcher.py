@@ -44,7 +44,8 @@ esac
 """
 # The toolchain keeps what it proved by the sums of the crates' files, as the real one does. RT_SLOW: seconds that the crate `high` and an answer
 # take; RT_HOLD: they wait for the file `go`; RT_AT: the crates that do so in place of `high`; RT_BROKEN: the crate that isn't proved; RT_FORGETS: it
-# keeps nothing; RT_TRY: what becomes of an answer.
+# keeps nothing; RT_TRY: what becomes of an answer. Its gate takes the names of crates where its help says so. Else its other commands keep what they
+# proved in the crate's folder out/.
 TOOLCHAIN = """#!/bin/bash
 kit=${0%/*}/..
 pause() {
@@ -84,6 +85,33 @@ prove() {
     fi
 }
 
+# (as the real one, it locks the crate and those below, and takes their libraries)
+work() {
+    local crate=${PWD##*/} low held
+    [[ $2 == "$crate" && $3 == --jobs ]] || exit 2
+    for low in ../*; do
+        exec {held}< "$low"
+        flock "$held"
+        [[ $low == "../$crate" || -e $low/out/rlib/stamp ]] || { echo "no library: $low"; exit 1; }
+    done
+    [[ $(find .. -type l) || $(sed 's/:.*//; s/ .*//' ../../crates.txt | sort) != "$(cd .. && ls)" ]] && { echo "not as wanted: $(ls ..)"; exit 2; }
+    case $1 in
+    check)
+        echo "$crate $4" >> "$kit/asked"
+        [[ ! -e out/incremental/done ]] || return 0
+        echo "check $crate" >> "$kit/calls"
+        mkdir -p out/incremental
+        [[ " ${RT_AT-high} " != *" $crate "* ]] || pause
+        [[ $crate != "${RT_BROKEN-}" ]] || { echo "not proved: $crate"; exit 1; }
+        touch out/incremental/done
+        ;;
+    lib) [[ -e out/incremental/done ]] && mkdir out/rlib && touch out/rlib/stamp ;;
+    run)
+        [[ -e out/incremental/done && $5 == -- && ! ${RT_BACKEND-} ]] && install "$kit/program" "out/$crate" && exec "out/$crate" "${@:6}"
+        ;;
+    esac
+}
+
 try() {
     local status room
     echo "try ${PWD##*/}" >> "$kit/calls"
@@ -107,7 +135,9 @@ try() {
 
 case $1 in
 version) cat "$kit/name" ;;
-ci) prove "${@:2}" ;;
+help) cat "$kit/help" >&2; exit 2 ;;
+ci) [[ ! ${2-} ]] || grep -q NAME "$kit/help" || exit 2; prove "${@:2}" ;;
+check | lib | run) work "$@" ;;
 try) try "${@:2}" ;;
 esac
 """
@@ -133,6 +163,7 @@ class Place:
         (self.kit / "KIT-ID").write_text("kit one\n")
         (self.kit / "WHAT").write_text("a kit\n")
         (self.kit / "name").write_text("kit one\n")
+        (self.kit / "help").write_text("rt: proves\n\n  rt ci [NAME..]   the merge gate\n  rt must-fail [NAME..]\n")
         self.machine("4", "20000000")
         for path, text in ((self.kit / "bin" / "rt", TOOLCHAIN), (self.kit / "program", PROGRAM)):
             path.write_text(text)
@@ -154,6 +185,10 @@ class Place:
             path = self.kit / "bin" / tool
             path.write_text(f"#!/bin/sh\necho {said}\n")
             path.chmod(0o755)
+
+    def take_no_names(self):
+        """Makes the toolchain's gate one that takes no names and keeps nothing."""
+        (self.kit / "help").write_text("rt: proves\n\n  rt ci            the merge gate\n  rt must-fail [NAME..]\n")
 
     def calls(self, name="calls"):
         """What the toolchain did since the last time, or what its gate was `asked` for."""
@@ -201,6 +236,7 @@ class Place:
 
 
 PROVED = [f"ci {it}" for it in CRATES]
+CHECKED = [f"check {it}" for it in CRATES]
 TRIED = ["try mcrl2lin"]
 UNPROVED = "mcrl2lin: this answer comes from the same sources without a proof, in a minute or two; ./mcrl2lin --prove makes the proved program"
 
@@ -525,6 +561,121 @@ def interrupted_beside(place):
     ran = place.prove()
     assert ran.returncode == 0 and "waiting" not in ran.stderr, ran.stderr
     same(sorted(place.calls()), ["ci high", "ci mcrl2lin", "ci side"])
+
+
+def without_names(place):
+    """By a toolchain whose gate takes no names, each crate is proved in a repository of its own, and the program last."""
+    place.take_no_names()
+    ran = place.prove(env={"RT_BACKEND": "both"})
+    same((ran.returncode, ran.stdout), (0, ""))
+    lines = [re.sub(r"\d+ min \d+ s", "T", it) for it in ran.stderr.splitlines()]
+    same((lines[0], lines[-1]), ("mcrl2lin: proving: 0 of 3 crates done (0%), T", "mcrl2lin: proved and built, 3 crates in T"))
+    assert any(re.fullmatch(r"mcrl2lin: proving: 2 of 3 crates done \(66%\), T", it) for it in lines), lines
+    same((place.calls(), place.calls("asked"), place.rooms()), (CHECKED, ["low 4", "high 4", "mcrl2lin 4"], []))
+    ran = place.example()
+    same((ran.returncode, ran.stdout, ran.stderr, place.calls()), (0, "act a;\n", "", []))
+    # What changed meanwhile is proved behind it.
+    place.write("crates/low/src/lib.rt", "other\n")
+    child = place.start("--prove", env={"RT_SLOW": "1"})
+    place.await_call("check high")
+    place.write("crates/low/src/lib.rt", "changed\n")
+    child.communicate(timeout=60)
+    same((child.returncode, place.calls(), place.rooms()), (0, CHECKED * 2, []))
+    same((place.example().stderr, place.calls()), ("", []))
+
+
+def shares(place):
+    """How many processors a proof gets, and how many are side by side, by those that there are, the memory and RT_JOBS."""
+    place.take_no_names()
+    place.widen()
+    for machine, env, asked in (
+        (("4", "20000000"), {}, ["low 4", "high 2", "side 2", "mcrl2lin 4"]),
+        (("64", "1000000000"), {}, ["low 8", "high 8", "side 8", "mcrl2lin 8"]),
+        (("4", "13000000"), {}, ["low 3", "high 2", "side 1", "mcrl2lin 3"]),
+        (("4", "20000000"), {"RT_JOBS": "2", "CI": "true"}, ["low 2", "high 2", "side 2", "mcrl2lin 2"]),
+        (("1", "20000000"), {}, ["low 1", "high 1", "side 1", "mcrl2lin 1"]),
+        (("4", ""), {"RT_JOBS": "x"}, ["low 1", "high 1", "side 1", "mcrl2lin 1"]),
+    ):
+        shutil.rmtree(place.top / "out", ignore_errors=True)
+        place.write("crates/high/src/lib.rt", "high\n" * 9)
+        place.machine(*machine)
+        ran = place.prove(env=env)
+        found = place.calls("asked")
+        same((machine, env, ran.returncode, found[:1], sorted(found[1:3]), found[3:]), (machine, env, 0, asked[:1], sorted(asked[1:3]), asked[3:]))
+
+
+def goes_on(place):
+    """A proof that was interrupted, or killed, goes on where it was, in the same room, as long as sources and toolchain are the same."""
+    place.take_no_names()
+    place.widen()
+    for number in (signal.SIGINT, signal.SIGTERM, signal.SIGKILL):
+        child = place.start("--prove", env={"RT_HOLD": "1", "RT_AT": "high side"})
+        place.await_call("check high")
+        place.await_call("check side")
+        rooms, begun = place.rooms(), time.monotonic()
+        child.send_signal(number)
+        said = child.communicate(timeout=30)[1]
+        same((child.returncode, place.rooms(), len(rooms)), (-number, rooms, 1))
+        assert time.monotonic() - begun < 2 and ("interrupted" in said.splitlines()[-1] or number == signal.SIGKILL), said
+        same(sorted(place.calls()), ["check high", *(["check low"] if number == signal.SIGINT else []), "check side"])
+    assert "a proof is under way" in place.example().stderr
+    (place.kit / "go").touch()
+    ran = place.prove()
+    lines = ran.stderr.splitlines()
+    same((ran.returncode, place.rooms()), (0, []))
+    # (what was killed went on, and kept its work)
+    assert any(re.search(r" 1 of 4 crates done \(\d+%\), \d+ min \d+ s$", it) for it in lines), lines
+    same(place.calls(), [*TRIED, "check mcrl2lin"])
+
+
+def begins_anew(place):
+    """Where a source or the toolchain is another one, what was kept for the former ones is removed."""
+    place.take_no_names()
+
+    def interrupt():
+        child = place.start("--prove", env={"RT_HOLD": "1"})
+        place.await_call("check high")
+        child.terminate()
+        child.communicate(timeout=30)
+        same((child.returncode, len(place.rooms())), (-signal.SIGTERM, 1))
+        place.calls()
+        return place.rooms()
+
+    changes = [
+        lambda room: place.write("crates/high/proofs/f/Answers.antt", f"{room}\n"),
+        lambda room: place.write("crates/low/specs/Lib.antt", f"{room}\n"),
+        lambda room: (place.kit / "KIT-ID").write_text(f"{room}\n"),
+        lambda room: (room / "repository/crates/low/src/lib.rt").write_text("damaged\n"),
+        lambda room: (room / "program").unlink(),
+        shutil.rmtree,
+    ]
+    for change in changes:
+        shutil.rmtree(place.top / "out", ignore_errors=True)
+        rooms = interrupt()
+        change(rooms[0])
+        child = place.start("--prove", env={"RT_SLOW": "1"})
+        place.await_call("check high")
+        assert place.rooms() != rooms and len(place.rooms()) == 1, place.rooms()
+        child.communicate(timeout=60)
+        same((child.returncode, place.calls(), place.rooms()), (0, CHECKED, []))
+    # A program from the gate makes what was kept needless.
+    place.write("crates/low/specs/Lib.antt", "last\n")
+    interrupt()
+    subprocess.run(["rt", "ci"], cwd=place.top, env=place.env, check=True, capture_output=True)
+    same((place.prove().returncode, place.is_proved(), place.rooms()), (0, True, []))
+
+
+def broken_without_names(place):
+    """A crate that fails is named with its log. What was proved is kept, but where that itself was kept from before."""
+    place.take_no_names()
+    for crate, wanted in (("high", CHECKED[:2]), ("mcrl2lin", CHECKED[1:])):
+        ran = place.prove(env={"RT_BROKEN": crate})
+        same((ran.returncode, ran.stdout), (70, ""))
+        log = place.top / "out" / "log" / ("high.log" if crate == "high" else "prove.log")
+        same(ran.stderr.splitlines()[-1], f"mcrl2lin: the crate {crate} couldn't be proved and built; see {log}")
+        assert f"not proved: {crate}" in log.read_text(), log.read_text()
+        same((place.calls(), place.is_proved(), len(place.rooms())), (wanted, False, 1 if crate == "high" else 0))
+    same((place.prove().returncode, place.calls(), place.rooms()), (0, CHECKED, []))
 
 
 def no_toolchain(place):
@@ -943,6 +1094,11 @@ TRIES = [
     nothing_kept,
     broken_beside,
     interrupted_beside,
+    without_names,
+    shares,
+    goes_on,
+    begins_anew,
+    broken_without_names,
     no_toolchain,
     no_path,
     not_the_example,
