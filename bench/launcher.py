@@ -238,7 +238,7 @@ class Place:
 PROVED = [f"ci {it}" for it in CRATES]
 CHECKED = [f"check {it}" for it in CRATES]
 TRIED = ["try mcrl2lin"]
-UNPROVED = "mcrl2lin: this answer comes from the same sources without a proof, in a minute or two; ./mcrl2lin --prove makes the proved program"
+UNPROVED = "mcrl2lin: this answer comes from the same sources without a proof, in two or three minutes; ./mcrl2lin --prove makes the proved program"
 
 
 def same(found, wanted):
