@@ -6,6 +6,16 @@ pub mod SideMeanings
 pub mod Frames
 pub mod Renewals
 pub mod WholeProducts
+pub mod Pruned
+pub mod LeavingOut
+pub mod PrunedLaws
+pub mod CompletableTests
+pub mod ByFirst
+pub mod PlainAllowed
+pub mod WithinProducts
+pub mod PruningLaws
+pub mod OtherIds
+pub mod OtherIdsLaws
 pub mod SideFits
 pub mod ProductSides
 pub mod FirstSteps

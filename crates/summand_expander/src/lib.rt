@@ -3,6 +3,8 @@
 //! What it is stands in `specs/Product.antt` and `specs/WholeProducts.antt`, and in plain words in `docs/definitions/product.md`.
 #![tactic(auto)]
 
+mod allowing;
+mod completing;
 mod drafts;
 mod flag;
 mod frames;
@@ -12,5 +14,9 @@ mod renewal;
 mod renewed;
 mod sides;
 mod summands;
+mod within;
 
+pub use allowing::Allowed;
+pub use completing::is_completable;
 pub use products::product;
+pub use within::product_within;
