@@ -1,15 +1,14 @@
 -- Names that open, and what they say of labels that communicate.
-use Rattle.std.proofs.Common.{◌≡◌, List, [], ◌∷◌, ◌++◌, map, refl, sym, ap, ◌∙◌, subst, inl, inr, ⊎_elim, append_assoc}
-use Rattle.std.proofs.lemmas.List.{map-append, append-nil}
-use Rattle.std.specs.Prelude.{Contains}
+use Rattle.std.proofs.Common.{◌≡◌, List, [], ◌∷◌, ◌++◌, refl, sym, subst, inl, inr, append_assoc}
+use Rattle.std.proofs.lemmas.List.{append-nil}
 use Rattle.process_terms.specs.Names.{Name}
 use Rattle.process_terms.specs.Theories.{Theory}
-use Rattle.process_terms.specs.Labels.{Action, Label, names, Inserted, at_front, further, Permuted, nothing_left, one_placed}
+use Rattle.process_terms.specs.Labels.{Label, names, Inserted, at_front, further, Permuted, nothing_left, one_placed}
 use Rattle.process_terms.specs.Communication.{Rule, Split, all_split, to_first, to_second, Grouped, all_grouped, stays, joins}
-use Rattle.process_terms.specs.Processes.{allow, comm}
+use Rattle.process_terms.specs.Processes.{allow}
 use Rattle.process_terms.specs.Steps.{Passes, silent_allowed, named_allowed, communicated}
-use Rattle.process_terms.proofs.PermutedLists.{permuted_refl, permuted_trans, permuted_sym, permuted_append, permuted_either_way}
-use Rattle.bisim_laws.specs.Completable.{OpensTo, stays_closed, opens, Opened, nothing_to_open, one_opened, CanBeCompleted, IsCompletable, AreAllowed}
+use Rattle.process_terms.proofs.PermutedLists.{permuted_refl, permuted_trans, permuted_append, permuted_either_way}
+use Rattle.bisim_laws.specs.Completable.{OpensTo, stays_closed, opens, Opened, nothing_to_open, one_opened, IsCompletable, AreAllowed}
 use Rattle.bisim_laws.specs.WithinLaws.{ComesFromOpened, CommunicationComesFromOpened, CompletableGoesToParts, AllowedMatterUnderAllow, CompletableMatterUnderAllow, CompletableMatterUnderComm}
 
 -- ---- lists in some order

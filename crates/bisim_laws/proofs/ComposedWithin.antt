@@ -1,19 +1,19 @@
 -- Links that are good within some labels compose.
-use Rattle.std.proofs.Common.{List, ◌++◌, map, subst, sym}
+use Rattle.std.proofs.Common.{List, ◌++◌, subst}
 use Rattle.std.proofs.lemmas.List.{map-append}
 use Rattle.process_terms.specs.Names.{Name}
 use Rattle.process_terms.specs.Theories.{Theory}
 use Rattle.process_terms.specs.Labels.{Action, Label, names, AgreeInOrder}
 use Rattle.process_terms.specs.Processes.{Around, Process, merge, around}
-use Rattle.process_terms.specs.Steps.{Outcome, beside, within, Step, by_left_alone, by_right_alone, by_both, by_around}
+use Rattle.process_terms.specs.Steps.{Outcome, Step, by_left_alone, by_right_alone, by_both, by_around}
 use Rattle.process_terms.proofs.AgreeingLabels.{agree_trans, agree_append, agree_names}
 use Rattle.process_terms.proofs.OperatorLemmas.{passes_along}
-use Rattle.bisim_laws.specs.Sameness.{Alike, turned, joined_up}
-use Rattle.bisim_laws.specs.Bisimulations.{Lands, both_end, both_go_on, Answer, Flipped, Joined, joined, Sides, both_sides, left_side, right_side, AroundBoth, around_both, UpTo, up_to}
+use Rattle.bisim_laws.specs.Sameness.{turned}
+use Rattle.bisim_laws.specs.Bisimulations.{both_go_on, Answer, Flipped, Joined, joined, Sides, both_sides, left_side, right_side, AroundBoth, around_both, UpTo, up_to}
 use Rattle.bisim_laws.proofs.AlikeProcesses.{answer_weaken, alike_answers}
 use Rattle.bisim_laws.proofs.ComposedLinks.{lands_joined, joined_flip, joined_unflip, lands_sides, sides_flip, sides_unflip, lands_around, around_flip, around_unflip, lands_between, lands_between_back}
-use Rattle.bisim_laws.specs.Within.{AnswersWithin, BisimulationWithin, ProgressWithin, IsGoodWithin, GoesToParts, ComeFrom}
-use Rattle.bisim_laws.specs.Scopes.{Scope, Matters}
+use Rattle.bisim_laws.specs.Within.{AnswersWithin, BisimulationWithin, ProgressWithin, GoesToParts, ComeFrom}
+use Rattle.bisim_laws.specs.Scopes.{Matters}
 use Rattle.bisim_laws.specs.WithinLaws.{GoodIsGoodWithin, WithinAllIsGood, ThenIsGoodWithin, BesideIsGoodWithin, UnderIsGoodWithin}
 
 -- a label that agrees has the same names

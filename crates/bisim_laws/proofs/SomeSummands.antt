@@ -1,11 +1,10 @@
 -- A linear process with enough of its summands.
 use Rattle.std.proofs.Common.{◌≡◌, List, [], ◌∷◌, refl, sym, ap, ◌∙◌, subst, Option, Some}
-use Rattle.std.specs.Prelude.{Contains}
 use Rattle.data_theory.specs.Terms.{Sort, Term}
 use Rattle.data_theory.specs.Environments.{Environment}
 use Rattle.process_terms.specs.Names.{Name}
 use Rattle.process_terms.specs.Theories.{Theory, Equals, AreOfSorts}
-use Rattle.process_terms.specs.Labels.{Action, Label, names, put_action, put_label}
+use Rattle.process_terms.specs.Labels.{Label, names, put_label}
 use Rattle.process_terms.specs.Processes.{Process}
 use Rattle.process_terms.specs.Steps.{Outcome, Step}
 use Rattle.process_terms.proofs.AgreeingLabels.{equals_refl, equals_sym}
@@ -17,7 +16,7 @@ use Rattle.bisim_laws.proofs.AlikeProcesses.{alike_refl}
 use Rattle.bisim_laws.proofs.Firing.{fired, fire}
 use Rattle.bisim_laws.proofs.SortedFiring.{firings_keep}
 use Rattle.bisim_laws.specs.Within.{ProgressWithin}
-use Rattle.bisim_laws.specs.Scopes.{Scope, Matters}
+use Rattle.bisim_laws.specs.Scopes.{Matters}
 use Rattle.bisim_laws.specs.SomeSummands.{with_summands, AreEnough, SomeSummandsAreLinear, SomeSummandsAreGoodWithin}
 use Rattle.bisim_laws.proofs.ComposedWithin.{up_to_within}
 

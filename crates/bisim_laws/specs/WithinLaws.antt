@@ -1,5 +1,5 @@
 -- What the laws of links that are good within some labels say.
-use Rattle.std.specs.Prelude.{◌≡◌, List, [], ◌++◌}
+use Rattle.std.specs.Prelude.{List, []}
 use Rattle.process_terms.specs.Names.{Name}
 use Rattle.process_terms.specs.Theories.{Theory}
 use Rattle.process_terms.specs.Labels.{Label, names, Permuted}

@@ -4,9 +4,10 @@ use Rattle.std.specs.Prelude.{Contains, ◌↔◌}
 use Rattle.process_terms.specs.Names.{Name}
 use Rattle.process_terms.specs.Theories.{Theory, AreOfSorts}
 use Rattle.process_terms.specs.Labels.{names}
-use Rattle.bisim_laws.specs.LinearProcesses.{Summand, Linear}
+use Rattle.data_theory.specs.Terms.{Term}
+use Rattle.bisim_laws.specs.LinearProcesses.{Summand, Linear, sorts}
 use Rattle.bisim_laws.specs.Links.{Same, Product}
-use Rattle.bisim_laws.specs.BaseStates.{flag_sorts}
+use Rattle.bisim_laws.specs.BaseStates.{Side, flag_sorts}
 use Rattle.lps_core.proofs.SortedTerms.{columns_sorted}
 use Rattle.lps_core.proofs.Members.{in_contains, contains_in}
 use Rattle.bisim_laws.specs.Scopes.{Matters}
@@ -34,9 +35,12 @@ first_sorted : (th : Theory) (f : Option ℕ) → AreOfSorts th (flag_sorts f) (
 first_sorted th None = tt
 first_sorted th (Some f) = ((tt, tt, refl, refl), tt)
 
+pub sides_sorted : (th : Theory) (a b : Side) (ts us : List Term) → AreOfSorts th (sorts a.process.params) ts → AreOfSorts th (sorts b.process.params) us → AreOfSorts th (sorts (product a b).params) (first_columns a ts ++ first_columns b us)
+sides_sorted th a b ts us h k = columns_sorted th.declared [] (columns a) (columns b) (first_columns a ts) (first_columns b us) (own_sorted th a ts (first_flag a.flag) h (first_sorted th a.flag)) (own_sorted th b us (first_flag b.flag) k (first_sorted th b.flag))
+
 pub good_pruned : PrunedProductsAreGoodWithin
 good_pruned th sane vs w parts can tells a b ok ts us h k l m p q f g =
     then_within th w _ _ _ _ _
     (beside_within th w parts a b (product a b) l m p _ q _ _ f g (good_within th w _ _ _ (product_good th sane vs a b ok ts us h k)))
     (some_good th vs w (product a b) _ (enough (Matters w) can tells (product a b).summands) (linear_product th.declared vs a b ok) (sorted_product th.declared vs a b ok) (first_columns a ts ++ first_columns b us)
-    (columns_sorted th.declared [] (columns a) (columns b) (first_columns a ts) (first_columns b us) (own_sorted th a ts (first_flag a.flag) h (first_sorted th a.flag)) (own_sorted th b us (first_flag b.flag) k (first_sorted th b.flag))))
+    (sides_sorted th a b ts us h k))

@@ -33,10 +33,14 @@ side_of_linear e l flag = record { process = linear_of e l; flag = option_map (�
 abbrev pub renewed_side : Entries → List VarId → List VarId → PlainLinear → Option VarId → Side
 renewed_side e olds news l flag = record { process = renewed (renewed_number olds news) (linear_of e l); flag = option_map (λ (v : VarId). v.0) flag }
 
--- summands over the columns of both sides that are those of the product
-pub record AreProductSummands (g : Sig) (us : List Tree) (l : PlainLinear) (left_flag : Option VarId) (r : PlainLinear) (right_flag : Option VarId) (ss : List PlainSummand) : Type 0 where
+-- summands over the columns of both sides that are those of the linear process that f says
+pub record AreSummandsOf (f : Side → Side → Linear) (g : Sig) (us : List Tree) (l : PlainLinear) (left_flag : Option VarId) (r : PlainLinear) (right_flag : Option VarId) (ss : List PlainSummand) : Type 0 where
   pub fit : All (FitsWithNames g us ((l.params ++ option_to_list left_flag) ++ (r.params ++ option_to_list right_flag))) ss
-  pub mean : map (summand_of (entries_of g us)) ss ≡ (product (side_of_linear (entries_of g us) l left_flag) (side_of_linear (entries_of g us) r right_flag)).summands
+  pub mean : map (summand_of (entries_of g us)) ss ≡ (f (side_of_linear (entries_of g us) l left_flag) (side_of_linear (entries_of g us) r right_flag)).summands
+
+-- those of the product
+abbrev pub AreProductSummands : Sig → List Tree → PlainLinear → Option VarId → PlainLinear → Option VarId → List PlainSummand → Type 0
+AreProductSummands = AreSummandsOf product
 
 -- the initial terms of both sides; a flag has the term of `false`
 abbrev pub first_flag_id : TermId → Option VarId → List TermId
