@@ -1,8 +1,9 @@
 -- What is kept of a list.
 use Rattle.std.proofs.Common.{◌≡◌, Bool, true, false, ◌||◌, ◌&&◌, List, [], ◌∷◌, map, refl, sym, ap, ap₂, ◌∙◌, subst, true≢false, if◌then◌else◌}
 use Rattle.std.specs.Prelude.{not}
-use Rattle.std.specs.List.{list_any}
-use Rattle.lps_core.proofs.Members.{In, here, there}
+use Rattle.std.specs.List.{All, list_any}
+use Rattle.std.proofs.lemmas.List.Elements.{All-contains}
+use Rattle.lps_core.proofs.Members.{In, here, there, in_contains, contains_in, all_from}
 use Rattle.summand_expander.specs.Pruned.{kept, all_ends_fail, pruned}
 
 first_or_later : {A : Type 0} {x y : A} {xs ys : List A} → (In x ys → In x xs) → In x (y ∷ ys) → In x (y ∷ xs)
@@ -34,8 +35,12 @@ module _ {A : Type 0} (passes ends : A → Bool) where
   pub pruned_among : (xs : List A) (x : A) → In x (pruned passes ends xs) → In x xs
   pruned_among xs x i = kept_among (all_ends_fail passes ends xs) xs x i
 
+  -- so what holds of all still holds
+  pub all_kept : (P : A → Type 0) (xs : List A) → All P xs → All P (pruned passes ends xs)
+  all_kept P xs h = all_from P (pruned passes ends xs) (λ x i. All-contains P xs x h (in_contains (pruned_among xs x (contains_in (pruned passes ends xs) i))))
+
   -- where none is spared, those that end are those that end and pass
-  kept_ends : (xs : List A) → list_any ends (kept passes ends false xs) ≡ list_any (λ x. ends x && passes x) xs
+  pub kept_ends : (xs : List A) → list_any ends (kept passes ends false xs) ≡ list_any (λ x. ends x && passes x) xs
   kept_ends [] = refl
   kept_ends (x ∷ xs) = by (passes x) (kept_ends xs)
     where

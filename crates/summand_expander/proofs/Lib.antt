@@ -33,7 +33,9 @@ pub mod FirstNames
 pub mod TakenOut
 pub mod CompletedSets
 pub mod AllowedStays
-pub mod PrunedLinears
+pub mod KeptAnswers
+pub mod KeptDrafts
+pub mod WithinSummands
 pub mod MeantWithin
 pub mod KeptAlike
 pub mod RenewedTerms

@@ -439,6 +439,24 @@ module _ (g0 g1 g2 g3 : Sig) (t0 t1 t2 t3 : List Tree) (l r k p : PlainLinear) (
           ends = done.ends;
         }
 
+-- ---- once the right side has given way
+pub record SidesReady (g : Sig) (ts : List Tree) (l k : PlainLinear) (lf rf : Option VarId) : Type 0 where
+  pub left : Fits g ts l
+  pub right : Fits g ts k
+  pub left_flag : IfSome lf (IsFlagOf g)
+  pub right_flag : IfSome rf (IsFlagOf g)
+
+pub sides_ready : (g0 g1 g2 g3 : Sig) (t0 t1 : List Tree) (l r k : PlainLinear) (lf rf : Option VarId) (os ns : List VarId) → IsSignature g0 → Fits g0 t0 l → Fits g0 t0 r → IsFlag g0 (can_end l) g1 lf → GivesWay g1 l r g2 os ns → IsFlag g2 (can_end r) g3 rf
+    → Extends t0 t1 → IsRenewedLinear t0 t1 os ns r k → SidesReady g3 t1 l k lf rf
+sides_ready g0 g1 g2 g3 t0 t1 l r k lf rf os ns s fl fr left way right e is =
+    let same = extends_itself t1 in
+    record {
+      left = before_left g0 g1 g2 g3 t0 t1 t1 t1 l r k k lf rf os ns s fl fr left way right e same same is;
+      right = before_right g0 g1 g2 g3 t0 t1 t1 t1 l r k k lf rf os ns s fl fr left way right e same same is;
+      left_flag = flag_left g0 g1 g2 g3 t0 t1 t1 t1 l r k k lf rf os ns s fl fr left way right e same same is;
+      right_flag = flag_right g0 g1 g2 g3 t0 t1 t1 t1 l r k k lf rf os ns s fl fr left way right e same same is;
+    }
+
 -- ---- what the calls ask for
 pub all_sums_later : (g h : Sig) (ts : List Tree) (l : PlainLinear) → GrowsByNames g h → Fits g ts l → All (IsVariable h) (all_sums l.summands)
 all_sums_later g h ts l w fits = All-weaker (IsVariable g) (IsVariable h) (λ x i. variable_kept g h x w.grown i) (all_sums l.summands) (all_sums_are_variables g ts l fits)

@@ -12,6 +12,8 @@ pub mod PrunedLaws
 pub mod CompletableTests
 pub mod ByFirst
 pub mod PlainAllowed
+pub mod Answers
+pub mod KeptDrafts
 pub mod WithinProducts
 pub mod PruningLaws
 pub mod OtherIds

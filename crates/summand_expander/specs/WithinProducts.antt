@@ -1,5 +1,5 @@
 -- The product of two linear processes in code, within what is allowed.
-use Rattle.std.specs.Prelude.{◌≡◌, Bool, List, map, is_none}
+use Rattle.std.specs.Prelude.{◌≡◌, Bool, List, map}
 use Rattle.std.specs.List.{All}
 use Rattle.data_theory.specs.Signature.{Sig}
 use Rattle.data_theory.specs.IdTrees.{Tree}
@@ -14,12 +14,13 @@ use Rattle.bisim_laws.specs.Links.{Link, Product, Solved}
 use Rattle.bisim_laws.specs.Within.{GoesToParts}
 use Rattle.bisim_laws.specs.Scopes.{Scope, completable, Matters}
 use Rattle.lps_core.specs.GoingOn.{IsGoodOverWithin}
-use Rattle.lps_core.specs.PlainLinears.{PlainSummand, PlainLinear, linear_of, linear_state}
+use Rattle.lps_core.specs.PlainLinears.{PlainLinear, linear_of, linear_state}
 use Rattle.action_filters.specs.Filters.{naming, IsNameIn}
 use Rattle.communication.specs.PlaceConditions.{RuleNamesIn}
-use Rattle.summand_expander.specs.Pruned.{pruned, product_within}
+use Rattle.summand_expander.specs.Pruned.{product_within}
 use Rattle.summand_expander.specs.PrunedLaws.{Tells}
 use Rattle.summand_expander.specs.PlainAllowed.{PlainAllowed, can_complete_ids}
+use Rattle.summand_expander.specs.PruningLaws.{can_complete}
 use Rattle.summand_expander.specs.WholeProducts.{IsMadeOfSides}
 
 -- ---- what is allowed
@@ -32,19 +33,13 @@ pub record AllowedFits (g : Sig) (a : PlainAllowed) : Type 0 where
 abbrev pub scope_of : Entries → PlainAllowed → Scope
 scope_of e a = completable (map (rule_of e) a.rules) (map (map (name_at e)) a.sets)
 
+-- whether names can be completed there
+abbrev pub can_stay_of : Entries → PlainAllowed → List Name → Bool
+can_stay_of e a = can_complete (map (rule_of e) a.rules) (map (map (name_at e)) a.sets)
+
 -- whether the names of a label can be completed
 abbrev pub label_stays : Sig → PlainAllowed → List PlainAction → Bool
 label_stays g a m = can_complete_ids a (map (naming g).name m)
-
-abbrev pub stays : Sig → PlainAllowed → PlainSummand → Bool
-stays g a s = label_stays g a s.label
-
-abbrev pub stops : PlainSummand → Bool
-stops s = is_none s.next
-
--- a linear process without the summands whose names can't be completed; where no summand that ends could stay, the first one that ends does
-abbrev pub pruned_plain : Sig → PlainAllowed → PlainLinear → PlainLinear
-pruned_plain g a l = record { params = l.params; init = l.init; summands = pruned (stays g a) stops l.summands }
 
 -- ---- the product
 -- Made of its sides as the product is, it is the product without the summands whose names don't matter; where the product can end and no

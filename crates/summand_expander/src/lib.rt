@@ -4,10 +4,12 @@
 #![tactic(auto)]
 
 mod allowing;
+mod answers;
 mod completing;
 mod drafts;
 mod flag;
 mod frames;
+mod kept_drafts;
 pub mod laws;
 mod products;
 mod renewal;

@@ -1,132 +1,64 @@
 //! The product of two linear processes within what is allowed.
 
-ghost use Rattle.std.specs.Prelude.{◌≡◌, ◌&&◌, map, IfOk};
-ghost use Rattle.std.specs.List.{list_any, All};
-ghost use Rattle.process_terms.specs.PlainProcesses.{plain_label};
-ghost use Rattle.process_terms.specs.SignatureEntries.{entries_of};
+ghost use Rattle.std.specs.Prelude.{◌≡◌, ◌&&◌, map, IfOk, IfSome};
+ghost use Rattle.std.specs.List.{list_any};
 ghost use Rattle.term_pool.specs.Pools.{Extends};
+ghost use Rattle.process_terms.specs.SignatureEntries.{entries_of};
 ghost use Rattle.lps_core.specs.Fitting.{Fits};
 ghost use Rattle.lps_core.specs.Naming.{GrowsByNames};
 ghost use Rattle.lps_core.specs.PlainLinears.{ends, plain_linear, plain_summand};
-ghost use Rattle.action_filters.specs.Filters.{AreActionsIn, HasActionsIn};
-ghost use Rattle.summand_expander.specs.WholeProducts.{HaveDifferentNames};
-ghost use Rattle.summand_expander.specs.Pruned.{all_ends_fail, kept, pruned};
 ghost use Rattle.summand_expander.specs.PlainAllowed.{plain_allowed};
-ghost use Rattle.summand_expander.specs.WithinProducts.{label_stays, pruned_plain, scope_of, stays, stops, AllowedFits, IsGoodProductWithin, IsProductWithin};
+ghost use Rattle.summand_expander.specs.Pruned.{product_within};
+ghost use Rattle.summand_expander.specs.SideFits.{IsFlagOf};
+ghost use Rattle.summand_expander.specs.WholeProducts.{AreSummandsOf, HaveDifferentNames};
+ghost use Rattle.summand_expander.specs.WithinProducts.{can_stay_of, scope_of, AllowedFits, IsGoodProductWithin, IsProductWithin};
 
 use crate::allowing::Allowed;
-use crate::completing::is_completable;
-use crate::products::product;
-use action_filters::names_of;
-use data_theory::{NoMemory, Signature};
+use crate::flag::flag_for;
+use crate::frames::side_of;
+use crate::kept_drafts::drafts_within;
+use crate::products::{all_init, all_params};
+use crate::renewal::giving_way;
+use crate::renewed::renewed;
+use crate::summands::all_finished;
+use data_theory::{NoMemory, Signature, VarId};
 use lps_core::{Linear, Summand, signature_stands};
-use process_terms::Label;
 use std::alloc::Global;
 use term_pool::Pool;
 
-/// Whether the names of a label can be completed.
-fn label_stays(
+/// The summands of the product of two linear processes with their flags, within what is allowed.
+fn summands_within(
     alloc: Global,
+    left: &Linear,
+    left_flag: Option<VarId>,
+    right: &Linear,
+    right_flag: Option<VarId>,
     allowed: &Allowed,
     sig: &Signature,
-    label: &Label,
-) -> Result<bool, NoMemory>
-    requires { AreActionsIn sig.now (plain_label label.now) }
-    ensures { IfOk result (λ can. can ≡ label_stays sig.now (plain_allowed allowed.now) (plain_label label.now)) }
-{
-    let names = names_of(alloc, sig, label)?;
-    is_completable(alloc, allowed, names.as_slice())
-}
-
-/// Whether a summand ends, and the names of its label can be completed.
-fn ends_and_stays(
-    alloc: Global,
-    allowed: &Allowed,
-    sig: &Signature,
-    summand: &Summand,
-) -> Result<bool, NoMemory>
-    requires { HasActionsIn sig.now (plain_summand summand.now) }
-    ensures { IfOk result (λ can. can ≡ (stops (plain_summand summand.now) && stays sig.now (plain_allowed allowed.now) (plain_summand summand.now))) }
-{
-    if summand.next.is_some() {
-        return Ok(false);
-    }
-    label_stays(alloc, allowed, sig, &summand.label)
-}
-
-/// Whether no summand that ends has names that can be completed.
-fn all_ends_fail(
-    alloc: Global,
-    allowed: &Allowed,
-    sig: &Signature,
-    summands: &[Summand],
-) -> Result<bool, NoMemory>
-    requires { All (HasActionsIn sig.now) (map plain_summand summands.now) }
-    ensures { IfOk result (λ fail. fail ≡ all_ends_fail (stays sig.now (plain_allowed allowed.now)) stops (map plain_summand summands.now)) }
-{
-    for summand in summands {
-        if ends_and_stays(alloc, allowed, sig, summand)? {
-            return Ok(false);
-        }
-    }
-    Ok(true)
-}
-
-/// Those of the summands whose names can be completed, and, where one is to be spared, the first one that ends.
-fn kept(
-    alloc: Global,
-    allowed: &Allowed,
-    sig: &Signature,
-    summands: &[Summand],
-    spare: bool,
+    pool: &mut Pool,
 ) -> Result<Vec<Summand>, NoMemory>
-    requires { All (HasActionsIn sig.now) (map plain_summand summands.now) }
-    ensures { IfOk result (λ found. map plain_summand found.items ≡ kept (stays sig.now (plain_allowed allowed.now)) stops spare (map plain_summand summands.now)) }
+    requires left { Fits sig.now pool.old.trees (plain_linear left.now) }
+    requires right { Fits sig.now pool.old.trees (plain_linear right.now) }
+    requires left_flag { IfSome left_flag (IsFlagOf sig.now) }
+    requires right_flag { IfSome right_flag (IsFlagOf sig.now) }
+    requires allowed { AllowedFits sig.now (plain_allowed allowed.now) }
+    ensures kept { Extends pool.old.trees pool.new.trees }
+    ensures constants { pool.new.constants ≡ pool.old.constants }
+    ensures made { IfOk result (λ made. AreSummandsOf (product_within (can_stay_of (entries_of sig.now pool.new.trees) (plain_allowed allowed.now))) sig.now pool.new.trees (plain_linear left.now) left_flag (plain_linear right.now) right_flag (map plain_summand made.items)) }
 {
-    let mut found = Vec::new(alloc);
-    let mut waits = spare;
-    for summand in summands {
-        if label_stays(alloc, allowed, sig, &summand.label)? {
-            found.push(summand.copy(alloc)?)?;
-            continue;
-        }
-        if !waits {
-            continue;
-        }
-        if summand.next.is_none() {
-            found.push(summand.copy(alloc)?)?;
-            waits = false;
-        }
-    }
-    Ok(found)
-}
-
-/// A linear process without the summands whose names can't be completed.
-fn pruned(
-    alloc: Global,
-    allowed: &Allowed,
-    sig: &Signature,
-    linear: Linear,
-) -> Result<Linear, NoMemory>
-    requires { All (HasActionsIn sig.now) (plain_linear linear).summands }
-    ensures { IfOk result (λ made. plain_linear made ≡ pruned_plain sig.now (plain_allowed allowed.now) (plain_linear linear)) }
-{
-    let spare = all_ends_fail(alloc, allowed, sig, linear.summands.as_slice())?;
-    let summands = kept(alloc, allowed, sig, linear.summands.as_slice(), spare)?;
-    let Linear { params, init, .. } = linear;
-    Ok(Linear {
-        params,
-        init,
-        summands,
-    })
+    signature_stands(sig);
+    let first = side_of(alloc, left, left_flag, pool)?;
+    let second = side_of(alloc, right, right_flag, pool)?;
+    let drafts = drafts_within(alloc, allowed, sig, &first, &second)?;
+    all_finished(alloc, pool, drafts)
 }
 
 /// The product of two linear processes within what is allowed: that of `product` without the summands whose names can't be completed to it,
 /// since what stands around the product would leave nothing of them. Where the product can end and no summand that ends would stay, the
 /// first one that ends does, so that it can end where the product can.
 ///
-/// The right side gives way as in `product`. After `NoMemory` the pool and the signature may have got some of this. What was there stays,
-/// then too.
+/// The right side gives way as in `product`. Of a pair that is left out nothing is made. After `NoMemory` the pool and the signature may
+/// have got some of the product. What was there stays, then too.
 ///
 /// # Errors
 ///
@@ -151,7 +83,19 @@ pub fn product_within(
     ensures names { IfOk result (λ made. HaveDifferentNames sig.old left.now.params.items → HaveDifferentNames sig.old right.now.params.items → HaveDifferentNames sig.new made.params.items) }
     ensures ends { IfOk result (λ made. list_any ends made.summands.items ≡ (list_any ends left.now.summands.items && list_any ends right.now.summands.items)) }
 {
-    let whole = product(alloc, left, right, sig, pool)?;
     signature_stands(sig);
-    pruned(alloc, allowed, sig, whole)
+    let left_flag = flag_for(left, sig)?;
+    let renewal = giving_way(alloc, left, right, sig)?;
+    let right_flag = flag_for(right, sig)?;
+    let right = renewed(alloc, pool, right, &renewal)?;
+    let summands = summands_within(
+        alloc, left, left_flag, &right, right_flag, allowed, sig, pool,
+    )?;
+    let params = all_params(alloc, left, left_flag, &right, right_flag)?;
+    let init = all_init(alloc, left, left_flag, &right, right_flag, pool)?;
+    Ok(Linear {
+        params,
+        init,
+        summands,
+    })
 }
