@@ -109,3 +109,11 @@ module _ {A B : Type 0} (passes ends : A → Bool) (other_passes other_ends : B 
 
   pub pruned_along : (xs : List A) → ((x : A) → In x xs → SaysTheSame x) → map f (pruned passes ends xs) ≡ pruned other_passes other_ends (map f xs)
   pruned_along xs w = kept_along (all_ends_fail passes ends xs) xs w ∙ ap (λ b. kept other_passes other_ends (not b) (map f xs)) (some_along xs w)
+
+-- by tests that say the same
+pub same_pruned : {A : Type 0} (passes other ends : A → Bool) (xs : List A) → ((x : A) → passes x ≡ other x) → pruned passes ends xs ≡ pruned other ends xs
+same_pruned passes other ends xs w = sym (map_itself (pruned passes ends xs)) ∙ pruned_along passes ends other ends (λ x. x) xs (λ x i. (sym (w x), refl)) ∙ ap (pruned other ends) (map_itself xs)
+  where
+    map_itself : {A : Type 0} (ys : List A) → map (λ y. y) ys ≡ ys
+    map_itself [] = refl
+    map_itself (y ∷ ys) = ap (λ l. y ∷ l) (map_itself ys)

@@ -44,3 +44,4 @@ pub mod Numberings
 pub mod RenewedPairs
 pub mod OtherProducts
 pub mod OtherMerges
+pub mod MadeMerges

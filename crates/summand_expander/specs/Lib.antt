@@ -18,6 +18,7 @@ pub mod WithinProducts
 pub mod PruningLaws
 pub mod OtherIds
 pub mod OtherIdsLaws
+pub mod MadeMerges
 pub mod SideFits
 pub mod ProductSides
 pub mod FirstSteps

@@ -187,7 +187,7 @@ fn add_pairs_within(
 }
 
 /// The drafts whose names can be completed, and, where one is to be spared, the first one that ends.
-fn kept_drafts(
+fn drafts_kept(
     alloc: Global,
     allowed: &Allowed,
     answers: &mut BTreeMap<Vec<usize>, bool>,
@@ -248,12 +248,12 @@ pub(crate) fn drafts_within(
     ensures { IfOk result (λ drafts. map plain_draft drafts.items ≡ pruned (draft_stays sig.now (plain_allowed allowed.now)) is_last (all_drafts (plain_side left.now) (plain_side right.now))) }
 {
     let mut answers = BTreeMap::new(alloc);
-    let drafts = kept_drafts(alloc, allowed, &mut answers, sig, left, right, false)?;
+    let drafts = drafts_kept(alloc, allowed, &mut answers, sig, left, right, false)?;
     if !can_stop(left) || !can_stop(right) {
         return Ok(drafts);
     }
     if some_end(drafts.as_slice()) {
         return Ok(drafts);
     }
-    kept_drafts(alloc, allowed, &mut answers, sig, left, right, true)
+    drafts_kept(alloc, allowed, &mut answers, sig, left, right, true)
 }
