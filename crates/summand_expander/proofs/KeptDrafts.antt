@@ -132,13 +132,13 @@ module _ (g : Sig) (a : PlainAllowed) where
   -- the drafts of a summand alone have its label
   lone_label : (first : Bool) (x y : PlainSide) (m : PlainMove) (d : PlainDraft) → In d (lone_drafts first x y m) → d.label ≡ m.label
   lone_label first x y m d here = refl
-  lone_label first x y m d (there i) = ending m.ends y.flag i
+  lone_label first x y m d (there i) = ending m.ends y.flag d i
     where
-      ending : (b : Bool) (f : Option TermId) → In d (if b then with_flag x m f else []) → d.label ≡ m.label
-      ending true None i = elim i [ ]
-      ending true (Some f) here = refl
-      ending true (Some f) (there i) = elim i [ ]
-      ending false f i = elim i [ ]
+      ending : (b : Bool) (f : Option TermId) (e : PlainDraft) → In e (if b then with_flag x m f else []) → e.label ≡ m.label
+      ending true None e i = elim i [ ]
+      ending true (Some f) e here = refl
+      ending true (Some f) e (there i) = elim i [ ]
+      ending false f e i = elim i [ ]
 
   pub keeps_alone : (first : Bool) (x y : PlainSide) (m : PlainMove) (label : List PlainAction) (stays spare left : Bool) (old new : List PlainDraft) → label ≡ m.label → stays ≡ label_stays g a label
       → Keeps (λ d. stays) is_last (lone_drafts first x y m) spare left old new → Keeps (draft_stays g a) is_last (lone_drafts first x y m) spare left old new
@@ -246,7 +246,7 @@ no_flag x q = by (list_any (λ (m : PlainMove). m.ends) x.moves) (is_some x.flag
     by false c q = q
 
 no_ends : (x : PlainSide) → can_stop x ≡ false → (m : PlainMove) → In m x.moves → m.ends ≡ false
-no_ends x q m i = none x.moves (by (list_any (λ (m : PlainMove). m.ends) x.moves) (is_some x.flag) q) i
+no_ends x q m i = none m x.moves (by (list_any (λ (m : PlainMove). m.ends) x.moves) (is_some x.flag) q) i
   where
     true_false : true ≡ false → ⊥
     true_false q = cc
@@ -259,9 +259,10 @@ no_ends x q m i = none x.moves (by (list_any (λ (m : PlainMove). m.ends) x.move
     head true c q = absurd (true_false q)
     head false c q = (refl, q)
 
-    none : (ms : List PlainMove) → list_any (λ (m : PlainMove). m.ends) ms ≡ false → In m ms → m.ends ≡ false
-    none (n ∷ ms) q here = (head n.ends (list_any (λ (m : PlainMove). m.ends) ms) q).0
-    none (n ∷ ms) q (there i) = none ms (head n.ends (list_any (λ (m : PlainMove). m.ends) ms) q).1 i
+    none : (k : PlainMove) (ms : List PlainMove) → list_any (λ (m : PlainMove). m.ends) ms ≡ false → In k ms → k.ends ≡ false
+    none k (n ∷ ms) q here = (head n.ends (list_any (λ (m : PlainMove). m.ends) ms) q).0
+    none k (n ∷ ms) q (there i) = none k ms (head n.ends (list_any (λ (m : PlainMove). m.ends) ms) q).1 i
+    none k [] q i = elim i [ ]
 
 lone_without_end : (first : Bool) (x y : PlainSide) (m : PlainMove) → (m.ends && is_some y.flag) ≡ false → list_any is_last (lone_drafts first x y m) ≡ false
 lone_without_end first x y m q = by m.ends y.flag q

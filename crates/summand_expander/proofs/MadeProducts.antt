@@ -353,7 +353,7 @@ module _ (g0 g1 g2 g3 : Sig) (t0 t1 t2 t3 : List Tree) (l r k p : PlainLinear) (
     pub initial_same : initial_of (entries_of g3 t3) p ≡ first_terms
     initial_same = initial_is ∙ ap (λ ts. first_columns A (initial_of (entries_of g3 t3) l) ++ (ts ++ first_flag B.flag)) init_same
 
-    abbrev whole_linear : IsLinear (product A B)
+    whole_linear : IsLinear (product A B)
     whole_linear = linear_product (data_meant g3) (variable_sorts g3) A B (apart (data_meant g3) own_data)
 
     pub sides_done : SidesDone (λ a b. with_summands (product a b) (f a b)) g0 g3 t3 l r p
