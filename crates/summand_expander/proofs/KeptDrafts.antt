@@ -1,15 +1,19 @@
 -- The drafts that are kept, one after the other.
 use Rattle.std.proofs.Common.{◌≡◌, ◌<◌, ◌+◌, ℕ, Bool, true, false, ◌&&◌, ◌||◌, List, [], ◌∷◌, ◌++◌, map, length, take, get_or, refl, sym, ap, ap₂, ◌∙◌, subst, append_assoc, is_none, if◌then◌else◌, Option, Some, None}
-use Rattle.std.specs.Prelude.{not, flat_map, is_some}
+use Rattle.std.specs.Prelude.{not, flat_map, is_some, Vec}
+use Rattle.std.specs.Global.{Global}
 use Rattle.std.specs.List.{list_any}
 use Rattle.std.proofs.lemmas.List.{append-nil}
 use Rattle.data_theory.specs.declared.ids.TermId.{TermId}
 use Rattle.data_theory.specs.Signature.{Sig}
 use Rattle.process_terms.specs.PlainProcesses.{PlainAction}
-use Rattle.lps_core.proofs.Members.{In, here, there, in_map}
-use Rattle.summand_expander.specs.Drafts.{PlainMove, PlainSide, PlainDraft, behind, beside, going_alone, with_flag, ending_alone, lone_drafts, next_of_both, both_moves, all_drafts}
+use Rattle.lps_core.specs.PlainLinears.{plain_next}
+use Rattle.lps_core.proofs.Members.{In, here, there}
+use Rattle.summand_expander.specs.declared.sides.Move.{Move}
+use Rattle.summand_expander.specs.declared.sides.Draft.{Draft}
+use Rattle.summand_expander.specs.Drafts.{PlainMove, PlainSide, PlainDraft, plain_move, plain_draft, behind, beside, going_alone, with_flag, ending_alone, lone_drafts, next_of_both, both_moves, all_drafts}
 use Rattle.summand_expander.specs.Pruned.{kept, all_ends_fail, pruned}
-use Rattle.summand_expander.specs.KeptDrafts.{draft_stays, is_last, still_spares, Keeps, can_stop}
+use Rattle.summand_expander.specs.KeptDrafts.{draft_stays, is_last, still_spares, Keeps, can_stop, step_ends, draft_ends}
 use Rattle.summand_expander.specs.PlainAllowed.{PlainAllowed}
 use Rattle.summand_expander.specs.WithinProducts.{label_stays}
 use Rattle.summand_expander.proofs.DraftLists.{mapped_more}
@@ -195,11 +199,12 @@ keeps_one_more passes ends f p xs n x spare left last start old new l at before 
     (keeps_more passes ends (λ y. f y ∷ []) p xs n x spare left last start old new l at (subst (λ z. Keeps passes ends z spare left start old) (sym (singles f (map p (take n xs)))) before) one)
 
 -- ---- all drafts
-pub keeps_all : (passes : PlainDraft → Bool) (x y : PlainSide) (spare one two three : Bool) (first second third : List PlainDraft) → Keeps passes is_last (flat_map (lone_drafts true x y) x.moves) spare one [] first
+pub keeps_all : (passes : PlainDraft → Bool) (x y : PlainSide) (spare one two three : Bool) (start first second third : List PlainDraft) → start ≡ [] → Keeps passes is_last (flat_map (lone_drafts true x y) x.moves) spare one start first
     → Keeps passes is_last (flat_map (lone_drafts false y x) y.moves) one two first second → Keeps passes is_last (flat_map (λ m. map (both_moves x y m) y.moves) x.moves) two three second third → third ≡ kept passes is_last spare (all_drafts x y)
-keeps_all passes x y spare one two three first second third h k l =
-    (keeps_then passes is_last (flat_map (lone_drafts true x y) x.moves) (flat_map (lone_drafts false y x) y.moves ++ flat_map (λ m. map (both_moves x y m) y.moves) x.moves) spare one three [] first third h
+keeps_all passes x y spare one two three start first second third empty h k l =
+    (keeps_then passes is_last (flat_map (lone_drafts true x y) x.moves) (flat_map (lone_drafts false y x) y.moves ++ flat_map (λ m. map (both_moves x y m) y.moves) x.moves) spare one three start first third h
     (keeps_then passes is_last (flat_map (lone_drafts false y x) y.moves) (flat_map (λ m. map (both_moves x y m) y.moves) x.moves) one two three first second third k l)).added
+    ∙ ap (λ z. z ++ kept passes is_last spare (all_drafts x y)) empty
 
 -- ---- whether one is to be spared
 module _ {A : Type 0} (passes ends : A → Bool) where
@@ -235,34 +240,23 @@ any_none : {A B : Type 0} (g : B → Bool) (h : A → List B) (xs : List A) → 
 any_none g h [] w = refl
 any_none g h (x ∷ xs) w = any_append g (h x) (flat_map h xs) ∙ ap₂ (λ b c. b || c) (w x here) (any_none g h xs (λ y i. w y (there i)))
 
-no_flag : (x : PlainSide) → can_stop x ≡ false → is_some x.flag ≡ false
-no_flag x q = by (list_any (λ (m : PlainMove). m.ends) x.moves) (is_some x.flag) q
-  where
-    by : (b c : Bool) → (b || c) ≡ false → c ≡ false
-    by true c q = absurd (true_false q)
-      where
-        true_false : true ≡ false → ⊥
-        true_false q = cc
-    by false c q = q
-
-no_ends : (x : PlainSide) → can_stop x ≡ false → (m : PlainMove) → In m x.moves → m.ends ≡ false
-no_ends x q m i = none m x.moves (by (list_any (λ (m : PlainMove). m.ends) x.moves) (is_some x.flag) q) i
+neither : (b c : Bool) → (b || c) ≡ false → (b ≡ false) × (c ≡ false)
+neither true c q = absurd (true_false q)
   where
     true_false : true ≡ false → ⊥
     true_false q = cc
+neither false c q = (refl, q)
 
-    by : (b c : Bool) → (b || c) ≡ false → b ≡ false
-    by true c q = absurd (true_false q)
-    by false c q = refl
+no_flag : (x : PlainSide) → can_stop x ≡ false → is_some x.flag ≡ false
+no_flag x q = (neither (is_some x.flag) (list_any (λ (m : PlainMove). m.ends) x.moves) q).0
 
-    head : (b c : Bool) → (b || c) ≡ false → (b ≡ false) × (c ≡ false)
-    head true c q = absurd (true_false q)
-    head false c q = (refl, q)
+none_ends : (m : PlainMove) (ms : List PlainMove) → list_any (λ (m : PlainMove). m.ends) ms ≡ false → In m ms → m.ends ≡ false
+none_ends m [] q i = elim i [ ]
+none_ends m (n ∷ ms) q here = (neither n.ends (list_any (λ (m : PlainMove). m.ends) ms) q).0
+none_ends m (n ∷ ms) q (there i) = none_ends m ms (neither n.ends (list_any (λ (m : PlainMove). m.ends) ms) q).1 i
 
-    none : (k : PlainMove) (ms : List PlainMove) → list_any (λ (m : PlainMove). m.ends) ms ≡ false → In k ms → k.ends ≡ false
-    none k (n ∷ ms) q here = (head n.ends (list_any (λ (m : PlainMove). m.ends) ms) q).0
-    none k (n ∷ ms) q (there i) = none k ms (head n.ends (list_any (λ (m : PlainMove). m.ends) ms) q).1 i
-    none k [] q i = elim i [ ]
+no_ends : (x : PlainSide) → can_stop x ≡ false → (m : PlainMove) → In m x.moves → m.ends ≡ false
+no_ends x q m i = none_ends m x.moves (neither (is_some x.flag) (list_any (λ (m : PlainMove). m.ends) x.moves) q).1 i
 
 lone_without_end : (first : Bool) (x y : PlainSide) (m : PlainMove) → (m.ends && is_some y.flag) ≡ false → list_any is_last (lone_drafts first x y m) ≡ false
 lone_without_end first x y m q = by m.ends y.flag q
@@ -299,3 +293,16 @@ left_never_ends x y q = no_drafts_end x y
 pub right_never_ends : (x y : PlainSide) → can_stop y ≡ false → list_any is_last (all_drafts x y) ≡ false
 right_never_ends x y q = no_drafts_end x y
     (λ m i. and_false m.ends (is_some y.flag) (no_flag y q)) (λ n i. ap (λ b. b && is_some x.flag) (no_ends y q n i)) (λ m n i j. and_false m.ends n.ends (no_ends y q n j))
+
+-- ---- what stands in memory
+pub plain_steps_end : (ms : List Move) → list_any step_ends ms ≡ list_any (λ (m : PlainMove). m.ends) (map plain_move ms)
+plain_steps_end [] = refl
+plain_steps_end (m ∷ ms) = ap (λ b. m.ends || b) (plain_steps_end ms)
+
+pub plain_drafts_end : (ds : List Draft) → list_any draft_ends ds ≡ list_any is_last (map plain_draft ds)
+plain_drafts_end [] = refl
+plain_drafts_end (d ∷ ds) = ap₂ (λ b c. b || c) (by d.next) (plain_drafts_end ds)
+  where
+    by : (n : Option (Vec TermId Global)) → is_none n ≡ is_none (plain_next n)
+    by None = refl
+    by (Some v) = refl

@@ -3,6 +3,8 @@ use Rattle.std.specs.Prelude.{◌≡◌, Bool, false, ◌&&◌, ◌||◌, List, 
 use Rattle.std.specs.List.{All, list_any}
 use Rattle.data_theory.specs.Signature.{Sig}
 use Rattle.action_filters.specs.Filters.{AreActionsIn}
+use Rattle.summand_expander.specs.declared.sides.Move.{Move}
+use Rattle.summand_expander.specs.declared.sides.Draft.{Draft}
 use Rattle.summand_expander.specs.Drafts.{PlainMove, PlainSide, PlainDraft}
 use Rattle.summand_expander.specs.Pruned.{kept}
 use Rattle.summand_expander.specs.PlainAllowed.{PlainAllowed}
@@ -30,6 +32,13 @@ pub record Keeps {A : Type 0} (passes ends : A → Bool) (xs : List A) (spare le
 abbrev pub HasMovesIn : Sig → PlainSide → Type 0
 HasMovesIn g x = All (λ (m : PlainMove). AreActionsIn g m.label) x.moves
 
--- a draft of both sides ends only where each of them has a summand that ends, or a flag
+-- a draft of both sides ends only where each of them has a flag, or a summand that ends
 abbrev pub can_stop : PlainSide → Bool
-can_stop x = list_any (λ (m : PlainMove). m.ends) x.moves || is_some x.flag
+can_stop x = is_some x.flag || list_any (λ (m : PlainMove). m.ends) x.moves
+
+-- the same of what stands in memory
+abbrev pub step_ends : Move → Bool
+step_ends m = m.ends
+
+abbrev pub draft_ends : Draft → Bool
+draft_ends d = is_none d.next

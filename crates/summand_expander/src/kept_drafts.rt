@@ -6,7 +6,7 @@ ghost use Rattle.process_terms.specs.PlainProcesses.{plain_label};
 ghost use Rattle.action_filters.specs.Filters.{AreActionsIn};
 ghost use Rattle.summand_expander.specs.Answers.{AreAnswers};
 ghost use Rattle.summand_expander.specs.Drafts.{all_drafts, both_moves, lone_drafts, plain_draft, plain_move, plain_side};
-ghost use Rattle.summand_expander.specs.KeptDrafts.{can_stop, draft_stays, is_last, HasMovesIn, Keeps};
+ghost use Rattle.summand_expander.specs.KeptDrafts.{can_stop, draft_ends, draft_stays, is_last, step_ends, HasMovesIn, Keeps};
 ghost use Rattle.summand_expander.specs.PlainAllowed.{plain_allowed};
 ghost use Rattle.summand_expander.specs.Pruned.{kept, pruned};
 ghost use Rattle.summand_expander.specs.WithinProducts.{label_stays};
@@ -216,16 +216,26 @@ fn drafts_kept(
     Ok(drafts)
 }
 
+/// Whether some summand of a side ends.
+fn some_step_ends(steps: &[Move]) -> bool
+    ensures { result ≡ list_any step_ends steps.now }
+{
+    steps.iter().any(|step| step.ends)
+}
+
 /// Whether a side has a summand that ends, or a flag.
 fn can_stop(side: &Side) -> bool
     ensures { result ≡ can_stop (plain_side side.now) }
 {
-    side.moves.iter().any(|step| step.ends) || side.flag.is_some()
+    if side.flag.is_some() {
+        return true;
+    }
+    some_step_ends(side.moves.as_slice())
 }
 
 /// Whether some draft ends.
 fn some_end(drafts: &[Draft]) -> bool
-    ensures { result ≡ list_any is_last (map plain_draft drafts.now) }
+    ensures { result ≡ list_any draft_ends drafts.now }
 {
     drafts.iter().any(|draft| draft.next.is_none())
 }
@@ -249,7 +259,10 @@ pub(crate) fn drafts_within(
 {
     let mut answers = BTreeMap::new(alloc);
     let drafts = drafts_kept(alloc, allowed, &mut answers, sig, left, right, false)?;
-    if !can_stop(left) || !can_stop(right) {
+    if !can_stop(left) {
+        return Ok(drafts);
+    }
+    if !can_stop(right) {
         return Ok(drafts);
     }
     if some_end(drafts.as_slice()) {

@@ -30,7 +30,7 @@ completes_first-returns-then-branch-2 t c =
 
 pub gives-completes-requires : goal.gives-completes-requires
 gives-completes-requires t c =
-    let s = taken_shorter same_name c.args.member c.in_ok-others.others.items c.take_one.new.unmatched.items c.take_one.result c.if-not-take_one.false c.take_one.ensures in
+    let s = taken_shorter same_name c.args.member c.in_ok-others.others.items c.take_one.new.unmatched.items c.take_one.result c.if-not-take_one.false c.take_one.ensures.taken in
     let v : length c.as_slice-2.result.now ≡ length c.take_one.new.unmatched.items = ap length c.as_slice-2.ensures.value in
     let l = c.in_ok-others.ensures.len in
     let d = c.decreases in
