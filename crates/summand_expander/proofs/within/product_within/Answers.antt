@@ -1,7 +1,6 @@
 use Rattle.std.proofs.Common.{◌&&◌, map, ap₂, sym, ◌∙◌}
 use Rattle.process_terms.specs.Meanings.{name_at, rule_of}
 use Rattle.process_terms.specs.SignatureEntries.{entries_of}
-use Rattle.lps_core.specs.Naming.{GrowsByNames}
 use Rattle.lps_core.specs.PlainLinears.{plain_linear, plain_summand}
 use Rattle.lps_core.proofs.CanEnd.{plain_ends}
 use Rattle.lps_core.proofs.NamedSums.{names_then}
@@ -9,7 +8,7 @@ use Rattle.lps_core.proofs.PoolTrees.{extends_on}
 use Rattle.summand_expander.specs.PlainAllowed.{PlainAllowed, plain_allowed}
 use Rattle.summand_expander.specs.WithinProducts.{can_stay_of, scope_of}
 use Rattle.summand_expander.proofs.AllowedStays.{allowed_later}
-use Rattle.summand_expander.proofs.MadeProducts.{SidesReady, WithinDone, sides_ready, within_made, all_sums_later, renewal_long}
+use Rattle.summand_expander.proofs.MadeProducts.{WithinDone, sides_ready, within_made, all_sums_later, renewal_long}
 use Rattle.summand_expander.proofs.ToldCompletable.{test_tells}
 use Rattle.summand_expander.proofs.within.product_within.Goals as goal
 
@@ -26,28 +25,28 @@ renewed-requires-clause-long c =
 pub returns-in_err-right-clause-grown : goal.returns-in_err-right-clause-grown
 returns-in_err-right-clause-grown c = names_then _ _ _ (names_then _ _ _ c.flag_for.ensures.grown c.giving_way.ensures.grown) c.flag_for-2.ensures.grown
 
-ready : (c : goal.After-renewed) → SidesReady c.flag_for-2.new.sig c.renewed.new.pool.trees (plain_linear c.args.left.now) (plain_linear c.in_ok-right.right) c.in_ok-left_flag.left_flag c.in_ok-right_flag.right_flag
-ready c =
-    sides_ready c.args.sig.now c.flag_for.new.sig c.giving_way.new.sig c.flag_for-2.new.sig c.args.pool.now.trees c.renewed.new.pool.trees (plain_linear c.args.left.now) (plain_linear c.args.right.now) (plain_linear c.in_ok-right.right) c.in_ok-left_flag.left_flag c.in_ok-right_flag.right_flag
-    c.in_ok-renewal.renewal.from.keys c.in_ok-renewal.renewal.to.items c.signature_stands.ensures c.requires.left c.requires.right c.in_ok-left_flag.ensures.flag c.in_ok-renewal.ensures.gives_way c.in_ok-right_flag.ensures.flag c.renewed.ensures.kept c.in_ok-right.ensures.renewed
-
-grown : (c : goal.After-renewed) → GrowsByNames c.args.sig.now c.flag_for-2.new.sig
-grown c = names_then _ _ _ (names_then _ _ _ c.flag_for.ensures.grown c.giving_way.ensures.grown) c.flag_for-2.ensures.grown
-
 pub summands_within-requires-clause-left : goal.summands_within-requires-clause-left
-summands_within-requires-clause-left c = (ready c).left
+summands_within-requires-clause-left c =
+    (sides_ready c.args.sig.now c.flag_for.new.sig c.giving_way.new.sig c.flag_for-2.new.sig c.args.pool.now.trees c.renewed.new.pool.trees (plain_linear c.args.left.now) (plain_linear c.args.right.now) (plain_linear c.in_ok-right.right) c.in_ok-left_flag.left_flag c.in_ok-right_flag.right_flag
+    c.in_ok-renewal.renewal.from.keys c.in_ok-renewal.renewal.to.items c.signature_stands.ensures c.requires.left c.requires.right c.in_ok-left_flag.ensures.flag c.in_ok-renewal.ensures.gives_way c.in_ok-right_flag.ensures.flag c.renewed.ensures.kept c.in_ok-right.ensures.renewed).left
 
 pub summands_within-requires-clause-right : goal.summands_within-requires-clause-right
-summands_within-requires-clause-right c = (ready c).right
+summands_within-requires-clause-right c =
+    (sides_ready c.args.sig.now c.flag_for.new.sig c.giving_way.new.sig c.flag_for-2.new.sig c.args.pool.now.trees c.renewed.new.pool.trees (plain_linear c.args.left.now) (plain_linear c.args.right.now) (plain_linear c.in_ok-right.right) c.in_ok-left_flag.left_flag c.in_ok-right_flag.right_flag
+    c.in_ok-renewal.renewal.from.keys c.in_ok-renewal.renewal.to.items c.signature_stands.ensures c.requires.left c.requires.right c.in_ok-left_flag.ensures.flag c.in_ok-renewal.ensures.gives_way c.in_ok-right_flag.ensures.flag c.renewed.ensures.kept c.in_ok-right.ensures.renewed).right
 
 pub summands_within-requires-clause-left_flag : goal.summands_within-requires-clause-left_flag
-summands_within-requires-clause-left_flag c = (ready c).left_flag
+summands_within-requires-clause-left_flag c =
+    (sides_ready c.args.sig.now c.flag_for.new.sig c.giving_way.new.sig c.flag_for-2.new.sig c.args.pool.now.trees c.renewed.new.pool.trees (plain_linear c.args.left.now) (plain_linear c.args.right.now) (plain_linear c.in_ok-right.right) c.in_ok-left_flag.left_flag c.in_ok-right_flag.right_flag
+    c.in_ok-renewal.renewal.from.keys c.in_ok-renewal.renewal.to.items c.signature_stands.ensures c.requires.left c.requires.right c.in_ok-left_flag.ensures.flag c.in_ok-renewal.ensures.gives_way c.in_ok-right_flag.ensures.flag c.renewed.ensures.kept c.in_ok-right.ensures.renewed).left_flag
 
 pub summands_within-requires-clause-right_flag : goal.summands_within-requires-clause-right_flag
-summands_within-requires-clause-right_flag c = (ready c).right_flag
+summands_within-requires-clause-right_flag c =
+    (sides_ready c.args.sig.now c.flag_for.new.sig c.giving_way.new.sig c.flag_for-2.new.sig c.args.pool.now.trees c.renewed.new.pool.trees (plain_linear c.args.left.now) (plain_linear c.args.right.now) (plain_linear c.in_ok-right.right) c.in_ok-left_flag.left_flag c.in_ok-right_flag.right_flag
+    c.in_ok-renewal.renewal.from.keys c.in_ok-renewal.renewal.to.items c.signature_stands.ensures c.requires.left c.requires.right c.in_ok-left_flag.ensures.flag c.in_ok-renewal.ensures.gives_way c.in_ok-right_flag.ensures.flag c.renewed.ensures.kept c.in_ok-right.ensures.renewed).right_flag
 
 pub summands_within-requires-clause-allowed : goal.summands_within-requires-clause-allowed
-summands_within-requires-clause-allowed c = allowed_later c.args.sig.now c.flag_for-2.new.sig c.args.pool.now.trees (plain_allowed c.args.allowed.now) (grown c) c.requires.allowed
+summands_within-requires-clause-allowed c = allowed_later c.args.sig.now c.flag_for-2.new.sig c.args.pool.now.trees (plain_allowed c.args.allowed.now) (names_then _ _ _ (names_then _ _ _ c.flag_for.ensures.grown c.giving_way.ensures.grown) c.flag_for-2.ensures.grown) c.requires.allowed
 
 pub returns-in_err-summands-clause-grown : goal.returns-in_err-summands-clause-grown
 returns-in_err-summands-clause-grown c = names_then _ _ _ (names_then _ _ _ c.flag_for.ensures.grown c.giving_way.ensures.grown) c.flag_for-2.ensures.grown
