@@ -5,7 +5,7 @@ use Rattle.std.specs.List.{list_any}
 use Rattle.std.specs.Str.{bytes_eq}
 use Rattle.process_terms.specs.Names.{Name}
 use Rattle.process_terms.specs.Labels.{names, Permuted}
-use Rattle.bisim_laws.specs.LinearProcesses.{Summand, Linear}
+use Rattle.bisim_laws.specs.LinearProcesses.{Summand}
 use Rattle.bisim_laws.specs.Completable.{AreAllowed}
 use Rattle.lps_core.proofs.Members.{In, here, there, in_each, each_in, in_contains, contains_in}
 use Rattle.action_filters.specs.NameTests.{is_permuted}
@@ -55,7 +55,7 @@ not_allowed sets s n = by (are_allowed bytes_eq sets (names s.label)) (are_allow
 pub keeps_exactly : AllowKeepsExactly
 keeps_exactly sets l s = (
   (λ i. let r = in_each (if_allowed sets) l.summands (contains_in (allowing sets l).summands i) in
-  let k = in_if sets r.0 s r.2 in
-  (in_contains (subst (λ z. In z l.summands) (sym k.0) r.1), subst (λ (z : Summand). AreAllowed sets (names z.label)) (sym k.0) k.1)),
+      let k = in_if sets r.0 s r.2 in
+      (in_contains (subst (λ z. In z l.summands) (sym k.0) r.1), subst (λ (z : Summand). AreAllowed sets (names z.label)) (sym k.0) k.1)),
   (λ h. in_contains (each_in (if_allowed sets) (contains_in l.summands h.0) (if_in sets s h.1))),
 )

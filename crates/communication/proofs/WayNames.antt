@@ -1,5 +1,5 @@
 -- The names of a label come from those of its ways.
-use Rattle.std.proofs.Common.{◌≡◌, ◌≤◌, ℕ, zero, suc, List, [], ◌∷◌, ◌++◌, map, length, sym, subst, arith}
+use Rattle.std.proofs.Common.{◌≤◌, ℕ, zero, suc, List, [], ◌∷◌, ◌++◌, map, length, sym, subst, arith}
 use Rattle.process_terms.specs.Labels.{Action, Label, names, at_front, nothing_left, one_placed}
 use Rattle.process_terms.specs.Communication.{Rule}
 use Rattle.process_terms.proofs.PermutedLists.{permuted_trans, permuted_append}
