@@ -1,13 +1,12 @@
 -- Steps of the tests in code.
-use Rattle.std.proofs.Common.{◌≡◌, ◌<◌, ◌+◌, ◌||◌, ◌==◌, ℕ, zero, suc, Bool, true, false, List, [], ◌∷◌, map, length, take, drop, get_or, slice_index_or, refl, sym, ap, ap₂, ◌∙◌, subst, arith, true≢false, ⊎_elim}
+use Rattle.std.proofs.Common.{◌≡◌, ◌<◌, ◌||◌, ◌==◌, ℕ, zero, suc, Bool, true, false, List, [], ◌∷◌, map, length, get_or, slice_index_or, refl, sym, ap, ap₂, ◌∙◌, subst, arith, true≢false, ⊎_elim}
 use Rattle.std.specs.List.{list_any}
 use Rattle.std.proofs.lemmas.Bool.Decides.{eqb_tells}
 use Rattle.data_theory.specs.declared.ids.NameId.{NameId}
 use Rattle.process_terms.specs.declared.comm_rules.CommRule.{CommRule}
-use Rattle.process_terms.specs.PlainProcesses.{PlainRule, plain_rule, items_of_each}
+use Rattle.process_terms.specs.PlainProcesses.{plain_rule, items_of_each}
 use Rattle.std.specs.Prelude.{Vec}
 use Rattle.std.specs.Global.{Global}
-use Rattle.action_filters.specs.NameTests.{is_nothing}
 use Rattle.action_filters.specs.Filters.{same_name}
 use Rattle.action_filters.proofs.NamesTold.{Told, yes, no}
 use Rattle.action_filters.proofs.Loops.{any_at, nothing_is_empty, or_true}

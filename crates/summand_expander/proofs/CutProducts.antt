@@ -1,5 +1,5 @@
 -- Products of linear processes without some summands that can't be completed.
-use Rattle.std.proofs.Common.{◌≡◌, ℕ, Bool, true, false, ◌&&◌, List, [], ◌∷◌, ◌++◌, map, refl, sym, ap, ap₂, ◌∙◌, subst, Option, Some, None, if◌then◌else◌, ⊎_elim, true≢false}
+use Rattle.std.proofs.Common.{◌≡◌, ℕ, Bool, true, false, ◌&&◌, List, [], ◌∷◌, ◌++◌, map, refl, sym, ap, ◌∙◌, subst, Option, Some, None, if◌then◌else◌, true≢false}
 use Rattle.std.proofs.lemmas.List.{map-append}
 use Rattle.std.specs.Prelude.{flat_map, ◌↔◌}
 use Rattle.data_theory.specs.Terms.{Term}
@@ -10,14 +10,14 @@ use Rattle.bisim_laws.specs.BaseStates.{Side}
 use Rattle.lps_core.specs.Columns.{as_terms}
 use Rattle.lps_core.proofs.Members.{In, here, there, in_map}
 use Rattle.bisim_laws.specs.Within.{GoesToParts}
-use Rattle.bisim_laws.specs.Scopes.{Scope, Matters}
+use Rattle.bisim_laws.specs.Scopes.{Matters}
 use Rattle.bisim_laws.specs.SomeSummands.{with_summands}
 use Rattle.lps_core.specs.Conditions.{parts, conjoined}
 use Rattle.summand_expander.specs.Product.{columns, running_part, alone, lone, own_first, own_last, together, pair, product}
 use Rattle.summand_expander.specs.Renewing.{renewed_bounds, renewed_summand, renewed, renewed_label}
-use Rattle.summand_expander.specs.Pruned.{kept, all_ends_fail, pruned, ends, can_stay, pruned_linear, product_within}
-use Rattle.summand_expander.specs.LeavingOut.{LeavesOut, none_there, one_stays, one_left_out, IsCut, MergeTree, one_process, two_sides, full, within}
-use Rattle.summand_expander.specs.PrunedLaws.{Tells, PrunedMergesAreCut}
+use Rattle.summand_expander.specs.Pruned.{kept, all_ends_fail, pruned, ends, can_stay, pruned_linear}
+use Rattle.summand_expander.specs.LeavingOut.{LeavesOut, none_there, one_stays, one_left_out, IsCut, one_process, two_sides, full, within}
+use Rattle.summand_expander.specs.PrunedLaws.{PrunedMergesAreCut}
 
 module _ (Can : List Name → Type 0) where
   -- ---- lists

@@ -1,9 +1,9 @@
 -- Whether names are completed, told by the first of them.
-use Rattle.std.proofs.Common.{◌≡◌, Bool, true, false, ◌||◌, List, [], ◌∷◌, ◌++◌, map, refl, sym, ap, ◌∙◌, subst, Option, Some, None, inl, inr, ◌⊎◌, ⊎_elim, append_assoc, if◌then◌else◌}
-use Rattle.std.specs.Prelude.{Contains, filter, flat_map}
+use Rattle.std.proofs.Common.{◌≡◌, Bool, true, false, ◌||◌, List, [], ◌∷◌, ◌++◌, map, refl, sym, subst, Option, Some, None, inl, inr, ◌⊎◌, ⊎_elim}
+use Rattle.std.specs.Prelude.{Contains, filter}
 use Rattle.std.specs.List.{list_any}
 use Rattle.process_terms.specs.Labels.{Inserted, at_front, further, Permuted, nothing_left, one_placed}
-use Rattle.process_terms.proofs.PermutedLists.{permuted_refl, permuted_trans, permuted_sym, permuted_append}
+use Rattle.process_terms.proofs.PermutedLists.{permuted_refl, permuted_trans, permuted_append}
 use Rattle.lps_core.proofs.Members.{In, here, there, in_map, map_in, in_each, each_in, in_contains, contains_in}
 use Rattle.action_filters.specs.NameTests.{is_among, where_some, without_one}
 use Rattle.bisim_laws.proofs.Completing.{middle_first}
@@ -12,7 +12,7 @@ use Rattle.communication.proofs.Listed.{in_filter, filter_in}
 use Rattle.communication.specs.Ways.{Joining}
 use Rattle.summand_expander.specs.CompletableTests.{is_contained, openings, all_opened, completes}
 use Rattle.summand_expander.specs.ByFirst.{without_all, alone, gives, rules_with, completes_first}
-use Rattle.summand_expander.proofs.Multisets.{Within, with_others, nothing_within, within_more, within_then, within_behind, Stands, in_first, in_second, stands, placed_in, piece_back, piece_off}
+use Rattle.summand_expander.proofs.Multisets.{Within, with_others, nothing_within, within_more, within_then, within_behind, Stands, in_first, in_second, stands, piece_back, piece_off}
 
 -- ---- opened
 pub data OpensAs {N : Type 0} (rules : List (Joining N)) : N → List N → Type 0 where

@@ -1,12 +1,11 @@
 -- A pruned product stands for a merge within what matters.
 use Rattle.std.proofs.Common.{◌≡◌, ℕ, Bool, true, List, [], ◌++◌, refl, Option, Some, None}
-use Rattle.std.specs.Prelude.{Contains, ◌↔◌}
+use Rattle.std.specs.Prelude.{◌↔◌}
 use Rattle.process_terms.specs.Names.{Name}
 use Rattle.process_terms.specs.Theories.{Theory, AreOfSorts}
 use Rattle.process_terms.specs.Labels.{names}
 use Rattle.data_theory.specs.Terms.{Term}
-use Rattle.bisim_laws.specs.LinearProcesses.{Summand, Linear, sorts}
-use Rattle.bisim_laws.specs.Links.{Same, Product}
+use Rattle.bisim_laws.specs.LinearProcesses.{Summand, sorts}
 use Rattle.bisim_laws.specs.BaseStates.{Side, flag_sorts}
 use Rattle.lps_core.proofs.SortedTerms.{columns_sorted}
 use Rattle.lps_core.proofs.Members.{in_contains, contains_in}
@@ -18,8 +17,8 @@ use Rattle.summand_expander.specs.Product.{product, columns, first_flag, first_c
 use Rattle.summand_expander.proofs.Flags.{product_good}
 use Rattle.summand_expander.proofs.Joint.{own_sorted}
 use Rattle.summand_expander.proofs.Whole.{linear_product, sorted_product}
-use Rattle.summand_expander.specs.Pruned.{kept, all_ends_fail, pruned, ends, can_stay, product_within}
-use Rattle.summand_expander.specs.PrunedLaws.{Tells, PrunedProductsEndAlike, PrunedProductsAreGoodWithin}
+use Rattle.summand_expander.specs.Pruned.{all_ends_fail, pruned, ends, can_stay}
+use Rattle.summand_expander.specs.PrunedLaws.{PrunedProductsEndAlike, PrunedProductsAreGoodWithin}
 use Rattle.summand_expander.proofs.KeptElements.{kept_among, passing_kept, pruned_ends}
 
 pub end_alike : PrunedProductsEndAlike

@@ -5,7 +5,7 @@ use Rattle.std.proofs.lemmas.List.Concat.{flat_map-append}
 use Rattle.process_terms.specs.Names.{Name}
 use Rattle.process_terms.specs.Labels.{names}
 use Rattle.process_terms.specs.Communication.{Rule}
-use Rattle.bisim_laws.specs.LinearProcesses.{Summand, Linear}
+use Rattle.bisim_laws.specs.LinearProcesses.{Summand}
 use Rattle.bisim_laws.specs.Completable.{IsCompletable, AreAllowed}
 use Rattle.bisim_laws.specs.Scopes.{completable, Matters}
 use Rattle.bisim_laws.proofs.Completing.{completed, allowed_completable, goes_to_parts}

@@ -1,6 +1,6 @@
 -- Answers stay right as one is added.
 use Rattle.std.proofs.Common.{◌≡◌, ◌∙◌, ℕ, Bool, true, false, cond, List, [], ◌∷◌, map, refl, ap, sym}
-use Rattle.std.specs.Prelude.{Option, Some, None, bytes_eq}
+use Rattle.std.specs.Prelude.{Option, Some, bytes_eq}
 use Rattle.std.specs.BTreeMap.{BTreeMap, IsEmpty, is_at, UpdatesBy}
 use Rattle.std.specs.Map.{lookup, KeepsOthers, IsKeyTest, AreApart}
 use Rattle.std.specs.Cmp.{eq_by_cmp_equiv}

@@ -11,7 +11,7 @@ use Rattle.lps_core.specs.PlainLinears.{plain_next}
 use Rattle.lps_core.proofs.Members.{In, here, there}
 use Rattle.summand_expander.specs.declared.sides.Move.{Move}
 use Rattle.summand_expander.specs.declared.sides.Draft.{Draft}
-use Rattle.summand_expander.specs.Drafts.{PlainMove, PlainSide, PlainDraft, plain_move, plain_draft, behind, beside, going_alone, with_flag, ending_alone, lone_drafts, next_of_both, both_moves, all_drafts}
+use Rattle.summand_expander.specs.Drafts.{PlainMove, PlainSide, PlainDraft, plain_move, plain_draft, with_flag, ending_alone, lone_drafts, both_moves, all_drafts}
 use Rattle.summand_expander.specs.Pruned.{kept, all_ends_fail, pruned}
 use Rattle.summand_expander.specs.KeptDrafts.{draft_stays, is_last, still_spares, Keeps, can_stop, step_ends, draft_ends}
 use Rattle.summand_expander.specs.PlainAllowed.{PlainAllowed}

@@ -1,14 +1,12 @@
 -- What `allow` keeps of merges in code.
-use Rattle.std.proofs.Common.{◌≡◌, ◌↔◌, Bool, true, false, List, [], ◌∷◌, map, refl, sym, ap, ap₂, ◌∙◌, subst, true≢false}
+use Rattle.std.proofs.Common.{◌≡◌, ◌↔◌, Bool, true, false, List, refl, sym, ap, ap₂, ◌∙◌, subst, true≢false}
 use Rattle.std.specs.Prelude.{option_map}
 use Rattle.data_theory.specs.declared.ids.VarId.{VarId}
 use Rattle.data_theory.specs.Signature.{Sig}
 use Rattle.data_theory.specs.IdTrees.{Tree}
 use Rattle.process_terms.specs.Names.{Name}
 use Rattle.process_terms.specs.Labels.{names}
-use Rattle.process_terms.specs.Communication.{Rule}
 use Rattle.process_terms.specs.SignatureEntries.{entries_of}
-use Rattle.bisim_laws.specs.LinearProcesses.{Summand, Linear}
 use Rattle.bisim_laws.specs.BaseStates.{Side}
 use Rattle.bisim_laws.specs.SomeSummands.{with_summands}
 use Rattle.lps_core.specs.PlainLinears.{PlainLinear, linear_of}
@@ -16,7 +14,7 @@ use Rattle.action_filters.specs.Filtering.{allowing}
 use Rattle.communication.specs.Communicated.{communicating}
 use Rattle.summand_expander.specs.Product.{product}
 use Rattle.summand_expander.specs.Renewing.{renewed}
-use Rattle.summand_expander.specs.Pruned.{pruned, ends, can_stay, product_within}
+use Rattle.summand_expander.specs.Pruned.{ends, can_stay, product_within}
 use Rattle.summand_expander.specs.LeavingOut.{MergeTree, full, within}
 use Rattle.summand_expander.specs.OtherIds.{IsSameButIds}
 use Rattle.summand_expander.specs.OtherIdsLaws.{SameName}

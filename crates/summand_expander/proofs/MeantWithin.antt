@@ -27,7 +27,7 @@ use Rattle.communication.specs.PlaceConditions.{RuleNamesIn}
 use Rattle.summand_expander.specs.CompletableTests.{is_completable}
 use Rattle.summand_expander.specs.PlainAllowed.{PlainAllowed, joinings}
 use Rattle.summand_expander.specs.WithinProducts.{AllowedFits, can_stay_of, label_stays, ProductsWithinAreGood}
-use Rattle.summand_expander.proofs.CompletableAlong.{RuleHas, joining_to, completable_along}
+use Rattle.summand_expander.proofs.CompletableAlong.{joining_to, completable_along}
 
 module _ (g : Sig) (ts : List Tree) (stands : IsSignature g) (a : PlainAllowed) (fits : AllowedFits g a) where
   rules_meant : (cs : List PlainRule) → map (joining_to same_name bytes_eq (name_at (entries_of g ts)) (IsNameIn g) (names_alike g ts stands.table stands.complete)) (joinings cs) ≡ map joining (map (rule_of (entries_of g ts)) cs)
@@ -50,7 +50,7 @@ pub products_good : ProductsWithinAreGood
 products_good h us w parts l r k good i j p q f t = (
   Then (Beside good.left good.right good.whole i j) (Solved good.whole (linear_of (entries_of h us) k)),
   (λ th on con.
-  then_within th w (Beside good.left good.right good.whole i j) (Solved good.whole (linear_of (entries_of h us) k)) (merge p q) good.between (linear_state (entries_of h us) k)
-  (beside_within th w parts good.left good.right good.whole i j p (linear_state (entries_of h us) l) q (linear_state (entries_of h us) r) good.between (f th on con) (t th on con) (good.product th on con))
-  (good.left_of_it th on con)),
+      then_within th w (Beside good.left good.right good.whole i j) (Solved good.whole (linear_of (entries_of h us) k)) (merge p q) good.between (linear_state (entries_of h us) k)
+      (beside_within th w parts good.left good.right good.whole i j p (linear_state (entries_of h us) l) q (linear_state (entries_of h us) r) good.between (f th on con) (t th on con) (good.product th on con))
+      (good.left_of_it th on con)),
 )

@@ -1,8 +1,8 @@
 -- Lists of names as multisets.
-use Rattle.std.proofs.Common.{◌≡◌, Bool, true, false, List, [], ◌∷◌, ◌++◌, map, refl, sym, ap, ◌∙◌, subst, Option, Some, None, inl, inr, ◌⊎◌, ⊎_elim, append_assoc, if◌then◌else◌, cond}
+use Rattle.std.proofs.Common.{◌≡◌, Bool, List, [], ◌∷◌, ◌++◌, refl, sym, ap, subst, Option, Some, None, append_assoc}
 use Rattle.std.proofs.lemmas.List.{append-nil}
-use Rattle.process_terms.specs.Labels.{Inserted, at_front, further, Permuted, nothing_left, one_placed}
-use Rattle.process_terms.proofs.PermutedLists.{permuted_refl, permuted_trans, permuted_sym, permuted_append, permuted_either_way}
+use Rattle.process_terms.specs.Labels.{Inserted, at_front, further, Permuted, one_placed}
+use Rattle.process_terms.proofs.PermutedLists.{permuted_refl, permuted_trans, permuted_sym, permuted_append}
 use Rattle.action_filters.specs.NameTests.{without_one}
 use Rattle.bisim_laws.proofs.Completing.{same_order}
 use Rattle.action_filters.proofs.NamesTold.{Told, Taken, absent, present, first_placed, inserted_at, taken_is}

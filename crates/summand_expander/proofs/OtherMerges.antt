@@ -2,38 +2,36 @@
 use Rattle.std.proofs.Common.{◌≡◌, ℕ, Bool, true, List, [], ◌∷◌, ◌++◌, map, refl, sym, ap, ap₂, ◌∙◌, subst, Option, ⊎_elim}
 use Rattle.std.specs.Prelude.{Contains, flat_map, ◌↔◌}
 use Rattle.std.proofs.lemmas.List.{map-append}
-use Rattle.std.proofs.lemmas.List.Elements.{Contains-append_cases, Contains-append_left, Contains-append_right}
+use Rattle.std.proofs.lemmas.List.Elements.{Contains-append_left, Contains-append_right}
 use Rattle.data_theory.specs.Terms.{Sort}
 use Rattle.data_theory.specs.Declarations.{Data}
 use Rattle.data_theory.specs.Environments.{AreDistinct}
 use Rattle.data_theory.proofs.EnvironmentLemmas.{contains_first, contains_later, contains_cases, contains_nothing}
 use Rattle.process_terms.specs.Names.{Name}
-use Rattle.process_terms.specs.Labels.{Label, names}
+use Rattle.process_terms.specs.Labels.{names}
 use Rattle.process_terms.specs.Communication.{Rule}
 use Rattle.process_terms.specs.Processes.{Bound}
 use Rattle.bisim_laws.specs.LinearProcesses.{Summand, Linear, variables, sorts, IsSummand, IsLinear}
 use Rattle.bisim_laws.proofs.Firing.{contains_first as first_in, contains_later as later_in}
-use Rattle.lps_core.proofs.Members.{In, here, there, in_each, map_in, in_map, in_contains}
+use Rattle.lps_core.proofs.Members.{In, here, there, in_each, map_in, in_contains}
 use Rattle.lps_core.proofs.OverVariables.{distinct_append}
 use Rattle.bisim_laws.specs.Within.{GoesToParts}
 use Rattle.bisim_laws.specs.Scopes.{completable, Matters}
-use Rattle.bisim_laws.specs.Completable.{IsCompletable}
 use Rattle.bisim_laws.proofs.Completing.{goes_to_parts}
 use Rattle.summand_expander.specs.Product.{flag_of, columns, product, Separate}
 use Rattle.summand_expander.specs.Renewing.{renewed_bounds, renewed_summand, renewed}
 use Rattle.summand_expander.proofs.Whole.{linear_product}
-use Rattle.communication.specs.Communicated.{communicated, communicating}
+use Rattle.communication.specs.Communicated.{communicated}
 use Rattle.communication.proofs.Communicating.{in_ways}
 use Rattle.summand_expander.specs.LeavingOut.{LeavesOut, MergeTree, full, within}
 use Rattle.summand_expander.specs.LeavingOut as exact
-use Rattle.summand_expander.specs.Pruned.{pruned_linear}
 use Rattle.summand_expander.proofs.CutProducts.{pruned_out}
-use Rattle.action_filters.specs.Filtering.{if_allowed, allowing}
+use Rattle.action_filters.specs.Filtering.{if_allowed}
 use Rattle.summand_expander.specs.PruningLaws.{can_complete}
 use Rattle.action_filters.proofs.AllowedExactly.{in_if}
 use Rattle.summand_expander.proofs.KeptAlike.{keep, none_kept, each_twice}
 use Rattle.summand_expander.proofs.ToldCompletable.{test_tells}
-use Rattle.summand_expander.specs.OtherIds.{HasOtherIds, LeavesOutOf, none_there, one_stays, one_left_out, AreAlike, no_numbers, more_numbers, IsCutWithOtherIds, AllWithOtherIds, no_summands, more_summands, IsSameButIds, FlagsAlike, side_of, MergesAlike, same_process, same_merge}
+use Rattle.summand_expander.specs.OtherIds.{HasOtherIds, LeavesOutOf, none_there, one_stays, one_left_out, AreAlike, no_numbers, more_numbers, IsCutWithOtherIds, AllWithOtherIds, no_summands, more_summands, FlagsAlike, side_of, MergesAlike, same_process, same_merge}
 use Rattle.summand_expander.specs.OtherIdsLaws.{SameName, AllowKeepsTheSameButIds}
 use Rattle.summand_expander.proofs.RenewedTerms.{summand_along, summand_twice, bounds_along, bounds_twice}
 use Rattle.summand_expander.proofs.RenewedWays.{names_renewed, kept_renewed}

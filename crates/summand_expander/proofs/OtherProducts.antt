@@ -1,27 +1,26 @@
 -- Products of linear processes that are cut and have other numbers.
-use Rattle.std.proofs.Common.{◌≡◌, ℕ, Bool, true, false, ◌&&◌, List, [], ◌∷◌, ◌++◌, map, refl, sym, ap, ap₂, ◌∙◌, subst, Option, Some, None, ⊎_elim, true≢false, if◌then◌else◌}
-use Rattle.std.specs.Prelude.{Contains, flat_map, option_map, ◌↔◌}
+use Rattle.std.proofs.Common.{◌≡◌, ℕ, List, [], ◌∷◌, ◌++◌, map, refl, sym, ap, ap₂, ◌∙◌, subst, Option, ⊎_elim}
+use Rattle.std.specs.Prelude.{Contains, flat_map, option_map}
 use Rattle.std.proofs.lemmas.List.{map-append}
-use Rattle.std.proofs.lemmas.List.Elements.{Contains-append_cases, Contains-append_left, Contains-append_right}
-use Rattle.data_theory.specs.Terms.{Term}
-use Rattle.data_theory.specs.Environments.{AreDistinct, Apart}
+use Rattle.std.proofs.lemmas.List.Elements.{Contains-append_cases}
+use Rattle.data_theory.specs.Environments.{Apart}
 use Rattle.process_terms.specs.Names.{Name}
 use Rattle.process_terms.specs.Labels.{Action, Label, names}
 use Rattle.process_terms.specs.Processes.{Bound}
-use Rattle.bisim_laws.specs.LinearProcesses.{Summand, Linear, variables, sorts, IsSummand, IsLinear}
+use Rattle.bisim_laws.specs.LinearProcesses.{Summand, Linear, variables, IsLinear}
 use Rattle.bisim_laws.specs.BaseStates.{Side}
 use Rattle.lps_core.specs.Columns.{as_terms}
 use Rattle.lps_core.proofs.Members.{In, here, there, in_map, in_contains}
 use Rattle.lps_core.proofs.OverVariables.{variables_front, variables_back}
 use Rattle.bisim_laws.specs.Within.{GoesToParts}
-use Rattle.summand_expander.specs.Product.{flag_of, columns, alone, lone, own_first, own_last, together, pair, product}
-use Rattle.summand_expander.specs.Renewing.{renewed_bounds, renewed_terms, renewed_label, renewed_next, renewed_summand, renewed}
+use Rattle.summand_expander.specs.Product.{flag_of, columns, alone, lone, own_first, own_last, pair, product}
+use Rattle.summand_expander.specs.Renewing.{renewed_bounds, renewed_terms, renewed_next, renewed_summand}
 use Rattle.summand_expander.proofs.OneSide.{alone_sums}
 use Rattle.summand_expander.proofs.CutProducts.{alone_same, pair_same, alone_label}
-use Rattle.summand_expander.specs.OtherIds.{HasOtherIds, LeavesOutOf, none_there, one_stays, one_left_out, AreAlike, IsCutWithOtherIds, FlagsAlike, side_of}
+use Rattle.summand_expander.specs.OtherIds.{HasOtherIds, LeavesOutOf, none_there, one_stays, one_left_out, side_of}
 use Rattle.summand_expander.proofs.RenewedTerms.{summand_along, bounds_along}
-use Rattle.summand_expander.proofs.RenewedPairs.{renewed_side, terms_renewed, columns_renewed, alone_renewed, pair_renewed}
-use Rattle.summand_expander.proofs.Numberings.{pick, pick_in, pick_out, in_place, place_bounds, same_renewal, split_bounds, bounds_append, flag_to, sorts_append, flags_sorts, flags_alike, alike_append}
+use Rattle.summand_expander.proofs.RenewedPairs.{renewed_side, terms_renewed, alone_renewed, pair_renewed}
+use Rattle.summand_expander.proofs.Numberings.{pick, pick_in, pick_out, same_renewal, bounds_append, flag_to}
 
 -- ---- lists
 module _ (Can : List Name → Type 0) where
@@ -151,9 +150,9 @@ module _ (Can : List Name → Type 0) (Alike : ℕ → ℕ → Type 0) (l k m n 
           let on_left : (v : ℕ) → Contains (variables (columns a)) v → to v ≡ col v = λ v j. out v (in_left v j) in
           let on_right : (v : ℕ) → Contains (variables (columns b)) v → to v ≡ col v = λ v j. out v (in_right v j) in
           let same : renewed_summand to s ≡ t = summand_along l.params to h.to s (first.summands s (in_contains i)) (λ v j. ⊎_elim
-              (λ w. pick_in (variables s.sums) h.to col v w)
-              (λ w. on_left v (variables_front l.params (flag_of f) v w) ∙ same_renewal col h.to l.params (left_is ∙ sym h.params) v w)
-              (Contains-append_cases (variables s.sums) (variables l.params) v j)) ∙ sym h.is in
+          (λ w. pick_in (variables s.sums) h.to col v w)
+          (λ w. on_left v (variables_front l.params (flag_of f) v w) ∙ same_renewal col h.to l.params (left_is ∙ sym h.params) v w)
+          (Contains-append_cases (variables s.sums) (variables l.params) v j)) ∙ sym h.is in
           subst (λ z. LeavesOutOf Can Both (lone own_first a b s) z) (lone_left to on_left on_right s ∙ ap (λ z. lone own_first a' b' z) same)
           (all_other Can Alike all all' to (to_all to on_left on_right) (lone own_first a b s)
           (λ y v j w. let x : Contains (variables s.sums) v = subst (λ xs. Contains (variables xs) v) (alone_sums own_first a (as_terms (columns b)) s s.next g y j) w in
@@ -166,9 +165,9 @@ module _ (Can : List Name → Type 0) (Alike : ℕ → ℕ → Type 0) (l k m n 
           let on_left : (v : ℕ) → Contains (variables (columns a)) v → to v ≡ col v = λ v j. out v (in_left v j) in
           let on_right : (v : ℕ) → Contains (variables (columns b)) v → to v ≡ col v = λ v j. out v (in_right v j) in
           let same : renewed_summand to s ≡ t = summand_along k.params to h.to s (second.summands s (in_contains i)) (λ v j. ⊎_elim
-              (λ w. pick_in (variables s.sums) h.to col v w)
-              (λ w. on_right v (variables_front k.params (flag_of g) v w) ∙ same_renewal col h.to k.params (right_is ∙ sym h.params) v w)
-              (Contains-append_cases (variables s.sums) (variables k.params) v j)) ∙ sym h.is in
+          (λ w. pick_in (variables s.sums) h.to col v w)
+          (λ w. on_right v (variables_front k.params (flag_of g) v w) ∙ same_renewal col h.to k.params (right_is ∙ sym h.params) v w)
+          (Contains-append_cases (variables s.sums) (variables k.params) v j)) ∙ sym h.is in
           subst (λ z. LeavesOutOf Can Both (lone own_last b a s) z) (lone_right to on_left on_right s ∙ ap (λ z. lone own_last b' a' z) same)
           (all_other Can Alike all all' to (to_all to on_left on_right) (lone own_last b a s)
           (λ y v j w. let x : Contains (variables s.sums) v = subst (λ xs. Contains (variables xs) v) (alone_sums own_last b (as_terms (columns a)) s s.next f y j) w in
@@ -179,19 +178,19 @@ module _ (Can : List Name → Type 0) (Alike : ℕ → ℕ → Type 0) (l k m n 
           let later = pick (variables t.sums) w.to col in
           let to = pick (variables s.sums) h.to later in
           let out : (v : ℕ) → Contains (variables all) v → to v ≡ col v = λ v c.
-              pick_out (variables s.sums) h.to later v (λ x. left_apart s (in_contains i) v x c) ∙ pick_out (variables t.sums) w.to col v (λ x. right_apart t (in_contains j) v x c) in
+          pick_out (variables s.sums) h.to later v (λ x. left_apart s (in_contains i) v x c) ∙ pick_out (variables t.sums) w.to col v (λ x. right_apart t (in_contains j) v x c) in
           let on_left : (v : ℕ) → Contains (variables (columns a)) v → to v ≡ col v = λ v c. out v (in_left v c) in
           let on_right : (v : ℕ) → Contains (variables (columns b)) v → to v ≡ col v = λ v c. out v (in_right v c) in
           let on_first : (v : ℕ) → Contains (variables s.sums) v → to v ≡ h.to v = λ v c. pick_in (variables s.sums) h.to later v c in
           let on_second : (v : ℕ) → Contains (variables t.sums) v → to v ≡ w.to v = λ v c. pick_out (variables s.sums) h.to later v (λ x. sums s t (in_contains i) (in_contains j) v x c) ∙ pick_in (variables t.sums) w.to col v c in
           let same : renewed_summand to s ≡ s' = summand_along l.params to h.to s (first.summands s (in_contains i)) (λ v c. ⊎_elim
-              (on_first v)
-              (λ x. on_left v (variables_front l.params (flag_of f) v x) ∙ same_renewal col h.to l.params (left_is ∙ sym h.params) v x)
-              (Contains-append_cases (variables s.sums) (variables l.params) v c)) ∙ sym h.is in
+          (on_first v)
+          (λ x. on_left v (variables_front l.params (flag_of f) v x) ∙ same_renewal col h.to l.params (left_is ∙ sym h.params) v x)
+          (Contains-append_cases (variables s.sums) (variables l.params) v c)) ∙ sym h.is in
           let same' : renewed_summand to t ≡ t' = summand_along k.params to w.to t (second.summands t (in_contains j)) (λ v c. ⊎_elim
-              (on_second v)
-              (λ x. on_right v (variables_front k.params (flag_of g) v x) ∙ same_renewal col w.to k.params (right_is ∙ sym w.params) v x)
-              (Contains-append_cases (variables t.sums) (variables k.params) v c)) ∙ sym w.is in
+          (on_second v)
+          (λ x. on_right v (variables_front k.params (flag_of g) v x) ∙ same_renewal col w.to k.params (right_is ∙ sym w.params) v x)
+          (Contains-append_cases (variables t.sums) (variables k.params) v c)) ∙ sym w.is in
           record {
             to = to;
             params = to_all to on_left on_right;

@@ -6,7 +6,7 @@ use Rattle.data_theory.specs.Terms.{Term, variable}
 use Rattle.data_theory.specs.Equations.{ !ᵗ◌}
 use Rattle.process_terms.specs.Labels.{Action, Label}
 use Rattle.process_terms.specs.Processes.{Bound}
-use Rattle.bisim_laws.specs.LinearProcesses.{Summand, Linear}
+use Rattle.bisim_laws.specs.LinearProcesses.{Summand}
 use Rattle.bisim_laws.specs.BaseStates.{Side}
 use Rattle.lps_core.specs.Columns.{as_terms}
 use Rattle.lps_core.specs.Conditions.{parts, conjoined}

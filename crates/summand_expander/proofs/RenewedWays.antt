@@ -1,10 +1,10 @@
 -- Communication of labels with other variables.
-use Rattle.std.proofs.Common.{◌≡◌, ℕ, suc, Bool, true, false, ◌||◌, List, [], ◌∷◌, ◌++◌, map, length, refl, sym, ap, ap₂, ◌∙◌, subst, Option, if◌then◌else◌}
+use Rattle.std.proofs.Common.{◌≡◌, ℕ, suc, Bool, true, false, ◌||◌, List, [], ◌∷◌, ◌++◌, map, length, refl, sym, ap, ap₂, ◌∙◌, if◌then◌else◌}
 use Rattle.std.specs.Prelude.{flat_map}
 use Rattle.std.specs.List.{All, list_any}
 use Rattle.std.specs.Str.{bytes_eq}
 use Rattle.std.proofs.lemmas.List.{map-append}
-use Rattle.data_theory.specs.Terms.{Sort, Term, variable, put}
+use Rattle.data_theory.specs.Terms.{Sort, Term}
 use Rattle.data_theory.specs.Equations.{equals, !ᵗ◌}
 use Rattle.process_terms.specs.Names.{Name}
 use Rattle.process_terms.specs.Labels.{Action, Label, names}
@@ -13,7 +13,7 @@ use Rattle.bisim_laws.specs.LinearProcesses.{Summand}
 use Rattle.lps_core.specs.Conditions.{parts, conjoined}
 use Rattle.action_filters.specs.NameTests.{is_nothing}
 use Rattle.action_filters.specs.LabelFilters.{are_allowed}
-use Rattle.communication.specs.Ways.{Joining, Group, Item, stays, joins, ways, rest, further}
+use Rattle.communication.specs.Ways.{Joining, Item, stays, joins, ways, rest, further}
 use Rattle.communication.specs.Communicated.{texts, joining, ActionGroup, Way, action_of_item, way_label, equalities_of, item_equalities, further_groups, is_no_group, way_parts, has_no_arguments, with_way, of_way, label_ways, communicated}
 use Rattle.communication.proofs.Mapped.{IsRead, group_along, item_along, ways_along, rest_along, further_along, all_true}
 use Rattle.summand_expander.specs.Renewing.{renewed_terms, renewed_label, renewed_summand}

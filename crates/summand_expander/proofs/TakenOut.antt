@@ -1,6 +1,5 @@
 -- Names taken out of a list.
-use Rattle.std.proofs.Common.{◌≡◌, ◌<◌, ◌+◌, ◌||◌, ℕ, suc, Bool, true, false, List, [], ◌∷◌, map, length, take, drop, get_or, refl, sym, ap, ap₂, ◌∙◌, subst, arith, true≢false, Option, Some, None, if◌then◌else◌}
-use Rattle.std.specs.List.{list_any}
+use Rattle.std.proofs.Common.{◌≡◌, ◌<◌, ◌+◌, ◌||◌, ℕ, suc, Bool, true, false, List, [], ◌∷◌, length, drop, get_or, refl, sym, ap, ◌∙◌, arith, true≢false, Option, Some, None, if◌then◌else◌}
 use Rattle.action_filters.specs.NameTests.{is_among, with_first, without_one}
 use Rattle.action_filters.proofs.Loops.{drop_at}
 use Rattle.summand_expander.specs.ByFirst.{or_else, without_all}

@@ -1,20 +1,20 @@
 -- The test says which names can be completed.
-use Rattle.std.proofs.Common.{◌≡◌, Bool, true, false, ◌||◌, List, [], ◌∷◌, ◌++◌, map, refl, sym, ap, ◌∙◌, subst, Option, Some, None, inl, inr, ⊎_elim, true≢false, if◌then◌else◌, cond}
-use Rattle.std.specs.Prelude.{Contains, ◌↔◌, flat_map, filter}
+use Rattle.std.proofs.Common.{◌≡◌, Bool, true, false, List, [], ◌∷◌, ◌++◌, map, refl, sym, ap, ◌∙◌, subst, Option, Some, None, inl, inr, ⊎_elim, true≢false}
+use Rattle.std.specs.Prelude.{Contains, ◌↔◌, filter}
 use Rattle.std.specs.List.{list_any}
 use Rattle.std.specs.Str.{bytes_eq}
 use Rattle.process_terms.specs.Names.{Name}
-use Rattle.process_terms.specs.Labels.{Inserted, at_front, further, Permuted, nothing_left, one_placed}
+use Rattle.process_terms.specs.Labels.{Inserted, one_placed}
 use Rattle.process_terms.specs.Communication.{Rule}
-use Rattle.process_terms.proofs.PermutedLists.{permuted_refl, permuted_trans, permuted_sym}
+use Rattle.process_terms.proofs.PermutedLists.{permuted_refl, permuted_trans}
 use Rattle.lps_core.proofs.Members.{In, here, there, in_map, map_in, in_each, each_in, in_contains, contains_in}
-use Rattle.action_filters.specs.NameTests.{is_nothing, without_one, where_some}
+use Rattle.action_filters.specs.NameTests.{without_one, where_some}
 use Rattle.action_filters.proofs.NamesTold.{Told, yes, no, some_told, Taken, absent, present, first_placed, inserted_at, taken_is}
 use Rattle.action_filters.proofs.TheoryLabels.{same_name_told}
 use Rattle.communication.specs.Ways.{Joining}
 use Rattle.communication.specs.Communicated.{joining}
 use Rattle.communication.proofs.Listed.{in_filter, filter_in}
-use Rattle.bisim_laws.specs.Completable.{OpensTo, stays_closed, opens, Opened, nothing_to_open, one_opened, CanBeCompleted, IsCompletable, IsOneOf, AreAllowed}
+use Rattle.bisim_laws.specs.Completable.{OpensTo, stays_closed, opens, Opened, nothing_to_open, one_opened, CanBeCompleted, IsCompletable}
 use Rattle.summand_expander.specs.CompletableTests.{is_contained, openings, all_opened, completes, is_completable}
 use Rattle.summand_expander.specs.PruningLaws.{TestTellsCompletable}
 use Rattle.summand_expander.proofs.Multisets.{Within, with_others}

@@ -1,5 +1,5 @@
 -- The summands of two sides within what is allowed are those of the product within.
-use Rattle.std.proofs.Common.{◌≡◌, List, [], ◌∷◌, ◌++◌, map, refl, sym, ap, ap₂, ◌∙◌, subst, Option, Some, None, is_none}
+use Rattle.std.proofs.Common.{◌≡◌, List, ◌++◌, map, sym, ap, ap₂, ◌∙◌, subst, Option}
 use Rattle.std.specs.Prelude.{option_map, option_to_list, IfSome, Result, Ok, Err, IfOk, Vec}
 use Rattle.std.specs.Global.{Global}
 use Rattle.std.specs.List.{All}
@@ -15,21 +15,19 @@ use Rattle.data_theory.proofs.StandingLemmas.{signatures_have_truth_functions}
 use Rattle.term_pool.specs.Pools.{Extends}
 use Rattle.term_pool.proofs.DeclaredConstants.{grown_itself}
 use Rattle.process_terms.specs.SignatureEntries.{entries_of, BothGrow}
-use Rattle.bisim_laws.specs.BaseStates.{Side}
 use Rattle.lps_core.specs.declared.linears.Summand.{Summand}
 use Rattle.lps_core.specs.Fitting.{Fits, sort_of_variable}
-use Rattle.lps_core.specs.PlainLinears.{PlainSummand, PlainLinear, plain_summand, summand_of}
+use Rattle.lps_core.specs.PlainLinears.{PlainSummand, PlainLinear, plain_summand}
 use Rattle.lps_core.proofs.Members.{in_contains}
 use Rattle.lps_core.proofs.PoolTrees.{extends_on}
 use Rattle.action_filters.specs.Filters.{AreActionsIn}
 use Rattle.action_filters.proofs.Whole.{actions_in}
-use Rattle.summand_expander.specs.Product.{product}
 use Rattle.summand_expander.specs.Pruned.{pruned, ends, can_stay, product_within}
 use Rattle.summand_expander.specs.Drafts.{PlainMove, PlainSide, PlainDraft, all_drafts}
 use Rattle.summand_expander.specs.KeptDrafts.{draft_stays, is_last, HasMovesIn}
 use Rattle.summand_expander.specs.PlainAllowed.{PlainAllowed}
 use Rattle.summand_expander.specs.SideFits.{MoveFits, SideFits, DraftFits, IsFlagOf}
-use Rattle.summand_expander.specs.SideMeanings.{IsSideIn, SideMeans, IsDraftIn, AreJoined, summand_of_draft}
+use Rattle.summand_expander.specs.SideMeanings.{IsSideIn, IsDraftIn, AreJoined, summand_of_draft}
 use Rattle.summand_expander.specs.WholeProducts.{side_of_linear, AreSummandsOf}
 use Rattle.summand_expander.specs.WithinProducts.{AllowedFits, can_stay_of}
 use Rattle.summand_expander.proofs.Endings.{none_meant}

@@ -3,7 +3,6 @@ use Rattle.std.specs.Prelude.{◌≡◌, ℕ, Bool, List, [], ◌∷◌, Option}
 use Rattle.process_terms.specs.Names.{Name}
 use Rattle.process_terms.specs.Labels.{names}
 use Rattle.bisim_laws.specs.LinearProcesses.{Summand, Linear}
-use Rattle.bisim_laws.specs.BaseStates.{Side}
 use Rattle.summand_expander.specs.Product.{product}
 use Rattle.summand_expander.specs.Renewing.{renewed}
 use Rattle.summand_expander.specs.Pruned.{product_within}

@@ -1,5 +1,5 @@
 -- Linear processes that are the same but for the numbers of their variables, and but for summands that can't be completed.
-use Rattle.std.specs.Prelude.{◌≡◌, ℕ, Bool, List, [], ◌∷◌, ◌++◌, map, Option, Some, None, Contains}
+use Rattle.std.specs.Prelude.{◌≡◌, ℕ, List, [], ◌∷◌, Option, Some, None, Contains}
 use Rattle.data_theory.specs.Terms.{Sort}
 use Rattle.data_theory.specs.Declarations.{Data}
 use Rattle.process_terms.specs.Names.{Name}

@@ -1,7 +1,7 @@
 -- What is allowed around a product, as plain data.
 use Rattle.std.specs.Prelude.{Bool, List, map}
 use Rattle.data_theory.specs.declared.ids.NameId.{NameId}
-use Rattle.process_terms.specs.PlainProcesses.{items_of_each, PlainRule, plain_rule, plain_rules}
+use Rattle.process_terms.specs.PlainProcesses.{items_of_each, PlainRule, plain_rules}
 use Rattle.action_filters.specs.Filters.{same_name}
 use Rattle.communication.specs.Ways.{Joining}
 use Rattle.communication.specs.Places.{joining_of}

@@ -1,11 +1,11 @@
 -- What the laws of pruned products say.
-use Rattle.std.specs.Prelude.{◌≡◌, ◌↔◌, Bool, true, List, ◌++◌, Contains}
+use Rattle.std.specs.Prelude.{◌≡◌, ◌↔◌, Bool, true, List, ◌++◌}
 use Rattle.std.specs.List.{list_any}
 use Rattle.data_theory.specs.Terms.{Sort, Term}
 use Rattle.process_terms.specs.Names.{Name}
 use Rattle.process_terms.specs.Theories.{Theory, IsConsistent, AreOfSorts}
 use Rattle.process_terms.specs.Processes.{Process, merge}
-use Rattle.bisim_laws.specs.LinearProcesses.{Linear, sorts, state_of}
+use Rattle.bisim_laws.specs.LinearProcesses.{sorts, state_of}
 use Rattle.bisim_laws.specs.BaseStates.{Side}
 use Rattle.bisim_laws.specs.Links.{Link, Then, Beside, Solved}
 use Rattle.bisim_laws.specs.Within.{IsGoodWithin, GoesToParts}

@@ -107,14 +107,7 @@ fn completes_first(
         return Ok(true);
     }
     for rule in candidates {
-        if gives(
-            alloc,
-            rules,
-            wanted,
-            set,
-            rule.left.as_slice(),
-            rule.result,
-        )? {
+        if gives(alloc, rules, wanted, set, rule.left.as_slice(), rule.result)? {
             return Ok(true);
         }
     }
@@ -149,11 +142,7 @@ fn some_completes(
 /// # Errors
 ///
 /// `NoMemory` where there is none for the names that are left.
-pub fn is_completable(
-    alloc: Global,
-    allowed: &Allowed,
-    names: &[NameId],
-) -> Result<bool, NoMemory>
+pub fn is_completable(alloc: Global, allowed: &Allowed, names: &[NameId]) -> Result<bool, NoMemory>
     ensures { IfOk result (λ can. can ≡ can_complete_ids (plain_allowed allowed.now) names.now) }
 {
     if names.is_empty() {

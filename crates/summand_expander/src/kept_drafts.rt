@@ -205,13 +205,36 @@ fn drafts_kept(
     let mut drafts = Vec::new(alloc);
     let mut waits = spare;
     add_all_alone_within(
-        alloc, allowed, answers, sig, true, left, right, &mut waits, &mut drafts,
+        alloc,
+        allowed,
+        answers,
+        sig,
+        true,
+        left,
+        right,
+        &mut waits,
+        &mut drafts,
     )?;
     add_all_alone_within(
-        alloc, allowed, answers, sig, false, right, left, &mut waits, &mut drafts,
+        alloc,
+        allowed,
+        answers,
+        sig,
+        false,
+        right,
+        left,
+        &mut waits,
+        &mut drafts,
     )?;
     add_pairs_within(
-        alloc, allowed, answers, sig, left, right, &mut waits, &mut drafts,
+        alloc,
+        allowed,
+        answers,
+        sig,
+        left,
+        right,
+        &mut waits,
+        &mut drafts,
     )?;
     Ok(drafts)
 }

@@ -1,4 +1,4 @@
-use Rattle.std.proofs.Common.{◌≡◌, ◌||◌, Bool, map, sym, ap, ◌∙◌, arith, length}
+use Rattle.std.proofs.Common.{◌≡◌, Bool, map, sym, ap, ◌∙◌, arith, length}
 use Rattle.std.specs.List.{list_any}
 use Rattle.process_terms.specs.PlainProcesses.{plain_rule}
 use Rattle.action_filters.specs.Filters.{same_name}
@@ -19,7 +19,7 @@ pub completes-returns : goal.completes-returns
 completes-returns t c =
     let rules = joinings (map plain_rule c.args.rules.now) in
     let e = first_completed rules (joinings (map plain_rule c.as_slice.result.now)) c.args.wanted.now c.args.set.now (record { 0 = 0 }) (sym c.is_empty.ensures ∙ c.if-is_empty.false)
-        (ap (λ rs. joinings (map plain_rule rs)) c.as_slice.ensures.value ∙ c.in_ok-candidates.ensures) in
+    (ap (λ rs. joinings (map plain_rule rs)) c.as_slice.ensures.value ∙ c.in_ok-candidates.ensures) in
     if_ok c.completes_first.result _ (λ (can : Bool). can ≡ completes same_name rules c.args.wanted.now c.args.set.now) (λ can q. q ∙ e) c.completes_first.ensures
 
 pub completes_first-returns-then-branch-2 : goal.completes_first-returns-then-branch-2

@@ -1,4 +1,4 @@
-use Rattle.std.proofs.Common.{map, sym, ap, ◌∙◌}
+use Rattle.std.proofs.Common.{map, sym, ◌∙◌}
 use Rattle.process_terms.specs.PlainProcesses.{plain_rule}
 use Rattle.action_filters.specs.Filters.{same_name}
 use Rattle.summand_expander.specs.ByFirst.{gives_first}

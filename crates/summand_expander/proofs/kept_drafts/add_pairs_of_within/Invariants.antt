@@ -1,4 +1,4 @@
-use Rattle.std.proofs.Common.{◌≡◌, map, take}
+use Rattle.std.proofs.Common.{map, take}
 use Rattle.summand_expander.specs.Answers.{AreAnswers}
 use Rattle.summand_expander.specs.Drafts.{both_moves, plain_draft, plain_move, plain_side}
 use Rattle.summand_expander.specs.KeptDrafts.{draft_stays, is_last, Keeps}

@@ -1,4 +1,4 @@
-use Rattle.std.proofs.Common.{◌≡◌, map, take}
+use Rattle.std.proofs.Common.{map, take}
 use Rattle.std.specs.Prelude.{flat_map}
 use Rattle.summand_expander.specs.Answers.{AreAnswers}
 use Rattle.summand_expander.specs.Drafts.{both_moves, plain_draft, plain_move, plain_side}

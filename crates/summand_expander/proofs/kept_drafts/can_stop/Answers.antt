@@ -1,6 +1,5 @@
-use Rattle.std.proofs.Common.{◌≡◌, ◌||◌, Bool, true, false, sym, ap, ap₂, ◌∙◌}
+use Rattle.std.proofs.Common.{◌||◌, sym, ap, ◌∙◌}
 use Rattle.std.specs.List.{list_any}
-use Rattle.std.specs.Prelude.{is_some}
 use Rattle.summand_expander.specs.KeptDrafts.{step_ends}
 use Rattle.summand_expander.specs.Drafts.{PlainMove, plain_side}
 use Rattle.summand_expander.proofs.KeptDrafts.{plain_steps_end}
