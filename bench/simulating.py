@@ -28,7 +28,7 @@ def walks(folder):
 
 def lines_of_buffers(folder):
     """Lines of buffers, of which the program makes the text itself."""
-    for count in range(2, 7):
+    for count in (5, 10, 20, 40):
         yield f"generate {count}", ["generate", str(count)]
 
 

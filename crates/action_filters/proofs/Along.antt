@@ -33,17 +33,17 @@ module _ {A B N M : Type 0} (w : Naming A N) (v : Naming B M) (h : A → B) (f :
       by false None = refl
       by false (Some zs) = refl
 
-  without_along : (x : N) (ys : List N) → Q x → All Q ys → without_one v.same (f x) (map f ys) ≡ option_map (map f) (without_one w.same x ys)
+  pub without_along : (x : N) (ys : List N) → Q x → All Q ys → without_one v.same (f x) (map f ys) ≡ option_map (map f) (without_one w.same x ys)
   without_along x [] q k = refl
   without_along x (y ∷ ys) q k =
       one_less (v.same (f y) (f x)) (w.same y x) y ys (without_one v.same (f x) (map f ys)) (without_one w.same x ys) (along.same y x (All-head Q y ys k) q)
       (without_along x ys q (All-tail Q y ys k))
 
-  AllWhere : Option (List N) → Type 0
+  unfoldable pub AllWhere : Option (List N) → Type 0
   AllWhere None = Unit {0}
   AllWhere (Some zs) = All Q zs
 
-  without_within : (x : N) (ys : List N) → All Q ys → AllWhere (without_one w.same x ys)
+  pub without_within : (x : N) (ys : List N) → All Q ys → AllWhere (without_one w.same x ys)
   unfolding AllWhere
   without_within x [] k = tt
   without_within x (y ∷ ys) k = by (w.same y x) (without_one w.same x ys) (without_within x ys (All-tail Q y ys k))

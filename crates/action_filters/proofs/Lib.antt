@@ -2,6 +2,7 @@ pub mod Filtered
 pub mod NamesTold
 pub mod TheoryLabels
 pub mod SameFilters
+pub mod AllowedExactly
 pub mod Along
 pub mod Meant
 pub mod Around

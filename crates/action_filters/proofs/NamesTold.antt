@@ -39,13 +39,13 @@ not_further n f _ at_front = n refl
 not_further n f _ (further {xs = xs} i) = f xs i
 
 -- two lists that become one by the same element
-inserted_at : {A : Type 0} {x y : A} {xs ys zs : List A} → x ≡ y → Inserted x xs zs → Inserted y ys zs → Permuted xs ys
+pub inserted_at : {A : Type 0} {x y : A} {xs ys zs : List A} → x ≡ y → Inserted x xs zs → Inserted y ys zs → Permuted xs ys
 inserted_at q (at_front {xs = xs}) at_front = permuted_refl xs
 inserted_at q (at_front {xs = zs}) (further {xs = ys} i) = subst (λ w. Permuted zs (w ∷ ys)) (sym q) (permuted_sym (one_placed (permuted_refl ys) i))
 inserted_at q (further {xs = xs} i) (at_front {xs = zs}) = subst (λ w. Permuted (w ∷ xs) zs) q (one_placed (permuted_refl xs) i)
 inserted_at q (further i) (further j) = one_placed (inserted_at q i j) at_front
 
-first_placed : {A : Type 0} {x : A} {xs zs : List A} → Permuted (x ∷ xs) zs → (ys : List A) × (Permuted xs ys × Inserted x ys zs)
+pub first_placed : {A : Type 0} {x : A} {xs zs : List A} → Permuted (x ∷ xs) zs → (ys : List A) × (Permuted xs ys × Inserted x ys zs)
 first_placed (one_placed {ys = ys} p i) = (ys, (p, i))
 
 permuted_nothing : {A : Type 0} {y : A} {ys : List A} → Permuted [] (y ∷ ys) → ⊥
@@ -68,7 +68,7 @@ module _ {A : Type 0} (same : A → A → Bool) (same_told : (x y : A) → Told 
       by false (no n) = no (λ i. n (x, (i, refl)))
 
   -- ---- permutations
-  taken_is : (x : A) (zs : List A) → Taken x zs (without_one same x zs)
+  pub taken_is : (x : A) (zs : List A) → Taken x zs (without_one same x zs)
   taken_is x [] = absent (λ ys i. not_in_nothing ys i)
   taken_is x (y ∷ zs) = by (same y x) (same_told y x) (taken_is x zs)
     where

@@ -9,15 +9,16 @@ use Rattle.data_theory.specs.Declarations.{Data}
 use Rattle.data_theory.specs.Environments.{Environment}
 use Rattle.process_terms.specs.Names.{Name}
 use Rattle.process_terms.specs.Theories.{Theory}
-use Rattle.process_terms.specs.Labels.{Action, Label, names, put_action, put_label, Permuted}
+use Rattle.process_terms.specs.Labels.{Label, names, put_action, put_label, Permuted}
 use Rattle.process_terms.specs.Processes.{Bound, Renaming, Around, allow, block, hide, rename}
 use Rattle.process_terms.specs.Steps.{Passes, silent_allowed, named_allowed, not_blocked, nothing_hidden, one_hidden, one_shown, nothing_renamed, one_renamed, Renames, replaced, unchanged}
 use Rattle.bisim_laws.specs.LinearProcesses.{Summand, variables, Does, LabelIsOver, no_action_left, action_over, LabelIsSorted, no_action_to_sort, action_sorted}
 use Rattle.bisim_laws.proofs.Firing.{contains_first, contains_later, contains_cases, contains_none}
+use Rattle.bisim_laws.proofs.SomeSummands.{names_put}
 use Rattle.lps_core.proofs.Members.{In, here, there}
 use Rattle.lps_core.proofs.Shapes.{IsSortedSummand}
 use Rattle.action_filters.specs.NameTests.{is_among, is_permuted}
-use Rattle.action_filters.specs.LabelFilters.{Naming, allowed_label, unblocked_label, shown, shown_label, new_name}
+use Rattle.action_filters.specs.LabelFilters.{allowed_label, unblocked_label, shown, shown_label, new_name}
 use Rattle.action_filters.specs.Filtering.{texts, pairs_of, renamed_action}
 use Rattle.action_filters.proofs.NamesTold.{Told, yes, no, told, some_told, among_told, permuted_told}
 use Rattle.action_filters.proofs.Filtered.{IsFilter}
@@ -92,10 +93,6 @@ module _ (th : Theory) (vs : List Sort) (params : List Bound) (o : Around) (f : 
           distinct = fit.distinct;
         });
   }
-
-names_put : (e : Environment) (m : Label) → names (put_label e m) ≡ names m
-names_put e [] = refl
-names_put e (a ∷ m) = ap (λ l. a.name ∷ l) (names_put e m)
 
 -- ---- a label that stays as it is, or none
 kept_over : (xs : List ℕ) (b : Bool) (m n : Label) → (if b then Some m else None) ≡ Some n → LabelIsOver xs m → LabelIsOver xs n

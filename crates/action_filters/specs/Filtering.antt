@@ -1,5 +1,5 @@
 -- A linear process under `allow`, `block`, `hide` and `rename`.
-use Rattle.std.specs.Prelude.{Bool, List, [], ◌∷◌, map, flat_map, if◌then◌else◌}
+use Rattle.std.specs.Prelude.{List, [], ◌∷◌, map, flat_map, if◌then◌else◌}
 use Rattle.std.specs.Str.{bytes_eq}
 use Rattle.process_terms.specs.Names.{Name}
 use Rattle.process_terms.specs.Labels.{Action, Label, names}

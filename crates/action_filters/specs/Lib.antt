@@ -3,4 +3,5 @@ pub mod LabelFilters
 pub mod Filters
 pub mod Filtering
 pub mod Means
+pub mod AllowLaws
 pub mod FilterOutcomes

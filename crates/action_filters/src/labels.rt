@@ -41,7 +41,11 @@ fn name_of(sig: &Signature, action: &Action) -> NameId
 }
 
 /// The names of a label's actions, in their order.
-fn names_of(alloc: Global, sig: &Signature, label: &Label) -> Result<Vec<NameId>, NoMemory>
+///
+/// # Errors
+///
+/// `NoMemory` where there is none for them.
+pub fn names_of(alloc: Global, sig: &Signature, label: &Label) -> Result<Vec<NameId>, NoMemory>
     requires { AreActionsIn sig.now (plain_label label.now) }
     ensures { IfOk result (λ names. names.items ≡ map (naming sig.now).name (plain_label label.now)) }
 {
@@ -53,7 +57,7 @@ fn names_of(alloc: Global, sig: &Signature, label: &Label) -> Result<Vec<NameId>
 }
 
 /// Whether a name is among these.
-fn is_among(names: &[NameId], name: NameId) -> bool
+pub fn is_among(names: &[NameId], name: NameId) -> bool
     ensures { result ≡ is_among same_name names.now name }
 {
     names.iter().any(|other| other.0 == name.0)

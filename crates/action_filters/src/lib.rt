@@ -5,6 +5,7 @@
 
 mod filters;
 mod labels;
+pub mod laws;
 
 pub use filters::{allow, block, hide, rename};
-pub use labels::take_one;
+pub use labels::{is_among, names_of, take_one};

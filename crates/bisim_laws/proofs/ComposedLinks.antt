@@ -12,7 +12,7 @@ use Rattle.bisim_laws.specs.LinkLaws.{SameIsGood, ThenIsGood, BesideIsGood, Begu
 use Rattle.bisim_laws.proofs.AlikeProcesses.{lands_weaken, answer_weaken, alike_answers, alike_bisimulation}
 
 -- ---- one relation after another
-lands_joined : {R S : Process → Process → Type 0} {r s t : Outcome} → Lands R r s → Lands S s t → Lands (Joined R S) r t
+pub lands_joined : {R S : Process → Process → Type 0} {r s t : Outcome} → Lands R r s → Lands S s t → Lands (Joined R S) r t
 lands_joined both_end both_end = both_end
 lands_joined (both_go_on h) (both_go_on k) = both_go_on (joined h k)
 
@@ -22,10 +22,10 @@ joined_answers f g p q m r (joined {z = z} h k) s =
     let b = g z q a.label a.outcome k a.step in
     record { label = b.label; outcome = b.outcome; step = b.step; agree = agree_trans a.agree b.agree; lands = lands_joined a.lands b.lands }
 
-joined_flip : {R S : Process → Process → Type 0} (p q : Process) → Joined (Flipped S) (Flipped R) p q → Flipped (Joined R S) p q
+pub joined_flip : {R S : Process → Process → Type 0} (p q : Process) → Joined (Flipped S) (Flipped R) p q → Flipped (Joined R S) p q
 joined_flip p q (joined h k) = joined k h
 
-joined_unflip : {R S : Process → Process → Type 0} (p q : Process) → Flipped (Joined R S) p q → Joined (Flipped S) (Flipped R) p q
+pub joined_unflip : {R S : Process → Process → Type 0} (p q : Process) → Flipped (Joined R S) p q → Joined (Flipped S) (Flipped R) p q
 joined_unflip p q (joined h k) = joined k h
 
 pub joined_bisimulation : {th : Theory} {R S : Process → Process → Type 0} → Bisimulation th R → Bisimulation th S → Bisimulation th (Joined R S)
@@ -35,7 +35,7 @@ joined_bisimulation {th} {R} {S} f g = record {
 }
 
 -- ---- side by side
-lands_sides : {R S : Process → Process → Type 0} {r r' s s' : Outcome} → Lands R r r' → Lands S s s' → Lands (Sides R S) (beside r s) (beside r' s')
+pub lands_sides : {R S : Process → Process → Type 0} {r r' s s' : Outcome} → Lands R r r' → Lands S s s' → Lands (Sides R S) (beside r s) (beside r' s')
 lands_sides both_end both_end = both_end
 lands_sides both_end (both_go_on k) = both_go_on (right_side k)
 lands_sides (both_go_on h) both_end = both_go_on (left_side h)
@@ -58,12 +58,12 @@ sides_answers f g p q m r (both_sides h k) s = merge_answers f g _ _ _ _ h k m r
 sides_answers f g p q m r (left_side h) s = answer_weaken (λ x y k. left_side k) (f p q m r h s)
 sides_answers f g p q m r (right_side h) s = answer_weaken (λ x y k. right_side k) (g p q m r h s)
 
-sides_flip : {R S : Process → Process → Type 0} (p q : Process) → Sides (Flipped R) (Flipped S) p q → Flipped (Sides R S) p q
+pub sides_flip : {R S : Process → Process → Type 0} (p q : Process) → Sides (Flipped R) (Flipped S) p q → Flipped (Sides R S) p q
 sides_flip p q (both_sides h k) = both_sides h k
 sides_flip p q (left_side h) = left_side h
 sides_flip p q (right_side h) = right_side h
 
-sides_unflip : {R S : Process → Process → Type 0} (p q : Process) → Flipped (Sides R S) p q → Sides (Flipped R) (Flipped S) p q
+pub sides_unflip : {R S : Process → Process → Type 0} (p q : Process) → Flipped (Sides R S) p q → Sides (Flipped R) (Flipped S) p q
 sides_unflip p q (both_sides h k) = both_sides h k
 sides_unflip p q (left_side h) = left_side h
 sides_unflip p q (right_side h) = right_side h
@@ -104,7 +104,7 @@ begun_bisimulation {th} {R} {S} o f g = record {
 }
 
 -- ---- under an operator
-lands_around : {R : Process → Process → Type 0} (o : Around) {r s : Outcome} → Lands R r s → Lands (AroundBoth o R) (within o r) (within o s)
+pub lands_around : {R : Process → Process → Type 0} (o : Around) {r s : Outcome} → Lands R r s → Lands (AroundBoth o R) (within o r) (within o s)
 lands_around o both_end = both_end
 lands_around o (both_go_on h) = both_go_on (around_both h)
 
@@ -117,10 +117,10 @@ under_answers f o p p' h m r (by_around s i) =
 around_answers : {th : Theory} {R : Process → Process → Type 0} (o : Around) → Answers th R R → Answers th (AroundBoth o R) (AroundBoth o R)
 around_answers o f p q m r (around_both h) s = under_answers f o _ _ h m r s
 
-around_flip : {R : Process → Process → Type 0} (o : Around) (p q : Process) → AroundBoth o (Flipped R) p q → Flipped (AroundBoth o R) p q
+pub around_flip : {R : Process → Process → Type 0} (o : Around) (p q : Process) → AroundBoth o (Flipped R) p q → Flipped (AroundBoth o R) p q
 around_flip o p q (around_both h) = around_both h
 
-around_unflip : {R : Process → Process → Type 0} (o : Around) (p q : Process) → Flipped (AroundBoth o R) p q → AroundBoth o (Flipped R) p q
+pub around_unflip : {R : Process → Process → Type 0} (o : Around) (p q : Process) → Flipped (AroundBoth o R) p q → AroundBoth o (Flipped R) p q
 around_unflip o p q (around_both h) = around_both h
 
 pub around_bisimulation : {th : Theory} {R : Process → Process → Type 0} (o : Around) → Bisimulation th R → Bisimulation th (AroundBoth o R)
@@ -130,11 +130,11 @@ around_bisimulation {th} {R} o f = record {
 }
 
 -- ---- up to what is the same
-lands_between : {th : Theory} {R : Process → Process → Type 0} {a b c d : Outcome} → Lands (Alike th) a b → Lands (UpTo th R) b c → Lands (Alike th) c d → Lands (UpTo th R) a d
+pub lands_between : {th : Theory} {R : Process → Process → Type 0} {a b c d : Outcome} → Lands (Alike th) a b → Lands (UpTo th R) b c → Lands (Alike th) c d → Lands (UpTo th R) a d
 lands_between both_end both_end both_end = both_end
 lands_between (both_go_on h) (both_go_on (up_to i r j)) (both_go_on k) = both_go_on (up_to (joined_up h i) r (joined_up j k))
 
-lands_between_back : {th : Theory} {R : Process → Process → Type 0} {a b c d : Outcome} → Lands (Alike th) a b → Lands (Flipped (UpTo th R)) b c → Lands (Alike th) c d → Lands (Flipped (UpTo th R)) a d
+pub lands_between_back : {th : Theory} {R : Process → Process → Type 0} {a b c d : Outcome} → Lands (Alike th) a b → Lands (Flipped (UpTo th R)) b c → Lands (Alike th) c d → Lands (Flipped (UpTo th R)) a d
 lands_between_back both_end both_end both_end = both_end
 lands_between_back (both_go_on h) (both_go_on (up_to i r j)) (both_go_on k) = both_go_on (up_to (turned (joined_up (turned i) k)) r (joined_up j (turned h)))
 

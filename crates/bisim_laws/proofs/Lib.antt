@@ -12,3 +12,6 @@ pub mod SideBySide
 pub mod AlikeFiring
 pub mod TerminatingLinks
 pub mod RunsWithTerminate
+pub mod ComposedWithin
+pub mod Completing
+pub mod SomeSummands

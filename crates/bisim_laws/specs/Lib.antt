@@ -8,4 +8,9 @@ pub mod Links
 pub mod TerminatingRuns
 pub mod Compositions
 pub mod LinkLaws
+pub mod Within
+pub mod Completable
+pub mod Scopes
+pub mod WithinLaws
+pub mod SomeSummands
 pub mod LinkChecks

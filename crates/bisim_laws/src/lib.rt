@@ -8,3 +8,4 @@
 pub mod checks;
 pub mod firings;
 pub mod links;
+pub mod within;

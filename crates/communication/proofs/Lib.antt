@@ -3,6 +3,7 @@ pub mod Picks
 pub mod Listed
 pub mod Parted
 pub mod Communicating
+pub mod WayNames
 pub mod CommunicationWhole
 pub mod Rounds
 pub mod Mapped

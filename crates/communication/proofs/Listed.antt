@@ -23,11 +23,11 @@ kept_in : {A : Type 0} (P : A → Type 0) (b : Bool) {x y : A} {xs ys : List A} 
 kept_in P true (yes p) k i = first_or_later (λ q. subst P (sym q) p) k i
 kept_in P false n k i = let r = k i in (r.0, there r.1)
 
-in_filter : {A : Type 0} (P : A → Type 0) (f : A → Bool) → ((x : A) → Told (P x) (f x)) → {x : A} (xs : List A) → In x (filter f xs) → P x × In x xs
+pub in_filter : {A : Type 0} (P : A → Type 0) (f : A → Bool) → ((x : A) → Told (P x) (f x)) → {x : A} (xs : List A) → In x (filter f xs) → P x × In x xs
 in_filter P f t [] i = elim i [ ]
 in_filter P f t (y ∷ ys) i = kept_in P (f y) (t y) (λ j. in_filter P f t ys j) i
 
-filter_in : {A : Type 0} (P : A → Type 0) (f : A → Bool) → ((x : A) → Told (P x) (f x)) → {x : A} {xs : List A} → P x → In x xs → In x (filter f xs)
+pub filter_in : {A : Type 0} (P : A → Type 0) (f : A → Bool) → ((x : A) → Told (P x) (f x)) → {x : A} {xs : List A} → P x → In x xs → In x (filter f xs)
 filter_in {A} P f t {x} p (here {xs = xs}) = by (f x) (t x)
   where
     by : (b : Bool) → Told (P x) b → In x (cond b (x ∷ filter f xs) (filter f xs))

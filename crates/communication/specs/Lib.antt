@@ -1,6 +1,7 @@
 pub mod Ways
 pub mod Communicated
 pub mod CommunicationLaws
+pub mod WayNames
 pub mod Rounds
 pub mod Places
 pub mod Plans

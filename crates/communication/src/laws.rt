@@ -23,3 +23,10 @@ pub fn plans_mean_ways()
     ensures serve { WaysServe }
     ensures means { PlansMeanWays }
 {}
+
+ghost use Rattle.communication.specs.WayNames.{WaysComeFromOpened};
+
+/// The names of a label come from those of each of its ways, by left sides in the places of results.
+pub fn ways_come_from_opened()
+    ensures { WaysComeFromOpened }
+{}

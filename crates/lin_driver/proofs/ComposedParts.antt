@@ -10,25 +10,30 @@ use Rattle.process_terms.specs.PlainProcesses.{PlainAround, allow, block, hide, 
 use Rattle.process_terms.specs.Processes.{Body, written_merge, Process, merge, around, merged_with}
 use Rattle.process_terms.specs.Meanings.{around_of, HasAround}
 use Rattle.process_terms.specs.SignatureEntries.{entries_of}
-use Rattle.bisim_laws.specs.Links.{Beside, Under}
-use Rattle.bisim_laws.proofs.ComposedLinks.{beside_good, under_good}
+use Rattle.bisim_laws.specs.Links.{Wrapped, Under}
+use Rattle.bisim_laws.specs.Scopes as theory
+use Rattle.bisim_laws.specs.Scopes.{Scope}
+use Rattle.bisim_laws.proofs.ComposedWithin.{good_within, under_within}
 use Rattle.lps_core.specs.Fitting.{Fits}
-use Rattle.lps_core.specs.GoingOn.{IsGoodOver}
+use Rattle.lps_core.specs.GoingOn.{IsGoodOver, IsGoodOverWithin}
 use Rattle.lps_core.specs.Naming.{GrowsByNames, ParamsHaveOwnNames}
 use Rattle.lps_core.specs.PlainLinears.{PlainLinear, linear_of, linear_state}
 use Rattle.lps_core.proofs.PoolTrees.{extends_itself}
-use Rattle.summand_expander.specs.WholeProducts.{IsProduct, IsGoodProduct}
 use Rattle.action_filters.specs.Filters.{IsGoodAround}
 use Rattle.greibach.proofs.GrownFits.{both_by_names, pool_alone}
-use Rattle.proc_unfold.specs.Networks.{PlainNetwork, PlainNetworks, side_by_side, sync, under, no_networks, more_networks, network_body, network_bodies}
+use Rattle.proc_unfold.specs.Networks.{PlainNetwork, PlainNetworks, leaf, side_by_side, left_merge, sync, under, no_networks, more_networks, network_body, network_bodies}
 use Rattle.lin_driver.specs.FittingOperators.{OperatorFits, NetworksFit}
 use Rattle.lin_driver.specs.Leaves.{leaves, more_leaves}
-use Rattle.lin_driver.specs.Parts.{IsLinearFor, Origin, entries_in, closed_in, component_in, network_in, HasGrownFrom, HasParts, CanBeComposed, IsComposed, Composes}
+use Rattle.lin_driver.specs.NetworkProducts.{IsJoint}
+use Rattle.lin_driver.specs.NetworkScopes.{PlainScope, everything, completable, scope_meant, ScopeFits, below, inside}
+use Rattle.lin_driver.specs.Parts.{IsLinearFor, IsLinearWithin, Origin, entries_in, closed_in, component_in, network_in, HasGrownFrom, HasParts, CanBeComposed, IsComposed, Composes, LeadsBeside}
 use Rattle.lin_driver.specs.TakenNames.{HaveIdentifiers}
 use Rattle.lin_driver.proofs.GrownModels.{around_stays}
+use Rattle.lin_driver.proofs.JointLinears.{joint_made}
+use Rattle.lin_driver.proofs.NetworkScopes.{below_fits, inside_fits, scope_stays, scope_fits_still, matters_below}
 use Rattle.lin_driver.proofs.OpenedOperators.{operator_fits_still}
 use Rattle.lin_driver.proofs.ProductNames.{product_named, product_params_have_own_names}
-use Rattle.lin_driver.proofs.StayingLinears.{GrowsOnBoth, both_named, linear_stays, zip_weaker}
+use Rattle.lin_driver.proofs.StayingLinears.{GrowsOnBoth, both_named, linear_stays, linear_within_stays, linear_for_some, linear_for_all, zip_weaker}
 
 -- ---- the linear processes in front
 -- those of two lists of components
@@ -86,141 +91,172 @@ same_operator o g ts a k fits = around_stays o.signature g [] [] k.stands (recor
 both_pool : (g : Sig) (ts us : List Tree) → IsSignature g → Extends ts us → GrowsOnBoth g g ts us
 both_pool g ts us s kept = record { old = s; new = s; both = pool_alone g ts us kept; fresh = λ n t i. i }
 
+-- the same labels matter over names that were added
+same_scope : (o : Origin) (g : Sig) (ts : List Tree) (w : PlainScope) → HasGrownFrom o g → ScopeFits o.signature w → scope_meant (entries_of g ts) w ≡ scope_meant (entries_in o) w
+same_scope o g ts everything k fits = refl
+same_scope o g ts (completable a) k fits = scope_stays o.signature g [] [] (completable a) k.stands (record { signature = k.grown; pool = extends_itself [] }) fits
+
+pub scope_fits_now : (o : Origin) (g : Sig) (w : PlainScope) → HasGrownFrom o g → ScopeFits o.signature w → ScopeFits g w
+scope_fits_now o g w k fits = scope_fits_still o.signature g w k.stands k.grown fits
+
 -- ---- links
-pub around_linear : (o : Origin) (g : Sig) (ts us : List Tree) (a : PlainAround) (p : Process) (l k : PlainLinear) → IsSignature g → HasGrownFrom o g → OperatorFits o.signature a → Extends ts us → IsLinearFor g ts p l
-    → Fits g us k → k.params ≡ l.params → IsGoodAround g us a l k → IsLinearFor g us (around (around_of (entries_in o) a) p) k
-around_linear o g ts us a p l k sg since fits kept is made_fits params good =
+pub around_linear : (o : Origin) (w : PlainScope) (g : Sig) (ts us : List Tree) (a : PlainAround) (p : Process) (l k : PlainLinear) → IsSignature g → HasGrownFrom o g → OperatorFits o.signature a → Extends ts us
+    → IsLinearWithin (scope_meant (entries_in o) (below a w)) g ts p l → Fits g us k → k.params ≡ l.params → IsGoodAround g us a l k → IsLinearWithin (scope_meant (entries_in o) w) g us (around (around_of (entries_in o) a) p) k
+around_linear o w g ts us a p l k sg since fits kept is made_fits params good =
     let e = entries_of g us in
-    let now = linear_stays g g ts us (both_pool g ts us sg kept) p l is in
-    let operator = around_of e a in
-    let same = same_operator o g us a since fits in
+    let above = scope_meant (entries_in o) w in
+    let under_it = scope_meant (entries_in o) (below a w) in
+    let now = linear_within_stays g g ts us (both_pool g ts us sg kept) under_it p l is in
+    let operator = around_of (entries_in o) a in
+    let around_it : IsGoodOver g (Wrapped operator (linear_of e l) (linear_of e k)) (around operator (linear_state e l)) (linear_state e k) =
+    subst (λ z. IsGoodOver g (Wrapped z (linear_of e l) (linear_of e k)) (around z (linear_state e l)) (linear_state e k)) (same_operator o g us a since fits) good in
     record {
       fits = made_fits;
       params = subst (ParamsHaveOwnNames g) (sym params) now.params;
       link = Under operator (linear_of e l) (linear_of e k) now.link;
-      bisimilar = subst (λ z. IsGoodOver g (Under operator (linear_of e l) (linear_of e k) now.link) (around z p) (linear_state e k)) same
-          (λ th on con. under_good th operator (linear_of e l) (linear_of e k) now.link p (linear_state e l) (linear_state e k) (now.bisimilar th on con) (good th on con));
+      bisimilar = λ th on con.
+          under_within th operator above under_it (matters_below th (entries_in o) a w) (linear_of e l) (linear_of e k) now.link p (linear_state e l) (linear_state e k) (now.bisimilar th on con)
+          (good_within th above (Wrapped operator (linear_of e l) (linear_of e k)) (around operator (linear_state e l)) (linear_state e k) (around_it th on con));
     }
 
-pub beside_linear : (g h : Sig) (ts us : List Tree) (p q : Process) (l r k : PlainLinear) → GrowsOnBoth g h ts us → IsLinearFor g ts p l → IsLinearFor g ts q r → Fits h us k → IsProduct g h us l r k → IsGoodProduct h us l r k → IsLinearFor h us (merge p q) k
-beside_linear g h ts us p q l r k w a b fits made good =
-    let e = entries_of h us in
-    let left = linear_stays g h ts us w p l a in
-    let right = linear_stays g h ts us w q r b in
-    record {
-      fits = fits;
-      params = product_params_have_own_names g h ts us l r k w.old a.fits b.fits made a.params b.params;
-      link = Beside good.left good.right (linear_of e k) left.link right.link;
-      bisimilar = λ th on con. beside_good th good.left good.right (linear_of e k) left.link right.link p (linear_state e l) q (linear_state e r) (linear_state e k) (left.bisimilar th on con) (right.bisimilar th on con) (good.good th on con);
-    }
+pub beside_linear : (o : Origin) (w : PlainScope) (g h : Sig) (ts us : List Tree) (p q : Process) (l r k : PlainLinear) → HasGrownFrom o h → ScopeFits o.signature w → GrowsOnBoth g h ts us → IsLinearWithin (scope_meant (entries_in o) w) g ts p l
+    → IsLinearWithin (scope_meant (entries_in o) w) g ts q r → Fits h us k → IsJoint w g h us l r k → LeadsBeside (scope_meant (entries_of h us) w) h us l r k → IsLinearWithin (scope_meant (entries_in o) w) h us (merge p q) k
+beside_linear o w g h ts us p q l r k since fit both a b fits joint leads =
+    let v = scope_meant (entries_in o) w in
+    let left = linear_within_stays g h ts us both v p l a in
+    let right = linear_within_stays g h ts us both v q r b in
+    let on_them : LeadsBeside v h us l r k = subst (λ z. LeadsBeside z h us l r k) (same_scope o h us w since fit) leads in
+    let found = on_them left.link right.link p q left.bisimilar right.bisimilar in
+    let made = joint_made w g h us l r k joint in
+    record { fits = fits; params = product_params_have_own_names made.how made.part g h ts us l r k both.old a.fits b.fits made.made a.params b.params; link = found.0; bisimilar = found.1 }
+
+-- a part that is no `||` stands for its process, whatever matters
+pub inside_linear : (o : Origin) (w : PlainScope) (n : PlainNetwork) (g : Sig) (ts : List Tree) (p : Process) (l : PlainLinear) → IsLinearWithin (scope_meant (entries_in o) (inside w n)) g ts p l → IsLinearWithin (scope_meant (entries_in o) w) g ts p l
+inside_linear o w (leaf c) g ts p l k = linear_for_some (scope_meant (entries_in o) w) g ts p l (linear_for_all g ts p l k)
+inside_linear o w (side_by_side ns) g ts p l k = k
+inside_linear o w (left_merge m n) g ts p l k = linear_for_some (scope_meant (entries_in o) w) g ts p l (linear_for_all g ts p l k)
+inside_linear o w (sync ns) g ts p l k = linear_for_some (scope_meant (entries_in o) w) g ts p l (linear_for_all g ts p l k)
+inside_linear o w (under a n) g ts p l k = linear_for_some (scope_meant (entries_in o) w) g ts p l (linear_for_all g ts p l k)
 
 -- ---- networks
 the_last : {A : Type 0} (x y : A) (xs ys : List A) → x ∷ xs ≡ y ∷ ys → (x ≡ y) × (xs ≡ ys)
 the_last x y xs ys e = (cc, cc)
 
 -- a network of one leaf has the first one
-pub leaf_composed : (o : Origin) (g : Sig) (ts : List Tree) (c : PlainComponent) (queue left rest : List PlainLinear) (l : PlainLinear) → HaveIdentifiers g → HasParts o g ts (c ∷ []) queue rest → queue ≡ l ∷ left → IsComposed (component_in o c) g ts left rest l
-leaf_composed o g ts c queue left rest l all k e =
+pub leaf_composed : (o : Origin) (v : Scope) (g : Sig) (ts : List Tree) (c : PlainComponent) (queue left rest : List PlainLinear) (l : PlainLinear) → HaveIdentifiers g → HasParts o g ts (c ∷ []) queue rest → queue ≡ l ∷ left → IsComposed v (component_in o c) g ts left rest l
+leaf_composed o v g ts c queue left rest l all k e =
     let p = first_part o g ts c queue rest k in
     let same = the_last p.0 l rest left (sym p.1 ∙ e) in
-    record { identifiers = all; linear = subst (IsLinearFor g ts (component_in o c)) same.0 p.2; is_left = sym same.1 }
+    record { identifiers = all; linear = linear_for_some v g ts (component_in o c) l (subst (IsLinearFor g ts (component_in o c)) same.0 p.2); is_left = sym same.1 }
 
 pub there_is_one : (o : Origin) (g : Sig) (ts : List Tree) (c : PlainComponent) (queue rest : List PlainLinear) → HasParts o g ts (c ∷ []) queue rest → queue ≡ [] → ⊥
 there_is_one o g ts c queue rest k e = let p = first_part o g ts c queue rest k in let never : p.0 ∷ rest ≡ [] = sym p.1 ∙ e in absurd cc
 
--- the linear process stands for what the networks are to join, and those of their leaves are the first
-pub record CanBeJoined (o : Origin) (whole : Process) (g : Sig) (ts : List Tree) (l : PlainLinear) (ns : PlainNetworks) (queue rest : List PlainLinear) : Type 0 where
+-- the linear process stands for what the networks are to join, for the labels that matter, and those of their leaves are the first
+pub record CanBeJoined (o : Origin) (w : PlainScope) (whole : Process) (g : Sig) (ts : List Tree) (l : PlainLinear) (ns : PlainNetworks) (queue rest : List PlainLinear) : Type 0 where
   pub since : HasGrownFrom o g
   pub identifiers : HaveIdentifiers g
   pub operators : NetworksFit o.signature ns
+  pub scope : ScopeFits o.signature w
   pub parts : HasParts o g ts (more_leaves ns) queue rest
   pub so_far : Body
-  pub linear : IsLinearFor g ts (closed_in o so_far) l
+  pub linear : IsLinearWithin (scope_meant (entries_in o) w) g ts (closed_in o so_far) l
   pub joined : closed_in o (merged_with so_far (network_bodies (entries_in o) ns)) ≡ whole
 
 -- under an operator
-pub inside_can : (o : Origin) (g : Sig) (ts : List Tree) (a : PlainAround) (n : PlainNetwork) (queue rest : List PlainLinear) → CanBeComposed o g ts (under a n) queue rest → CanBeComposed o g ts n queue rest
-inside_can o g ts a n queue rest k = record { since = k.since; identifiers = k.identifiers; operators = k.operators.1; parts = k.parts }
+pub inside_can : (o : Origin) (w : PlainScope) (g : Sig) (ts : List Tree) (a : PlainAround) (n : PlainNetwork) (queue rest : List PlainLinear) → CanBeComposed o w g ts (under a n) queue rest → CanBeComposed o (below a w) g ts n queue rest
+inside_can o w g ts a n queue rest k = record { since = k.since; identifiers = k.identifiers; operators = k.operators.1; scope = below_fits o.signature a w k.operators.0 k.scope; parts = k.parts }
 
-pub operator_can : (o : Origin) (g h : Sig) (ts : List Tree) (a : PlainAround) (n : PlainNetwork) (queue rest : List PlainLinear) → CanBeComposed o g ts (under a n) queue rest → GrowsByNames g h → OperatorFits h a
-operator_can o g h ts a n queue rest k w = fits_now o h a (since_then o g h w k.since) k.operators.0
+pub operator_can : (o : Origin) (w : PlainScope) (g h : Sig) (ts : List Tree) (a : PlainAround) (n : PlainNetwork) (queue rest : List PlainLinear) → CanBeComposed o w g ts (under a n) queue rest → GrowsByNames g h → OperatorFits h a
+operator_can o w g h ts a n queue rest k by = fits_now o h a (since_then o g h by k.since) k.operators.0
 
-pub under_composed : (o : Origin) (g h : Sig) (ts us vs : List Tree) (a : PlainAround) (n : PlainNetwork) (queue left rest : List PlainLinear) (l k : PlainLinear) → CanBeComposed o g ts (under a n) queue rest → GrowsByNames g h
-    → Composes g ts n queue h us left l → Extends us vs → Fits h vs k → k.params ≡ l.params → IsGoodAround h vs a l k → IsComposed (network_in o (under a n)) h vs left rest k
-under_composed o g h ts us vs a n queue left rest l k can w f kept fits params good =
-    let c = f o rest (inside_can o g ts a n queue rest can) in
+pub under_composed : (o : Origin) (w : PlainScope) (g h : Sig) (ts us vs : List Tree) (a : PlainAround) (n : PlainNetwork) (queue left rest : List PlainLinear) (l k : PlainLinear) → CanBeComposed o w g ts (under a n) queue rest → GrowsByNames g h
+    → Composes (below a w) g ts n queue h us left l → Extends us vs → Fits h vs k → k.params ≡ l.params → IsGoodAround h vs a l k → IsComposed (scope_meant (entries_in o) w) (network_in o (under a n)) h vs left rest k
+under_composed o w g h ts us vs a n queue left rest l k can by f kept fits params good =
+    let c = f o rest (inside_can o w g ts a n queue rest can) in
     record {
       identifiers = c.identifiers;
-      linear = around_linear o h us vs a (network_in o n) l k w.stands (since_then o g h w can.since) can.operators.0 kept c.linear fits params good;
+      linear = around_linear o w h us vs a (network_in o n) l k by.stands (since_then o g h by can.since) can.operators.0 kept c.linear fits params good;
       is_left = c.is_left;
     }
 
 -- a `|` of at most one is a `||`
-pub sync_can : (o : Origin) (g : Sig) (ts : List Tree) (ns : PlainNetworks) (queue rest : List PlainLinear) → CanBeComposed o g ts (sync ns) queue rest → CanBeComposed o g ts (side_by_side ns) queue rest
-sync_can o g ts no_networks queue rest k = record { since = k.since; identifiers = k.identifiers; operators = tt; parts = k.parts }
-sync_can o g ts (more_networks n no_networks) queue rest k = record { since = k.since; identifiers = k.identifiers; operators = (k.operators, tt); parts = k.parts }
-sync_can o g ts (more_networks m (more_networks n ns)) queue rest k = absurd k.operators
+pub sync_can : (o : Origin) (w : PlainScope) (g : Sig) (ts : List Tree) (ns : PlainNetworks) (queue rest : List PlainLinear) → CanBeComposed o w g ts (sync ns) queue rest → CanBeComposed o everything g ts (side_by_side ns) queue rest
+sync_can o w g ts no_networks queue rest k = record { since = k.since; identifiers = k.identifiers; operators = tt; scope = tt; parts = k.parts }
+sync_can o w g ts (more_networks n no_networks) queue rest k = record { since = k.since; identifiers = k.identifiers; operators = (k.operators, tt); scope = tt; parts = k.parts }
+sync_can o w g ts (more_networks m (more_networks n ns)) queue rest k = absurd k.operators
 
-pub sync_composed : (o : Origin) (g h : Sig) (ts us : List Tree) (ns : PlainNetworks) (queue left rest : List PlainLinear) (l : PlainLinear) → CanBeComposed o g ts (sync ns) queue rest → Composes g ts (side_by_side ns) queue h us left l → IsComposed (network_in o (sync ns)) h us left rest l
-sync_composed o g h ts us no_networks queue left rest l k f = f o rest (sync_can o g ts no_networks queue rest k)
-sync_composed o g h ts us (more_networks n no_networks) queue left rest l k f = f o rest (sync_can o g ts (more_networks n no_networks) queue rest k)
-sync_composed o g h ts us (more_networks m (more_networks n ns)) queue left rest l k f = absurd k.operators
+-- what is composed for all labels is composed for some
+composed_for_some : (v : Scope) (whole : Process) (g : Sig) (ts : List Tree) (left rest : List PlainLinear) (l : PlainLinear) → IsComposed theory.everything whole g ts left rest l → IsComposed v whole g ts left rest l
+composed_for_some v whole g ts left rest l k = record { identifiers = k.identifiers; linear = linear_for_some v g ts whole l (linear_for_all g ts whole l k.linear); is_left = k.is_left }
+
+pub sync_composed : (o : Origin) (w : PlainScope) (g h : Sig) (ts us : List Tree) (ns : PlainNetworks) (queue left rest : List PlainLinear) (l : PlainLinear) → CanBeComposed o w g ts (sync ns) queue rest → Composes everything g ts (side_by_side ns) queue h us left l
+    → IsComposed (scope_meant (entries_in o) w) (network_in o (sync ns)) h us left rest l
+sync_composed o w g h ts us no_networks queue left rest l k f = composed_for_some (scope_meant (entries_in o) w) (network_in o (sync no_networks)) h us left rest l (f o rest (sync_can o w g ts no_networks queue rest k))
+sync_composed o w g h ts us (more_networks n no_networks) queue left rest l k f =
+    composed_for_some (scope_meant (entries_in o) w) (network_in o (sync (more_networks n no_networks))) h us left rest l (f o rest (sync_can o w g ts (more_networks n no_networks) queue rest k))
+sync_composed o w g h ts us (more_networks m (more_networks n ns)) queue left rest l k f = absurd k.operators
 
 -- side by side
-pub first_can : (o : Origin) (g : Sig) (ts : List Tree) (n : PlainNetwork) (ns : PlainNetworks) (queue rest : List PlainLinear) → CanBeComposed o g ts (side_by_side (more_networks n ns)) queue rest → (between : List PlainLinear) × CanBeComposed o g ts n queue between
-first_can o g ts n ns queue rest k =
+pub first_can : (o : Origin) (w : PlainScope) (g : Sig) (ts : List Tree) (n : PlainNetwork) (ns : PlainNetworks) (queue rest : List PlainLinear) → CanBeComposed o w g ts (side_by_side (more_networks n ns)) queue rest
+    → (between : List PlainLinear) × CanBeComposed o (inside w n) g ts n queue between
+first_can o w g ts n ns queue rest k =
     let p = parts_parted o g ts (leaves n) (more_leaves ns) queue rest k.parts in
-    (p.0, record { since = k.since; identifiers = k.identifiers; operators = k.operators.0; parts = p.1 })
+    (p.0, record { since = k.since; identifiers = k.identifiers; operators = k.operators.0; scope = inside_fits o.signature w n k.scope; parts = p.1 })
 
-pub first_joined : (o : Origin) (g h : Sig) (ts us : List Tree) (n : PlainNetwork) (ns : PlainNetworks) (queue left rest : List PlainLinear) (l : PlainLinear) → IsSignature g → CanBeComposed o g ts (side_by_side (more_networks n ns)) queue rest
-    → GrowsByNames g h → Extends ts us → Composes g ts n queue h us left l → CanBeJoined o (network_in o (side_by_side (more_networks n ns))) h us l ns left rest
-first_joined o g h ts us n ns queue left rest l s k w kept f =
+pub first_joined : (o : Origin) (w : PlainScope) (g h : Sig) (ts us : List Tree) (n : PlainNetwork) (ns : PlainNetworks) (queue left rest : List PlainLinear) (l : PlainLinear) → IsSignature g → CanBeComposed o w g ts (side_by_side (more_networks n ns)) queue rest
+    → GrowsByNames g h → Extends ts us → Composes (inside w n) g ts n queue h us left l → CanBeJoined o w (network_in o (side_by_side (more_networks n ns))) h us l ns left rest
+first_joined o w g h ts us n ns queue left rest l s k by kept f =
     let p = parts_parted o g ts (leaves n) (more_leaves ns) queue rest k.parts in
-    let c = f o p.0 (record { since = k.since; identifiers = k.identifiers; operators = k.operators.0; parts = p.1 }) in
+    let c = f o p.0 (record { since = k.since; identifiers = k.identifiers; operators = k.operators.0; scope = inside_fits o.signature w n k.scope; parts = p.1 }) in
     record {
-      since = since_then o g h w k.since;
+      since = since_then o g h by k.since;
       identifiers = c.identifiers;
       operators = k.operators.1;
-      parts = subst (λ ls. HasParts o h us (more_leaves ns) ls rest) (sym c.is_left) (parts_stay o g h ts us (more_leaves ns) p.0 rest (both_named g h ts us s w (both_by_names g h ts us w kept)) p.2);
+      scope = k.scope;
+      parts = subst (λ ls. HasParts o h us (more_leaves ns) ls rest) (sym c.is_left) (parts_stay o g h ts us (more_leaves ns) p.0 rest (both_named g h ts us s by (both_by_names g h ts us by kept)) p.2);
       so_far = network_body (entries_in o) n;
-      linear = c.linear;
+      linear = inside_linear o w n h us (network_in o n) l c.linear;
       joined = refl;
     }
 
-pub next_can : (o : Origin) (whole : Process) (g : Sig) (ts : List Tree) (l : PlainLinear) (n : PlainNetwork) (ns : PlainNetworks) (queue rest : List PlainLinear) → CanBeJoined o whole g ts l (more_networks n ns) queue rest
-    → (between : List PlainLinear) × CanBeComposed o g ts n queue between
-next_can o whole g ts l n ns queue rest k =
+pub next_can : (o : Origin) (w : PlainScope) (whole : Process) (g : Sig) (ts : List Tree) (l : PlainLinear) (n : PlainNetwork) (ns : PlainNetworks) (queue rest : List PlainLinear) → CanBeJoined o w whole g ts l (more_networks n ns) queue rest
+    → (between : List PlainLinear) × CanBeComposed o (inside w n) g ts n queue between
+next_can o w whole g ts l n ns queue rest k =
     let p = parts_parted o g ts (leaves n) (more_leaves ns) queue rest k.parts in
-    (p.0, record { since = k.since; identifiers = k.identifiers; operators = k.operators.0; parts = p.1 })
+    (p.0, record { since = k.since; identifiers = k.identifiers; operators = k.operators.0; scope = inside_fits o.signature w n k.scope; parts = p.1 })
 
-pub so_far_fits : (o : Origin) (whole : Process) (g h : Sig) (ts us : List Tree) (l : PlainLinear) (ns : PlainNetworks) (queue rest : List PlainLinear) → IsSignature g → CanBeJoined o whole g ts l ns queue rest → GrowsByNames g h → Extends ts us → Fits h us l
-so_far_fits o whole g h ts us l ns queue rest s k w kept = (linear_stays g h ts us (both_named g h ts us s w (both_by_names g h ts us w kept)) (closed_in o k.so_far) l k.linear).fits
+pub so_far_fits : (o : Origin) (w : PlainScope) (whole : Process) (g h : Sig) (ts us : List Tree) (l : PlainLinear) (ns : PlainNetworks) (queue rest : List PlainLinear) → IsSignature g → CanBeJoined o w whole g ts l ns queue rest → GrowsByNames g h → Extends ts us → Fits h us l
+so_far_fits o w whole g h ts us l ns queue rest s k by kept = (linear_within_stays g h ts us (both_named g h ts us s by (both_by_names g h ts us by kept)) (scope_meant (entries_in o) w) (closed_in o k.so_far) l k.linear).fits
 
-pub next_fits : (o : Origin) (whole : Process) (g h : Sig) (ts us : List Tree) (l r : PlainLinear) (n : PlainNetwork) (ns : PlainNetworks) (queue left rest : List PlainLinear) → CanBeJoined o whole g ts l (more_networks n ns) queue rest → Composes g ts n queue h us left r → Fits h us r
-next_fits o whole g h ts us l r n ns queue left rest k f = let p = next_can o whole g ts l n ns queue rest k in (f o p.0 p.1).linear.fits
+pub next_fits : (o : Origin) (w : PlainScope) (whole : Process) (g h : Sig) (ts us : List Tree) (l r : PlainLinear) (n : PlainNetwork) (ns : PlainNetworks) (queue left rest : List PlainLinear) → CanBeJoined o w whole g ts l (more_networks n ns) queue rest → Composes (inside w n) g ts n queue h us left r → Fits h us r
+next_fits o w whole g h ts us l r n ns queue left rest k f = let p = next_can o w whole g ts l n ns queue rest k in (f o p.0 p.1).linear.fits
 
-pub next_joined : (o : Origin) (whole : Process) (g h i : Sig) (ts us vs : List Tree) (l r k : PlainLinear) (n : PlainNetwork) (ns : PlainNetworks) (queue left rest : List PlainLinear) → IsSignature g → CanBeJoined o whole g ts l (more_networks n ns) queue rest
-    → GrowsByNames g h → Extends ts us → Composes g ts n queue h us left r → GrowsByNames h i → Extends us vs → Fits i vs k → IsProduct h i vs l r k → IsGoodProduct i vs l r k → CanBeJoined o whole i vs k ns left rest
-next_joined o whole g h i ts us vs l r k n ns queue left rest s can w kept f w' kept' fits made good =
+pub next_joined : (o : Origin) (w : PlainScope) (whole : Process) (g h i : Sig) (ts us vs : List Tree) (l r k : PlainLinear) (n : PlainNetwork) (ns : PlainNetworks) (queue left rest : List PlainLinear) → IsSignature g → CanBeJoined o w whole g ts l (more_networks n ns) queue rest
+    → GrowsByNames g h → Extends ts us → Composes (inside w n) g ts n queue h us left r → GrowsByNames h i → Extends us vs → Fits i vs k → IsJoint w h i vs l r k → LeadsBeside (scope_meant (entries_of i vs) w) i vs l r k → CanBeJoined o w whole i vs k ns left rest
+next_joined o w whole g h i ts us vs l r k n ns queue left rest s can by kept f by' kept' fits joint leads =
     let p = parts_parted o g ts (leaves n) (more_leaves ns) queue rest can.parts in
-    let c = f o p.0 (record { since = can.since; identifiers = can.identifiers; operators = can.operators.0; parts = p.1 }) in
-    let one = both_named g h ts us s w (both_by_names g h ts us w kept) in
-    let two = both_named h i us vs w.stands w' (both_by_names h i us vs w' kept') in
-    let left_now = linear_stays g h ts us one (closed_in o can.so_far) l can.linear in
+    let c = f o p.0 (record { since = can.since; identifiers = can.identifiers; operators = can.operators.0; scope = inside_fits o.signature w n can.scope; parts = p.1 }) in
+    let one = both_named g h ts us s by (both_by_names g h ts us by kept) in
+    let two = both_named h i us vs by.stands by' (both_by_names h i us vs by' kept') in
+    let left_now = linear_within_stays g h ts us one (scope_meant (entries_in o) w) (closed_in o can.so_far) l can.linear in
+    let since = since_then o h i by' (since_then o g h by can.since) in
+    let made = joint_made w h i vs l r k joint in
     record {
-      since = since_then o h i w' (since_then o g h w can.since);
-      identifiers = product_named h i us vs l r k w.stands left_now.fits c.linear.fits made c.identifiers;
+      since = since;
+      identifiers = product_named made.how made.part h i us vs l r k by.stands left_now.fits c.linear.fits made.made c.identifiers;
       operators = can.operators.1;
+      scope = can.scope;
       parts = subst (λ ls. HasParts o i vs (more_leaves ns) ls rest) (sym c.is_left) (parts_stay o h i us vs (more_leaves ns) p.0 rest two (parts_stay o g h ts us (more_leaves ns) p.0 rest one p.2));
       so_far = written_merge can.so_far (network_body (entries_in o) n);
-      linear = beside_linear h i us vs (closed_in o can.so_far) (network_in o n) l r k two left_now c.linear fits made good;
+      linear = beside_linear o w h i us vs (closed_in o can.so_far) (network_in o n) l r k since can.scope two left_now (inside_linear o w n h us (network_in o n) r c.linear) fits joint leads;
       joined = can.joined;
     }
 
-pub all_joined : (o : Origin) (whole : Process) (g : Sig) (ts : List Tree) (l : PlainLinear) (queue rest : List PlainLinear) → CanBeJoined o whole g ts l no_networks queue rest → IsComposed whole g ts queue rest l
-all_joined o whole g ts l queue rest k = record {
+pub all_joined : (o : Origin) (w : PlainScope) (whole : Process) (g : Sig) (ts : List Tree) (l : PlainLinear) (queue rest : List PlainLinear) → CanBeJoined o w whole g ts l no_networks queue rest → IsComposed (scope_meant (entries_in o) w) whole g ts queue rest l
+all_joined o w whole g ts l queue rest k = record {
   identifiers = k.identifiers;
-  linear = subst (λ p. IsLinearFor g ts p l) k.joined k.linear;
+  linear = subst (λ p. IsLinearWithin (scope_meant (entries_in o) w) g ts p l) k.joined k.linear;
   is_left = none_in_front k.parts.parts k.parts.are k.parts.first;
 }
   where

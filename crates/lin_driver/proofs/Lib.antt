@@ -23,10 +23,13 @@ mod SortedTerms
 mod FittingOperators
 mod OpenedOperators
 mod ProductNames
+mod NetworkScopes
+mod JointLinears
 mod TakenColumns
 mod StayingLinears
 mod ComposedParts
 mod ComposedNetworks
+mod NetworkLaws
 mod MadeLeaves
 mod ModelLinears
 mod ElaboratedModels

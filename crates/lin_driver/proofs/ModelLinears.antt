@@ -14,6 +14,7 @@ use Rattle.process_terms.specs.PlainProcesses.{delta, PlainModel, PlainComponent
 use Rattle.process_terms.specs.Meanings.{Entries, body_of, definition_of, table_of, process_of, component_body}
 use Rattle.process_terms.specs.SignatureEntries.{entries_of, BothGrow}
 use Rattle.bisim_laws.specs.Links.{Same, Then, Dropped}
+use Rattle.bisim_laws.specs.Scopes as scopes
 use Rattle.bisim_laws.proofs.ComposedLinks.{then_good}
 use Rattle.bisim_laws.proofs.Firing.{contains_none}
 use Rattle.lps_core.specs.Fitting.{Fits}
@@ -43,6 +44,7 @@ use Rattle.lin_driver.specs.Leaves.{leaves}
 use Rattle.lin_driver.specs.LinearLeaves.{IsLeafOf, AreLeavesMade, IsLeavesFaultOf}
 use Rattle.lin_driver.specs.ModelLinears.{CanBeLinear, CanBeLinearFrom, LeadsToLinear, IsModelFaultOf}
 use Rattle.lin_driver.specs.declared.methods.Method.{Method}
+use Rattle.lin_driver.specs.NetworkScopes.{everything}
 use Rattle.lin_driver.specs.Parts.{network_in, CanBeComposed, IsComposed}
 use Rattle.lin_driver.specs.declared.fault.ModelFault.{ModelFault}
 use Rattle.lin_driver.specs.declared.fault.ModelFault.TheVariants.{Net, Guard, NotTail, NoMemory}
@@ -52,7 +54,7 @@ use Rattle.lin_driver.proofs.NamedVariables.{usable_named, summands_named, sums_
 use Rattle.lin_driver.proofs.NetworkLeaves.{all_leaves, both_hold}
 use Rattle.lin_driver.proofs.OpenedComponents.{opened_binds}
 use Rattle.lin_driver.proofs.OpenedOperators.{opened_operators_fit, network_fits_still}
-use Rattle.lin_driver.proofs.StayingLinears.{both_named, names_are_additions, fresh_by_names, own_names_stay, state_stays}
+use Rattle.lin_driver.proofs.StayingLinears.{both_named, names_are_additions, fresh_by_names, own_names_stay, state_stays, linear_for_all}
 
 -- ---- the leaves
 delta_is_leaf : (g : Sig) (ts : List Tree) (m : PlainModel) → ((e : Entries) → HaveOwnVariables (table_of e m.definitions) (body_of e m.init)) → IsLeafOf g ts m (term_of delta)
@@ -89,24 +91,25 @@ network_can_be_linear g b p q m n can w names kept same opened components = reco
 
 -- ---- what is composed
 pub network_can_be_composed : (method : Method) (g d : Sig) (p q : PoolContents) (m : PlainModel) (n : PlainNetwork) (ls : List PlainLinear) → CanBeLinearFrom g p m n → AreLeavesMade method g p d q m (leaves n) ls
-    → CanBeComposed (record { signature = g; trees = p.trees; model = m }) d q.trees n ls []
+    → CanBeComposed (record { signature = g; trees = p.trees; model = m }) everything d q.trees n ls []
 network_can_be_composed method g d p q m n ls can made = record {
   since = record { stands = can.ready.stands; grown = additions_grow g can.ready.stands made.grows; actions = same_actions g can.ready.stands made.grows };
   identifiers = usable_named d made.ready.names;
   operators = can.operators;
+  scope = tt;
   parts = record { parts = ls; are = made.linears; first = sym (append-nil ls) };
 }
 
 -- from the network to the linear process with named sums
 pub network_leads : (method : Method) (g d e h : Sig) (p q : PoolContents) (ws us : List Tree) (m : PlainModel) (n : PlainNetwork) (ls left : List PlainLinear) (l named : PlainLinear) → AreLeavesMade method g p d q m (leaves n) ls → GrowsByNames d e → GrowsByNames e h
-    → Extends ws us → IsComposed (network_in (record { signature = g; trees = p.trees; model = m }) n) e ws left [] l → SumsAreNamed e h ws us l named → Fits h us named → HaveOwnNames h named → NamingIsGood h us l named
+    → Extends ws us → IsComposed scopes.everything (network_in (record { signature = g; trees = p.trees; model = m }) n) e ws left [] l → SumsAreNamed e h ws us l named → Fits h us named → HaveOwnNames h named → NamingIsGood h us l named
     → LeadsToLinear g (network_process (entries_of g p.trees) m n) h us named
 network_leads method g d e h p q ws us m n ls left l named made de eh kept composed sums fits names naming =
     let dh = names_then d e h de eh in
-    let own = composed.linear in
+    let start = network_process (entries_of g p.trees) m n in
+    let own = linear_for_all e ws start l composed.linear in
     let both = both_by_names e h ws us eh kept in
     let grow = both_named e h ws us de.stands eh both in
-    let start = network_process (entries_of g p.trees) m n in
     let last = Dropped (all_kept (linear_of (entries_of h us) l).params) (linear_of (entries_of h us) l) (linear_of (entries_of h us) named) in
     record {
       stands = eh.stands;

@@ -18,9 +18,10 @@ use Rattle.process_terms.specs.Meanings.{Entries, bound_at}
 use Rattle.process_terms.specs.Processes.{Bound}
 use Rattle.process_terms.specs.SignatureEntries.{entries_of, BothGrow}
 use Rattle.bisim_laws.specs.BaseStates.{Side}
+use Rattle.bisim_laws.specs.LinearProcesses.{Linear}
 use Rattle.bisim_laws.proofs.Firing.{contains_first}
 use Rattle.lps_core.specs.Fitting.{Fits, IsVariable, HasTakenName}
-use Rattle.lps_core.specs.MadeTerms.{Written, StackSort, WasAnswered, Origin, origin_of, IsPlainlyConditioned}
+use Rattle.lps_core.specs.MadeTerms.{Written, StackSort, WasAnswered, Origin, origin_of, SummandIsPlain, IsPlainlyConditioned}
 use Rattle.lps_core.specs.Moving.{renaming_to}
 use Rattle.lps_core.specs.Naming.{GrowsByNames}
 use Rattle.lps_core.specs.PlainLinears.{PlainLinear, can_end, linear_of, initial_of}
@@ -35,7 +36,7 @@ use Rattle.summand_expander.specs.Product.{flag_of, columns, product, first_colu
 use Rattle.summand_expander.specs.Renewals.{IsFlag, renewed_variable, renewed_variables}
 use Rattle.summand_expander.specs.Renewing.{renewed_bounds, renewed}
 use Rattle.summand_expander.specs.SideFits.{IsFlagOf}
-use Rattle.summand_expander.specs.WholeProducts.{renewed_number, side_of_linear, renewed_side, IsProduct}
+use Rattle.summand_expander.specs.WholeProducts.{renewed_number, side_of_linear, renewed_side, IsMadeOfSides}
 use Rattle.summand_expander.proofs.GivingWay.{NewOnes, taken_stays}
 use Rattle.summand_expander.proofs.NewVariables.{renaming_is_term, declared_renewed}
 use Rattle.summand_expander.proofs.RenewedFits.{bounds_renewed}
@@ -44,7 +45,7 @@ use Rattle.greibach.proofs.GrownFits.{both_by_names}
 use Rattle.lin_driver.specs.PlainlyMade.{IsAddedParameter, an_ended_flag, in_its_place, IsPlainFor}
 use Rattle.lin_driver.proofs.PlainGrowing.{added_variables, plain_on}
 use Rattle.lin_driver.proofs.PlainProducts.{FlagIsAdded, renewed_plain, product_plain}
-use Rattle.lin_driver.proofs.ProductNames.{params_are, one, given, two, to2}
+use Rattle.lin_driver.proofs.ProductNames.{IsPartOfProduct, params_are, one, given, two, to2}
 
 -- ---- flags
 flag_of_some : (flag : Option ℕ) (f : ℕ) → flag ≡ Some f → Contains (flag_of flag) (record { var = f; sort = boolean })
@@ -71,7 +72,8 @@ new_ones_on g h i os ns w n = record {
 }
 
 -- ---- the product
-module _ (s g h : Sig) (p q : PoolContents) (w : Written) (l r k : PlainLinear) (old : IsSignature g) (since : IsGrown s g) (by : GrowsByNames g h) (kept : Extends p.trees q.trees) (made_fits : Fits h q.trees k) (made : IsProduct g h q.trees l r k)
+module _ (f : Side → Side → Linear) (part : IsPartOfProduct f) (s g h : Sig) (p q : PoolContents) (w : Written) (l r k : PlainLinear) (old : IsSignature g) (since : IsGrown s g) (by : GrowsByNames g h) (kept : Extends p.trees q.trees) (made_fits : Fits h q.trees k)
+    (made : IsMadeOfSides f g h q.trees l r k)
     (before : IsPlainFor s g p w l) (before' : IsPlainFor s g p w r) where
   abbrev e : Entries
   e = entries_of h q.trees
@@ -113,13 +115,13 @@ module _ (s g h : Sig) (p q : PoolContents) (w : Written) (l r k : PlainLinear) 
   ns = made.news
 
   flag_first : FlagStands g g1 (can_end l) made.left_flag
-  flag_first = one g h p.trees q.trees l r k old before.fits before'.fits made
+  flag_first = one f part g h p.trees q.trees l r k old before.fits before'.fits made
 
   flag_last : FlagStands g2 h (can_end r) made.right_flag
-  flag_last = two g h p.trees q.trees l r k old before.fits before'.fits made
+  flag_last = two f part g h p.trees q.trees l r k old before.fits before'.fits made
 
   news_first : NewOnes g1 g2 os ns
-  news_first = (given g h p.trees q.trees l r k old before.fits before'.fits made).new
+  news_first = (given f part g h p.trees q.trees l r k old before.fits before'.fits made).new
 
   news : NewOnes g1 h os ns
   news = new_ones_on g1 g2 h os ns flag_last.on news_first
@@ -207,7 +209,7 @@ module _ (s g h : Sig) (p q : PoolContents) (w : Written) (l r k : PlainLinear) 
       (All-append (IsAddedParameter s h) left.added (option_to_list made.left_flag) left.are_added
       (flag_added s g g1 h (can_end l) made.left_flag since made.left flag_first.with_flag (growth_after_growth_is_growth g1 g2 h news_first.on.grown flag_last.on.grown)))
       (All-append (IsAddedParameter s h) (renewed_variables os ns right.added) (option_to_list made.right_flag) (all_renewed right.added right.are_added)
-      (flag_added s g2 h h (can_end r) made.right_flag (growth_after_growth_is_growth s g g2 since (to2 g h p.trees q.trees l r k old before.fits before'.fits made).grown) made.right flag_last.with_flag (grown_itself h)))
+      (flag_added s g2 h h (can_end r) made.right_flag (growth_after_growth_is_growth s g g2 since (to2 f part g h p.trees q.trees l r k old before.fits before'.fits made).grown) made.right flag_last.with_flag (grown_itself h)))
 
   -- each is a parameter of the product
   renewed_in : (xs ys : List VarId) → ((x : VarId) → Contains xs x → Contains ys x) → (z : VarId) → Contains (renewed_variables os ns xs) z → Contains (renewed_variables os ns ys) z
@@ -217,7 +219,7 @@ module _ (s g h : Sig) (p q : PoolContents) (w : Written) (l r k : PlainLinear) 
   among_parameters x i =
       let ls = l.params ++ option_to_list made.left_flag in
       let rs = renewed_variables os ns r.params ++ option_to_list made.right_flag in
-      subst (λ xs. Contains xs x) (sym (params_are g h q.trees l r k made)) (⊎_elim
+      subst (λ xs. Contains xs x) (sym (params_are f part g h q.trees l r k made)) (⊎_elim
       (λ j. Contains-append_left ls rs x (⊎_elim
       (λ m. Contains-append_left l.params (option_to_list made.left_flag) x (left.are_parameters x m))
       (λ m. Contains-append_right l.params (option_to_list made.left_flag) x m)
@@ -231,6 +233,10 @@ module _ (s g h : Sig) (p q : PoolContents) (w : Written) (l r k : PlainLinear) 
   whole : IsPlainlyConditioned o bounds (product a b) (first_columns a (initial_of e l) ++ first_columns b (initial_of e r))
   whole = product_plain o bounds a b (map (bound_at e) left.added) (renewed_bounds ρ (map (bound_at e) right.added)) own_left own_right left_flag_added right_flag_added (initial_of e l) (initial_of e r) left_plain new_right
 
+  -- and with some of its summands
+  some : IsPlainlyConditioned o bounds (f a b) (first_columns a (initial_of e l) ++ first_columns b (initial_of e r))
+  some = record { starts = whole.starts; summands = λ x i. subst (λ ps. SummandIsPlain o bounds ps x) (sym (part.params a b)) (whole.summands x (part.among a b x i)) }
+
   pub product_is_plain : IsPlainFor s h q w k
   product_is_plain = record {
     fits = made_fits;
@@ -239,5 +245,5 @@ module _ (s g h : Sig) (p q : PoolContents) (w : Written) (l r k : PlainLinear) 
     added = added;
     are_added = all_added;
     are_parameters = among_parameters;
-    plain = subst (λ ts. IsPlainlyConditioned o bounds (linear_of e k) ts) (sym made.initial) (subst (λ z. IsPlainlyConditioned o bounds z (first_columns a (initial_of e l) ++ first_columns b (initial_of e r))) (sym made.linear) whole);
+    plain = subst (λ ts. IsPlainlyConditioned o bounds (linear_of e k) ts) (sym made.initial) (subst (λ z. IsPlainlyConditioned o bounds z (first_columns a (initial_of e l) ++ first_columns b (initial_of e r))) (sym made.linear) some);
   }

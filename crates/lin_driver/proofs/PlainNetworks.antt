@@ -20,15 +20,17 @@ use Rattle.lps_core.specs.PlainLinears.{PlainLinear, plain_linear, linear_of}
 use Rattle.lps_core.proofs.Staying.{what_fits_stays}
 use Rattle.action_filters.specs.Filters.{with_labels}
 use Rattle.communication.specs.Communicated.{communicating}
-use Rattle.summand_expander.specs.WholeProducts.{IsProduct}
 use Rattle.proc_unfold.specs.declared.networks.NetOp.{NetOp}
 use Rattle.proc_unfold.specs.declared.networks.Network.{Network}
 use Rattle.proc_unfold.specs.declared.networks.Network.TheVariants as nets
 use Rattle.proc_unfold.specs.Networks.{PlainNetwork, networks_of, plain_network, plain_operator}
 use Rattle.proc_unfold.proofs.ProcessSteps.{side_step, synced_step, under_step}
 use Rattle.greibach.proofs.GrownFits.{both_by_names, pool_alone}
+use Rattle.lin_driver.specs.NetworkProducts.{IsJoint}
+use Rattle.lin_driver.specs.NetworkScopes.{PlainScope}
 use Rattle.lin_driver.specs.PlainlyMade.{IsPlainFor, IsCommWritten, AreCommsWritten, AreCommsWrittenBeside, StaysPlainAround, ComposesPlainly}
 use Rattle.lin_driver.proofs.ComposedNetworks.{beside_all}
+use Rattle.lin_driver.proofs.JointLinears.{joint_made}
 use Rattle.lin_driver.proofs.PlainBeside.{product_is_plain}
 use Rattle.lin_driver.proofs.PlainCommunications.{communication_is_plain}
 use Rattle.lin_driver.proofs.PlainFilters.{KeepsArguments, filter_is_plain}
@@ -83,15 +85,16 @@ comms_at w (y ∷ xs) (suc i) x l is h = comms_at w xs i x (omega (arith, l)) is
 pub first_plainly : (g h : Sig) (p q : PoolContents) (xs : List Network) (x : Network) (queue left : List PlainLinear) (l : PlainLinear) → 0 < length xs → x ≡ get_or xs 0 x → ComposesPlainly g p (plain_network x) queue h q left l → ComposesPlainly g p (beside_all xs) queue h q left l
 first_plainly g h p q xs x queue left l some is f s w since comms all = f s w since (comms_at w xs 0 x some is comms) all
 
-pub next_plainly : (g h i j : Sig) (p q r t : PoolContents) (xs : List Network) (place : ℕ) (x : Network) (queue left rest : List PlainLinear) (l m k : PlainLinear) → place < length xs → x ≡ get_or xs place x → GrowsByNames g h
-    → ComposesPlainly g p (beside_all xs) queue h q left l → GrowsByNames h i → Extends q.trees r.trees → ComposesPlainly h q (plain_network x) left i r rest m → GrowsByNames i j → Extends r.trees t.trees → Fits j t.trees k → IsProduct i j t.trees l m k
+pub next_plainly : (v : PlainScope) (g h i j : Sig) (p q r t : PoolContents) (xs : List Network) (place : ℕ) (x : Network) (queue left rest : List PlainLinear) (l m k : PlainLinear) → place < length xs → x ≡ get_or xs place x → GrowsByNames g h
+    → ComposesPlainly g p (beside_all xs) queue h q left l → GrowsByNames h i → Extends q.trees r.trees → ComposesPlainly h q (plain_network x) left i r rest m → GrowsByNames i j → Extends r.trees t.trees → Fits j t.trees k → IsJoint v i j t.trees l m k
     → ComposesPlainly g p (beside_all xs) queue j t rest k
-next_plainly g h i j p q r t xs place x queue left rest l m k low is gh so_far hi kept next ij kept' fits made s w since comms all =
+next_plainly v g h i j p q r t xs place x queue left rest l m k low is gh so_far hi kept next ij kept' fits joint s w since comms all =
     let before = so_far s w since comms all in
     let sh = growth_after_growth_is_growth s g h since gh.grown in
     let si = growth_after_growth_is_growth s h i sh hi.grown in
     let one = next s w sh (comms_at w xs place x low is comms) before.1 in
-    let joined = plain_on s h i q r w l gh.stands hi.stands (both_by_names h i q.trees r.trees hi kept) before.0 in (
-      product_is_plain s i j r t w l m k hi.stands si ij kept' fits made joined one.0,
+    let joined = plain_on s h i q r w l gh.stands hi.stands (both_by_names h i q.trees r.trees hi kept) before.0 in
+    let made = joint_made v i j t.trees l m k joint in (
+      product_is_plain made.how made.part s i j r t w l m k hi.stands si ij kept' fits made.made joined one.0,
       All-weaker (IsPlainFor s i r w) (IsPlainFor s j t w) (λ y n. plain_on s i j r t w y hi.stands ij.stands (both_by_names i j r.trees t.trees ij kept') n) rest one.1,
     )

@@ -19,7 +19,8 @@ use Rattle.term_pool.proofs.DeclaredConstants.{grown_itself, fresh_grows}
 use Rattle.process_terms.specs.Meanings.{Entries, bound_at}
 use Rattle.process_terms.specs.Processes.{Bound}
 use Rattle.process_terms.specs.SignatureEntries.{entries_of}
-use Rattle.bisim_laws.specs.LinearProcesses.{Linear}
+use Rattle.bisim_laws.specs.BaseStates.{Side}
+use Rattle.bisim_laws.specs.LinearProcesses.{Summand, Linear}
 use Rattle.bisim_laws.proofs.Firing.{contains_cases, contains_none}
 use Rattle.lps_core.specs.Fitting.{Fits, IsVariable, sort_of_variable, HasTakenName}
 use Rattle.lps_core.specs.Naming.{name_of, function_names, GrowsByNames, it_is_new, ParamsHaveOwnNames}
@@ -29,10 +30,10 @@ use Rattle.lps_core.proofs.Members.{all_from, contains_map}
 use Rattle.lps_core.proofs.NamedSums.{names_then, variable_kept, name_kept, all_front, all_last}
 use Rattle.lps_core.proofs.PoolTrees.{extends_itself}
 use Rattle.lps_core.proofs.StayingFits.{what_fits_fits_still}
-use Rattle.summand_expander.specs.Product.{flag_of, columns}
+use Rattle.summand_expander.specs.Product.{flag_of, columns, product}
 use Rattle.summand_expander.specs.Renewals.{IsFlag, no_flag, new_flag, all_sums, HasVariable, IsNew, under_its_name, under_a_fresh_name, OneIsRenewed, it_has_been, it_stays, it_is_renewed, AreRenewed, no_variable, one_variable, IsNoName, IsNameOf, renewed_variable, renewed_variables}
 use Rattle.summand_expander.specs.Renewing.{renewed_bounds}
-use Rattle.summand_expander.specs.WholeProducts.{renewed_number, side_of_linear, renewed_side, IsProduct}
+use Rattle.summand_expander.specs.WholeProducts.{renewed_number, side_of_linear, renewed_side, IsMadeOfSides}
 use Rattle.summand_expander.proofs.DifferentNames.{run_grows, right_apart, all_names_differ}
 use Rattle.summand_expander.proofs.GivingWay.{HasGivenWay, has_given_way, none_new, all_stand, all_each}
 use Rattle.summand_expander.proofs.MadeProducts.{all_sums_are_variables}
@@ -57,7 +58,12 @@ renewed_back : (e : Entries) (os ns xs : List VarId) → ids_of (renewed_bounds 
 renewed_back e os ns [] = refl
 renewed_back e os ns (x ∷ xs) = ap (λ ys. renewed_variable os ns x ∷ ys) (renewed_back e os ns xs)
 
-module _ (g h : Sig) (us : List Tree) (l r k : PlainLinear) (made : IsProduct g h us l r k) where
+-- the product without some of its summands
+pub record IsPartOfProduct (f : Side → Side → Linear) : Type 0 where
+  pub params : (a b : Side) → (f a b).params ≡ (product a b).params
+  pub among : (a b : Side) (s : Summand) → Contains (f a b).summands s → Contains (product a b).summands s
+
+module _ (f : Side → Side → Linear) (part : IsPartOfProduct f) (g h : Sig) (us : List Tree) (l r k : PlainLinear) (made : IsMadeOfSides f g h us l r k) where
   abbrev e : Entries
   e = entries_of h us
 
@@ -82,11 +88,12 @@ module _ (g h : Sig) (us : List Tree) (l r k : PlainLinear) (made : IsProduct g 
   params_are =
       sym (ids_back e k.params)
       ∙ ap (λ (z : Linear). ids_of z.params) made.linear
+      ∙ ap ids_of (part.params (side_of_linear e l made.left_flag) (renewed_side e made.olds made.news r made.right_flag))
       ∙ map-append (λ (b : Bound). record { 0 = b.var }) (columns (side_of_linear e l made.left_flag)) (columns (renewed_side e made.olds made.news r made.right_flag))
       ∙ ap₂ (λ (xs ys : List VarId). xs ++ ys) left_back right_back
 
 -- ---- names of their own
-module _ (g h : Sig) (ts us : List Tree) (l r k : PlainLinear) (s : IsSignature g) (fl : Fits g ts l) (fr : Fits g ts r) (made : IsProduct g h us l r k) where
+module _ (f : Side → Side → Linear) (part : IsPartOfProduct f) (g h : Sig) (ts us : List Tree) (l r k : PlainLinear) (s : IsSignature g) (fl : Fits g ts l) (fr : Fits g ts r) (made : IsMadeOfSides f g h us l r k) where
   abbrev g1 : Sig
   g1 = made.with_left_flag
 
@@ -160,11 +167,11 @@ module _ (g h : Sig) (ts us : List Tree) (l r k : PlainLinear) (s : IsSignature 
       ⊎_elim
       (λ j. ⊎_elim (λ c. left_unused own x c) (λ c. left_flag_unused x c) (Contains-append_cases l.params (option_to_list made.left_flag) x j))
       (λ j. ⊎_elim (λ c. right_unused other x c) (λ c. right_flag_unused x c) (Contains-append_cases (renewed_variables made.olds made.news r.params) (option_to_list made.right_flag) x j))
-      (Contains-append_cases xs ys x (subst (λ zs. Contains zs x) (params_are g h us l r k made) i))
+      (Contains-append_cases xs ys x (subst (λ zs. Contains zs x) (params_are f part g h us l r k made) i))
 
   pub product_params_have_own_names : ParamsHaveOwnNames g l.params → ParamsHaveOwnNames g r.params → ParamsHaveOwnNames h k.params
   product_params_have_own_names own other = record {
-    differ = subst (λ xs. AreDistinct (map (λ (n : NameId). n.0) (map (name_of h) xs))) (sym (params_are g h us l r k made))
+    differ = subst (λ xs. AreDistinct (map (λ (n : NameId). n.0) (map (name_of h) xs))) (sym (params_are f part g h us l r k made))
         (all_names_differ g g1 g2 h ts ts l r made.left_flag made.right_flag made.olds made.news (can_end l) (can_end r) fl fr fr1 one made.gives_way given.new two own.differ other.differ);
     unused = all_from (λ x. ¬ (Contains (function_names h) (name_of h x))) k.params (each_unused own other);
   }
@@ -198,9 +205,9 @@ run_named {g = g} (one_variable {xs = xs} {h = h} {k = k} {x = x} a o) l all =
     let m = one_named o (variable_kept g h x r.grown (all_last (IsVariable g) xs x l)) r.all in
     record { grown = growth_after_growth_is_growth g h k r.grown m.grown; all = m.all }
 
-pub product_named : (g h : Sig) (ts us : List Tree) (l r k : PlainLinear) → IsSignature g → Fits g ts l → Fits g ts r → IsProduct g h us l r k → HaveIdentifiers g → HaveIdentifiers h
-product_named g h ts us l r k s fl fr made all =
-    let still = fr1 g h ts us l r k s fl fr made in
+pub product_named : (f : Side → Side → Linear) → IsPartOfProduct f → (g h : Sig) (ts us : List Tree) (l r k : PlainLinear) → IsSignature g → Fits g ts l → Fits g ts r → IsMadeOfSides f g h us l r k → HaveIdentifiers g → HaveIdentifiers h
+product_named f part g h ts us l r k s fl fr made all =
+    let still = fr1 f part g h ts us l r k s fl fr made in
     let way = made.gives_way in
     let params = run_named way.params still.params (flag_named made.left all) in
     let sums = run_named way.sums (All-weaker (IsVariable made.with_left_flag) (IsVariable way.between) (λ x i. variable_kept made.with_left_flag way.between x params.grown i) (all_sums r.summands) (all_sums_are_variables made.with_left_flag ts r still)) params.all in

@@ -12,12 +12,13 @@ use Rattle.data_theory.specs.IdTerms.{IsGrown}
 use Rattle.process_terms.specs.Processes.{Process}
 use Rattle.process_terms.specs.SignatureEntries.{entries_of, BothGrow}
 use Rattle.bisim_laws.specs.LinearProcesses.{state_of}
+use Rattle.bisim_laws.specs.Scopes.{Scope, everything}
 use Rattle.lps_core.specs.Fitting.{Fits, IsVariable, HasTakenName}
-use Rattle.lps_core.specs.GoingOn.{IsGoodOver}
+use Rattle.lps_core.specs.GoingOn.{IsGoodOver, IsGoodOverWithin}
 use Rattle.lps_core.specs.Naming.{name_of, function_names, GrowsByNames, ParamsHaveOwnNames}
 use Rattle.lps_core.specs.PlainLinears.{PlainLinear, linear_state}
 use Rattle.lps_core.proofs.FunctionNames.{function_names_stay}
-use Rattle.lps_core.proofs.GrowingData.{good_stay_good}
+use Rattle.lps_core.proofs.GrowingData.{good_stay_good, within_stay_good, good_over_within, good_for_all}
 use Rattle.lps_core.proofs.Members.{all_from}
 use Rattle.lps_core.proofs.NamedSums.{name_kept, names_kept, taken_name}
 use Rattle.lps_core.proofs.Staying.{what_fits_stays}
@@ -25,7 +26,7 @@ use Rattle.lps_core.proofs.StayingFits.{what_fits_fits_still}
 use Rattle.lps_printer.specs.GrowingByAdditions.{GrowsByAdditions}
 use Rattle.lps_printer.proofs.GrowingByAdditions.{still_stands, constants_are_additions}
 use Rattle.lps_printer.proofs.GrowingByConstants.{on_names}
-use Rattle.lin_driver.specs.Parts.{IsLinearFor}
+use Rattle.lin_driver.specs.Parts.{IsLinearFor, IsLinearWithin}
 use Rattle.lin_driver.proofs.FreshFunctions.{NewNamesAreFresh, fresh_by_additions}
 
 pub fresh_by_names : (g h : Sig) → IsSignature g → GrowsByNames g h → NewNamesAreFresh g h
@@ -69,6 +70,21 @@ module _ (g h : Sig) (ts us : List Tree) (w : GrowsOnBoth g h ts us) where
     link = k.link;
     bisimilar = subst (λ q. IsGoodOver h k.link p q) (sym (state_stays l k.fits)) (good_stay_good g h w.old.table w.old.roles w.new.roles w.both.signature k.link p (linear_state (entries_of g ts) l) k.bisimilar);
   }
+
+  pub linear_within_stays : (v : Scope) (p : Process) (l : PlainLinear) → IsLinearWithin v g ts p l → IsLinearWithin v h us p l
+  linear_within_stays v p l k = record {
+    fits = what_fits_fits_still g h ts us l w.old.table w.old.complete w.new.table w.both k.fits;
+    params = own_names_stay g h l.params w.both.signature w.fresh k.fits.params k.fits.taken k.params;
+    link = k.link;
+    bisimilar = subst (λ q. IsGoodOverWithin h v k.link p q) (sym (state_stays l k.fits)) (within_stay_good g h w.old.table w.old.roles w.new.roles w.both.signature v k.link p (linear_state (entries_of g ts) l) k.bisimilar);
+  }
+
+-- ---- for some labels, and for all
+pub linear_for_some : (v : Scope) (g : Sig) (ts : List Tree) (p : Process) (l : PlainLinear) → IsLinearFor g ts p l → IsLinearWithin v g ts p l
+linear_for_some v g ts p l k = record { fits = k.fits; params = k.params; link = k.link; bisimilar = good_over_within g v k.link p (linear_state (entries_of g ts) l) k.bisimilar }
+
+pub linear_for_all : (g : Sig) (ts : List Tree) (p : Process) (l : PlainLinear) → IsLinearWithin everything g ts p l → IsLinearFor g ts p l
+linear_for_all g ts p l k = record { fits = k.fits; params = k.params; link = k.link; bisimilar = good_for_all g k.link p (linear_state (entries_of g ts) l) k.bisimilar }
 
 pub zip_weaker : {A B : Type 0} (P Q : A → B → Type 0) → ((x : A) (y : B) → P x y → Q x y) → (xs : List A) (ys : List B) → AllZip P xs ys → AllZip Q xs ys
 zip_weaker P Q f [] [] k = tt

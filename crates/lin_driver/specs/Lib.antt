@@ -4,6 +4,9 @@ pub mod Leaves
 pub mod TakenNames
 pub mod NamedSignatures
 pub mod FittingOperators
+pub mod NetworkScopes
+pub mod NetworkProducts
+pub mod NetworkLaws
 pub mod Parts
 pub mod LinearLeaves
 pub mod Faults
@@ -26,6 +29,7 @@ pub mod PlainlyMade
 pub mod AddedSorts
 pub mod CanonicalNames
 pub mod NeededParts
+pub mod MadeFromLeaves
 pub mod SettledNetworks
 pub mod KeptTexts
 pub mod WrittenTexts

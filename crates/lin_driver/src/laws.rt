@@ -73,6 +73,7 @@ pub fn texts_declare_identifiers()
     ensures { TextsDeclareIdentifiers }
 {}
 
+ghost use Rattle.lin_driver.specs.NetworkLaws.{WhatIsKeptIsOfWholeProducts};
 ghost use Rattle.lin_driver.specs.Numberings.{RecursionNeedsNoNumbering, TypingNeedsNoNumbering};
 
 /// Whether a text is well typed, and which fault it has if not, doesn't hang on the numbers of its sorts and functions; nor does whether its
@@ -121,4 +122,9 @@ ghost use Rattle.lin_driver.specs.EachReading.{WhatStandsForATextDoesSoInEachRea
 /// What stands for a text does so in each reading of both texts.
 pub fn what_stands_for_a_text_does_so_in_each_reading()
     ensures { WhatStandsForATextDoesSoInEachReading }
+{}
+
+/// Of networks side by side under `comm` under `allow` the linear process is what both keep of whole products.
+pub fn products_within_lose_nothing()
+    ensures { WhatIsKeptIsOfWholeProducts }
 {}

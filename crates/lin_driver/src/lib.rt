@@ -20,6 +20,7 @@ mod linearising;
 mod methods;
 mod model_linearising;
 mod reading;
+mod scopes;
 mod tidying;
 mod variable_names;
 

@@ -17,6 +17,7 @@ ghost use Rattle.lin_driver.specs.CanonicalNames.{HasCanonicalNames};
 ghost use Rattle.lin_driver.specs.Faults.{IsFaultBy};
 ghost use Rattle.lin_driver.specs.KeptTexts.{KeepsItsText};
 ghost use Rattle.lin_driver.specs.Linearised.{HasComponents, IsLinearised, IsMadeFor, IsMadeOf};
+ghost use Rattle.lin_driver.specs.MadeFromLeaves.{IsMadeAlongNetworkFor};
 ghost use Rattle.lin_driver.specs.PlainlyMade.{IsPlainlyMadeFor};
 ghost use Rattle.lin_driver.specs.Refusals.{IsRefusedWith, IsSpecFault};
 
@@ -89,6 +90,7 @@ fn linear_of_spec(
     ensures conditions { IfOk result (λ made. HaveNoNeedlessTrue sig.new pool.new.trees (plain_linear made.2)) }
     ensures sorts { IfOk result (λ _. AddsNoSort method (spec_of spec.now) sig.new) }
     ensures keeps { IfOk result (λ made. KeepsItsText method (spec_of spec.now) sig.new pool.new (plain_linear made.2)) }
+    ensures composed { IfOk result (λ made. IsMadeAlongNetworkFor method (spec_of spec.now) sig.new pool.new.trees (plain_linear made.2)) }
     ensures components { IfOk result (λ made. HasComponents (spec_of spec.now) made.3) }
     ensures refused { IfErr result (λ fault. fault ≢ LinFault.NoMemory → IsSpecFault (spec_of spec.now) sig.new.texts fault) }
     ensures by { IfErr result (IsFaultBy method) }
@@ -122,6 +124,7 @@ fn linear_of_built(
     ensures conditions { IfOk result (λ made. HaveNoNeedlessTrue made.sig made.pool.trees (plain_linear made.lin)) }
     ensures sorts { IfOk result (λ made. AddsNoSort method (spec_of made.spec) made.sig) }
     ensures keeps { IfOk result (λ made. KeepsItsText method (spec_of made.spec) made.sig made.pool (plain_linear made.lin)) }
+    ensures composed { IfOk result (λ made. IsMadeAlongNetworkFor method (spec_of made.spec) made.sig made.pool.trees (plain_linear made.lin)) }
     ensures components { IfOk result (λ made. HasComponents (spec_of made.spec) made.components) }
     ensures refused { IfErr result (λ fault. fault ≢ LinFault.NoMemory → IsSpecFault (spec_of spec) names.new fault) }
     ensures by { IfErr result (IsFaultBy method) }
@@ -152,7 +155,9 @@ fn linear_of_built(
 /// consistent. Constants for sorts without constructors and structs of stacks may have been declared, and nothing else is new to the data; no
 /// struct is, where no component needs a stack. The linear process is plainly conditioned for what the text's specification writes. It gets the
 /// first of the names `P`, `P_1`, .. that is free; its parameters and the sums of a summand have names of their own, and none is a function's.
-/// No condition of two or more parts has the part `true`.
+/// No condition of two or more parts has the part `true`. It is composed of the linear processes of the components. A product directly under
+/// `allow`, or under `comm` directly under that, and each product directly inside such a one is the product within what can be completed to an
+/// allowed set.
 /// The text is one that [`check_text`](crate::check_text) accepts.
 ///
 /// Of a linear text the linear process keeps the parameters, the initial terms and the summands in their order, unless the method is `Stack`: only the
@@ -179,6 +184,7 @@ pub fn linearise(
     ensures sorts { IfOk result (λ made. AddsNoSort method (spec_of made.spec) made.sig) }
     ensures names { IfOk result (λ made. HasCanonicalNames (spec_of made.spec) made.sig made.name (plain_linear made.lin)) }
     ensures keeps { IfOk result (λ made. KeepsItsText method (spec_of made.spec) made.sig made.pool (plain_linear made.lin)) }
+    ensures composed { IfOk result (λ made. IsMadeAlongNetworkFor method (spec_of made.spec) made.sig made.pool.trees (plain_linear made.lin)) }
     ensures components { IfOk result (λ made. HasComponents (spec_of made.spec) made.components) }
     ensures refused { IfErr result (λ fault. fault ≢ LinFault.NoMemory → IsRefusedWith text.now names.new fault) }
     ensures by { IfErr result (IsFaultBy method) }

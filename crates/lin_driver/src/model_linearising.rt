@@ -23,6 +23,7 @@ ghost use Rattle.lin_driver.specs.Faults.{IsModelFaultBy};
 ghost use Rattle.lin_driver.specs.KeptTexts.{KeepsModel, KeepsNetwork};
 ghost use Rattle.lin_driver.specs.Leaves.{leaves, HasLeaves};
 ghost use Rattle.lin_driver.specs.LinearLeaves.{IsLeavesFaultOf};
+ghost use Rattle.lin_driver.specs.MadeFromLeaves.{IsMadeAlongNetwork, IsMadeFromLeaves};
 ghost use Rattle.lin_driver.specs.ModelLinears.{CanBeLinear, CanBeLinearFrom, IsModelFaultOf, IsProcessName, LeadsToLinear};
 ghost use Rattle.lin_driver.specs.PlainlyMade.{IsPlainFor, written_in_model};
 ghost use Rattle.lin_driver.specs.SettledNetworks.{settled, settled_component, KeepsTheCall};
@@ -33,6 +34,7 @@ use crate::composing::compose;
 use crate::fault::ModelFault;
 use crate::leaves::leaves_of;
 use crate::methods::Method;
+use crate::scopes::Scope;
 use crate::tidying::tidy_conditions;
 use crate::variable_names::take_variable_names;
 use data_theory::{NameId, NoMemory, Signature};
@@ -124,6 +126,7 @@ fn linear_of_network(
     ensures conditions { IfOk result (λ made. HaveNoNeedlessTrue sig.new pool.new.trees (plain_linear made.0)) }
     ensures sorts { IfOk result (λ _. All (NeedsNoStack method (plain_model guarded.now.model.now)) (leaves (plain_network network.now)) → sig.new.sorts ≡ sig.old.sorts) }
     ensures keeps { IfOk result (λ made. KeepsNetwork method (entries_of sig.new pool.new.trees) (plain_model guarded.now.model.now) (plain_network network.now) (plain_linear made.0)) }
+    ensures composed { IfOk result (λ made. IsMadeFromLeaves method sig.old pool.old (plain_model guarded.now.model.now) (plain_network network.now) sig.new pool.new.trees (plain_linear made.0)) }
     ensures components { IfOk result (λ made. made.1 ≡ length (leaves (plain_network network.now))) }
     ensures refused { IfErr result (IsLeavesFaultOf (plain_model guarded.now.model.now) (leaves (plain_network network.now))) }
     ensures by { IfErr result (IsModelFaultBy method) }
@@ -131,7 +134,7 @@ fn linear_of_network(
     signature_stands(sig);
     let components = leaves_of(alloc, network)?;
     let mut parts = linear_components(alloc, guarded, components.as_slice(), method, sig, pool)?;
-    let composed = compose(alloc, network, &mut parts, sig, pool)?;
+    let composed = compose(alloc, network, &Scope::Everything, &mut parts, sig, pool)?;
     let named = name_sums(alloc, composed, sig, pool)?;
     let tidy = tidy_conditions(alloc, named, pool)?;
     Ok((tidy, components.len()))
@@ -140,7 +143,8 @@ fn linear_of_network(
 /// The linear process of a specification by a method, with the name of its process and the number of the components of its network.
 ///
 /// The process gets its name first. Then the components are made linear from the left, then come the products and the operators from the
-/// inside, and the sums get their names. Last the needless parts `true` of conditions go. The result is plainly conditioned for what the
+/// inside, and the sums get their names. A product directly under `allow`, or under `comm` directly under that, and each product directly inside
+/// such a one is the product within what can be completed to an allowed set. Last the needless parts `true` of conditions go. The result is plainly conditioned for what the
 /// specification writes, none of its conditions of two or more parts has the part `true`, and no sort is added where no component needs a
 /// stack. Of a linear text it keeps the parameters, the initial terms and the summands, unless the method is `Stack`.
 ///
@@ -165,6 +169,7 @@ pub fn linear_of(
     ensures sorts { IfOk result (λ _. IsWithoutStacks method (plain_model model.now) → sig.new.sorts ≡ sig.old.sorts) }
     ensures name { IfOk result (λ made. IsProcessName sig.old sig.new made.0) }
     ensures keeps { IfOk result (λ made. KeepsModel method (entries_of sig.new pool.new.trees) (plain_model model.now) (plain_linear made.1)) }
+    ensures composed { IfOk result (λ made. IsMadeAlongNetwork method (plain_model model.now) sig.new pool.new.trees (plain_linear made.1)) }
     ensures components { IfOk result (λ made. HasLeaves (plain_model model.now) made.2) }
     ensures outside { IfOk result (λ _. StandsOutsideRecursion (plain_model model.now)) }
     ensures guarded { IfOk result (λ _. IsGuardedModel (plain_model model.now)) }

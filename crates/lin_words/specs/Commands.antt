@@ -16,12 +16,12 @@ use Rattle.lin_answers.specs.declared.plan.Plan.{Plan}
 abbrev pub plan_of : Options → Plan
 plan_of options = record { fuel = options.fuel; bound = options.bound; seed = options.seed; depth = options.depth }
 
--- how many buffers a line of buffers has: what stands in the place of a file, where that is a number from 2 to 6
+-- how many buffers a line of buffers has: what stands in the place of a file, where that is a number from 2 to 40
 abbrev pub at_least_two : ℕ → Option ℕ
 at_least_two n = cond (nat_le 2 n) (Some n) None
 
 abbrev pub size_named : Text → Option ℕ
-size_named file = option_and_then at_least_two (number_of 6 file)
+size_named file = option_and_then at_least_two (number_of 40 file)
 
 -- the task of this name, with what it takes of the file and of the options
 abbrev pub task_named : Text → Text → Options → Option Task
@@ -81,9 +81,9 @@ pub record Question : Type 0 where
   pub text : List ℕ
   pub trace : Option (List ℕ)
 
--- a line of buffers is one of 2 to 6
+-- a line of buffers is one of 2 to 40
 abbrev pub IsSized : Task → Type 0
-IsSized (Generate size) = (2 ≤ size) × (size ≤ 6)
+IsSized (Generate size) = (2 ≤ size) × (size ≤ 40)
 IsSized Check = ⊤
 IsSized (Linearise method) = ⊤
 IsSized (Constelm method fuel) = ⊤

@@ -177,12 +177,12 @@ fn task_of(word: &str, file: &str, options: Options) -> Option<Task>
     }
 }
 
-/// How many buffers a line has that is named so: a number from 2 to 6.
+/// How many buffers a line has that is named so: a number from 2 to 40.
 fn size_of(word: &str) -> Option<u64>
     ensures named { result ≡ size_named word.now }
-    ensures within { IfSome result (λ size. (2 ≤ size) × (size ≤ 6)) }
+    ensures within { IfSome result (λ size. (2 ≤ size) × (size ≤ 40)) }
 {
-    let size = number(word, 6)?;
+    let size = number(word, 40)?;
     if size < 2 {
         return None;
     }

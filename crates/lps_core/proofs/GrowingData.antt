@@ -10,7 +10,9 @@ use Rattle.data_theory.proofs.IdDataLemmas.{growth_keeps_meant_data}
 use Rattle.process_terms.specs.Labels.{Label}
 use Rattle.process_terms.specs.Processes.{Bound}
 use Rattle.bisim_laws.specs.LinearProcesses.{Linear, LabelIsSorted, no_action_to_sort, action_sorted, NextIsSorted, no_next_to_sort, next_sorted, HaveDataSorts, IsWellSorted}
-use Rattle.lps_core.specs.GoingOn.{GoingOnGoesBack, GoodLinksStayGood}
+use Rattle.bisim_laws.specs.Scopes.{everything}
+use Rattle.bisim_laws.proofs.ComposedWithin.{good_within, within_all_good}
+use Rattle.lps_core.specs.GoingOn.{GoingOnGoesBack, GoodLinksStayGood, GoodLinksWithinStayGood, GoodLinksAreGoodWithin, GoodForAllIsGood}
 
 grows_twice : {A : Type 0} (xs ys zs news last : List A) → ys ≡ xs ++ news → zs ≡ ys ++ last → zs ≡ xs ++ (news ++ last)
 grows_twice xs ys zs news last e f = f ∙ ap (λ l. l ++ last) e ∙ append_assoc xs news last
@@ -28,6 +30,15 @@ goes_back g h table roles new_roles grown th w = record { grows = data_grow_twic
 
 pub good_stay_good : GoodLinksStayGood
 good_stay_good g h table roles new_roles grown k p q good th w con = good th (goes_back g h table roles new_roles grown th w) con
+
+pub within_stay_good : GoodLinksWithinStayGood
+within_stay_good g h table roles new_roles grown w k p q good th over con = good th (goes_back g h table roles new_roles grown th over) con
+
+pub good_over_within : GoodLinksAreGoodWithin
+good_over_within g w k p q good th over con = good_within th w k p q (good th over con)
+
+pub good_for_all : GoodForAllIsGood
+good_for_all g k p q good th over con = within_all_good th everything (λ ns. tt) k p q (good th over con)
 
 -- ---- sorted over data that grow
 pub sort_grown : (g h : Data) → Grows g h → (s : Sort) → IsSort g s → IsSort h s

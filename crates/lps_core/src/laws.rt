@@ -28,6 +28,15 @@ pub fn data_go_on()
     ensures good { GoodLinksStayGood }
 {}
 
+ghost use Rattle.lps_core.specs.GoingOn.{GoodForAllIsGood, GoodLinksAreGoodWithin, GoodLinksWithinStayGood};
+
+/// Links that are good for the labels that matter, over data that go on from a signature's.
+pub fn links_within_stay_good()
+    ensures within { GoodLinksAreGoodWithin }
+    ensures all { GoodForAllIsGood }
+    ensures stays { GoodLinksWithinStayGood }
+{}
+
 /// What fits a pool and a signature is well sorted, and means the same as these grow.
 pub fn what_fits_stays()
     ensures sorted { WhatFitsIsSorted }

@@ -18,7 +18,7 @@ abbrev pub can_stop : Linear → Bool
 can_stop l = list_any stops l.summands
 
 -- ---- lists
-any_append : {A : Type 0} (f : A → Bool) (xs ys : List A) → list_any f (xs ++ ys) ≡ (list_any f xs || list_any f ys)
+pub any_append : {A : Type 0} (f : A → Bool) (xs ys : List A) → list_any f (xs ++ ys) ≡ (list_any f xs || list_any f ys)
 any_append f [] ys = refl
 any_append f (x ∷ xs) ys = ap (λ b. f x || b) (any_append f xs ys) ∙ sym (or_assoc (f x) (list_any f xs) (list_any f ys))
   where
@@ -84,7 +84,7 @@ product_stops a b p q =
     by_cases false false = refl
 
 -- ---- in code
-none_meant : {A B : Type 0} (f : A → B) (o : Option A) → is_none (option_map f o) ≡ is_none o
+pub none_meant : {A B : Type 0} (f : A → B) (o : Option A) → is_none (option_map f o) ≡ is_none o
 none_meant f None = refl
 none_meant f (Some x) = refl
 

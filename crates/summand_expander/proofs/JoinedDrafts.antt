@@ -155,7 +155,7 @@ module _ (g : Sig) (table : IsTable g) (complete : IsComplete g) (ts us : List T
       meant : List VarId → Term → Label → Option (List Term) → Summand
       meant xs t m n = record { sums = map (bound_at (entries_of g ts)) xs; condition = t; label = m; next = n }
 
-  all_meant : (ds : List PlainDraft) (ss : List PlainSummand) → All (IsDraftIn ts) ds → All (IsConditionIn us) ss → map (joined_summand us) ss ≡ map (joined_draft ts) ds → map (summand_of (entries_of g us)) ss ≡ map (summand_of_draft (entries_of g ts)) ds
+  pub all_meant : (ds : List PlainDraft) (ss : List PlainSummand) → All (IsDraftIn ts) ds → All (IsConditionIn us) ss → map (joined_summand us) ss ≡ map (joined_draft ts) ds → map (summand_of (entries_of g us)) ss ≡ map (summand_of_draft (entries_of g ts)) ds
   all_meant [] [] h c q = refl
   all_meant [] (s ∷ ss) h c q = absurd (more_none q)
     where

@@ -1,7 +1,7 @@
 -- What a product in code is.
 use Rattle.std.proofs.Common.{◌≡◌, ◌&&◌, ⊎_elim, ℕ, Bool, true, false, List, [], ◌∷◌, ◌++◌, map, length, refl, sym, ap, ap₂, ◌∙◌, subst, Option, Some, None}
-use Rattle.std.specs.Prelude.{option_map, option_to_list, is_some, IfSome}
-use Rattle.std.specs.List.{All}
+use Rattle.std.specs.Prelude.{option_map, option_to_list, is_some, Contains, IfSome}
+use Rattle.std.specs.List.{All, list_any}
 use Rattle.std.proofs.lemmas.List.{map-append, append-nil}
 use Rattle.std.proofs.lemmas.List.Elements.{All-nil, All-cons, All-append, All-contains, All-weaker}
 use Rattle.data_theory.specs.declared.ids.TermId.{TermId}
@@ -22,17 +22,25 @@ use Rattle.data_theory.proofs.StandingLemmas.{signatures_have_truth_functions}
 use Rattle.term_pool.specs.HeadTrees.{tree_at, IsIn}
 use Rattle.term_pool.specs.Pools.{Extends}
 use Rattle.term_pool.proofs.DeclaredConstants.{grown_itself}
+use Rattle.process_terms.specs.Names.{Name}
+use Rattle.process_terms.specs.Theories.{Theory, IsConsistent, AreOfSorts}
 use Rattle.process_terms.specs.Processes.{Bound, merge}
 use Rattle.process_terms.specs.Meanings.{bound_at, term_at}
 use Rattle.process_terms.specs.SignatureEntries.{entries_of, BothGrow}
 use Rattle.process_terms.proofs.MeaningLemmas.{all_same}
-use Rattle.bisim_laws.specs.LinearProcesses.{Linear, sorts, state_of, IsLinear}
+use Rattle.bisim_laws.specs.LinearProcesses.{Summand, Linear, sorts, state_of, IsLinear}
 use Rattle.bisim_laws.specs.BaseStates.{Side}
-use Rattle.bisim_laws.specs.Links.{Product, Same, IsGood, Pairs}
+use Rattle.bisim_laws.specs.Links.{Product, Same, Solved, IsGood, Pairs}
+use Rattle.bisim_laws.specs.Within.{IsGoodWithin}
+use Rattle.bisim_laws.specs.Scopes.{Scope, Matters}
+use Rattle.bisim_laws.specs.SomeSummands.{with_summands}
 use Rattle.bisim_laws.proofs.AlikeProcesses.{alike_refl}
+use Rattle.bisim_laws.proofs.ComposedWithin.{good_within}
+use Rattle.bisim_laws.proofs.SomeSummands.{some_good}
 use Rattle.lps_core.specs.Fitting.{Fits, SummandFits, AreTermsOf, IsVariable, sort_of_variable, HasTakenName}
 use Rattle.lps_core.specs.Naming.{GrowsByNames}
-use Rattle.lps_core.specs.PlainLinears.{PlainSummand, PlainLinear, can_end, summand_of, linear_of, initial_of}
+use Rattle.lps_core.specs.GoingOn.{GoesOn}
+use Rattle.lps_core.specs.PlainLinears.{PlainSummand, PlainLinear, can_end, summand_of, linear_of, initial_of, linear_state}
 use Rattle.lps_core.specs.TreeSummands.{IsSummandIn}
 use Rattle.lps_core.proofs.GrowingData.{terms_grown}
 use Rattle.lps_core.proofs.NamedSums.{names_none, names_then, variable_kept}
@@ -46,9 +54,12 @@ use Rattle.summand_expander.specs.Renewing.{renewed, KeepsApart}
 use Rattle.summand_expander.specs.Renewals.{IsFlag, GivesWay, all_sums, HasVariable, IsRenewedLinear}
 use Rattle.summand_expander.specs.SideFits.{FitsWithNames, IsFlagOf}
 use Rattle.summand_expander.specs.ProductSides.{HasSides}
-use Rattle.summand_expander.specs.WholeProducts.{renewed_number, side_of_linear, AreProductSummands, first_flag_id, AreFirstTerms, HaveDifferentNames, IsProduct, IsGoodProduct}
+use Rattle.summand_expander.specs.Pruned.{product_within}
+use Rattle.summand_expander.specs.PrunedLaws.{Tells}
+use Rattle.summand_expander.specs.WholeProducts.{renewed_number, side_of_linear, AreSummandsOf, AreProductSummands, first_flag_id, AreFirstTerms, HaveDifferentNames, IsMadeOfSides, IsProduct, IsGoodProduct}
+use Rattle.summand_expander.specs.WithinProducts.{IsProductWithin, IsGoodProductWithin}
 use Rattle.summand_expander.proofs.DifferentNames.{all_names_differ}
-use Rattle.summand_expander.proofs.Endings.{can_stop, product_stops, meant_stops, renewed_stops}
+use Rattle.summand_expander.proofs.Endings.{stops, can_stop, product_stops, meant_stops, renewed_stops}
 use Rattle.summand_expander.proofs.FittingDrafts.{terms_append, false_sorted}
 use Rattle.summand_expander.proofs.GivingWay.{HasGivenWay, has_given_way, all_each}
 use Rattle.summand_expander.proofs.MadeSummands.{linear_still}
@@ -56,7 +67,8 @@ use Rattle.summand_expander.proofs.NewVariables.{long}
 use Rattle.summand_expander.proofs.RenewedFits.{renewed_means, renews, renewed_fits, renewed_at_end}
 use Rattle.summand_expander.proofs.Renewing.{renewed_same, good_for_same}
 use Rattle.summand_expander.proofs.Separating.{IsNewFlag, FlagStands, flag_stands, flags_bound, flag_variables, separate, left_flag_is, right_flag_is}
-use Rattle.summand_expander.proofs.Whole.{linear_product}
+use Rattle.summand_expander.proofs.Whole.{linear_product, sorted_product}
+use Rattle.summand_expander.proofs.GoodPruned.{end_alike, enough, sides_sorted}
 
 -- ---- sums of all summands
 pub sums_are_variables : (g : Sig) (ts : List Tree) (l : PlainLinear) → Fits g ts l → All (λ (s : PlainSummand). All (IsVariable g) s.sums) l.summands
@@ -108,11 +120,27 @@ flag_taken g h k None w n = All-nil (HasTakenName k)
 flag_taken g h k (Some x) w n = All-cons (HasTakenName k) x [] (taken_fits h k [] [] (record { signature = w.grown; pool = ([], refl) }) x n.is.variable n.taken) (All-nil (HasTakenName k))
 
 -- ---- all of it
+-- of what f says
+pub record SidesDone (f : Side → Side → Linear) (g h : Sig) (us : List Tree) (l r p : PlainLinear) : Type 0 where
+  pub fits : Fits h us p
+  pub made : IsMadeOfSides f g h us l r p
+  pub ends : can_end p ≡ (can_end l && can_end r)
+  pub names : HaveDifferentNames g l.params → HaveDifferentNames g r.params → HaveDifferentNames h p.params
+
+-- of the product
 pub record ProductDone (g h : Sig) (us : List Tree) (l r p : PlainLinear) : Type 0 where
   pub fits : Fits h us p
   pub made : IsProduct g h us l r p
   pub good : IsGoodProduct h us l r p
   pub sides : HasSides h us l r p
+  pub ends : can_end p ≡ (can_end l && can_end r)
+  pub names : HaveDifferentNames g l.params → HaveDifferentNames g r.params → HaveDifferentNames h p.params
+
+-- of the product within what is allowed
+pub record WithinDone (w : Scope) (g h : Sig) (us : List Tree) (l r p : PlainLinear) : Type 0 where
+  pub fits : Fits h us p
+  pub made : IsProductWithin g h us w l r p
+  pub good : IsGoodProductWithin h us w l r p
   pub ends : can_end p ≡ (can_end l && can_end r)
   pub names : HaveDifferentNames g l.params → HaveDifferentNames g r.params → HaveDifferentNames h p.params
 
@@ -228,7 +256,36 @@ module _ (g0 g1 g2 g3 : Sig) (t0 t1 t2 t3 : List Tree) (l r k p : PlainLinear) (
   apart : (d : Data) → Grows (data_meant g3) d → Separate d (variable_sorts g3) A B
   apart d w = separate g0 g1 g2 g3 s3 t3 l r k lf rf os ns (can_end l) (can_end r) own_left own_right one given two l3 k3 at3 d w one.without (λ q. k_ends ∙ two.without q)
 
-  module _ (params : p.params ≡ (l.params ++ option_to_list lf) ++ (k.params ++ option_to_list rf)) (first : AreFirstTerms t3 l.init lf k.init rf p.init) (made : AreProductSummands g3 t2 l lf k rf p.summands) where
+  own_data : Grows (data_meant g3) (data_meant g3)
+  own_data = record { new_sorts = []; new_functions = []; sorts = sym (append-nil (data_meant g3).sorts); functions = sym (append-nil (data_meant g3).functions) }
+
+  -- ---- the whole product
+  init_same : initial_of (entries_of g3 t3) k ≡ initial_of (entries_of g3 t3) r
+  init_same = ap (map (term_at (entries_of g3 t3))) is.init
+
+  right_closed : HaveSorts (data_meant g3) [] (terms_of (initial_of (entries_of g3 t3) r)) (sorts K.params)
+  right_closed = subst (λ z. HaveSorts (data_meant g3) [] (terms_of z) (sorts K.params)) init_same k3.closed
+
+  right_same : (th : Theory) → Pairs th Same (state_of R (initial_of (entries_of g3 t3) r)) (state_of K (initial_of (entries_of g3 t3) r))
+  right_same th = subst (λ z. Pairs th Same (state_of R (initial_of (entries_of g3 t3) r)) (state_of z (initial_of (entries_of g3 t3) r))) (sym k_means) (renewed_same th R r3.linear (renewed_number os ns) k_apart (initial_of (entries_of g3 t3) r))
+
+  left_sorted : (th : Theory) → GoesOn g3 th → AreOfSorts th (sorts A.process.params) (initial_of (entries_of g3 t3) l)
+  left_sorted th on = terms_grown (data_meant g3) th.declared on.grows [] (terms_of (initial_of (entries_of g3 t3) l)) (sorts L.params) l3.closed
+
+  right_sorted : (th : Theory) → GoesOn g3 th → AreOfSorts th (sorts B.process.params) (initial_of (entries_of g3 t3) r)
+  right_sorted th on = terms_grown (data_meant g3) th.declared on.grows [] (terms_of (initial_of (entries_of g3 t3) r)) (sorts K.params) right_closed
+
+  abbrev first_terms : List Term
+  first_terms = first_columns A (initial_of (entries_of g3 t3) l) ++ first_columns B (initial_of (entries_of g3 t3) r)
+
+  whole_good : (th : Theory) → GoesOn g3 th → IsConsistent th
+      → IsGood th (Product A B (product A B)) (merge (state_of L (initial_of (entries_of g3 t3) l)) (state_of R (initial_of (entries_of g3 t3) r))) (state_of (product A B) first_terms)
+  whole_good th on con = good_for_same th con (variable_sorts g3) A B (apart th.declared on.grows) (initial_of (entries_of g3 t3) l) (initial_of (entries_of g3 t3) r) (left_sorted th on) (right_sorted th on)
+      (state_of L (initial_of (entries_of g3 t3) l)) (state_of R (initial_of (entries_of g3 t3) r)) (alike_refl th (state_of L (initial_of (entries_of g3 t3) l))) (right_same th)
+
+  -- what is made of the sides: the product with summands that f says, which are some of the product's, and end where these do
+  module _ (f : Side → Side → List Summand) (among : (a b : Side) (s : Summand) → Contains (f a b) s → Contains (product a b).summands s) (stops_alike : (a b : Side) → list_any stops (f a b) ≡ can_stop (product a b))
+      (params : p.params ≡ (l.params ++ option_to_list lf) ++ (k.params ++ option_to_list rf)) (first : AreFirstTerms t3 l.init lf k.init rf p.init) (made : AreSummandsOf (λ a b. with_summands (product a b) (f a b)) g3 t2 l lf k rf p.summands) where
     abbrev all : List VarId
     all = (l.params ++ option_to_list lf) ++ (k.params ++ option_to_list rf)
 
@@ -251,13 +308,13 @@ module _ (g0 g1 g2 g3 : Sig) (t0 t1 t2 t3 : List Tree) (l r k p : PlainLinear) (
     kk2 : Fits g3 t2 k
     kk2 = what_fits_fits_still g2 g3 t1 t2 k s2.table s2.complete s3.table (record { signature = two.on.grown; pool = e2 }) k2
 
-    summands_mean : map (summand_of (entries_of g3 t3)) p.summands ≡ (product A B).summands
+    summands_mean : map (summand_of (entries_of g3 t3)) p.summands ≡ f A B
     summands_mean =
         all_same (FitsWithNames g3 t2 all) (summand_of (entries_of g3 t2)) (summand_of (entries_of g3 t3)) (λ s f. summand_stays g3 g3 t2 t3 s3.table s3.complete grow all s f.fits) p.summands made.fit
         ∙ made.mean
-        ∙ ap₂ (λ x y. (product (record { process = x; flag = A.flag }) (record { process = y; flag = B.flag })).summands) (sym (linear_still g3 s3 t2 t3 e3 l l2).0) (sym (linear_still g3 s3 t2 t3 e3 k kk2).0)
+        ∙ ap₂ (λ x y. f (record { process = x; flag = A.flag }) (record { process = y; flag = B.flag })) (sym (linear_still g3 s3 t2 t3 e3 l l2).0) (sym (linear_still g3 s3 t2 t3 e3 k kk2).0)
 
-    linear_is : linear_of (entries_of g3 t3) p ≡ product A B
+    pub linear_is : linear_of (entries_of g3 t3) p ≡ with_summands (product A B) (f A B)
     linear_is = ap₂ (λ xs ss. record { params = xs; summands = ss }) (ap (map (bound_at (entries_of g3 t3))) params ∙ all_bound) summands_mean
 
     initial_is : initial_of (entries_of g3 t3) p ≡ first_columns A (initial_of (entries_of g3 t3) l) ++ first_columns B (initial_of (entries_of g3 t3) k)
@@ -265,9 +322,6 @@ module _ (g0 g1 g2 g3 : Sig) (t0 t1 t2 t3 : List Tree) (l r k p : PlainLinear) (
         ap (map (term_at (entries_of g3 t3))) first.terms
         ∙ map-append (term_at (entries_of g3 t3)) (l.init ++ first_flag_id first.unset lf) (k.init ++ first_flag_id first.unset rf)
         ∙ ap₂ (λ xs ys. xs ++ ys) (side_means_first g3 s3 t3 first.unset first.within first.is_false l lf L) (side_means_first g3 s3 t3 first.unset first.within first.is_false k rf K)
-
-    init_same : initial_of (entries_of g3 t3) k ≡ initial_of (entries_of g3 t3) r
-    init_same = ap (map (term_at (entries_of g3 t3))) is.init
 
     all_variables : All (IsVariable g3) all
     all_variables = All-append (IsVariable g3) (l.params ++ option_to_list lf) (k.params ++ option_to_list rf)
@@ -296,17 +350,20 @@ module _ (g0 g1 g2 g3 : Sig) (t0 t1 t2 t3 : List Tree) (l r k p : PlainLinear) (
         (columns_sorted d [] L.params (flag_of A.flag) (initial_of (entries_of g3 t3) l) (first_flag A.flag) l3.closed (first_sorted d A.flag))
         (columns_sorted d [] K.params (flag_of B.flag) (initial_of (entries_of g3 t3) k) (first_flag B.flag) k3.closed (first_sorted d B.flag))))
 
-    own_data : Grows (data_meant g3) (data_meant g3)
-    own_data = record { new_sorts = []; new_functions = []; sorts = sym (append-nil (data_meant g3).sorts); functions = sym (append-nil (data_meant g3).functions) }
+    pub initial_same : initial_of (entries_of g3 t3) p ≡ first_terms
+    initial_same = initial_is ∙ ap (λ ts. first_columns A (initial_of (entries_of g3 t3) l) ++ (ts ++ first_flag B.flag)) init_same
 
-    pub product_done : ProductDone g0 g3 t3 l r p
-    product_done = record {
+    whole_linear : IsLinear (product A B)
+    whole_linear = linear_product (data_meant g3) (variable_sorts g3) A B (apart (data_meant g3) own_data)
+
+    pub sides_done : SidesDone (λ a b. with_summands (product a b) (f a b)) g0 g3 t3 l r p
+    sides_done = record {
       fits = record {
         params = subst (λ xs. All (IsVariable g3) xs) (sym params) all_variables;
         init = subst (λ xs. AreTermsOf g3 t3 (map (sort_of_variable g3) xs) p.init) (sym params) first_fit;
         closed = first_closed;
         summands = subst (λ xs. All (SummandFits g3 t3 xs) p.summands) (sym params) (All-weaker (FitsWithNames g3 t2 all) (SummandFits g3 t3 all) (λ s f. summand_fits g3 g3 t2 t3 grow all s all_variables f.fits) p.summands made.fit);
-        linear = subst (λ z. IsLinear z) (sym linear_is) (linear_product (data_meant g3) (variable_sorts g3) A B (apart (data_meant g3) own_data));
+        linear = subst (λ z. IsLinear z) (sym linear_is) (record { distinct = whole_linear.distinct; summands = λ s i. whole_linear.summands s (among A B s i) });
         taken = subst (λ xs. All (HasTakenName g3) xs) (sym params) all_taken;
         sums_taken = All-weaker (FitsWithNames g3 t2 all) (λ (s : PlainSummand). All (HasTakenName g3) s.sums) (λ s f. f.taken) p.summands made.fit;
       };
@@ -320,44 +377,85 @@ module _ (g0 g1 g2 g3 : Sig) (t0 t1 t2 t3 : List Tree) (l r k p : PlainLinear) (
         gives_way = way;
         right_flag = rf;
         right = right;
-        linear = linear_is ∙ ap (λ z. product A (record { process = z; flag = B.flag })) k_means;
-        initial = initial_is ∙ ap (λ ts. first_columns A (initial_of (entries_of g3 t3) l) ++ (ts ++ first_flag B.flag)) init_same;
-      };
-      good = record {
-        left = A;
-        right = B;
-        good = λ th on con.
-            let ts = initial_of (entries_of g3 t3) l in
-            let us = initial_of (entries_of g3 t3) r in
-            let h = terms_grown (data_meant g3) th.declared on.grows [] (terms_of ts) (sorts L.params) l3.closed in
-            let q = terms_grown (data_meant g3) th.declared on.grows [] (terms_of us) (sorts K.params) (subst (λ z. HaveSorts (data_meant g3) [] (terms_of z) (sorts K.params)) init_same k3.closed) in
-            let same : Pairs th Same (state_of R us) (state_of K us) = subst (λ z. Pairs th Same (state_of R us) (state_of z us)) (sym k_means) (renewed_same th R r3.linear (renewed_number os ns) k_apart us) in
-            let good = good_for_same th con (variable_sorts g3) A B (apart th.declared on.grows) ts us h q (state_of L ts) (state_of R us) (alike_refl th (state_of L ts)) same in
-            subst (λ z. IsGood th (Product A B z) (merge (state_of L ts) (state_of R us)) (state_of z (initial_of (entries_of g3 t3) p))) (sym linear_is)
-            (subst (λ z. IsGood th (Product A B (product A B)) (merge (state_of L ts) (state_of R us)) (state_of (product A B) z)) (sym (initial_is ∙ ap (λ z. first_columns A ts ++ (z ++ first_flag B.flag)) init_same)) good);
-      };
-      sides = record {
-        left = A;
-        right = B;
-        separate = apart;
-        linear = linear_is;
-        initial = initial_is ∙ ap (λ ts. first_columns A (initial_of (entries_of g3 t3) l) ++ (ts ++ first_flag B.flag)) init_same;
-        left_is = refl;
-        left_closed = l3.closed;
-        right_closed = subst (λ z. HaveSorts (data_meant g3) [] (terms_of z) (sorts K.params)) init_same k3.closed;
-        same = λ th. subst (λ z. Pairs th Same (state_of R (initial_of (entries_of g3 t3) r)) (state_of z (initial_of (entries_of g3 t3) r))) (sym k_means) (renewed_same th R r3.linear (renewed_number os ns) k_apart (initial_of (entries_of g3 t3) r));
+        linear = linear_is ∙ ap (λ z. with_summands (product A (record { process = z; flag = B.flag })) (f A (record { process = z; flag = B.flag }))) k_means;
+        initial = initial_same;
       };
       names = λ d e. subst (HaveDifferentNames g3) (sym (params ∙ ap (λ ks. (l.params ++ option_to_list lf) ++ (ks ++ option_to_list rf)) is.params)) (all_names_differ g0 g1 g2 g3 t0 t0 l r lf rf os ns (can_end l) (can_end r) fl0 fr0 fr1 one way given.new two d e);
       ends =
-          sym (meant_stops (entries_of g3 t3) p) ∙ ap can_stop linear_is
+          sym (meant_stops (entries_of g3 t3) p) ∙ ap can_stop linear_is ∙ stops_alike A B
           ∙ product_stops A B (flag_tells lf (can_end l) one.without one.with_flag ∙ sym (meant_stops (entries_of g3 t3) l)) (flag_tells rf (can_end r) two.without two.with_flag ∙ sym k_ends ∙ sym (meant_stops (entries_of g3 t3) k))
           ∙ ap₂ (λ x y. x && y) (meant_stops (entries_of g3 t3) l) (meant_stops (entries_of g3 t3) k ∙ k_ends);
     }
 
-  -- as `all_summands` says it
-  pub product_made : p.params ≡ (l.params ++ option_to_list lf) ++ (k.params ++ option_to_list rf) → AreFirstTerms t3 l.init lf k.init rf p.init
-      → ((g : Sig) → IsSignature g → Fits g t1 l → Fits g t1 k → IfSome lf (IsFlagOf g) → IfSome rf (IsFlagOf g) → AreProductSummands g t2 l lf k rf p.summands) → ProductDone g0 g3 t3 l r p
-  product_made params first made = product_done params first (made g3 s3 before_left before_right flag_left flag_right)
+  -- ---- as the calls say it
+  module _ (params : p.params ≡ (l.params ++ option_to_list lf) ++ (k.params ++ option_to_list rf)) (first : AreFirstTerms t3 l.init lf k.init rf p.init) where
+    product_done : AreProductSummands g3 t2 l lf k rf p.summands → ProductDone g0 g3 t3 l r p
+    product_done made =
+        let done = sides_done (λ a b. (product a b).summands) (λ a b s i. i) (λ a b. refl) params first made in
+        let is : linear_of (entries_of g3 t3) p ≡ product A B = linear_is (λ a b. (product a b).summands) (λ a b s i. i) (λ a b. refl) params first made in
+        let init : initial_of (entries_of g3 t3) p ≡ first_terms = initial_same (λ a b. (product a b).summands) (λ a b s i. i) (λ a b. refl) params first made in
+        record {
+          fits = done.fits;
+          made = done.made;
+          good = record {
+            left = A;
+            right = B;
+            good = λ th on con.
+                let start = merge (linear_state (entries_of g3 t3) l) (linear_state (entries_of g3 t3) r) in
+                subst (λ z. IsGood th (Product A B z) start (state_of z (initial_of (entries_of g3 t3) p))) (sym is) (subst (λ z. IsGood th (Product A B (product A B)) start (state_of (product A B) z)) (sym init) (whole_good th on con));
+          };
+          sides = record { left = A; right = B; separate = apart; linear = is; initial = init; left_is = refl; left_closed = l3.closed; right_closed = right_closed; same = right_same };
+          names = done.names;
+          ends = done.ends;
+        }
+
+    pub product_made : ((g : Sig) → IsSignature g → Fits g t1 l → Fits g t1 k → IfSome lf (IsFlagOf g) → IfSome rf (IsFlagOf g) → AreProductSummands g t2 l lf k rf p.summands) → ProductDone g0 g3 t3 l r p
+    product_made made = product_done (made g3 s3 before_left before_right flag_left flag_right)
+
+    pub within_made : (w : Scope) (can : List Name → Bool) → Tells can w → AreSummandsOf (product_within can) g3 t2 l lf k rf p.summands → WithinDone w g0 g3 t3 l r p
+    within_made w can tells made =
+        let some : (a b : Side) (s : Summand) → Contains (product_within can a b).summands s → Contains (product a b).summands s = λ a b s i. (enough (Matters w) can tells (product a b).summands).among s i in
+        let done = sides_done (λ a b. (product_within can a b).summands) some (λ a b. end_alike can a b) params first made in
+        let is : linear_of (entries_of g3 t3) p ≡ product_within can A B = linear_is (λ a b. (product_within can a b).summands) some (λ a b. end_alike can a b) params first made in
+        let init : initial_of (entries_of g3 t3) p ≡ first_terms = initial_same (λ a b. (product_within can a b).summands) some (λ a b. end_alike can a b) params first made in
+        record {
+          fits = done.fits;
+          made = record { can = can; tells = tells; made = done.made };
+          good = record {
+            left = A;
+            right = B;
+            whole = product A B;
+            between = state_of (product A B) first_terms;
+            product = λ th on con. good_within th w _ _ _ (whole_good th on con);
+            left_of_it = λ th on con.
+                let separate = apart th.declared on.grows in
+                let between = state_of (product A B) first_terms in
+                let sorted = sides_sorted th A B (initial_of (entries_of g3 t3) l) (initial_of (entries_of g3 t3) r) (left_sorted th on) (right_sorted th on) in
+                let good = some_good th (variable_sorts g3) w (product A B) (product_within can A B).summands (enough (Matters w) can tells (product A B).summands) (linear_product th.declared (variable_sorts g3) A B separate) (sorted_product th.declared (variable_sorts g3) A B separate) first_terms sorted in
+                subst (λ z. IsGoodWithin th (Matters w) (Solved (product A B) z) between (state_of z (initial_of (entries_of g3 t3) p))) (sym is)
+                (subst (λ z. IsGoodWithin th (Matters w) (Solved (product A B) (product_within can A B)) between (state_of (product_within can A B) z)) (sym init) good);
+          };
+          names = done.names;
+          ends = done.ends;
+        }
+
+-- ---- once the right side has given way
+pub record SidesReady (g : Sig) (ts : List Tree) (l k : PlainLinear) (lf rf : Option VarId) : Type 0 where
+  pub left : Fits g ts l
+  pub right : Fits g ts k
+  pub left_flag : IfSome lf (IsFlagOf g)
+  pub right_flag : IfSome rf (IsFlagOf g)
+
+pub sides_ready : (g0 g1 g2 g3 : Sig) (t0 t1 : List Tree) (l r k : PlainLinear) (lf rf : Option VarId) (os ns : List VarId) → IsSignature g0 → Fits g0 t0 l → Fits g0 t0 r → IsFlag g0 (can_end l) g1 lf → GivesWay g1 l r g2 os ns → IsFlag g2 (can_end r) g3 rf
+    → Extends t0 t1 → IsRenewedLinear t0 t1 os ns r k → SidesReady g3 t1 l k lf rf
+sides_ready g0 g1 g2 g3 t0 t1 l r k lf rf os ns s fl fr left way right e is =
+    let same = extends_itself t1 in
+    record {
+      left = before_left g0 g1 g2 g3 t0 t1 t1 t1 l r k k lf rf os ns s fl fr left way right e same same is;
+      right = before_right g0 g1 g2 g3 t0 t1 t1 t1 l r k k lf rf os ns s fl fr left way right e same same is;
+      left_flag = flag_left g0 g1 g2 g3 t0 t1 t1 t1 l r k k lf rf os ns s fl fr left way right e same same is;
+      right_flag = flag_right g0 g1 g2 g3 t0 t1 t1 t1 l r k k lf rf os ns s fl fr left way right e same same is;
+    }
 
 -- ---- what the calls ask for
 pub all_sums_later : (g h : Sig) (ts : List Tree) (l : PlainLinear) → GrowsByNames g h → Fits g ts l → All (IsVariable h) (all_sums l.summands)

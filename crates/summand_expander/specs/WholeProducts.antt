@@ -9,6 +9,7 @@ use Rattle.term_pool.specs.HeadTrees.{tree_at, IsIn}
 use Rattle.process_terms.specs.Meanings.{Entries}
 use Rattle.process_terms.specs.Processes.{merge}
 use Rattle.process_terms.specs.SignatureEntries.{entries_of}
+use Rattle.bisim_laws.specs.LinearProcesses.{Linear}
 use Rattle.bisim_laws.specs.BaseStates.{Side}
 use Rattle.bisim_laws.specs.Links.{Product}
 use Rattle.data_theory.specs.Environments.{AreDistinct}
@@ -32,10 +33,14 @@ side_of_linear e l flag = record { process = linear_of e l; flag = option_map (�
 abbrev pub renewed_side : Entries → List VarId → List VarId → PlainLinear → Option VarId → Side
 renewed_side e olds news l flag = record { process = renewed (renewed_number olds news) (linear_of e l); flag = option_map (λ (v : VarId). v.0) flag }
 
--- summands over the columns of both sides that are those of the product
-pub record AreProductSummands (g : Sig) (us : List Tree) (l : PlainLinear) (left_flag : Option VarId) (r : PlainLinear) (right_flag : Option VarId) (ss : List PlainSummand) : Type 0 where
+-- summands over the columns of both sides that are those of the linear process that f says
+pub record AreSummandsOf (f : Side → Side → Linear) (g : Sig) (us : List Tree) (l : PlainLinear) (left_flag : Option VarId) (r : PlainLinear) (right_flag : Option VarId) (ss : List PlainSummand) : Type 0 where
   pub fit : All (FitsWithNames g us ((l.params ++ option_to_list left_flag) ++ (r.params ++ option_to_list right_flag))) ss
-  pub mean : map (summand_of (entries_of g us)) ss ≡ (product (side_of_linear (entries_of g us) l left_flag) (side_of_linear (entries_of g us) r right_flag)).summands
+  pub mean : map (summand_of (entries_of g us)) ss ≡ (f (side_of_linear (entries_of g us) l left_flag) (side_of_linear (entries_of g us) r right_flag)).summands
+
+-- those of the product
+abbrev pub AreProductSummands : Sig → List Tree → PlainLinear → Option VarId → PlainLinear → Option VarId → List PlainSummand → Type 0
+AreProductSummands = AreSummandsOf product
 
 -- the initial terms of both sides; a flag has the term of `false`
 abbrev pub first_flag_id : TermId → Option VarId → List TermId
@@ -48,9 +53,10 @@ pub record AreFirstTerms (us : List Tree) (left : List TermId) (left_flag : Opti
   pub is_false : tree_at us unset ≡ function (record { 0 = 7 }) none
   pub terms : all ≡ (left ++ first_flag_id unset left_flag) ++ (right ++ first_flag_id unset right_flag)
 
--- How the product is made, from the signature g to h. The left flag is named first, then the right variables that give way, then the
--- right flag. The parameters and the summands are those of the product, in its order, and no flag is set at first.
-pub record IsProduct (g h : Sig) (us : List Tree) (l r k : PlainLinear) : Type 0 where
+-- How a linear process is made of two, from the signature g to h, where f says what it is of two sides. The left flag is named first, then
+-- the right variables that give way, then the right flag. The parameters and the summands are those that f says, in its order, and no flag
+-- is set at first.
+pub record IsMadeOfSides (f : Side → Side → Linear) (g h : Sig) (us : List Tree) (l r k : PlainLinear) : Type 0 where
   pub with_left_flag : Sig
   pub left_flag : Option VarId
   pub left : IsFlag g (can_end l) with_left_flag left_flag
@@ -60,10 +66,14 @@ pub record IsProduct (g h : Sig) (us : List Tree) (l r k : PlainLinear) : Type 0
   pub gives_way : GivesWay with_left_flag l r with_new olds news
   pub right_flag : Option VarId
   pub right : IsFlag with_new (can_end r) h right_flag
-  pub linear : linear_of (entries_of h us) k ≡ product (side_of_linear (entries_of h us) l left_flag) (renewed_side (entries_of h us) olds news r right_flag)
+  pub linear : linear_of (entries_of h us) k ≡ f (side_of_linear (entries_of h us) l left_flag) (renewed_side (entries_of h us) olds news r right_flag)
   pub initial :
       initial_of (entries_of h us) k
       ≡ first_columns (side_of_linear (entries_of h us) l left_flag) (initial_of (entries_of h us) l) ++ first_columns (renewed_side (entries_of h us) olds news r right_flag) (initial_of (entries_of h us) r)
+
+-- how the product is made
+abbrev pub IsProduct : Sig → Sig → List Tree → PlainLinear → PlainLinear → PlainLinear → Type 0
+IsProduct = IsMadeOfSides product
 
 -- no two of these variables have one name
 abbrev pub HaveDifferentNames : Sig → List VarId → Type 0

@@ -93,7 +93,7 @@ fn goes_alone(
 }
 
 /// Adds the draft of one side alone that ends when the other side has ended.
-fn add_last(
+pub fn add_last(
     alloc: Global,
     own: &Side,
     other: &Side,
@@ -113,7 +113,7 @@ fn add_last(
 }
 
 /// Adds the drafts of one side alone.
-fn add_alone(
+pub fn add_alone(
     alloc: Global,
     own_first: bool,
     own: &Side,
@@ -166,7 +166,7 @@ fn next_of(alloc: Global, first: &Move, second: &Move) -> Result<Option<Vec<Term
 }
 
 /// Both sides at once.
-fn pair(
+pub fn pair(
     alloc: Global,
     left: &Side,
     right: &Side,

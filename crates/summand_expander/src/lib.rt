@@ -3,14 +3,22 @@
 //! What it is stands in `specs/Product.antt` and `specs/WholeProducts.antt`, and in plain words in `docs/definitions/product.md`.
 #![tactic(auto)]
 
+mod allowing;
+mod answers;
+mod completing;
 mod drafts;
 mod flag;
 mod frames;
+mod kept_drafts;
 pub mod laws;
 mod products;
 mod renewal;
 mod renewed;
 mod sides;
 mod summands;
+mod within;
 
+pub use allowing::Allowed;
+pub use completing::is_completable;
 pub use products::product;
+pub use within::product_within;

@@ -58,7 +58,7 @@ fn add_columns(all: &mut Vec<VarId>, params: &[VarId], flag: Option<VarId>) -> R
 }
 
 /// The parameters of both sides, each with its flag behind them.
-fn all_params(
+pub fn all_params(
     alloc: Global,
     left: &Linear,
     left_flag: Option<VarId>,
@@ -90,7 +90,7 @@ fn add_init(
 }
 
 /// The initial terms of both sides. No flag is set.
-fn all_init(
+pub fn all_init(
     alloc: Global,
     left: &Linear,
     left_flag: Option<VarId>,

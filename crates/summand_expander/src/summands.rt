@@ -44,7 +44,7 @@ fn finished(pool: &mut Pool, draft: Draft) -> Result<Summand, NoMemory>
 }
 
 /// The summands of drafts.
-fn all_finished(
+pub fn all_finished(
     alloc: Global,
     pool: &mut Pool,
     drafts: Vec<Draft>,

@@ -6,7 +6,7 @@ use Rattle.action_filters.specs.Filters.{naming, renamed_label, RenamesOnce, Hav
 use Rattle.action_filters.specs.LabelFilters.{allowed_label, unblocked_label, shown_label}
 use Rattle.proc_unfold.specs.Networks.{plain_operator}
 use Rattle.lin_driver.specs.FittingOperators.{OperatorFits}
-use Rattle.lin_driver.proofs.ComposedNetworks.{same_around}
+use Rattle.lin_driver.proofs.ComposedNetworks.{same_around, is_around, is_communicated}
 use Rattle.lin_driver.proofs.PlainFilters.{allowed_keeps, unblocked_keeps, shown_keeps, renamed_keeps}
 use Rattle.lin_driver.proofs.PlainNetworks.{filtered_around, communicated_around}
 use Rattle.lin_driver.proofs.composing.around.Goals as goal
@@ -70,3 +70,29 @@ pub returns-in-Comm-clause-plain : goal.returns-in-Comm-clause-plain
 returns-in-Comm-clause-plain c =
     communicated_around c.communicate.result c.args.sig.now c.args.pool.now c.communicate.new.pool (plain_operator c.args.operator.now) (plain_rules c.in-Comm.rules) (plain_linear c.args.linear.now) (ap plain_operator c.in-Comm.is) c.signature_stands.ensures c.communicate.ensures.kept c.requires.fits
     c.communicate.ensures.params c.communicate.ensures.init c.communicate.ensures.summands c.communicate.ensures.fits
+
+-- ---- what is made
+pub returns-in-Allow-clause-around : goal.returns-in-Allow-clause-around
+returns-in-Allow-clause-around c =
+    is_around c.allow.result c.args.sig.now c.args.pool.now.trees c.args.pool.now.trees (plain_operator c.args.operator.now) (allow (items_of_each c.as_slice.result.now)) (plain_linear c.args.linear.now)
+    (ap (λ sets. allow (items_of_each sets)) c.as_slice.ensures.value ∙ sym (ap plain_operator c.in-Allow.is)) c.allow.ensures.summands
+
+pub returns-in-Block-clause-around : goal.returns-in-Block-clause-around
+returns-in-Block-clause-around c =
+    is_around c.block.result c.args.sig.now c.args.pool.now.trees c.args.pool.now.trees (plain_operator c.args.operator.now) (block c.as_slice-in-Block.result.now) (plain_linear c.args.linear.now)
+    (ap block c.as_slice-in-Block.ensures.value ∙ sym (ap plain_operator c.in-Block.is)) c.block.ensures.summands
+
+pub returns-in-Hide-clause-around : goal.returns-in-Hide-clause-around
+returns-in-Hide-clause-around c =
+    is_around c.hide.result c.args.sig.now c.args.pool.now.trees c.args.pool.now.trees (plain_operator c.args.operator.now) (hide c.as_slice-in-Hide.result.now) (plain_linear c.args.linear.now)
+    (ap hide c.as_slice-in-Hide.ensures.value ∙ sym (ap plain_operator c.in-Hide.is)) c.hide.ensures.summands
+
+pub returns-in-Rename-clause-around : goal.returns-in-Rename-clause-around
+returns-in-Rename-clause-around c =
+    is_around c.rename.result c.args.sig.now c.args.pool.now.trees c.args.pool.now.trees (plain_operator c.args.operator.now) (rename c.as_slice-in-Rename.result.now) (plain_linear c.args.linear.now)
+    (ap rename c.as_slice-in-Rename.ensures.value ∙ sym (ap plain_operator c.in-Rename.is)) c.rename.ensures.summands
+
+pub returns-in-Comm-clause-around : goal.returns-in-Comm-clause-around
+returns-in-Comm-clause-around c =
+    is_communicated c.communicate.result c.args.sig.now c.args.pool.now.trees c.communicate.new.pool.trees (plain_operator c.args.operator.now) (plain_rules c.in-Comm.rules) (plain_linear c.args.linear.now) (ap plain_operator c.in-Comm.is)
+    c.communicate.ensures.params c.communicate.ensures.init c.communicate.ensures.summands

@@ -100,3 +100,6 @@ returns-in-Ok-clause-keeps c = record {
   grow = record { signature = c.linear_of.ensures.grown; pool = c.linear_of.ensures.kept };
   keeps = c.in-Ok.ensures.keeps;
 }
+
+pub returns-in-Ok-clause-composed : goal.returns-in-Ok-clause-composed
+returns-in-Ok-clause-composed c = record { signature = c.elaborate.new.sig; pool = c.elaborate.new.pool; model = plain_model c.in_ok-model.model; is_model = c.in_ok-model.ensures.means; along = c.in-Ok.ensures.composed }

@@ -14,6 +14,7 @@ use Rattle.lin_driver.specs.Faults.{IsModelFaultBy}
 use Rattle.lin_driver.specs.KeptTexts.{KeepsNetwork}
 use Rattle.lin_driver.specs.Leaves.{leaves}
 use Rattle.lin_driver.specs.LinearLeaves.{IsLeavesFaultOf}
+use Rattle.lin_driver.specs.MadeFromLeaves.{IsMadeFromLeaves}
 use Rattle.lin_driver.specs.ModelLinears.{CanBeLinearFrom, LeadsToLinear}
 use Rattle.lin_driver.specs.PlainlyMade.{IsPlainFor, written_in_model}
 use Rattle.lin_driver.proofs.GrownModels.{model_grows}
@@ -94,6 +95,20 @@ returns-clause-sorts c = λ none.
     let ts = c.open_network.new.pool.trees in
     let n = plain_network c.in_ok-network.network in
     c.in_ok-linear.ensures.sorts (subst (λ z. All (NeedsNoStack c.args.method (plain_model z)) (leaves n)) (sym c.in_ok-guarded.ensures.model) (none ts n c.in_ok-network.ensures.opened)) ∙ c.name_process.ensures.grown.sorts
+
+-- ---- what it is composed of
+pub returns-clause-composed : goal.returns-clause-composed
+returns-clause-composed c =
+    let h = c.linear_of_network.new.sig in
+    let us = c.linear_of_network.new.pool.trees in
+    let n = plain_network c.in_ok-network.network in
+    record {
+      signature = c.name_process.new.sig;
+      pool = c.open_network.new.pool;
+      network = n;
+      opened = c.in_ok-network.ensures.opened;
+      made = subst (λ z. IsMadeFromLeaves c.args.method c.name_process.new.sig c.open_network.new.pool (plain_model z) n h us (plain_linear c.in_ok-linear.linear)) c.in_ok-guarded.ensures.model c.in_ok-linear.ensures.composed;
+    }
 
 -- ---- what a linear text writes
 pub returns-clause-keeps : goal.returns-clause-keeps

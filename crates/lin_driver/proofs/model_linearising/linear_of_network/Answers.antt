@@ -12,6 +12,8 @@ use Rattle.lin_driver.specs.KeptTexts.{KeepsComponent}
 use Rattle.lin_driver.specs.Leaves.{leaves}
 use Rattle.lin_driver.specs.LinearLeaves.{IsLeafOf, AreLeavesMade, IsLeavesFaultOf}
 use Rattle.lin_driver.specs.ModelLinears.{LeadsToLinear}
+use Rattle.lin_driver.specs.NetworkProducts.{ComposedFrom}
+use Rattle.lin_driver.specs.NetworkScopes.{everything}
 use Rattle.lin_driver.specs.PlainlyMade.{ArePlainLeaves, written_in_model}
 use Rattle.lin_driver.proofs.KeptTexts.{network_kept}
 use Rattle.lin_driver.proofs.MadeLeaves.{passed_on}
@@ -123,6 +125,34 @@ returns-clause-plain c =
 pub returns-clause-sorts : goal.returns-clause-sorts
 returns-clause-sorts c = λ none.
     c.name_sums.ensures.grown.sorts ∙ c.compose.ensures.grown.sorts ∙ c.in_ok-parts.ensures.sorts (subst (All (NeedsNoStack c.args.method (plain_model c.args.guarded.now.model.now))) (sym (ap (map plain_component) c.as_slice.ensures.value ∙ c.in_ok-components.ensures)) none)
+
+-- ---- what it is composed of
+pub returns-clause-composed : goal.returns-clause-composed
+returns-clause-composed c =
+    let g = c.args.sig.now in
+    let m = plain_model c.args.guarded.now.model.now in
+    let n = plain_network c.args.network.now in
+    let p = c.args.pool.now in
+    let d = c.linear_components.new.sig in
+    let q = c.linear_components.new.pool in
+    let ls = map plain_linear c.in_ok-parts.parts.items in
+    let l = plain_linear c.in_ok-composed.composed in
+    let made = subst (λ cs. AreLeavesMade c.args.method g p d q m cs ls) (ap (map plain_component) c.as_slice.ensures.value ∙ c.in_ok-components.ensures) c.in_ok-parts.ensures.made in
+    let composed = c.in_ok-composed.ensures.composed (record { signature = g; trees = p.trees; model = m }) [] (network_can_be_composed c.args.method g d p q m n ls c.requires.can made) in
+    record {
+      with_leaves = d;
+      pool = q;
+      parts = ls;
+      are_made = made;
+      with_products = c.compose.new.sig;
+      trees = c.compose.new.pool.trees;
+      composed = l;
+      is_composed = subst (λ left. ComposedFrom everything d q.trees n ls c.compose.new.sig c.compose.new.pool.trees left l) composed.is_left c.in_ok-composed.ensures.from;
+      named_trees = c.name_sums.new.pool.trees;
+      named = plain_linear c.in_ok-named.named;
+      is_named = c.in_ok-named.ensures.named;
+      is_tidied = c.in_ok-tidy.ensures.tidied;
+    }
 
 -- ---- what a linear text writes
 pub returns-clause-keeps : goal.returns-clause-keeps

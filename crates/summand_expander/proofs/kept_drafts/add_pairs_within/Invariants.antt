@@ -1,0 +1,13 @@
+use Rattle.std.proofs.Common.{map, take}
+use Rattle.std.specs.Prelude.{flat_map}
+use Rattle.summand_expander.specs.Answers.{AreAnswers}
+use Rattle.summand_expander.specs.Drafts.{both_moves, plain_draft, plain_move, plain_side}
+use Rattle.summand_expander.specs.KeptDrafts.{draft_stays, is_last, Keeps}
+use Rattle.summand_expander.specs.PlainAllowed.{plain_allowed}
+use Rattle.summand_expander.proofs.kept_drafts.add_pairs_within.Given as goal
+
+abbrev pub invariant-loop-first : goal.invariant-loop-first
+invariant-loop-first l = record {
+  answers : AreAnswers (plain_allowed l.allowed) l.answers;
+  keeps : Keeps (draft_stays l.sig (plain_allowed l.allowed)) is_last (flat_map (λ m. map (both_moves (plain_side l.left) (plain_side l.right) m) (map plain_move l.right.moves.items)) (map plain_move (take l.first-index l.first-items))) l.fn.spare l.spare (map plain_draft l.fn.drafts.items) (map plain_draft l.drafts.items);
+}
