@@ -1,5 +1,5 @@
 -- Pairs of terms that are compared.
-use Rattle.std.proofs.Common.{◌≡◌, ℕ, zero, suc, ◌<◌, ◌+◌, ◌⊎◌, inl, inr, List, [], ◌∷◌, ◌++◌, length, get_or, take, Bool, true, false, refl, sym, ap, ◌∙◌, subst, arith, append_assoc, append-nil}
+use Rattle.std.proofs.Common.{◌≡◌, ℕ, zero, suc, ◌<◌, ◌≤◌, ◌+◌, ◌⊎◌, inl, inr, List, [], ◌∷◌, ◌++◌, length, get_or, take, Bool, true, false, refl, sym, ap, ◌∙◌, subst, arith, append_assoc, append-nil}
 use Rattle.std.specs.List.{All}
 use Rattle.std.proofs.lemmas.List.Elements.{All-nil, All-cons, All-head, All-tail, All-append}
 use Rattle.data_theory.specs.declared.ids.TermId.{TermId}
@@ -26,27 +26,49 @@ take-suc [] k x e l = absurd (omega arith)
 take-suc (y ∷ xs) zero x e l = ap (λ z. z ∷ []) (sym e)
 take-suc (y ∷ xs) (suc k) x e l = ap (λ zs. y ∷ zs) (take-suc xs k x e (omega arith))
 
-one_more : (ps us : List TermId) (k : ℕ) (p u : TermId) → length ps ≡ length us → k < length ps → p ≡ get_or ps k p → u ≡ get_or us k u → pairs (take (suc k) ps) (take (suc k) us) ≡ pairs (take k ps) (take k us) ++ (p, u) ∷ []
+pub one_more : (ps us : List TermId) (k : ℕ) (p u : TermId) → k < length us → k < length ps → p ≡ get_or ps k p → u ≡ get_or us k u → pairs (take (suc k) ps) (take (suc k) us) ≡ pairs (take k ps) (take k us) ++ (p, u) ∷ []
 one_more [] us k p u l h a b = absurd (omega arith)
 one_more (x ∷ ps) [] k p u l h a b = absurd (omega arith)
 one_more (x ∷ ps) (y ∷ us) zero p u l h a b = ap (λ (z : Pair). z ∷ []) (sym (let both : (p, u) ≡ (x, y) = λ i. (a i, b i) in both))
 one_more (x ∷ ps) (y ∷ us) (suc k) p u l h a b = ap (λ zs. (x, y) ∷ zs) (one_more ps us k p u (omega (arith, l)) (omega (arith, h)) a b)
 
-pub pushes_pair : (old mid new : List Pair) (ps us : List TermId) (k next : ℕ) (p u : TermId) → next ≡ k + 1 → length ps ≡ length us → k < length ps → p ≡ get_or ps k p → u ≡ get_or us k u → mid ≡ old ++ pairs (take k ps) (take k us) → new ≡ mid ++ (p, u) ∷ [] → new ≡ old ++ pairs (take next ps) (take next us)
+pub pushes_pair : (old mid new : List Pair) (ps us : List TermId) (k next : ℕ) (p u : TermId) → next ≡ k + 1 → k < length us → k < length ps → p ≡ get_or ps k p → u ≡ get_or us k u → mid ≡ old ++ pairs (take k ps) (take k us) → new ≡ mid ++ (p, u) ∷ [] → new ≡ old ++ pairs (take next ps) (take next us)
 pushes_pair old mid new ps us k next p u n l h a b was is =
     let e : next ≡ suc k = omega (arith, n) in
     let r : pairs (take next ps) (take next us) ≡ pairs (take k ps) (take k us) ++ (p, u) ∷ [] = ap (λ j. pairs (take j ps) (take j us)) e ∙ one_more ps us k p u l h a b in
     is ∙ (ap (λ (x : List Pair). x ++ (p, u) ∷ []) was ∙ (append_assoc old (pairs (take k ps) (take k us)) ((p, u) ∷ []) ∙ ap (λ (x : List Pair). old ++ x) (sym r)))
 
-left_of : {X : Type 0} (P : X → Type 0) (xs ys : List X) → All P (xs ++ ys) → All P xs
+-- all pairs are there where one of the lists has ended
+no_more : (ps us : List TermId) (k : ℕ) → length us ≤ k → pairs (take k ps) (take k us) ≡ pairs ps us
+no_more [] us zero l = refl
+no_more [] us (suc k) l = refl
+no_more (p ∷ ps) [] zero l = refl
+no_more (p ∷ ps) [] (suc k) l = refl
+no_more (p ∷ ps) (u ∷ us) zero l = absurd (omega (arith, l))
+no_more (p ∷ ps) (u ∷ us) (suc k) l = ap (λ zs. (p, u) ∷ zs) (no_more ps us k (omega (arith, l)))
+
+no_more_left : (ps us : List TermId) (k : ℕ) → length ps ≤ k → pairs (take k ps) (take k us) ≡ pairs ps us
+no_more_left [] us zero l = refl
+no_more_left [] us (suc k) l = refl
+no_more_left (p ∷ ps) us zero l = absurd (omega (arith, l))
+no_more_left (p ∷ ps) [] (suc k) l = refl
+no_more_left (p ∷ ps) (u ∷ us) (suc k) l = ap (λ zs. (p, u) ∷ zs) (no_more_left ps us k (omega (arith, l)))
+
+pub all_pushed_here : (old new : List Pair) (ps us : List TermId) (k : ℕ) → length ps ≤ k → new ≡ old ++ pairs (take k ps) (take k us) → new ≡ old ++ pairs ps us
+all_pushed_here old new ps us k l e = e ∙ ap (λ zs. old ++ zs) (no_more_left ps us k l)
+
+pub all_pushed : (old new : List Pair) (ps us : List TermId) (k : ℕ) → length us ≤ k → new ≡ old ++ pairs (take k ps) (take k us) → new ≡ old ++ pairs ps us
+all_pushed old new ps us k l e = e ∙ ap (λ zs. old ++ zs) (no_more ps us k l)
+
+pub left_of : {X : Type 0} (P : X → Type 0) (xs ys : List X) → All P (xs ++ ys) → All P xs
 left_of P [] ys h = All-nil P
 left_of P (x ∷ xs) ys h = All-cons P x xs (All-head P x (xs ++ ys) h) (left_of P xs ys (All-tail P x (xs ++ ys) h))
 
-right_of : {X : Type 0} (P : X → Type 0) (xs ys : List X) → All P (xs ++ ys) → All P ys
+pub right_of : {X : Type 0} (P : X → Type 0) (xs ys : List X) → All P (xs ++ ys) → All P ys
 right_of P [] ys h = h
 right_of P (x ∷ xs) ys h = right_of P xs ys (All-tail P x (xs ++ ys) h)
 
-pairs_over : (sig : Sig) (ts : List Tree) (ps us : List TermId) → All (IsTerm sig ts) ps → All (IsTerm sig ts) us → All (IsPairOver sig ts) (pairs ps us)
+pub pairs_over : (sig : Sig) (ts : List Tree) (ps us : List TermId) → All (IsTerm sig ts) ps → All (IsTerm sig ts) us → All (IsPairOver sig ts) (pairs ps us)
 pairs_over sig ts [] us a b = All-nil (IsPairOver sig ts)
 pairs_over sig ts (p ∷ ps) [] a b = All-nil (IsPairOver sig ts)
 pairs_over sig ts (p ∷ ps) (u ∷ us) a b = All-cons (IsPairOver sig ts) (p, u) (pairs ps us) (All-head (IsTerm sig ts) p ps a, All-head (IsTerm sig ts) u us b) (pairs_over sig ts ps us (All-tail (IsTerm sig ts) p ps a) (All-tail (IsTerm sig ts) u us b))

@@ -1,9 +1,12 @@
 -- Accepted equations in data that grow.
-use Rattle.std.proofs.Common.{◌≡◌, ◌≢◌, ℕ, zero, suc, ◌<◌, ◌+◌, ◌⊎◌, inl, inr, ⊎_elim, List, [], ◌∷◌, ◌++◌, length, refl, sym, ap, ◌∙◌, subst, arith}
+use Rattle.std.proofs.Common.{◌≡◌, ◌≢◌, ℕ, zero, suc, ◌<◌, ◌≤◌, ◌+◌, ◌⊎◌, true, false, inl, inr, ⊎_elim, List, [], ◌∷◌, ◌++◌, length, refl, sym, ap, ◌∙◌, subst, arith}
 use Rattle.std.specs.Prelude.{Contains, slice_get, Some}
 use Rattle.std.proofs.lemmas.List.Elements.{Contains-append_cases}
 use Rattle.data_theory.specs.Terms.{Sort, boolean, list, Symbol, truth, falsity, empty, cons, function, Term, Terms, variable, numeral, unknown, application, none, more, variables_of}
-use Rattle.data_theory.specs.Declarations.{Data, DeclaredFunction, function_at, argument_sorts, IsSort, IsSymbol, HasSort, HaveSorts, IsData}
+use lib.Dec.{leb}
+use lib.ListN.{get_or-eq_default}
+use Rattle.std.proofs.lemmas.Bool.Decides.{leb_tells}
+use Rattle.data_theory.specs.Declarations.{Data, DeclaredFunction, constructor, mapping, function_at, argument_sorts, IsSort, IsSymbol, HasSort, HaveSorts, IsData}
 use Rattle.data_theory.specs.Environments.{AreDistinct, IsOver}
 use Rattle.data_theory.specs.Equations.{term_at}
 use Rattle.data_theory.specs.EqualityLaws.{Grows}
@@ -12,6 +15,8 @@ use Rattle.data_theory.specs.Rewriting.{IsNoVariable, IsWellFormed}
 use Rattle.data_theory.proofs.GrowthLemmas.{function_in_grown, has_sort_in_grown}
 use Rattle.eqn_check.specs.Patterns.{IsConstructor, IsPattern, ArePatterns, IsOf, IsLeftSide, arguments_of, StandsUnder, StandsUnderOne}
 use Rattle.eqn_check.specs.Calls.{Calls, EquationCalls, FunctionCalls, Reaches, at_once, by_way_of, CallsFall, AllCallsFall, Falls}
+use Rattle.eqn_check.specs.Conditions.{BeginDifferently, IsFalseByForm}
+use Rattle.eqn_check.specs.Exclusion.{Exclude}
 use Rattle.eqn_check.specs.Rules.{Rule, shape, repeat, overlap, recursion, Breaks, AreAccepted}
 use Rattle.eqn_check.specs.AcceptedLaws.{AreWellFormed, IsNewEmptyList, AreNewEmptyLists, AcceptedEquationsStayAccepted, AcceptedEquationsAreConsistentInGrownData}
 use Rattle.eqn_check.proofs.Elements.{contains_at}
@@ -73,6 +78,45 @@ module _ (g h : Data) (ok : IsData h) (grows : Grows g h) (own added : List Equa
   left_side_stays vs (numeral a z) s i p = absurd p
   left_side_stays vs (unknown d z) s i p = absurd p
   left_side_stays vs (application _ ts) s i p = absurd p
+
+  -- ---- exclusion stays
+  declared_constructor : (c : ℕ) → (function_at g c).role ≡ constructor → c < length g.functions
+  declared_constructor c k = by_bound (leb_tells (length g.functions) c)
+    where
+      by_bound : ((leb (length g.functions) c ≡ true) × (length g.functions ≤ c)) ⊎ ((leb (length g.functions) c ≡ false) × (c < length g.functions)) → c < length g.functions
+      by_bound (inr l) = l.1
+      by_bound (inl l) =
+          let none_there : function_at g c ≡ record { arguments = []; result = boolean; role = mapping } = get_or-eq_default g.functions (record { arguments = []; result = boolean; role = mapping }) l.1 in
+          let m : mapping ≡ constructor = sym (ap (λ (d : DeclaredFunction). d.role) none_there) ∙ k in cc
+
+  any_constructor_stays : (f : Symbol) → IsConstructor g f → IsConstructor h f
+  any_constructor_stays (function c) k = role_stays c (declared_constructor c k) ∙ k
+  any_constructor_stays truth k = tt
+  any_constructor_stays falsity k = tt
+  any_constructor_stays (empty s) k = tt
+  any_constructor_stays (cons s) k = tt
+  any_constructor_stays _ k = absurd k
+
+  differently_stays : (t u : Term) → BeginDifferently g t u → BeginDifferently h t u
+  differently_stays (application c ts) (application d us) b = (any_constructor_stays c b.0, any_constructor_stays d b.1, b.2)
+  differently_stays (variable x) u b = absurd b
+  differently_stays (numeral a z) u b = absurd b
+  differently_stays (unknown d z) u b = absurd b
+  differently_stays (application f ts) (variable x) b = absurd b
+  differently_stays (application f ts) (numeral a z) b = absurd b
+  differently_stays (application f ts) (unknown d z) b = absurd b
+
+  false_stays : (t : Term) → IsFalseByForm g t → IsFalseByForm h t
+  false_stays t (inl e) = inl e
+  false_stays t (inr s) = inr (s.0, s.1, ⊎_elim (λ n. inl n) (λ n. inr (⊎_elim (λ e. inl e) (λ d. inr (d.0, differently_stays s.0.one s.0.other d.1)) n)) s.2)
+
+  exclusion_stays : (p q : Equation) → Exclude g p q → Exclude h p q
+  exclusion_stays p q x = record {
+    into_first = x.into_first;
+    into_second = x.into_second;
+    general = x.general;
+    so = ⊎_elim (λ e. inl e) (λ n. inr (⊎_elim (λ f. inl (f.0, f.1, false_stays f.0 f.2)) (λ c. inr c) n)) x.so;
+  }
 
   -- ---- added equations call nothing
   no_calls : (t : Term) (c : Symbol) (f : ℕ) → t ≡ application c none → c ≢ function f → Calls t f → ⊥
@@ -160,7 +204,7 @@ module _ (g h : Data) (ok : IsData h) (grows : Grows g h) (own added : List Equa
       b (left_side_stays q.sorts q.left w.sort w.left (not_refused (left_side_decided g q.left) (λ n. accepted k q at shape n)))
   old_keeps k q at repeat b = accepted k q at repeat b
   old_keeps k q at overlap b = elim (place_in_joined own added b.earlier b.equation b.stands) [
-    | inl e ↦ accepted k q at overlap (record { earlier = b.earlier; is_earlier = b.is_earlier; equation = b.equation; stands = e; meet = b.meet })
+    | inl e ↦ accepted k q at overlap (record { earlier = b.earlier; is_earlier = b.is_earlier; equation = b.equation; stands = e; meet = b.meet; excluded = λ x. b.excluded (exclusion_stays b.equation q x) })
     | inr e ↦ let l = within_list own k q at in let p = b.is_earlier in absurd (omega (arith, e.1))
   ]
   old_keeps k q at recursion (f, o, inl around) =

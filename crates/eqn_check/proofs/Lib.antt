@@ -2,6 +2,7 @@ pub mod Settling
 pub mod Elements
 pub mod ValuesUnder
 pub mod Matching
+pub mod ExclusionLemmas
 pub mod Decided
 pub mod Stages
 pub mod SettledValues
@@ -11,8 +12,13 @@ pub mod AcceptedLemmas
 pub mod GrownLemmas
 pub mod ExampleLemmas
 pub mod JudgedLemmas
+pub mod Deciding
 pub mod AlikeLemmas
 pub mod AlikePairs
+pub mod FilledLemmas
+pub mod OppositeLemmas
+pub mod ComparisonLemmas
+pub mod ExcludedPairLemmas
 pub mod OverlapLemmas
 pub mod WalkedLemmas
 pub mod TermLemmas

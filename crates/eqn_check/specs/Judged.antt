@@ -17,6 +17,7 @@ use Rattle.eqn_check.specs.declared.answers.Reason.{Reason}
 use Rattle.eqn_check.specs.declared.answers.Reason.TheVariants as reasons
 use Rattle.eqn_check.specs.declared.answers.Answer.{Answer}
 use Rattle.eqn_check.specs.declared.answers.Answer.TheVariants.{Consistent, Unproved}
+use Rattle.eqn_check.specs.Exclusion.{Exclude}
 use Rattle.eqn_check.specs.Patterns.{IsLeftSide}
 use Rattle.eqn_check.specs.Rules.{Rule, shape, repeat, overlap, recursion, Breaks, BreaksOverlap, place_of, LeftSidesMeet, AreAccepted, IsFirstBroken}
 
@@ -75,18 +76,28 @@ IsReasonFor sig ts es number broken =
     (own : List Equation) → AreEquationsOf sig ts es own → KeepsBefore (data_meant sig) own number → (q : Equation) → slice_get own number ≡ Some q
     → MatchOption broken (KeepsRules (data_meant sig) own number q) (λ r. BreaksFirst (data_meant sig) own number q (rule_of r))
 
--- the first n equations have left sides of the right shape, in which no variable stands twice
+-- the left side has the right shape, and no variable stands twice in it
+abbrev pub IsLinearLeft : Data → Equation → Type 0
+IsLinearLeft g p = IsLeftSide g p.left × AreDistinct (variables_of p.left)
+
+-- so it is of the first n equations
 abbrev pub AreLinear : Data → List Equation → ℕ → Type 0
-AreLinear g own n = (j : ℕ) (p : Equation) → j < n → slice_get own j ≡ Some p → IsLeftSide g p.left × AreDistinct (variables_of p.left)
+AreLinear g own n = (j : ℕ) (p : Equation) → j < n → slice_get own j ≡ Some p → IsLinearLeft g p
 
--- none of the first n left sides meets that of this equation, where all up to this one are linear
-abbrev pub NoneMeets : Sig → List Tree → List Written → ℕ → ℕ → Type 0
-NoneMeets sig ts es number n =
+-- the flag tells whether the left sides meet and the equations don't exclude one another, where both left sides are linear
+abbrev pub DecidesOverlap : Sig → List Tree → Written → Written → Bool → Type 0
+DecidesOverlap sig ts e f b =
+    (p q : Equation) → IsEquationOf sig ts e p → IsEquationOf sig ts f q → IsLinearLeft (data_meant sig) p → IsLinearLeft (data_meant sig) q
+    → Decides b (LeftSidesMeet p q × (Exclude (data_meant sig) p q → ⊥))
+
+-- none of the first n equations overlaps with this one, where all up to this one are linear
+abbrev pub NoneOverlaps : Sig → List Tree → List Written → ℕ → ℕ → Type 0
+NoneOverlaps sig ts es number n =
     (own : List Equation) → AreEquationsOf sig ts es own → AreLinear (data_meant sig) own (number + 1) → (q : Equation) → slice_get own number ≡ Some q
-    → (j : ℕ) (p : Equation) → j < n → slice_get own j ≡ Some p → LeftSidesMeet p q → ⊥
+    → (j : ℕ) (p : Equation) → j < n → slice_get own j ≡ Some p → LeftSidesMeet p q → (Exclude (data_meant sig) p q → ⊥) → ⊥
 
--- the flag tells whether this equation's left side meets an earlier one, where all up to it are linear
+-- the flag tells whether this equation overlaps with an earlier one, where all up to it are linear
 abbrev pub TellsOverlap : Sig → List Tree → List Written → ℕ → Bool → Type 0
 TellsOverlap sig ts es number b =
     (own : List Equation) → AreEquationsOf sig ts es own → AreLinear (data_meant sig) own (number + 1) → (q : Equation) → slice_get own number ≡ Some q
-    → Decides b (BreaksOverlap own number q)
+    → Decides b (BreaksOverlap (data_meant sig) own number q)

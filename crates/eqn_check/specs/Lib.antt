@@ -1,5 +1,7 @@
 pub mod Patterns
 pub mod Calls
+pub mod Conditions
+pub mod Exclusion
 pub mod Rules
 pub mod AcceptedLaws
 pub mod Examples
@@ -9,3 +11,6 @@ pub mod Linear
 pub mod Roles
 pub mod CallTrees
 pub mod CallTables
+pub mod Fillings
+pub mod Comparisons
+pub mod ExcludedPairs

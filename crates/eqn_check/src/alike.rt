@@ -1,6 +1,6 @@
 //! Left sides that meet.
 
-ghost use Rattle.std.specs.Prelude.{◌≡◌, ◌++◌, length, IfOk, OnOk};
+ghost use Rattle.std.specs.Prelude.{◌≡◌, ◌++◌, IfOk, OnOk};
 ghost use Rattle.std.specs.Bool.{Decides};
 ghost use Rattle.term_pool.specs.HeadTrees.{tree_at, IsIn};
 ghost use Rattle.eqn_check.specs.Alike.{pairs, AreAlike, AreLeft, Compares, IsVariableTree};
@@ -10,23 +10,25 @@ use data_theory::{NoMemory, Signature, TermId};
 use std::alloc::Global;
 use term_pool::{Head, Pool};
 
-/// Adds the pairs of two lists.
-fn push_pairs(
+/// Adds the pairs of two lists, as far as both go.
+pub fn push_pairs(
     left: &mut Vec<(TermId, TermId)>,
     ones: &[TermId],
     others: &[TermId],
 ) -> Result<(), NoMemory>
-    requires { length ones.now ≡ length others.now }
     ensures { OnOk result (left.new.items ≡ left.old.items ++ pairs ones.now others.now) }
 {
     for i in 0..ones.len() {
+        if i >= others.len() {
+            return Ok(());
+        }
         left.push((ones[i], others[i]))?;
     }
     Ok(())
 }
 
 /// Whether a term is a variable.
-fn is_variable(pool: &Pool, term: TermId) -> bool
+pub fn is_variable(pool: &Pool, term: TermId) -> bool
     requires { IsIn pool.now.trees term }
     ensures { Decides result (IsVariableTree (tree_at pool.now.trees term)) }
 {

@@ -8,16 +8,17 @@ ghost use Rattle.data_theory.specs.Environments.{AreDistinct};
 ghost use Rattle.data_theory.specs.Signature.{Sig};
 ghost use Rattle.term_pool.specs.HeadTrees.{IsIn};
 ghost use Rattle.eqn_check.specs.CallTables.{AreCalls};
-ghost use Rattle.eqn_check.specs.Judged.{IsAnswerFor, IsEquationOver, IsReasonFor, TellsOverlap, term_at};
+ghost use Rattle.eqn_check.specs.Judged.{IsAnswerFor, IsEquationOver, IsReasonFor, DecidesOverlap, TellsOverlap, term_at};
 
 use crate::alike::are_alike;
 use crate::answers::{Answer, Reason};
+use crate::exclusion::exclude;
 use crate::linear::has_distinct_variables;
 use crate::patterns::is_left_side;
 use crate::recursion::{Calls, find_calls, goes_around};
 use data_theory::{NoMemory, Signature, TermId};
 use std::alloc::Global;
-use term_pool::{Pool, Theory};
+use term_pool::{Equation, Pool, Theory};
 
 /// Whether no variable stands twice in a term.
 fn is_linear(alloc: Global, pool: &Pool, term: TermId) -> Result<bool, NoMemory>
@@ -28,7 +29,27 @@ fn is_linear(alloc: Global, pool: &Pool, term: TermId) -> Result<bool, NoMemory>
     Ok(distinct)
 }
 
-/// Whether the left side of an equation meets that of an earlier one, where all of these are linear.
+/// Whether the left sides of two equations meet, and they don't exclude one another; where both left sides are linear.
+fn overlap(
+    alloc: Global,
+    sig: &Signature,
+    pool: &Pool,
+    one: &Equation,
+    other: &Equation,
+) -> Result<bool, NoMemory>
+    requires one { IsEquationOver sig.now pool.now.trees one.now }
+    requires other { IsEquationOver sig.now pool.now.trees other.now }
+    ensures { IfOk result (DecidesOverlap sig.now pool.now.trees one.now other.now) }
+{
+    let alike = are_alike(alloc, sig, pool, one.left, other.left)?;
+    if !alike {
+        return Ok(false);
+    }
+    let excluded = exclude(alloc, sig, pool, one, other)?;
+    Ok(!excluded)
+}
+
+/// Whether an equation overlaps with an earlier one, where the left sides of all of these are linear.
 fn overlaps(
     alloc: Global,
     sig: &Signature,
@@ -41,14 +62,14 @@ fn overlaps(
     ensures { IfOk result (TellsOverlap sig.now pool.now.trees theory.now.equations.items number) }
 {
     for earlier in 0..number {
-        let alike = are_alike(
+        let both = overlap(
             alloc,
             sig,
             pool,
-            theory.equations[earlier].left,
-            theory.equations[number].left,
+            &theory.equations[earlier],
+            &theory.equations[number],
         )?;
-        if alike {
+        if both {
             return Ok(true);
         }
     }

@@ -5,14 +5,18 @@ mod alike;
 mod answers;
 mod calls;
 mod checking;
+mod comparisons;
 mod edges;
 pub mod examples;
+mod exclusion;
 mod falling;
+mod filled;
 pub mod laws;
 mod linear;
 mod patterns;
 mod recursion;
 mod roles;
+mod signs;
 mod variable_sets;
 
 pub use answers::{Answer, Reason};
