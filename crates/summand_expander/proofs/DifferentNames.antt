@@ -198,7 +198,7 @@ module _ (P : NameId → Type 0) (A : VarId → Type 0) (g : Sig) (s : IsSignatu
       (Contains-append_cases xs (x ∷ []) z j)
 
 -- ---- lists of names
-same_name : {a b : NameId} → a.0 ≡ b.0 → a ≡ b
+pub same_name : {a b : NameId} → a.0 ≡ b.0 → a ≡ b
 same_name q = ap (λ z. record { 0 = z }) q
 
 distinct_by : (f k : VarId → ℕ) (xs : List VarId) → ((x y : VarId) → Contains xs x → Contains xs y → k x ≡ k y → f x ≡ f y) → AreDistinct (map f xs) → AreDistinct (map k xs)
@@ -299,13 +299,13 @@ run_grows P A g h os ns _ k us vs n l t (one_variable {xs = xs} {os = os1} {ns =
     (one_grows P A g m os1 ns1 x k us vs (all_stand P A g h os ns xs m os1 ns1 n front_l front_t r) (All-contains (IsVariable g) (xs ++ x ∷ []) x l (Contains-append_right xs (x ∷ []) x (contains_first x []))) (All-contains (HasTakenName g) (xs ++ x ∷ []) x t (Contains-append_right xs (x ∷ []) x (contains_first x []))) o)
 
 -- ---- both sides
-numbers_append : (g : Sig) (xs ys : List VarId) → name_numbers g (xs ++ ys) ≡ name_numbers g xs ++ name_numbers g ys
+pub numbers_append : (g : Sig) (xs ys : List VarId) → name_numbers g (xs ++ ys) ≡ name_numbers g xs ++ name_numbers g ys
 numbers_append g xs ys = ap (map (λ (n : NameId). n.0)) (map-append (name_of g) xs ys) ∙ map-append (λ (n : NameId). n.0) (names_of g xs) (names_of g ys)
 
-numbers_kept : (g h : Sig) (xs : List VarId) → GrowsByNames g h → All (IsVariable g) xs → name_numbers h xs ≡ name_numbers g xs
+pub numbers_kept : (g h : Sig) (xs : List VarId) → GrowsByNames g h → All (IsVariable g) xs → name_numbers h xs ≡ name_numbers g xs
 numbers_kept g h xs w l = ap (map (λ (n : NameId). n.0)) (names_kept g h xs w.grown l)
 
-named_by : (g : Sig) (xs : List VarId) (v : ℕ) → Contains (name_numbers g xs) v → (x : VarId) × (Contains xs x × ((name_of g x).0 ≡ v))
+pub named_by : (g : Sig) (xs : List VarId) (v : ℕ) → Contains (name_numbers g xs) v → (x : VarId) × (Contains xs x × ((name_of g x).0 ≡ v))
 named_by g xs v i = let r = contains_map (λ x. (name_of g x).0) xs v (subst (λ zs. Contains zs v) (sym (numbers_fused g xs)) i) in (r.0, (r.1.0, sym r.1.1))
 
 module _ (g0 g1 g2 g3 : Sig) (ts us : List Tree) (l r : PlainLinear) (lf rf : Option VarId) (os ns : List VarId) (bl br : Bool) (fl : Fits g0 ts l) (fr0 : Fits g0 ts r) (fr : Fits g1 ts r) (one : FlagStands g0 g1 bl lf) (way : GivesWay g1 l r g2 os ns) (new : NewOnes g1 g2 os ns) (two : FlagStands g2 g3 br rf) where

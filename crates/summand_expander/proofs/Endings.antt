@@ -26,7 +26,7 @@ any_append f (x ∷ xs) ys = ap (λ b. f x || b) (any_append f xs ys) ∙ sym (o
     or_assoc true b c = refl
     or_assoc false b c = refl
 
-any_same : {A B : Type 0} (f : A → Bool) (g : B → Bool) (h : A → B) → ((x : A) → g (h x) ≡ f x) → (xs : List A) → list_any g (map h xs) ≡ list_any f xs
+pub any_same : {A B : Type 0} (f : A → Bool) (g : B → Bool) (h : A → B) → ((x : A) → g (h x) ≡ f x) → (xs : List A) → list_any g (map h xs) ≡ list_any f xs
 any_same f g h w [] = refl
 any_same f g h w (x ∷ xs) = ap₂ (λ a b. a || b) (w x) (any_same f g h w xs)
 

@@ -23,6 +23,9 @@ pub mod StartedGroups
 pub mod FirstSteps
 pub mod NewestVariable
 pub mod MadeFirstSteps
+mod StartingLoops
+mod StartedMeanings
+pub mod DoneStarting
 pub mod KeptElements
 pub mod CutProducts
 pub mod GoodPruned

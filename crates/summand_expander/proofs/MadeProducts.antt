@@ -53,7 +53,7 @@ use Rattle.summand_expander.specs.Product.{flag_of, columns, first_flag, first_c
 use Rattle.summand_expander.specs.Renewing.{renewed, KeepsApart}
 use Rattle.summand_expander.specs.Renewals.{IsFlag, GivesWay, all_sums, HasVariable, IsRenewedLinear}
 use Rattle.summand_expander.specs.SideFits.{FitsWithNames, IsFlagOf}
-use Rattle.summand_expander.specs.ProductSides.{HasSides}
+use Rattle.summand_expander.specs.StartedProducts.{HasItsSides}
 use Rattle.summand_expander.specs.Pruned.{product_within}
 use Rattle.summand_expander.specs.PrunedLaws.{Tells}
 use Rattle.summand_expander.specs.WholeProducts.{renewed_number, side_of_linear, AreSummandsOf, AreProductSummands, first_flag_id, AreFirstTerms, HaveDifferentNames, IsMadeOfSides, IsProduct, IsGoodProduct}
@@ -106,7 +106,7 @@ module _ (g : Sig) (s : IsSignature g) (us : List Tree) (unset : TermId) (within
   side_fits_first params init flag h k = subst (λ ss. AreTermsOf g us ss (init ++ first_flag_id unset flag)) (sym (map-append (sort_of_variable g) params (option_to_list flag)))
       (terms_append g us (map (sort_of_variable g) params) (map (sort_of_variable g) (option_to_list flag)) init (first_flag_id unset flag) h (flag_fits flag k))
 
-first_sorted : (d : Data) (f : Option ℕ) → HaveSorts d [] (terms_of (first_flag f)) (sorts (flag_of f))
+pub first_sorted : (d : Data) (f : Option ℕ) → HaveSorts d [] (terms_of (first_flag f)) (sorts (flag_of f))
 first_sorted d None = tt
 first_sorted d (Some f) = ((tt, tt, refl, refl), tt)
 
@@ -132,7 +132,7 @@ pub record ProductDone (g h : Sig) (us : List Tree) (l r p : PlainLinear) : Type
   pub fits : Fits h us p
   pub made : IsProduct g h us l r p
   pub good : IsGoodProduct h us l r p
-  pub sides : HasSides h us l r p
+  pub sides : HasItsSides g h us l r p
   pub ends : can_end p ≡ (can_end l && can_end r)
   pub names : HaveDifferentNames g l.params → HaveDifferentNames g r.params → HaveDifferentNames h p.params
 
@@ -404,7 +404,24 @@ module _ (g0 g1 g2 g3 : Sig) (t0 t1 t2 t3 : List Tree) (l r k p : PlainLinear) (
                 let start = merge (linear_state (entries_of g3 t3) l) (linear_state (entries_of g3 t3) r) in
                 subst (λ z. IsGood th (Product A B z) start (state_of z (initial_of (entries_of g3 t3) p))) (sym is) (subst (λ z. IsGood th (Product A B (product A B)) start (state_of (product A B) z)) (sym init) (whole_good th on con));
           };
-          sides = record { left = A; right = B; separate = apart; linear = is; initial = init; left_is = refl; left_closed = l3.closed; right_closed = right_closed; same = right_same };
+          sides = record {
+            made = record {
+              with_left_flag = g1;
+              left_flag = lf;
+              left = left;
+              with_new = g2;
+              olds = os;
+              news = ns;
+              gives_way = way;
+              right_flag = rf;
+              right = right;
+              linear = is ∙ ap (λ z. product A (record { process = z; flag = B.flag })) k_means;
+              initial = init;
+            };
+            sides = record { left = A; right = B; separate = apart; linear = is; initial = init; left_is = refl; left_closed = l3.closed; right_closed = right_closed; same = right_same };
+            left = refl;
+            right = ap (λ z. record { process = z; flag = B.flag }) k_means;
+          };
           names = done.names;
           ends = done.ends;
         }

@@ -66,9 +66,10 @@ pub record FlagStands (g h : Sig) (ends : Bool) (flag : Option VarId) : Type 0 w
 pub bool_within : (g : Sig) → IsSignature g → bool_sort.0 < length g.sorts
 bool_within g s = let k = (s.table.sorts.boolean_first 0).1 refl in slice_get_within g.sorts 0 k.0 k.1
 
-pub flag_stands : (g h : Sig) (b : Bool) (flag : Option VarId) → IsSignature g → IsFlag g b h flag → FlagStands g h b flag
-flag_stands g _ _ _ s no_flag = record { on = names_none g s; new = tt; without = λ q. refl; with_flag = λ x q. cc }
-flag_stands g _ _ _ s (new_flag {h = h} {name = name} f) =
+-- a variable of sort Bool under a fresh name
+pub fresh_flag : (g h : Sig) (base : List ℕ) (name : NameId) → IsSignature g → IsFreshIn g base name h
+    → GrowsByNames g (with_variable h (record { name = name; sort = bool_sort })) × IsNewFlag g (with_variable h (record { name = name; sort = bool_sort })) (record { 0 = length h.variables })
+fresh_flag g h base name s f =
     let v : Variable = record { name = name; sort = bool_sort } in
     let k = with_variable h v in
     let x : VarId = record { 0 = length h.variables } in
@@ -77,10 +78,9 @@ flag_stands g _ _ _ s (new_flag {h = h} {name = name} f) =
     let there : length h.variables < length k.variables = let e = length-append h.variables (v ∷ []) in omega (arith, e) in
     let place : name ≡ place_in h.texts f.text = place_is h.texts f.text name.0 by_text.stands.table.different f.named in
     let new_name : name_of k x ≡ name = ap (λ (y : Variable). y.name) (last_variable h v (record { name = record { 0 = 0 }; sort = record { 0 = 0 } })) in
-    let has : Contains h.taken name = subst (λ z. Contains h.taken z) (sym place) (subst (λ (z : Sig). Contains z.taken (place_in z.texts f.text)) (sym f.taken) (with_name_has g.taken (place_in (with_text g.texts f.text) f.text))) in
-    record {
-      on = names_then g h k by_text (names_variable h v by_text.stands named (bool_within h by_text.stands));
-      new = record {
+    let has : Contains h.taken name = subst (λ z. Contains h.taken z) (sym place) (subst (λ (z : Sig). Contains z.taken (place_in z.texts f.text)) (sym f.taken) (with_name_has g.taken (place_in (with_text g.texts f.text) f.text))) in (
+      names_then g h k by_text (names_variable h v by_text.stands named (bool_within h by_text.stands)),
+      record {
         number = ap (λ (z : Sig). length z.variables) f.taken;
         is = record { variable = there; sort = ap (λ (y : Variable). y.sort) (last_variable h v (record { name = record { 0 = 0 }; sort = bool_sort })) };
         taken = name_taken k x there (subst (λ z. Contains h.taken z) (sym new_name) has);
@@ -89,10 +89,12 @@ flag_stands g _ _ _ s (new_flag {h = h} {name = name} f) =
             let old = All-contains (λ (m : NameId). m.0 < length g.texts) g.taken name s.complete.within.taken t in
             let same = (entry_stays g.texts h.texts [] name.0 (by_text.grown.new_texts, by_text.grown.texts) old).0 in
             f.fresh.free (name, slice_get-get_or g.texts name.0 [] old ∙ ap (λ z. Some z) (sym same ∙ get_or_from_slice_get h.texts name.0 f.text [] f.named), t);
-      };
-      without = λ q. cc;
-      with_flag = λ y q. refl;
-    }
+      },
+    )
+
+pub flag_stands : (g h : Sig) (b : Bool) (flag : Option VarId) → IsSignature g → IsFlag g b h flag → FlagStands g h b flag
+flag_stands g _ _ _ s no_flag = record { on = names_none g s; new = tt; without = λ q. refl; with_flag = λ x q. cc }
+flag_stands g _ _ _ s (new_flag {h = h} {name = name} f) = let k = fresh_flag g h (codes "ended") name s f in record { on = k.0; new = k.1; without = λ q. cc; with_flag = λ y q. refl }
 
 -- in the terms of the call that makes it
 pub flag_grown : (g h k : Sig) (name : NameId) (base : List ℕ) → IsSignature g → IsFreshIn g base name h → k ≡ with_variable h (record { name = name; sort = bool_sort }) → GrowsByNames g k

@@ -23,3 +23,5 @@ pub mod SideFits
 pub mod ProductSides
 pub mod FirstSteps
 pub mod WholeFirstSteps
+pub mod StartedTrees
+pub mod StartedProducts

@@ -15,10 +15,12 @@ mod products;
 mod renewal;
 mod renewed;
 mod sides;
+mod starts;
 mod summands;
 mod within;
 
 pub use allowing::Allowed;
 pub use completing::is_completable;
 pub use products::product;
+pub use starts::{Start, product_from};
 pub use within::product_within;

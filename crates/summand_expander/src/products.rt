@@ -10,7 +10,7 @@ ghost use Rattle.lps_core.specs.Naming.{GrowsByNames};
 ghost use Rattle.lps_core.specs.PlainLinears.{ends, plain_linear, plain_summand};
 ghost use Rattle.lps_core.specs.TreeSummands.{IsSummandIn};
 ghost use Rattle.summand_expander.specs.SideFits.{IsFlagOf};
-ghost use Rattle.summand_expander.specs.ProductSides.{HasSides};
+ghost use Rattle.summand_expander.specs.StartedProducts.{HasItsSides};
 ghost use Rattle.summand_expander.specs.WholeProducts.{first_flag_id, AreFirstTerms, AreProductSummands, HaveDifferentNames, IsGoodProduct, IsProduct};
 
 use crate::flag::flag_for;
@@ -110,7 +110,7 @@ pub fn all_init(
 }
 
 /// The product, as that of two separate sides.
-fn product_of_sides(
+pub fn product_of_sides(
     alloc: Global,
     left: &Linear,
     right: &Linear,
@@ -125,7 +125,7 @@ fn product_of_sides(
     ensures fits { IfOk result (λ made. Fits sig.new pool.new.trees (plain_linear made)) }
     ensures made { IfOk result (λ made. IsProduct sig.old sig.new pool.new.trees (plain_linear left.now) (plain_linear right.now) (plain_linear made)) }
     ensures bisimilar { IfOk result (λ made. IsGoodProduct sig.new pool.new.trees (plain_linear left.now) (plain_linear right.now) (plain_linear made)) }
-    ensures sides { IfOk result (λ made. HasSides sig.new pool.new.trees (plain_linear left.now) (plain_linear right.now) (plain_linear made)) }
+    ensures sides { IfOk result (λ made. HasItsSides sig.old sig.new pool.new.trees (plain_linear left.now) (plain_linear right.now) (plain_linear made)) }
     ensures names { IfOk result (λ made. HaveDifferentNames sig.old left.now.params.items → HaveDifferentNames sig.old right.now.params.items → HaveDifferentNames sig.new made.params.items) }
     ensures ends { IfOk result (λ made. list_any ends made.summands.items ≡ (list_any ends left.now.summands.items && list_any ends right.now.summands.items)) }
 {
