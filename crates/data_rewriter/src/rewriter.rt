@@ -78,7 +78,8 @@ impl<F: Fn(NumOp, Num, Num) -> Option<Num>> Rewriter<F> {
     /// rewritten costs no fuel.
     ///
     /// `Done` comes only where the term goes to the answer, and the fuel falls by at most the uses. `Spent` comes only where
-    /// no fuel is left and a chain of more uses than there was fuel starts at the term. A term that was answered `Done`, and its
+    /// no fuel is left and a chain of more uses than there was fuel starts at the term. The fuel never rises, and falls by exactly the
+    /// uses of what was found on the way, one after another, where what is known by then is free. A term that was answered `Done`, and its
     /// answer, are answered so from then on, without fuel, also after want of memory.
     ///
     /// Where no equation is written, a well-sorted term of n nodes is answered `Done` if there is fuel of at least 4 * n * n + 4.
@@ -122,7 +123,7 @@ impl<F: Fn(NumOp, Num, Num) -> Option<Num>> Rewriter<F> {
     /// How a term of sort Bool is decided with some fuel.
     ///
     /// `Yes` comes only where the term goes to `true`, `No` only where it goes to `false`, and `Stuck` only where it goes to the
-    /// answer, which is neither. `Spent` is as in [`normalise`](Self::normalise).
+    /// answer, which is neither. `Spent` and the fuel are as in [`normalise`](Self::normalise).
     pub fn decide(
         &mut self,
         pool: &mut Pool,
