@@ -39,22 +39,22 @@ further_in : (known : Known) (p q : Term × Term) → Contains known q → Conta
 further_in known p q = Contains-append_right (p ∷ []) known q
 
 -- a pair that is stored is known
-stored_among : (sig : Sig) (ts : List Tree) (es : List (TermId × TermId)) (t u : TermId) → lookup (λ (x : TermId). t.0 == x.0) es ≡ Some u → Contains (map (λ p. (term_at sig ts p.0, term_at sig ts p.1)) es) (term_at sig ts t, term_at sig ts u)
+stored_among : (sig : Sig) (ts : List Tree) (es : List (TermId × TermId)) (t u : TermId) → lookup (λ (x : TermId). t.0 == x.0) es ≡ Some u → Contains {X = Term × Term} (map (λ p. (term_at sig ts p.0, term_at sig ts p.1)) es) (term_at sig ts t, term_at sig ts u)
 stored_among sig ts [] t u e = absurd cc
-stored_among sig ts (p ∷ es) t u e = by_test (t.0 == p.0.0) refl
+stored_among sig ts (p ∷ es) t u e = by_test (stored_among sig ts es t u) (t.0 == p.0.0) refl
   where
     here : Term × Term
     here = (term_at sig ts p.0, term_at sig ts p.1)
     rest : Known
     rest = map (λ q. (term_at sig ts q.0, term_at sig ts q.1)) es
-    by_test : (b : Bool) → (t.0 == p.0.0) ≡ b → Contains (here ∷ rest) (term_at sig ts t, term_at sig ts u)
-    by_test true same =
+    by_test : (lookup (λ (x : TermId). t.0 == x.0) es ≡ Some u → Contains rest (term_at sig ts t, term_at sig ts u)) → (b : Bool) → (t.0 == p.0.0) ≡ b → Contains (here ∷ rest) (term_at sig ts t, term_at sig ts u)
+    by_test later true same =
         let n : t.0 ≡ p.0.0 = (Decides-eqb t.0 p.0.0).0 same in
         let id_same : p.0 ≡ t = λ i. record { 0 = sym n i } in
         let both : Some p.1 ≡ Some u = ap (λ b. cond b (Some p.1) (lookup (λ (x : TermId). t.0 == x.0) es)) (sym same) ∙ e in
         let normal_same : p.1 ≡ u = cc in
         subst (λ (x : TermId). Contains (here ∷ rest) (term_at sig ts t, term_at sig ts x)) normal_same (subst (λ (x : TermId). Contains (here ∷ rest) (term_at sig ts x, term_at sig ts p.1)) id_same (at_head rest here))
-    by_test false other = further_in rest here (term_at sig ts t, term_at sig ts u) (stored_among sig ts es t u (ap (λ b. cond b (Some p.1) (lookup (λ (x : TermId). t.0 == x.0) es)) (sym other) ∙ e))
+    by_test later false other = further_in rest here (term_at sig ts t, term_at sig ts u) (later (ap (λ b. cond b (Some p.1) (lookup (λ (x : TermId). t.0 == x.0) es)) (sym other) ∙ e))
 
 pub stored_is_known : {S : Type 0} (sig : Sig) (ts : List Tree) (store : HashMap TermId TermId S) → IsKnownStore sig ts store (pairs_of sig ts store)
 stored_is_known sig ts store t u e = stored_among sig ts store.entries t u e
