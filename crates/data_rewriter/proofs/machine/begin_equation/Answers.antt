@@ -45,4 +45,4 @@ pub returns-clause-pays : goal.returns-clause-pays
 returns-clause-pays c =
     let charged : ((c.args.found.number < 55) × (c.args.fuel.now ≡ c.if-found-ge-LINES.fuel)) ⊎ ((55 ≤ c.args.found.number) × (c.args.fuel.now ≡ suc c.if-found-ge-LINES.fuel)) = elim c.if-found-ge-LINES.branch [ then-found-ge-LINES+else-fuel-eq0 w ↦ inr (w.if-found-ge-LINES.true, (let a = w.fuel-is in let b = w.if-fuel-eq0.false in omega (arith, a, b))) | else-found-ge-LINES w ↦ inl (w.if-found-ge-LINES.false, sym w.fuel-is) ] in
     λ ts sig own known f w origin before s.
-        pays_for_a_condition sig own known ts origin c.args.stack.now c.args.start before c.args.root c.args.from c.args.fuel.now c.args.found f s c.in-Some.cond c.in-Some.is c.if-found-ge-LINES.fuel c.push.new.self c.in_ok-push.ensures charged
+    pays_for_a_condition sig own known ts origin c.args.stack.now c.args.start before c.args.root c.args.from c.args.fuel.now c.args.found f s c.in-Some.cond c.in-Some.is c.if-found-ge-LINES.fuel c.push.new.self c.in_ok-push.ensures charged
