@@ -1,7 +1,7 @@
 -- The moves of a place, and what they cost.
 use Rattle.std.proofs.Common.{◌≡◌, ◌≢◌, ℕ, zero, suc, ◌+◌, ◌<◌, ◌≤◌, List, refl, sym, subst, arith, length, ◌-◌, ⊎_elim, inl, inr}
-use Rattle.std.specs.Prelude.{Contains, Option, Some, None, ℤ}
-use Rattle.data_theory.specs.Terms.{Sort, Symbol, Term, Terms, none, more, numeral, application, apply}
+use Rattle.std.specs.Prelude.{Contains, Option, Some}
+use Rattle.data_theory.specs.Terms.{Symbol, Term, Terms, none, more, application, apply}
 use Rattle.data_theory.specs.Declarations.{Data}
 use Rattle.data_theory.specs.Equations.{trueᵗ}
 use Rattle.data_theory.specs.Provable.{Equation}

@@ -1,5 +1,5 @@
 -- What a machine has paid behind an argument.
-use Rattle.std.proofs.Common.{◌≡◌, ℕ, zero, suc, ◌+◌, ◌<◌, List, [], ◌∷◌, ◌++◌, refl, sym, ap, ◌∙◌, subst, arith, length, map, take, drop, get_or, set, append_assoc}
+use Rattle.std.proofs.Common.{◌≡◌, ℕ, suc, ◌+◌, ◌<◌, List, [], ◌∷◌, ◌++◌, sym, ap, ◌∙◌, subst, arith, length, map, take, drop, get_or, set, append_assoc}
 use Rattle.std.specs.Prelude.{Contains, Some, ℤ}
 use Rattle.std.specs.List.{All}
 use Rattle.data_theory.specs.declared.ids.TermId.{TermId}
@@ -21,7 +21,7 @@ use Rattle.data_rewriter.specs.declared.machine.Hand.TheVariants.{Visit, Root, A
 use Rattle.data_rewriter.specs.Charges.{Known, AreKnown, ComesTo, merges}
 use Rattle.data_rewriter.specs.Frames.{Plain, applies}
 use Rattle.data_rewriter.specs.Paying.{Advances, HasArgument, HavePaid, Pays}
-use Rattle.data_rewriter.specs.Places.{Place, whole, from_equation, Pending, applying}
+use Rattle.data_rewriter.specs.Places.{Place, whole, from_equation, Pending}
 use Rattle.data_rewriter.specs.Standing.{term_at, listed_at, terms_of}
 use Rattle.data_rewriter.specs.States.{IsFrameIn, EntersRoot, pending_at}
 use Rattle.data_rewriter.proofs.Advancing.{stands, then_advances, advances_as, comes, to_the_root, to_the_root_at_once}

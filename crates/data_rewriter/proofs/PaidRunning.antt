@@ -1,12 +1,12 @@
 -- What the loop of a machine has paid.
-use Rattle.std.proofs.Common.{◌≡◌, ℕ, zero, suc, ◌+◌, List, [], ◌∷◌, refl, sym, ap, ◌∙◌, subst, arith, map, Bool, true, false, cond}
-use Rattle.std.specs.Prelude.{Contains, Option, Some, None, ◌==◌}
+use Rattle.std.proofs.Common.{◌≡◌, ℕ, ◌+◌, List, [], ◌∷◌, refl, sym, ap, ◌∙◌, subst, arith, map, Bool, true, false, cond}
+use Rattle.std.specs.Prelude.{Contains, Some, None, ◌==◌}
 use Rattle.std.specs.HashMap.{HashMap}
 use Rattle.std.specs.Map.{lookup}
 use Rattle.std.proofs.lemmas.Bool.Decides.{Decides-eqb}
 use Rattle.std.proofs.lemmas.List.Elements.{Contains-append_left, Contains-append_right, Contains-push}
 use Rattle.data_theory.specs.declared.ids.TermId.{TermId}
-use Rattle.data_theory.specs.Terms.{Term, application}
+use Rattle.data_theory.specs.Terms.{Term}
 use Rattle.data_theory.specs.Declarations.{Data}
 use Rattle.data_theory.specs.Provable.{Equation}
 use Rattle.data_theory.specs.Signature.{Sig}
@@ -20,11 +20,11 @@ use Rattle.data_rewriter.specs.declared.tables.Tables.{Tables}
 use Rattle.data_rewriter.specs.declared.machine.Hand.{Hand}
 use Rattle.data_rewriter.specs.declared.machine.Hand.TheVariants.{Visit, Answer, Spent}
 use Rattle.data_rewriter.specs.declared.machine.Normal.TheVariants.{Done, Spent as SpentAt}
-use Rattle.data_rewriter.specs.Charges.{Known, ComesTo, is_left, is_known, begins_a_condition, Found, nothing_yet, one_more, AreBegun, none_begun, one_begun, IsPaid, IsUsedUp, pairs_of, AnswerCosts}
+use Rattle.data_rewriter.specs.Charges.{Known, ComesTo, is_left, begins_a_condition, Found, nothing_yet, one_more, AreBegun, none_begun, one_begun, pairs_of, AnswerCosts}
 use Rattle.data_rewriter.specs.Frames.{Plain}
 use Rattle.data_rewriter.specs.Paying.{Keeps, HavePaid, Pays, IsKnownStore}
 use Rattle.data_rewriter.specs.Places.{whole, Pending, applying, deciding}
-use Rattle.data_rewriter.specs.Standing.{term_at, terms_of}
+use Rattle.data_rewriter.specs.Standing.{term_at}
 use Rattle.data_rewriter.specs.States.{AreTablesOf, AreStored, AreWithin, StartsIn, pending_at}
 use Rattle.data_rewriter.proofs.Advancing.{stands, comes}
 use Rattle.data_rewriter.proofs.PaidVisits.{known_store_kept, pending_later}
@@ -45,8 +45,10 @@ stored_among sig ts (p ∷ es) t u e = by_test (stored_among sig ts es t u) (t.0
   where
     here : Term × Term
     here = (term_at sig ts p.0, term_at sig ts p.1)
+
     rest : Known
     rest = map (λ q. (term_at sig ts q.0, term_at sig ts q.1)) es
+
     by_test : (lookup (λ (x : TermId). t.0 == x.0) es ≡ Some u → Contains rest (term_at sig ts t, term_at sig ts u)) → (b : Bool) → (t.0 == p.0.0) ≡ b → Contains (here ∷ rest) (term_at sig ts t, term_at sig ts u)
     by_test later true same =
         let n : t.0 ≡ p.0.0 = (Decides-eqb t.0 p.0.0).0 same in

@@ -1,6 +1,6 @@
 -- What a machine has paid at a root, and behind a condition.
 use Rattle.std.proofs.Common.{◌≡◌, ◌≢◌, ◌⊎◌, ℕ, suc, ◌+◌, ◌<◌, ◌≤◌, ◌-◌, List, ◌∷◌, refl, sym, subst, arith, length, map, ⊎_elim, inl, inr}
-use Rattle.std.specs.Prelude.{Contains, Option, Some, None}
+use Rattle.std.specs.Prelude.{Contains, Some, None}
 use Rattle.data_theory.specs.declared.ids.TermId.{TermId}
 use Rattle.data_theory.specs.Terms.{Term}
 use Rattle.data_theory.specs.Equations.{trueᵗ}

@@ -1,6 +1,6 @@
 -- What a machine has paid when it visits a term, and when the pool grows or more is known.
-use Rattle.std.proofs.Common.{◌≡◌, ℕ, suc, ◌+◌, ◌<◌, List, [], ◌∷◌, ◌++◌, refl, sym, ap, ◌∙◌, subst, arith, length, map, get_or}
-use Rattle.std.specs.Prelude.{Contains, Option, Some, None}
+use Rattle.std.proofs.Common.{◌≡◌, ℕ, ◌+◌, ◌<◌, List, [], ◌∷◌, ◌++◌, refl, sym, ap, ◌∙◌, subst, arith, length, map, get_or}
+use Rattle.std.specs.Prelude.{Contains, Some, None}
 use Rattle.std.specs.HashMap.{HashMap}
 use Rattle.data_theory.specs.declared.ids.TermId.{TermId}
 use Rattle.data_theory.specs.declared.ids.FunId.{FunId}
@@ -21,8 +21,8 @@ use Rattle.term_pool.specs.Pools.{Extends}
 use Rattle.term_pool.specs.Bindings.{result_of}
 use Rattle.data_rewriter.specs.declared.machine.Hand.{Hand}
 use Rattle.data_rewriter.specs.declared.machine.Hand.TheVariants.{Visit, Root, Answer, Spent}
-use Rattle.data_rewriter.specs.Charges.{Known, AreKnown, IsNoApplication, ComesTo, is_known, stays_itself}
-use Rattle.data_rewriter.specs.Frames.{Plain, applies, decides}
+use Rattle.data_rewriter.specs.Charges.{Known, IsNoApplication, ComesTo, is_known, stays_itself}
+use Rattle.data_rewriter.specs.Frames.{Plain, applies}
 use Rattle.data_rewriter.specs.Paying.{Keeps, Advances, HavePaid, HandHasPaid, Pays, IsKnownStore}
 use Rattle.data_rewriter.specs.Places.{whole, from_equation, Pending, applying, deciding}
 use Rattle.data_rewriter.specs.Standing.{term_at, listed_at, terms_of}

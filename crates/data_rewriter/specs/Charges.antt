@@ -2,7 +2,7 @@
 use Rattle.std.specs.Prelude.{◌≡◌, ◌≢◌, ◌⊎◌, ℕ, suc, ◌+◌, ◌<◌, List, [], ◌∷◌, length, map, Contains, Option, Some, None, ℤ}
 use Rattle.std.specs.HashMap.{HashMap}
 use Rattle.data_theory.specs.declared.ids.TermId.{TermId}
-use Rattle.data_theory.specs.Terms.{Sort, Symbol, Term, Terms, variable, numeral, unknown, application, none, more, apply}
+use Rattle.data_theory.specs.Terms.{Sort, Symbol, Term, Terms, numeral, application, none, more, apply}
 use Rattle.data_theory.specs.Declarations.{Data}
 use Rattle.data_theory.specs.Equations.{trueᵗ}
 use Rattle.data_theory.specs.Provable.{Equation}
