@@ -28,39 +28,39 @@ use Rattle.std.proofs.lemmas.List.Elements.{All-nil, All-cons, All-head, All-tai
 use Rattle.data_rewriter.specs.Standing.{IsTerm, terms_of, term_at, listed_at}
 
 -- ---- lists in which one argument is set
-later_is : (ids : List TermId) (k : ℕ) (n d : TermId) → suc k < length ids → drop (suc k) ids ≡ get_or (set ids k n) (suc k) d ∷ drop (suc (suc k)) (set ids k n)
+pub later_is : (ids : List TermId) (k : ℕ) (n d : TermId) → suc k < length ids → drop (suc k) ids ≡ get_or (set ids k n) (suc k) d ∷ drop (suc (suc k)) (set ids k n)
 later_is [] k n d l = absurd (omega (arith, l))
 later_is (a ∷ []) zero n d l = absurd (omega (arith, l))
 later_is (a ∷ b ∷ ids) zero n d l = refl
 later_is (a ∷ ids) (suc k) n d l = later_is ids k n d (omega (arith, l))
 
-done_are : (ids : List TermId) (k : ℕ) (n : TermId) → k < length ids → take (suc k) (set ids k n) ≡ take k ids ++ n ∷ []
+pub done_are : (ids : List TermId) (k : ℕ) (n : TermId) → k < length ids → take (suc k) (set ids k n) ≡ take k ids ++ n ∷ []
 done_are [] k n l = absurd (omega (arith, l))
 done_are (a ∷ ids) zero n l = refl
 done_are (a ∷ ids) (suc k) n l = ap (λ xs. a ∷ xs) (done_are ids k n (omega (arith, l)))
 
-none_later : (ids : List TermId) (k : ℕ) → suc k ≡ length ids → drop (suc k) ids ≡ []
+pub none_later : (ids : List TermId) (k : ℕ) → suc k ≡ length ids → drop (suc k) ids ≡ []
 none_later [] k l = refl
 none_later (a ∷ []) zero l = refl
 none_later (a ∷ b ∷ ids) zero l = absurd (omega (arith, l))
 none_later (a ∷ ids) (suc k) l = none_later ids k (omega (arith, l))
 
-all_are : (ids : List TermId) (k : ℕ) (n : TermId) → suc k ≡ length ids → set ids k n ≡ take k ids ++ n ∷ []
+pub all_are : (ids : List TermId) (k : ℕ) (n : TermId) → suc k ≡ length ids → set ids k n ≡ take k ids ++ n ∷ []
 all_are [] k n l = absurd (omega (arith, l))
 all_are (a ∷ []) zero n l = refl
 all_are (a ∷ b ∷ ids) zero n l = absurd (omega (arith, l))
 all_are (a ∷ ids) (suc k) n l = ap (λ xs. a ∷ xs) (all_are ids k n (omega (arith, l)))
 
-listed_push : (sig : Sig) (ts : List Tree) (ids : List TermId) (n : TermId) → listed_at sig ts (ids ++ n ∷ []) ≡ listed_at sig ts ids ++ term_at sig ts n ∷ []
+pub listed_push : (sig : Sig) (ts : List Tree) (ids : List TermId) (n : TermId) → listed_at sig ts (ids ++ n ∷ []) ≡ listed_at sig ts ids ++ term_at sig ts n ∷ []
 listed_push sig ts [] n = refl
 listed_push sig ts (a ∷ ids) n = ap (λ xs. term_at sig ts a ∷ xs) (listed_push sig ts ids n)
 
-none_done : (sig : Sig) (ts : List Tree) (ids : List TermId) (k : ℕ) → k < length ids → listed_at sig ts (take k ids) ≡ [] → k ≡ 0
+pub none_done : (sig : Sig) (ts : List Tree) (ids : List TermId) (k : ℕ) → k < length ids → listed_at sig ts (take k ids) ≡ [] → k ≡ 0
 none_done sig ts [] k l e = absurd (omega (arith, l))
 none_done sig ts (a ∷ ids) zero l e = refl
 none_done sig ts (a ∷ ids) (suc k) l e = absurd cc
 
-no_numeral : {f : Symbol} {ts : Terms} {a : Sort} {z : ℤ} → application f ts ≡ terms.numeral a z → ⊥
+pub no_numeral : {f : Symbol} {ts : Terms} {a : Sort} {z : ℤ} → application f ts ≡ terms.numeral a z → ⊥
 no_numeral e = cc
 
 module _ (sig : Sig) (own : List Equation) (old new : List Tree) (grows : Extends old new) (origin : Term) (stack : List Plain) (frames : All (IsFrameIn old) stack) (start : TermId) (start_in : IsIn old start) (f : FunId) (before fuel : ℕ) (hand normal : TermId) where

@@ -32,3 +32,8 @@ pub mod HeadNumbers
 pub mod LaterData
 pub mod Simple
 pub mod Enough
+pub mod Advancing
+pub mod PaidVisits
+pub mod PaidArguments
+pub mod PaidSteps
+pub mod PaidRunning

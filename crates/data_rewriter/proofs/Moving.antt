@@ -45,7 +45,7 @@ module _ (g : Data) (own : List Equation) (origin : Term) where
   inverted (in_a_condition {x = x} {n = n} {m = m} w l inside a other) = record { before = n; moved = m; charge = x; waits = w; leads = l; is_inside = inside; applies_there = a; not_true = other; uses_are = refl }
 
   -- a list that isn't empty decides by its first term
-  still_undecided : (f : Symbol) (news : List Term) (u : Term) → (FirstDecides f (terms_of news) → ⊥) → (news ≡ [] → FirstDecides f (more u none) → ⊥) → FirstDecides f (terms_of (news ++ u ∷ [])) → ⊥
+  pub still_undecided : (f : Symbol) (news : List Term) (u : Term) → (FirstDecides f (terms_of news) → ⊥) → (news ≡ [] → FirstDecides f (more u none) → ⊥) → FirstDecides f (terms_of (news ++ u ∷ [])) → ⊥
   still_undecided f [] u old first h = first refl h
   still_undecided f (n ∷ news) u old first h = old h
 

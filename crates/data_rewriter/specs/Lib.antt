@@ -12,5 +12,7 @@ pub mod States
 pub mod Matching
 pub mod FirstRules
 pub mod Stored
+pub mod Charges
+pub mod Paying
 pub mod Rewriters
 pub mod Simplifying

@@ -11,6 +11,7 @@ use Rattle.data_theory.specs.Signature.{Sig}
 use Rattle.data_theory.specs.IdData.{data_meant}
 use Rattle.data_theory.specs.IdTrees.{Tree}
 use Rattle.number_rules.specs.declared.rules.NumberRules.{NumberRules}
+use Rattle.std.specs.HashMap.{HashMap}
 use Rattle.data_rewriter.specs.declared.rewriter.Rewriter.{Rewriter}
 use Rattle.data_rewriter.specs.declared.rewriter.Truth.{Truth}
 use Rattle.data_rewriter.specs.declared.rewriter.Truth.TheVariants.{Yes, No, Stuck, Spent}
@@ -20,6 +21,8 @@ use Rattle.data_rewriter.specs.declared.machine.Normal.TheVariants.{Done, Spent 
 use Rattle.data_rewriter.specs.Stored.{AreCovered, IsClosed}
 use Rattle.data_rewriter.specs.Standing.{IsTerm, term_at}
 use Rattle.data_rewriter.specs.States.{AreTablesOf, AreStored}
+use Rattle.data_rewriter.specs.Charges.{IsPaid, IsUsedUp, pairs_of, AnswerCosts}
+use Rattle.term_pool.specs.Pools.{PoolContents}
 
 -- the rules of numbers that a rewriter holds
 abbrev pub number_rules : {F : Type 0} → Rewriter F → NumberRules F
@@ -66,3 +69,22 @@ abbrev pub EndsWithEnough : Sig → List Tree → TermId → ℕ → Normal → 
 EndsWithEnough sig ts t fuel r =
     (vs : List Sort) → AreSorts (data_meant sig) vs → (s : Sort) → HasSort (data_meant sig) vs (term_at sig ts t) s
     → enough_for (term_at sig ts t) ≤ fuel → IsFinished r
+
+-- over all data of the rewriter, what `normalise` answers costs what the fuel fell by; what was stored is free
+abbrev pub Costs : {F : Type 0} → Rewriter F → PoolContents → PoolContents → TermId → ℕ → ℕ → Normal → Type 0
+Costs r old new t fuel left answer =
+    (sig : Sig) (own : List Equation) → Fits r sig own old.trees → IsTerm sig old.trees t
+    → AnswerCosts sig own old.trees new.trees r.normal_forms t fuel left answer
+
+-- what a decision costs, where these pairs were stored at first
+abbrev pub DecisionCosts : {S : Type 0} → Sig → List Equation → List Tree → List Tree → HashMap TermId TermId S → TermId → ℕ → ℕ → Truth → Type 0
+DecisionCosts sig own old new store t fuel left Yes = IsPaid (data_meant sig) own (pairs_of sig old store) (term_at sig old t) trueᵗ fuel left
+DecisionCosts sig own old new store t fuel left No = IsPaid (data_meant sig) own (pairs_of sig old store) (term_at sig old t) falseᵗ fuel left
+DecisionCosts sig own old new store t fuel left (Stuck u) = IsPaid (data_meant sig) own (pairs_of sig old store) (term_at sig old t) (term_at sig new u) fuel left
+DecisionCosts sig own old new store t fuel left (Spent u) = IsUsedUp (data_meant sig) own (pairs_of sig old store) (term_at sig old t) fuel left
+
+-- the same of `decide`
+abbrev pub TruthCosts : {F : Type 0} → Rewriter F → PoolContents → PoolContents → TermId → ℕ → ℕ → Truth → Type 0
+TruthCosts r old new t fuel left answer =
+    (sig : Sig) (own : List Equation) → Fits r sig own old.trees → IsTerm sig old.trees t
+    → DecisionCosts sig own old.trees new.trees r.normal_forms t fuel left answer

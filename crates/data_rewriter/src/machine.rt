@@ -1,6 +1,6 @@
 //! Rewriting with pending places in a vector.
 
-ghost use Rattle.std.specs.Prelude.{◌≡◌, ◌<◌, ◌≤◌, ◌∷◌, ℕ, List, length, suc, Some, IfOk, IfSome, OnOk, IsTrue, ◌↔◌, MatchOption};
+ghost use Rattle.std.specs.Prelude.{◌≡◌, ◌<◌, ◌≤◌, ◌∷◌, ℕ, List, length, suc, Some, IfOk, IfSome, OnOk, IsTrue, ◌↔◌, MatchOption, Contains};
 ghost use Rattle.std.specs.List.{All};
 ghost use Rattle.data_theory.specs.declared.ids.TermId.{TermId};
 ghost use Rattle.data_theory.specs.IdTables.{IsTable};
@@ -20,6 +20,8 @@ ghost use Rattle.data_rewriter.specs.Places as places;
 ghost use Rattle.data_rewriter.specs.Stored.{AreCovered, KeepsStored};
 ghost use Rattle.term_pool.specs.Bindings.{result_of};
 ghost use Rattle.number_rules.specs.Rule.{IsExact, rule_of};
+ghost use Rattle.data_rewriter.specs.Charges.{Known, AnswerCosts};
+ghost use Rattle.data_rewriter.specs.Paying.{IsKnownStore, PaysBehind, PaysOn};
 ghost use Rattle.data_rewriter.specs.States.{Says, IsStored, IsHandIn, AreTablesOf, EntersRoot, UsesRight, IsFirst, IsFirstOrNone, IsFoundIn, IsFoundWithin, IsHandWithin, AreIdsIn, IsFrameIn, Follows, Shows, AreStored, StartsIn};
 
 use crate::equations::{Found, LINES, first_equation, is_truth};
@@ -75,6 +77,7 @@ fn visit(
     ensures ids { IfOk result (λ p. AreIdsIn pool.now.trees stack.new p.start p.hand) }
     ensures unspent { IfOk result (λ p. p.hand ≡ Hand.Spent → ⊥) }
     ensures follows { IfOk result (λ p. (fuel : ℕ) → Follows (λ sig own. IsTable sig × AreStored sig own pool.now.trees normal_forms.now) pool.now.trees pool.now.trees stack.old start (Hand.Visit term) stack.new p.start p.hand fuel fuel) }
+    ensures pays { IfOk result (λ p. (fuel : ℕ) → PaysOn (λ sig own known. IsTable sig × IsKnownStore sig pool.now.trees normal_forms.now known) pool.now.trees pool.now.trees stack.old start (Hand.Visit term) stack.new p.start p.hand fuel fuel) }
 {
     if let Some(normal) = normal_forms.get(&term) {
         let hand = Hand::Answer(*normal);
@@ -178,6 +181,7 @@ fn next_argument(
     ensures ids { IfOk result (λ p. AreIdsIn pool.new.trees stack.new p.start p.hand) }
     ensures unspent { IfOk result (λ p. p.hand ≡ Hand.Spent → ⊥) }
     ensures follows { IfOk result (λ p. (hand : TermId) (fuel : ℕ) → Follows (λ sig own. AreTablesOf tables.now sig own pool.old.trees) pool.old.trees pool.new.trees (applies start fun args.items done ∷ stack.old) hand (Hand.Answer normal) stack.new p.start p.hand fuel fuel) }
+    ensures pays { IfOk result (λ p. (hand : TermId) (fuel : ℕ) → PaysBehind (λ sig own. AreTablesOf tables.now sig own pool.old.trees) pool.old.trees pool.new.trees (applies start fun args.items done ∷ stack.old) hand normal stack.new p.start p.hand fuel fuel) }
 {
     let mut args = args;
     args[done] = normal;
@@ -205,6 +209,7 @@ fn next_argument(
 fn use_right(fuel: &mut u64, start: TermId, right: TermId) -> Place
     ensures start { result.start ≡ start }
     ensures uses { UsesRight fuel.old fuel.new right result.hand }
+    ensures falls { fuel.new ≤ fuel.old }
 {
     if *fuel == 0 {
         let hand = Hand::Spent;
@@ -229,6 +234,8 @@ fn behind_condition(
     requires { IsIn pool.now.trees normal }
     ensures ids { IfOk result (λ p. (below : List Plain) → All (IsFrameIn pool.now.trees) below → IsFrameIn pool.now.trees (decides start root number right) → AreIdsIn pool.now.trees below p.start p.hand) }
     ensures follows { IfOk result (λ p. (below : List Plain) (hand : TermId) → Follows (λ sig own. AreTablesOf tables.now sig own pool.now.trees) pool.now.trees pool.now.trees (decides start root number right ∷ below) hand (Hand.Answer normal) below p.start p.hand fuel.old fuel.new) }
+    ensures pays { IfOk result (λ p. (below : List Plain) (hand : TermId) → PaysBehind (λ sig own. AreTablesOf tables.now sig own pool.now.trees) pool.now.trees pool.now.trees (decides start root number right ∷ below) hand normal below p.start p.hand fuel.old fuel.new) }
+    ensures falls { fuel.new ≤ fuel.old }
     ensures spent { IfOk result (λ p. p.hand ≡ Hand.Spent → fuel.new ≡ 0) }
 {
     if is_truth(tables, pool, normal) {
@@ -257,6 +264,8 @@ fn begin_equation(
 ) -> Result<Place, NoMemory>
     ensures ids { IfOk result (λ p. (ts : List Tree) → AreIdsIn ts stack.old start (Hand.Root root from) → IsFoundIn ts found → AreIdsIn ts stack.new p.start p.hand) }
     ensures follows { IfOk result (λ p. (ts : List Tree) → Follows (λ sig own. IsFirst sig own ts root from found × IsFoundWithin sig ts found) ts ts stack.old start (Hand.Root root from) stack.new p.start p.hand fuel.old fuel.new) }
+    ensures pays { IfOk result (λ p. (ts : List Tree) → PaysOn (λ sig own known. IsFirst sig own ts root from found) ts ts stack.old start (Hand.Root root from) stack.new p.start p.hand fuel.old fuel.new) }
+    ensures falls { fuel.new ≤ fuel.old }
     ensures spent { IfOk result (λ p. p.hand ≡ Hand.Spent → fuel.new ≡ 0) }
 {
     let Some(cond) = found.cond else {
@@ -294,6 +303,8 @@ fn resume(
     ensures kept { Extends pool.old.trees pool.new.trees }
     ensures ids { IfOk result (λ p. AreIdsIn pool.new.trees stack.new p.start p.hand) }
     ensures follows { IfOk result (λ p. (hand : TermId) → Follows (λ sig own. AreTablesOf tables.now sig own pool.old.trees) pool.old.trees pool.new.trees (plain frame ∷ stack.old) hand (Hand.Answer normal) stack.new p.start p.hand fuel.old fuel.new) }
+    ensures pays { IfOk result (λ p. (hand : TermId) → PaysBehind (λ sig own. AreTablesOf tables.now sig own pool.old.trees) pool.old.trees pool.new.trees (plain frame ∷ stack.old) hand normal stack.new p.start p.hand fuel.old fuel.new) }
+    ensures falls { fuel.new ≤ fuel.old }
     ensures spent { IfOk result (λ p. p.hand ≡ Hand.Spent → fuel.new ≡ 0) }
 {
     match frame {
@@ -336,6 +347,8 @@ fn at_root<F: Fn(NumOp, Num, Num) -> Option<Num>>(
     ensures kept { Extends pool.old.trees pool.new.trees }
     ensures ids { IfOk result (λ p. AreIdsIn pool.new.trees stack.new p.start p.hand) }
     ensures follows { IfOk result (λ p. Follows (λ sig own. AreTablesOf tables.now sig own pool.old.trees) pool.old.trees pool.new.trees stack.old start (Hand.Root root from) stack.new p.start p.hand fuel.old fuel.new) }
+    ensures pays { IfOk result (λ p. PaysOn (λ sig own known. AreTablesOf tables.now sig own pool.old.trees) pool.old.trees pool.new.trees stack.old start (Hand.Root root from) stack.new p.start p.hand fuel.old fuel.new) }
+    ensures falls { fuel.new ≤ fuel.old }
     ensures spent { IfOk result (λ p. p.hand ≡ Hand.Spent → fuel.new ≡ 0) }
 {
     match first_equation(alloc, tables, rules, pool, root, from)? {
@@ -361,6 +374,7 @@ pub fn keep(
     ensures stored { (sig : Sig) (own : List Equation) (ts : List Tree) → AreStored sig own ts normal_forms.old → IsStored sig own ts start normal → IsStored sig own ts normal normal → AreStored sig own ts normal_forms.new }
     ensures pairs { (sig : Sig) (own : List Equation) → IsTable sig → AreCovered own → AreStored sig own pool.now.trees normal_forms.old → IsStored sig own pool.now.trees start normal → IsStored sig own pool.now.trees normal normal → KeepsStored normal_forms.old normal_forms.new }
     ensures both { OnOk result ((result_of normal_forms.new start ≡ Some normal) × (result_of normal_forms.new normal ≡ Some normal)) }
+    ensures known { OnOk result ((sig : Sig) (ts : List Tree) (known : Known) → IsKnownStore sig ts normal_forms.old known → Contains known (term_at sig ts start, term_at sig ts normal) → Contains known (term_at sig ts normal, term_at sig ts normal) → IsKnownStore sig ts normal_forms.new known) }
 {
     // No two numbers of a pool have one tree.
     pool.len();
@@ -397,6 +411,8 @@ pub fn run<F: Fn(NumOp, Num, Num) -> Option<Num>>(
     ensures stored { (sig : Sig) (own : List Equation) → AreTablesOf tables.now sig own pool.old.trees → AreStored sig own pool.old.trees normal_forms.old → IsTreeWithin sig (tree_at pool.old.trees term) → AreStored sig own pool.new.trees normal_forms.new }
     ensures pairs { (sig : Sig) (own : List Equation) → AreTablesOf tables.now sig own pool.old.trees → AreStored sig own pool.old.trees normal_forms.old → IsTreeWithin sig (tree_at pool.old.trees term) → AreCovered own → KeepsStored normal_forms.old normal_forms.new }
     ensures says { IfOk result (λ r. (sig : Sig) (own : List Equation) → AreTablesOf tables.now sig own pool.old.trees → AreStored sig own pool.old.trees normal_forms.old → IsTreeWithin sig (tree_at pool.old.trees term) → Says sig own pool.old.trees pool.new.trees term fuel.old fuel.new r) }
+    ensures costs { IfOk result (λ r. (sig : Sig) (own : List Equation) → AreTablesOf tables.now sig own pool.old.trees → AreStored sig own pool.old.trees normal_forms.old → IsTreeWithin sig (tree_at pool.old.trees term) → AnswerCosts sig own pool.old.trees pool.new.trees normal_forms.old term fuel.old fuel.new r) }
+    ensures falls { fuel.new ≤ fuel.old }
 {
     let mut stack = Stack::new(alloc);
     let mut place = Place {

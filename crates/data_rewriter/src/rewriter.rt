@@ -1,6 +1,6 @@
 //! Rewriters.
 
-ghost use Rattle.std.specs.Prelude.{[], ◌≡◌, List, IfOk, IsOk, Ok, Some};
+ghost use Rattle.std.specs.Prelude.{[], ◌≡◌, ◌≤◌, List, IfOk, IsOk, Ok, Some};
 ghost use Rattle.data_rewriter.specs.declared.machine.Normal.TheVariants.{Done};
 ghost use Rattle.data_rewriter.specs.Stored.{AreCovered};
 ghost use Rattle.data_theory.specs.declared.ids.TermId.{TermId};
@@ -10,7 +10,7 @@ ghost use Rattle.number_rules.specs.Rule.{IsExact, rule_of};
 ghost use Rattle.term_pool.specs.Pools.{Extends};
 ghost use Rattle.data_rewriter.specs.Standing.{IsTerm};
 ghost use Rattle.data_rewriter.specs.States.{Says};
-ghost use Rattle.data_rewriter.specs.Rewriters.{EndsWithEnough, Fits, IsDecision, IsStoredAnswer, IsTruthOf, number_rules, stored_form};
+ghost use Rattle.data_rewriter.specs.Rewriters.{Costs, EndsWithEnough, Fits, IsDecision, IsStoredAnswer, IsTruthOf, TruthCosts, number_rules, stored_form};
 ghost use Rattle.std.specs.List.{All};
 ghost use Rattle.data_rewriter.specs.Written.{AreEquationsOf, IsRule, rules_of};
 ghost use Rattle.data_rewriter.specs.Signatures.{AreSignTables};
@@ -78,7 +78,8 @@ impl<F: Fn(NumOp, Num, Num) -> Option<Num>> Rewriter<F> {
     /// rewritten costs no fuel.
     ///
     /// `Done` comes only where the term goes to the answer, and the fuel falls by at most the uses. `Spent` comes only where
-    /// no fuel is left and a chain of more uses than there was fuel starts at the term. A term that was answered `Done`, and its
+    /// no fuel is left and a chain of more uses than there was fuel starts at the term. The fuel never rises, and falls by exactly the
+    /// uses of what was found on the way, one after another, where what is known by then is free. A term that was answered `Done`, and its
     /// answer, are answered so from then on, without fuel, also after want of memory.
     ///
     /// Where no equation is written, a well-sorted term of n nodes is answered `Done` if there is fuel of at least 4 * n * n + 4.
@@ -98,6 +99,8 @@ impl<F: Fn(NumOp, Num, Num) -> Option<Num>> Rewriter<F> {
         ensures pairs { (sig : Sig) (own : List Equation) → Fits self.old sig own pool.old.trees → IsTerm sig pool.old.trees term → AreCovered own → (t u : TermId) → stored_form self.old t ≡ Some u → stored_form self.new t ≡ Some u }
         ensures enough { IfOk result (λ r. (sig : Sig) → Fits self.old sig [] pool.old.trees → IsTerm sig pool.old.trees term → EndsWithEnough sig pool.old.trees term fuel.old r) }
         ensures says { IfOk result (λ r. (sig : Sig) (own : List Equation) → Fits self.old sig own pool.old.trees → IsTerm sig pool.old.trees term → Says sig own pool.old.trees pool.new.trees term fuel.old fuel.new r) }
+        ensures costs { IfOk result (Costs self.old pool.old pool.new term fuel.old fuel.new) }
+        ensures falls { fuel.new ≤ fuel.old }
     {
         if let Some(known) = kept(&self.normal_forms, term) {
             return Ok(Normal::Done(known));
@@ -120,7 +123,7 @@ impl<F: Fn(NumOp, Num, Num) -> Option<Num>> Rewriter<F> {
     /// How a term of sort Bool is decided with some fuel.
     ///
     /// `Yes` comes only where the term goes to `true`, `No` only where it goes to `false`, and `Stuck` only where it goes to the
-    /// answer, which is neither. `Spent` is as in [`normalise`](Self::normalise).
+    /// answer, which is neither. `Spent` and the fuel are as in [`normalise`](Self::normalise).
     pub fn decide(
         &mut self,
         pool: &mut Pool,
@@ -135,6 +138,8 @@ impl<F: Fn(NumOp, Num, Num) -> Option<Num>> Rewriter<F> {
         ensures pairs { (sig : Sig) (own : List Equation) → Fits self.old sig own pool.old.trees → IsTerm sig pool.old.trees term → AreCovered own → (t u : TermId) → stored_form self.old t ≡ Some u → stored_form self.new t ≡ Some u }
         ensures stored { (u : TermId) → stored_form self.old term ≡ Some u → IsOk result × (fuel.new ≡ fuel.old) }
         ensures says { IfOk result (λ r. (sig : Sig) (own : List Equation) → Fits self.old sig own pool.old.trees → IsTerm sig pool.old.trees term → IsDecision sig own pool.old.trees pool.new.trees term fuel.old fuel.new r) }
+        ensures costs { IfOk result (TruthCosts self.old pool.old pool.new term fuel.old fuel.new) }
+        ensures falls { fuel.new ≤ fuel.old }
     {
         let normal = self.normalise(pool, term, fuel)?;
         match normal {

@@ -2,6 +2,7 @@ use Rattle.std.proofs.Common.{[], sym, ◌∙◌}
 use Rattle.data_rewriter.proofs.StateMoves.{tables_kept}
 use Rattle.data_rewriter.proofs.Enough.{enough_ends}
 use Rattle.data_rewriter.proofs.Keeping.{stored_says, said_is_stored}
+use Rattle.data_rewriter.proofs.PaidRunning.{stored_costs_nothing}
 use Rattle.data_rewriter.proofs.rewriter.Rewriter.normalise.Goals as goal
 
 pub returns-in-Some-clause-stored : goal.returns-in-Some-clause-stored
@@ -71,3 +72,7 @@ returns-in_default-normal-clause-pairs g c = λ sig own fits term covered. (c.in
 
 pub returns-in_default-normal-clause-enough : goal.returns-in_default-normal-clause-enough
 returns-in_default-normal-clause-enough g c = λ sig fits term. enough_ends sig c.args.pool.now.trees c.run.new.pool.trees c.args.term c.args.fuel.now c.run.new.fuel c.in_ok-normal.normal fits.tables.signs.signature (c.in_ok-normal.ensures.says sig [] fits.tables fits.stored term.within)
+
+-- ---- what was paid
+pub returns-in-Some-clause-costs : goal.returns-in-Some-clause-costs
+returns-in-Some-clause-costs g c = λ sig own fits term. stored_costs_nothing sig own c.args.pool.now.trees c.args.self.now.normal_forms c.args.term c.in-Some.known c.args.fuel.now (sym c.kept.ensures ∙ c.in-Some.is)
