@@ -158,7 +158,6 @@ is_left_out End = true
 is_left_out At = true
 is_left_out Before = true
 is_left_out Slash = true
-is_left_out LeftMerge = true
 is_left_out _ = false
 
 -- what digits say: the first one has the greatest weight

@@ -216,6 +216,5 @@ pub(crate) fn is_left_out(kind: Kind) -> bool
             | Kind::At
             | Kind::Before
             | Kind::Slash
-            | Kind::LeftMerge
     )
 }

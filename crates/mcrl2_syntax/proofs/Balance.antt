@@ -15,7 +15,7 @@ use Rattle.mcrl2_syntax.specs.SpelledWords.{SpellsName, a_name, SpellsList, last
 use Rattle.mcrl2_syntax.specs.SpelledSorts.{SpellsSort, spells_bool, spells_pos, spells_nat, spells_int, spells_list, spells_named_sort, spells_brackets_sort}
 use Rattle.mcrl2_syntax.specs.SpelledData.{SpellsUnit, unit_name, unit_numeral, unit_true, unit_false, unit_empty, unit_list, unit_apply, unit_brackets, unit_prefix, SpellsItems, items_last, items_more, SpellsLevel, level_unit, level_chain, SpellsTail, tail_end, tail_more}
 use Rattle.mcrl2_syntax.specs.SpelledLabels.{SpellsAction, action_tau, action_name, action_applied, SpellsAssignment, assignment, SpellsCall, call_empty, call_assigns, SpellsNameSet, names_at_once, SpellsRenaming, renaming, SpellsCommRule, communication, SpellsVarGroup, variables, Operation, SpellsOperation, spells_allow, spells_block, spells_hide, spells_rename, spells_comm}
-use Rattle.mcrl2_syntax.specs.SpelledProcesses.{SpellsAtom, atom_delta, atom_action, atom_multi, atom_call, atom_brackets, atom_operator, SpellsOperand, operand_sum, operand_cond, operand_parts, SpellsDots, dots_end, dots_atom, dots_sum, dots_cond, SpellsSum, sum_over, SpellsCond, cond_then, cond_else, SpellsMerge, merge_last, merge_more, SpellsChoices, choices_last, choices_more}
+use Rattle.mcrl2_syntax.specs.SpelledProcesses.{SpellsAtom, atom_delta, atom_action, atom_call, atom_brackets, atom_operator, SpellsMulti, multi_last, multi_more, SpellsOperand, operand_sum, operand_cond, operand_parts, SpellsDots, dots_end, dots_atom, dots_sum, dots_cond, SpellsSum, sum_over, SpellsCond, cond_then, cond_else, SpellsLeft, left_last, left_more, SpellsMerge, merge_last, merge_more, SpellsChoices, choices_last, choices_more}
 
 pub data Turn : Type 0 where
   opens : Turn
@@ -165,19 +165,22 @@ mutual
   atom_balanced : {text : List ℕ} {p : PlainProcess} {ts r : List Token} → SpellsAtom text p ts r → Balanced ts r
   atom_balanced (atom_delta {t = t} {r = r} h) n = over t r n (ap turn h)
   atom_balanced {ts = ts} {r = r} (atom_action {a = x} a) n = action_balanced x ts r a n
-  atom_balanced {ts = ts} (atom_multi {a = x} {b = b} {us = us} a h c) n = action_balanced x ts (b ∷ us) a n ∙ over b us n (ap turn h) ∙ list_balanced action_balanced refl c n
   atom_balanced (atom_call a) n = call_balanced a n
   atom_balanced (atom_brackets {t = t} {v = v} {ts = ts} {r = r} h a i) n = up t ts n (ap turn h) ∙ choices_balanced a (suc n) ∙ down v r n (ap turn i)
   atom_balanced (atom_operator {v = v} {r = r} a b i) n = operation_balanced a n ∙ choices_balanced b (suc n) ∙ down v r n (ap turn i)
 
+  multi_balanced : {text : List ℕ} {ps : List PlainProcess} {ts r : List Token} → SpellsMulti text ps ts r → Balanced ts r
+  multi_balanced (multi_last a) n = atom_balanced a n
+  multi_balanced (multi_more {b = b} {us = us} a h c) n = atom_balanced a n ∙ over b us n (ap turn h) ∙ multi_balanced c n
+
   operand_balanced : {text : List ℕ} {s o : Bool} {p : PlainProcess} {ts r : List Token} → SpellsOperand text s o p ts r → Balanced ts r
   operand_balanced (operand_sum a) n = sum_balanced a n
   operand_balanced (operand_cond a) n = cond_balanced a n
-  operand_balanced (operand_parts a b) n = atom_balanced a n ∙ dots_balanced b n
+  operand_balanced (operand_parts a b) n = multi_balanced a n ∙ dots_balanced b n
 
   dots_balanced : {text : List ℕ} {s o : Bool} {ps : List PlainProcess} {ts r : List Token} → SpellsDots text s o ps ts r → Balanced ts r
   dots_balanced dots_end n = refl
-  dots_balanced (dots_atom {t = t} {ts = ts} h a b) n = over t ts n (ap turn h) ∙ atom_balanced a n ∙ dots_balanced b n
+  dots_balanced (dots_atom {t = t} {ts = ts} h a b) n = over t ts n (ap turn h) ∙ multi_balanced a n ∙ dots_balanced b n
   dots_balanced (dots_sum {t = t} {ts = ts} h a) n = over t ts n (ap turn h) ∙ sum_balanced a n
   dots_balanced (dots_cond {t = t} {ts = ts} h a) n = over t ts n (ap turn h) ∙ cond_balanced a n
 
@@ -188,9 +191,13 @@ mutual
   cond_balanced (cond_then {a = t} {us = us} a h b) n = unit_balanced a n ∙ over t us n (ap turn h) ∙ operand_balanced b n
   cond_balanced (cond_else {a = t} {e = e} {us = us} {vs = vs} a h b k c) n = unit_balanced a n ∙ over t us n (ap turn h) ∙ operand_balanced b n ∙ over e vs n (ap turn k) ∙ operand_balanced c n
 
+  left_balanced : {text : List ℕ} {s o : Bool} {p : PlainProcess} {ts r : List Token} → SpellsLeft text s o p ts r → Balanced ts r
+  left_balanced (left_last a) n = operand_balanced a n
+  left_balanced (left_more {b = b} {us = us} a h c) n = operand_balanced a n ∙ over b us n (ap turn h) ∙ left_balanced c n
+
   merge_balanced : {text : List ℕ} {o : Bool} {ps : List PlainProcess} {ts r : List Token} → SpellsMerge text o ps ts r → Balanced ts r
-  merge_balanced (merge_last a) n = operand_balanced a n
-  merge_balanced (merge_more {b = b} {us = us} a h c) n = operand_balanced a n ∙ over b us n (ap turn h) ∙ merge_balanced c n
+  merge_balanced (merge_last a) n = left_balanced a n
+  merge_balanced (merge_more {b = b} {us = us} a h c) n = left_balanced a n ∙ over b us n (ap turn h) ∙ merge_balanced c n
 
   pub choices_balanced : {text : List ℕ} {ps : List PlainProcess} {ts r : List Token} → SpellsChoices text ps ts r → Balanced ts r
   choices_balanced (choices_last a) n = merge_balanced a n

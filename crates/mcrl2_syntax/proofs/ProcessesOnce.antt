@@ -1,21 +1,21 @@
 -- No front of the same tokens is read as two process terms, where each reading stops at what can't go on.
 use Rattle.std.proofs.Common.{◌≡◌, ◌≢◌, ◌⊎◌, ℕ, zero, Bool, true, false, List, [], ◌∷◌, Some, refl, ap, sym, ◌∙◌, subst, inl, inr}
 use Rattle.mcrl2_lexer.specs.declared.kind.Kind.{Kind}
-use Rattle.mcrl2_lexer.specs.declared.kind.Kind.TheVariants.{Identifier, Tau, Delta, LeftParen, RightParen, Comma, Plus, BarBar, Bar, Sum, Dot, Arrow, Else, Allow, Block, Hide, Rename, Comm}
+use Rattle.mcrl2_lexer.specs.declared.kind.Kind.TheVariants.{Identifier, Tau, Delta, LeftParen, RightParen, Comma, Plus, BarBar, LeftMerge, Bar, Sum, Dot, Arrow, Else, Allow, Block, Hide, Rename, Comm}
 use Rattle.mcrl2_lexer.specs.declared.token.Token.{Token}
 use Rattle.mcrl2_syntax.specs.declared.data_tree.PrefixSign.{PrefixSign}
-use Rattle.mcrl2_syntax.specs.Words.{Begins, span_of, joined, spanned}
+use Rattle.mcrl2_syntax.specs.Words.{Begins, span_of, joined}
 use Rattle.mcrl2_syntax.specs.DataTrees.{PlainData, data_span}
-use Rattle.mcrl2_syntax.specs.ProcessParts.{PlainAction, PlainVarGroup, action_span}
-use Rattle.mcrl2_syntax.specs.ProcessTrees.{PlainProcess, acts, multi, within, sum, when, either, process_span}
+use Rattle.mcrl2_syntax.specs.ProcessParts.{PlainAction, PlainVarGroup}
+use Rattle.mcrl2_syntax.specs.ProcessTrees.{PlainProcess, acts, left_merge, within, sum, when, either, process_span}
 use Rattle.mcrl2_syntax.specs.InfixSigns.{prefix_of}
 use Rattle.mcrl2_syntax.specs.SpelledData.{SpellsUnit, unit_name, unit_numeral, unit_true, unit_false, unit_empty, unit_list, unit_apply, unit_brackets, unit_prefix}
-use Rattle.mcrl2_syntax.specs.SpelledLabels.{SpellsAction, action_tau, action_name, action_applied, SpellsActions, SpellsCall, call_empty, call_assigns, Operation, operated, SpellsOperation, spells_allow, spells_block, spells_hide, spells_rename, spells_comm}
-use Rattle.mcrl2_syntax.specs.SpelledProcesses.{sequenced, merged, chosen, SpellsAtom, atom_delta, atom_action, atom_multi, atom_call, atom_brackets, atom_operator, SpellsOperand, operand_sum, operand_cond, operand_parts, SpellsDots, dots_end, dots_atom, dots_sum, dots_cond, SpellsSum, sum_over, SpellsCond, cond_then, cond_else, SpellsMerge, merge_last, merge_more, SpellsChoices, choices_last, choices_more, SpellsProcess, spells_process}
+use Rattle.mcrl2_syntax.specs.SpelledLabels.{SpellsAction, action_tau, action_name, action_applied, SpellsCall, call_empty, call_assigns, Operation, operated, SpellsOperation, spells_allow, spells_block, spells_hide, spells_rename, spells_comm}
+use Rattle.mcrl2_syntax.specs.SpelledProcesses.{together, sequenced, merged, chosen, SpellsAtom, atom_delta, atom_action, atom_call, atom_brackets, atom_operator, SpellsMulti, multi_last, multi_more, SpellsOperand, operand_sum, operand_cond, operand_parts, SpellsDots, dots_end, dots_atom, dots_sum, dots_cond, SpellsSum, sum_over, SpellsCond, cond_then, cond_else, SpellsLeft, left_last, left_more, SpellsMerge, merge_last, merge_more, SpellsChoices, choices_last, choices_more, SpellsProcess, spells_process}
 use Rattle.mcrl2_syntax.specs.Follow.{Follows, Stays, Ends}
 use Rattle.mcrl2_syntax.proofs.Lists.{heads, tails, moved}
 use Rattle.mcrl2_syntax.proofs.DataOnce.{stops_at, closed_paren, not_prefix, unit_once, items_once}
-use Rattle.mcrl2_syntax.proofs.LabelsOnce.{no_other, action_once, actions_once, action_call, items_call, call_once, vars_once, operation_once}
+use Rattle.mcrl2_syntax.proofs.LabelsOnce.{no_other, action_once, action_call, items_call, call_once, vars_once, operation_once}
 use Rattle.mcrl2_syntax.proofs.Balance.{past_close, at_close, level_balanced, choices_balanced}
 
 follows : (b : Token) (us : List Token) (k : Kind) → b.kind ≡ k → k ≢ Dot → k ≢ Arrow → k ≢ LeftParen → k ≢ Bar → Follows (b ∷ us)
@@ -23,6 +23,12 @@ follows b us k e w x y z = record { dot = λ f. w (sym e ∙ f); arrow = λ f. x
 
 pub at_parallel : (b : Token) (us : List Token) → b.kind ≡ BarBar → Follows (b ∷ us)
 at_parallel b us e = follows b us BarBar e (λ f. cc) (λ f. cc) (λ f. cc) (λ f. cc)
+
+not_left : (b : Token) (us : List Token) → b.kind ≡ BarBar → Begins LeftMerge (b ∷ us) → ⊥
+not_left b us e = no_other BarBar LeftMerge b us e (λ f. cc)
+
+pub at_left : (b : Token) (us : List Token) → b.kind ≡ LeftMerge → Follows (b ∷ us)
+at_left b us e = follows b us LeftMerge e (λ f. cc) (λ f. cc) (λ f. cc) (λ f. cc)
 
 pub at_else : (b : Token) (us : List Token) → b.kind ≡ Else → Follows (b ∷ us)
 at_else b us e = follows b us Else e (λ f. cc) (λ f. cc) (λ f. cc) (λ f. cc)
@@ -34,28 +40,31 @@ at_shut : (b : Token) (us : List Token) → b.kind ≡ RightParen → Follows (b
 at_shut b us e = follows b us RightParen e (λ f. cc) (λ f. cc) (λ f. cc) (λ f. cc)
 
 pub stays_else : {s : Bool} (b : Token) (us : List Token) → b.kind ≡ Else → Stays s false (b ∷ us)
-stays_else b us e = record { sum_ends = λ n f. let g : BarBar ≡ Else = sym f ∙ e in cc; open_ends = λ n. absurd cc }
+stays_else b us e = record { sum_ends = λ n f. let g : BarBar ≡ Else = sym f ∙ e in cc; left_ends = λ n f. let g : LeftMerge ≡ Else = sym f ∙ e in cc; open_ends = λ n. absurd cc }
 
 pub stays_parallel : {o : Bool} (b : Token) (us : List Token) → b.kind ≡ BarBar → Stays false o (b ∷ us)
-stays_parallel b us e = record { sum_ends = λ n. absurd cc; open_ends = λ n f. let g : Else ≡ BarBar = sym f ∙ e in cc }
+stays_parallel b us e = record { sum_ends = λ n. absurd cc; left_ends = λ n. absurd cc; open_ends = λ n f. let g : Else ≡ BarBar = sym f ∙ e in cc }
+
+pub stays_left : {o : Bool} (b : Token) (us : List Token) → b.kind ≡ LeftMerge → Stays false o (b ∷ us)
+stays_left b us e = record { sum_ends = λ n. absurd cc; left_ends = λ n. absurd cc; open_ends = λ n f. let g : Else ≡ LeftMerge = sym f ∙ e in cc }
 
 pub stays_plus : {s o : Bool} (b : Token) (us : List Token) → b.kind ≡ Plus → Stays s o (b ∷ us)
-stays_plus b us e = record { sum_ends = λ n f. let g : BarBar ≡ Plus = sym f ∙ e in cc; open_ends = λ n f. let g : Else ≡ Plus = sym f ∙ e in cc }
+stays_plus b us e = record { sum_ends = λ n f. let g : BarBar ≡ Plus = sym f ∙ e in cc; left_ends = λ n f. let g : LeftMerge ≡ Plus = sym f ∙ e in cc; open_ends = λ n f. let g : Else ≡ Plus = sym f ∙ e in cc }
 
 pub stays_any : {s o : Bool} {r : List Token} → Stays true o r → Stays s o r
-stays_any t = record { sum_ends = λ n. t.sum_ends refl; open_ends = t.open_ends }
+stays_any t = record { sum_ends = λ n. t.sum_ends refl; left_ends = λ n. t.left_ends refl; open_ends = t.open_ends }
 
 pub then_stays : {s o : Bool} {r : List Token} → Stays s true r → Stays s o r
-then_stays t = record { sum_ends = t.sum_ends; open_ends = λ n. t.open_ends refl }
+then_stays t = record { sum_ends = t.sum_ends; left_ends = t.left_ends; open_ends = λ n. t.open_ends refl }
 
 pub ends_stay : {s o : Bool} (r : List Token) → Ends r → Stays s o r
-ends_stay r e = record { sum_ends = λ n. e.parallel; open_ends = λ n. e.else }
+ends_stay r e = record { sum_ends = λ n. e.parallel; left_ends = λ n. e.left; open_ends = λ n. e.else }
 
 pub ends_shut : (b : Token) (us : List Token) → b.kind ≡ RightParen → Ends (b ∷ us)
-ends_shut b us e = record { follows = at_shut b us e; plus = no_other RightParen Plus b us e (λ f. cc); parallel = no_other RightParen BarBar b us e (λ f. cc); else = no_other RightParen Else b us e (λ f. cc) }
+ends_shut b us e = record { follows = at_shut b us e; plus = no_other RightParen Plus b us e (λ f. cc); parallel = no_other RightParen BarBar b us e (λ f. cc); left = no_other RightParen LeftMerge b us e (λ f. cc); else = no_other RightParen Else b us e (λ f. cc) }
 
 pub ends_nowhere : Ends []
-ends_nowhere = record { follows = record { dot = λ b. b; arrow = λ b. b; paren = λ b. b; bar = λ b. b }; plus = λ b. b; parallel = λ b. b; else = λ b. b }
+ends_nowhere = record { follows = record { dot = λ b. b; arrow = λ b. b; paren = λ b. b; bar = λ b. b }; plus = λ b. b; parallel = λ b. b; left = λ b. b; else = λ b. b }
 
 -- What begins which part of a process term.
 pub data Class : Type 0 where
@@ -171,36 +180,49 @@ unit_within (unit_apply h i a j) b k c l x = cc
 unit_within (unit_prefix h a) b k c l x = not_prefix LeftParen refl k h
 
 -- What no atom can go on with.
-pub record Alone (r : List Token) : Type 0 where
+pub record Atomic (r : List Token) : Type 0 where
   pub arrow : Begins Arrow r → ⊥
   pub paren : Begins LeftParen r → ⊥
+
+-- What no atoms with `|` between them can go on with.
+pub record Alone (r : List Token) : Type 0 where
+  pub atomic : Atomic r
   pub bar : Begins Bar r → ⊥
 
-pub unit_atom : {text : List ℕ} {c : PlainData} {p : PlainProcess} {ts q r : List Token} → SpellsUnit text c ts q → Begins Arrow q → SpellsAtom text p ts r → Alone r → ⊥
+pub at_bar : (b : Token) (us : List Token) → b.kind ≡ Bar → Atomic (b ∷ us)
+at_bar b us e = record { arrow = no_other Bar Arrow b us e (λ f. cc); paren = no_other Bar LeftParen b us e (λ f. cc) }
+
+pub unit_atom : {text : List ℕ} {c : PlainData} {p : PlainProcess} {ts q r : List Token} → SpellsUnit text c ts q → Begins Arrow q → SpellsAtom text p ts r → Atomic r → ⊥
 unit_atom a b (atom_delta k) f = unit_apart a (ap class k) (λ e. cc) (λ e. cc) (λ e. cc)
 unit_atom a b (atom_action c) f = unit_action a b c f.arrow f.paren
-unit_atom a b (atom_multi {b = s} {us = us} c k d) f = unit_action a b c (no_other Bar Arrow s us k (λ e. cc)) (no_other Bar LeftParen s us k (λ e. cc))
 unit_atom a b (atom_call c) f = unit_call a b c
 unit_atom a b (atom_brackets k c l) f = unit_within a b k c l f.arrow
 unit_atom a b (atom_operator c d l) f = unit_apart a (operation_class c) (λ e. cc) (λ e. cc) (λ e. cc)
 
 pub alone : {text : List ℕ} {s o : Bool} {ps : List PlainProcess} {us r : List Token} → SpellsDots text s o ps us r → Follows r → Alone us
-alone dots_end f = record { arrow = f.arrow; paren = f.paren; bar = f.bar }
-alone (dots_atom {t = t} {ts = ts} h a b) f = record { arrow = no_other Dot Arrow t ts h (λ e. cc); paren = no_other Dot LeftParen t ts h (λ e. cc); bar = no_other Dot Bar t ts h (λ e. cc) }
-alone (dots_sum {t = t} {ts = ts} h a) f = record { arrow = no_other Dot Arrow t ts h (λ e. cc); paren = no_other Dot LeftParen t ts h (λ e. cc); bar = no_other Dot Bar t ts h (λ e. cc) }
-alone (dots_cond {t = t} {ts = ts} h a) f = record { arrow = no_other Dot Arrow t ts h (λ e. cc); paren = no_other Dot LeftParen t ts h (λ e. cc); bar = no_other Dot Bar t ts h (λ e. cc) }
+alone dots_end f = record { atomic = record { arrow = f.arrow; paren = f.paren }; bar = f.bar }
+alone (dots_atom {t = t} {ts = ts} h a b) f = record { atomic = record { arrow = no_other Dot Arrow t ts h (λ e. cc); paren = no_other Dot LeftParen t ts h (λ e. cc) }; bar = no_other Dot Bar t ts h (λ e. cc) }
+alone (dots_sum {t = t} {ts = ts} h a) f = record { atomic = record { arrow = no_other Dot Arrow t ts h (λ e. cc); paren = no_other Dot LeftParen t ts h (λ e. cc) }; bar = no_other Dot Bar t ts h (λ e. cc) }
+alone (dots_cond {t = t} {ts = ts} h a) f = record { atomic = record { arrow = no_other Dot Arrow t ts h (λ e. cc); paren = no_other Dot LeftParen t ts h (λ e. cc) }; bar = no_other Dot Bar t ts h (λ e. cc) }
 
-cond_atom : {text : List ℕ} {s o : Bool} {p q : PlainProcess} {ts us t : List Token} → SpellsCond text s o p ts t → SpellsAtom text q ts us → Alone us → ⊥
+cond_atom : {text : List ℕ} {s o : Bool} {p q : PlainProcess} {ts us t : List Token} → SpellsCond text s o p ts t → SpellsAtom text q ts us → Atomic us → ⊥
 cond_atom (cond_then a h b) c d = unit_atom a h c d
 cond_atom (cond_else a h b k e) c d = unit_atom a h c d
+
+pub cond_multi : {text : List ℕ} {s o : Bool} {p : PlainProcess} {qs : List PlainProcess} {ts us t : List Token} → SpellsCond text s o p ts t → SpellsMulti text qs ts us → Alone us → ⊥
+cond_multi a (multi_last c) d = cond_atom a c d.atomic
+cond_multi a (multi_more {b = b} {us = us} c k e) d = cond_atom a c (at_bar b us k)
 
 sum_atom : {text : List ℕ} {o : Bool} {p q : PlainProcess} {ts t r : List Token} → SpellsSum text o p ts t → SpellsAtom text q ts r → ⊥
 sum_atom (sum_over h a i b) (atom_delta k) = cc
 sum_atom (sum_over h a i b) (atom_action c) = apart (ap class h) (action_class c) (λ e. cc)
-sum_atom (sum_over h a i b) (atom_multi c k d) = apart (ap class h) (action_class c) (λ e. cc)
 sum_atom (sum_over h a i b) (atom_call c) = apart (ap class h) (call_class c) (λ e. cc)
 sum_atom (sum_over h a i b) (atom_brackets k c l) = cc
 sum_atom (sum_over h a i b) (atom_operator c d l) = apart (ap class h) (operation_class c) (λ e. cc)
+
+sum_multi : {text : List ℕ} {o : Bool} {p : PlainProcess} {qs : List PlainProcess} {ts t r : List Token} → SpellsSum text o p ts t → SpellsMulti text qs ts r → ⊥
+sum_multi a (multi_last c) = sum_atom a c
+sum_multi a (multi_more c k d) = sum_atom a c
 
 pub sum_unit : {text : List ℕ} {o : Bool} {p : PlainProcess} {c : PlainData} {ts t r : List Token} → SpellsSum text o p ts t → SpellsUnit text c ts r → ⊥
 sum_unit (sum_over h a i b) u = unit_apart u (ap class h) (λ e. cc) (λ e. cc) (λ e. cc)
@@ -222,48 +244,35 @@ merge_from {text = text} {o = o} {ps = ps} {r = r} e d = subst (λ (x : List Tok
 pub choices_from : {text : List ℕ} {ps : List PlainProcess} {ts us r : List Token} → ts ≡ us → SpellsChoices text ps us r → SpellsChoices text ps ts r
 choices_from {text = text} {ps = ps} {r = r} e d = subst (λ (x : List Token). SpellsChoices text ps x r) (sym e) d
 
-actions_from : {text : List ℕ} {ps : List PlainAction} {ts us r : List Token} → ts ≡ us → SpellsActions text ps us r → SpellsActions text ps ts r
-actions_from {text = text} {ps = ps} {r = r} e d = subst (λ (x : List Token). SpellsActions text ps x r) (sym e) d
+multi_from : {text : List ℕ} {ps : List PlainProcess} {ts us r : List Token} → ts ≡ us → SpellsMulti text ps us r → SpellsMulti text ps ts r
+multi_from {text = text} {ps = ps} {r = r} e d = subst (λ (x : List Token). SpellsMulti text ps x r) (sym e) d
+
+left_from : {text : List ℕ} {s o : Bool} {p : PlainProcess} {ts us r : List Token} → ts ≡ us → SpellsLeft text s o p us r → SpellsLeft text s o p ts r
+left_from {text = text} {s = s} {o = o} {p = p} {r = r} e d = subst (λ (x : List Token). SpellsLeft text s o p x r) (sym e) d
 
 pub guard_once : {text : List ℕ} {c d : PlainData} {a b : Token} {ts us vs : List Token} → SpellsUnit text c ts (a ∷ us) → a.kind ≡ Arrow → SpellsUnit text d ts (b ∷ vs) → b.kind ≡ Arrow → (c ≡ d) × (us ≡ vs)
 guard_once {a = a} {b = b} {us = us} {vs = vs} u h v k =
     let e = unit_once u v (stops_at Arrow (λ f. cc) refl 0 a us h) (stops_at Arrow (λ f. cc) refl 0 b vs k) in (e.0, tails e.1)
 
-bar_paren : (t : Token) (ts : List Token) → t.kind ≡ Bar → Begins LeftParen (t ∷ ts) → ⊥
-bar_paren t ts h = no_other Bar LeftParen t ts h (λ e. cc)
-
 mutual
-  atom_once : {text : List ℕ} {p o : PlainProcess} {ts q r : List Token} → SpellsAtom text p ts q → SpellsAtom text o ts r → Alone q → Alone r → (p ≡ o) × (q ≡ r)
+  atom_once : {text : List ℕ} {p o : PlainProcess} {ts q r : List Token} → SpellsAtom text p ts q → SpellsAtom text o ts r → Atomic q → Atomic r → (p ≡ o) × (q ≡ r)
   atom_once (atom_delta h) (atom_delta k) s t = (refl, refl)
   atom_once (atom_delta h) (atom_action b) s t = absurd (apart (ap class h) (action_class b) (λ e. cc))
-  atom_once (atom_delta h) (atom_multi b k d) s t = absurd (apart (ap class h) (action_class b) (λ e. cc))
   atom_once (atom_delta h) (atom_call b) s t = absurd (apart (ap class h) (call_class b) (λ e. cc))
   atom_once (atom_delta h) (atom_brackets k b l) s t = absurd cc
   atom_once (atom_delta h) (atom_operator b c l) s t = absurd (apart (ap class h) (operation_class b) (λ e. cc))
   atom_once (atom_action a) (atom_delta k) s t = absurd (apart (ap class k) (action_class a) (λ e. cc))
   atom_once (atom_action a) (atom_action b) s t = let e = action_once a b s.paren t.paren in (ap (λ (y : PlainAction). acts y) e.0, e.1)
-  atom_once (atom_action a) (atom_multi {b = w} {us = us} b k d) s t = absurd (s.bar (moved Bar (sym (action_once a b s.paren (bar_paren w us k)).1) k))
   atom_once (atom_action a) (atom_call b) s t = absurd (action_call a b s.paren)
   atom_once (atom_action a) (atom_brackets k b l) s t = absurd (apart (ap class k) (action_class a) (λ e. cc))
   atom_once {ts = ts} (atom_action a) (atom_operator b c l) s t = absurd (apart (operation_class b) (action_class a) (λ e. cc))
-  atom_once (atom_multi a h c) (atom_delta k) s t = absurd (apart (ap class k) (action_class a) (λ e. cc))
-  atom_once (atom_multi {b = w} {us = us} a h c) (atom_action b) s t = absurd (t.bar (moved Bar (action_once a b (bar_paren w us h) t.paren).1 h))
-  atom_once (atom_multi {a = x} {as_ = xs} {b = v} {us = us} a h c) (atom_multi {a = y} {as_ = ys} {b = w} {us = vs} b k d) s t =
-      let e = action_once a b (bar_paren v us h) (bar_paren w vs k) in
-      let f = actions_once c (actions_from (tails e.1) d) (record { paren = s.paren; bar = s.bar }) (record { paren = t.paren; bar = t.bar }) in
-      (ap (λ (z : PlainAction). multi (spanned action_span (z ∷ xs)) (z ∷ xs)) e.0 ∙ ap (λ (z : List PlainAction). multi (spanned action_span (y ∷ z)) (y ∷ z)) f.0, f.1)
-  atom_once (atom_multi {b = w} {us = us} a h c) (atom_call b) s t = absurd (action_call a b (bar_paren w us h))
-  atom_once (atom_multi a h c) (atom_brackets k b l) s t = absurd (apart (ap class k) (action_class a) (λ e. cc))
-  atom_once (atom_multi a h c) (atom_operator b d l) s t = absurd (apart (operation_class b) (action_class a) (λ e. cc))
   atom_once (atom_call a) (atom_delta k) s t = absurd (apart (ap class k) (call_class a) (λ e. cc))
   atom_once (atom_call a) (atom_action b) s t = absurd (action_call b a t.paren)
-  atom_once (atom_call a) (atom_multi {b = w} {us = us} b k d) s t = absurd (action_call b a (bar_paren w us k))
   atom_once (atom_call a) (atom_call b) s t = call_once a b
   atom_once (atom_call a) (atom_brackets k b l) s t = absurd (apart (ap class k) (call_class a) (λ e. cc))
   atom_once (atom_call a) (atom_operator b d l) s t = absurd (apart (operation_class b) (call_class a) (λ e. cc))
   atom_once (atom_brackets h a i) (atom_delta k) s t = absurd cc
   atom_once (atom_brackets h a i) (atom_action b) s t = absurd (apart (ap class h) (action_class b) (λ e. cc))
-  atom_once (atom_brackets h a i) (atom_multi b k d) s t = absurd (apart (ap class h) (action_class b) (λ e. cc))
   atom_once (atom_brackets h a i) (atom_call b) s t = absurd (apart (ap class h) (call_class b) (λ e. cc))
   atom_once (atom_brackets {t = x} {v = v} {ps = ps} {r = q} h a i) (atom_brackets {v = w} {ps = os} {r = r} k b l) s t =
       let e = choices_once a b (ends_shut v q i) (ends_shut w r l) in
@@ -271,7 +280,6 @@ mutual
   atom_once (atom_brackets h a i) (atom_operator b d l) s t = absurd (apart (ap class h) (operation_class b) (λ e. cc))
   atom_once (atom_operator a c i) (atom_delta k) s t = absurd (apart (ap class k) (operation_class a) (λ e. cc))
   atom_once (atom_operator a c i) (atom_action b) s t = absurd (apart (operation_class a) (action_class b) (λ e. cc))
-  atom_once (atom_operator a c i) (atom_multi b k d) s t = absurd (apart (operation_class a) (action_class b) (λ e. cc))
   atom_once (atom_operator a c i) (atom_call b) s t = absurd (apart (operation_class a) (call_class b) (λ e. cc))
   atom_once (atom_operator a c i) (atom_brackets k b l) s t = absurd (apart (ap class k) (operation_class a) (λ e. cc))
   atom_once (atom_operator {o = o} {t = x} {v = v} {ps = ps} {r = q} a c i) (atom_operator {o = y} {v = w} {ps = os} {r = r} b d l) s t =
@@ -282,19 +290,28 @@ mutual
         tails e.1,
       )
 
+  multi_once : {text : List ℕ} {ps qs : List PlainProcess} {ts q r : List Token} → SpellsMulti text ps ts q → SpellsMulti text qs ts r → Alone q → Alone r → (ps ≡ qs) × (q ≡ r)
+  multi_once (multi_last a) (multi_last b) s t = let e = atom_once a b s.atomic t.atomic in (ap (λ (x : PlainProcess). x ∷ []) e.0, e.1)
+  multi_once (multi_last a) (multi_more {b = w} {us = us} b k d) s t = let e = atom_once a b s.atomic (at_bar w us k) in absurd (s.bar (moved Bar (sym e.1) k))
+  multi_once (multi_more {b = w} {us = us} a h c) (multi_last b) s t = let e = atom_once a b (at_bar w us h) t.atomic in absurd (t.bar (moved Bar e.1 h))
+  multi_once (multi_more {p = p} {ps = ps} {b = w} {us = us} a h c) (multi_more {p = p'} {b = v} {us = vs} b k d) s t =
+      let e = atom_once a b (at_bar w us h) (at_bar v vs k) in
+      let z = multi_once c (multi_from (tails e.1) d) s t in
+      (ap (λ (x : PlainProcess). x ∷ ps) e.0 ∙ ap (λ (x : List PlainProcess). p' ∷ x) z.0, z.1)
+
   operand_once : {text : List ℕ} {s o z y : Bool} {p p' : PlainProcess} {ts q r : List Token} → SpellsOperand text s o p ts q → SpellsOperand text z y p' ts r → Follows q → Stays s o q → Follows r → Stays z y r → (p ≡ p') × (q ≡ r)
   operand_once (operand_sum a) (operand_sum b) f s g t = sum_once a b f s g t
   operand_once (operand_sum a) (operand_cond b) f s g t = absurd (sum_cond a b)
-  operand_once (operand_sum a) (operand_parts b c) f s g t = absurd (sum_atom a b)
+  operand_once (operand_sum a) (operand_parts b c) f s g t = absurd (sum_multi a b)
   operand_once (operand_cond a) (operand_sum b) f s g t = absurd (sum_cond b a)
   operand_once (operand_cond a) (operand_cond b) f s g t = cond_once a b f s g t
-  operand_once (operand_cond a) (operand_parts b c) f s g t = absurd (cond_atom a b (alone c g))
-  operand_once (operand_parts a c) (operand_sum b) f s g t = absurd (sum_atom b a)
-  operand_once (operand_parts a c) (operand_cond b) f s g t = absurd (cond_atom b a (alone c f))
-  operand_once (operand_parts {p = p} {ps = ps} a c) (operand_parts {p = p'} {ps = ps'} b d) f s g t =
-      let first = atom_once a b (alone c f) (alone d g) in
+  operand_once (operand_cond a) (operand_parts b c) f s g t = absurd (cond_multi a b (alone c g))
+  operand_once (operand_parts a c) (operand_sum b) f s g t = absurd (sum_multi b a)
+  operand_once (operand_parts a c) (operand_cond b) f s g t = absurd (cond_multi b a (alone c f))
+  operand_once (operand_parts {as_ = as_} {ps = ps} a c) (operand_parts {as_ = as_'} {ps = ps'} b d) f s g t =
+      let first = multi_once a b (alone c f) (alone d g) in
       let rest = dots_once c (dots_from first.1 d) f s g t in
-      (ap (λ (x : PlainProcess). sequenced (x ∷ ps)) first.0 ∙ ap (λ (x : List PlainProcess). sequenced (p' ∷ x)) rest.0, rest.1)
+      (ap (λ (x : List PlainProcess). sequenced (together x ∷ ps)) first.0 ∙ ap (λ (x : List PlainProcess). sequenced (together as_' ∷ x)) rest.0, rest.1)
 
   dots_once : {text : List ℕ} {s o z y : Bool} {ps qs : List PlainProcess} {ts q r : List Token} → SpellsDots text s o ps ts q → SpellsDots text z y qs ts r → Follows q → Stays s o q → Follows r → Stays z y r → (ps ≡ qs) × (q ≡ r)
   dots_once dots_end dots_end f s g t = (refl, refl)
@@ -302,18 +319,18 @@ mutual
   dots_once dots_end (dots_sum h a) f s g t = absurd (f.dot h)
   dots_once dots_end (dots_cond h a) f s g t = absurd (f.dot h)
   dots_once (dots_atom h a b) dots_end f s g t = absurd (g.dot h)
-  dots_once (dots_atom {p = p} {ps = ps} h a c) (dots_atom {p = p'} {ps = ps'} k b d) f s g t =
-      let first = atom_once a b (alone c f) (alone d g) in
+  dots_once (dots_atom {as_ = as_} {ps = ps} h a c) (dots_atom {as_ = as_'} {ps = ps'} k b d) f s g t =
+      let first = multi_once a b (alone c f) (alone d g) in
       let rest = dots_once c (dots_from first.1 d) f s g t in
-      (ap (λ (x : PlainProcess). x ∷ ps) first.0 ∙ ap (λ (x : List PlainProcess). p' ∷ x) rest.0, rest.1)
-  dots_once (dots_atom h a c) (dots_sum k b) f s g t = absurd (sum_atom b a)
-  dots_once (dots_atom h a c) (dots_cond k b) f s g t = absurd (cond_atom b a (alone c f))
+      (ap (λ (x : List PlainProcess). together x ∷ ps) first.0 ∙ ap (λ (x : List PlainProcess). together as_' ∷ x) rest.0, rest.1)
+  dots_once (dots_atom h a c) (dots_sum k b) f s g t = absurd (sum_multi b a)
+  dots_once (dots_atom h a c) (dots_cond k b) f s g t = absurd (cond_multi b a (alone c f))
   dots_once (dots_sum h a) dots_end f s g t = absurd (g.dot h)
-  dots_once (dots_sum h a) (dots_atom k b d) f s g t = absurd (sum_atom a b)
+  dots_once (dots_sum h a) (dots_atom k b d) f s g t = absurd (sum_multi a b)
   dots_once (dots_sum h a) (dots_sum k b) f s g t = let e = sum_once a b f s g t in (ap (λ (x : PlainProcess). x ∷ []) e.0, e.1)
   dots_once (dots_sum h a) (dots_cond k b) f s g t = absurd (sum_cond a b)
   dots_once (dots_cond h a) dots_end f s g t = absurd (g.dot h)
-  dots_once (dots_cond h a) (dots_atom k b d) f s g t = absurd (cond_atom a b (alone d g))
+  dots_once (dots_cond h a) (dots_atom k b d) f s g t = absurd (cond_multi a b (alone d g))
   dots_once (dots_cond h a) (dots_sum k b) f s g t = absurd (sum_cond b a)
   dots_once (dots_cond h a) (dots_cond k b) f s g t = let e = cond_once a b f s g t in (ap (λ (x : PlainProcess). x ∷ []) e.0, e.1)
 
@@ -345,14 +362,28 @@ mutual
       let made : PlainData → PlainProcess → PlainProcess → PlainProcess = λ x y w. either (joined (data_span x) (process_span w)) x y w in
       (ap (λ (x : PlainData). made x p o) u.0 ∙ ap (λ (x : PlainProcess). made c' x o) e.0 ∙ ap (λ (x : PlainProcess). made c' p' x) z.0, z.1)
 
+  -- a row of `||_` goes on as far as it can
+  left_once : {text : List ℕ} {s o z y : Bool} {p p' : PlainProcess} {ts q r : List Token} → SpellsLeft text s o p ts q → SpellsLeft text z y p' ts r → Follows q → Stays s o q → (Begins LeftMerge q → ⊥) → Follows r → Stays z y r → (Begins LeftMerge r → ⊥)
+      → (p ≡ p') × (q ≡ r)
+  left_once (left_last a) (left_last b) f s m g t n = operand_once a b f s g t
+  left_once (left_last a) (left_more {b = w} {us = us} b h d) f s m g t n =
+      let e = operand_once a b f s (at_left w us h) (stays_left w us h) in absurd (m (moved LeftMerge (sym e.1) h))
+  left_once (left_more {b = w} {us = us} a h c) (left_last b) f s m g t n =
+      let e = operand_once a b (at_left w us h) (stays_left w us h) g t in absurd (n (moved LeftMerge e.1 h))
+  left_once (left_more {p = p} {q = q} {b = w} {us = us} a h c) (left_more {p = p'} {q = q'} {b = v} {us = vs} b k d) f s m g t n =
+      let e = operand_once a b (at_left w us h) (stays_left w us h) (at_left v vs k) (stays_left v vs k) in
+      let z = left_once c (left_from (tails e.1) d) f s m g t n in
+      let made : PlainProcess → PlainProcess → PlainProcess = λ x y. left_merge (joined (process_span x) (process_span y)) x y in
+      (ap (λ (x : PlainProcess). made x q) e.0 ∙ ap (λ (x : PlainProcess). made p' x) z.0, z.1)
+
   merge_once : {text : List ℕ} {o y : Bool} {ps qs : List PlainProcess} {ts q r : List Token} → SpellsMerge text o ps ts q → SpellsMerge text y qs ts r → Follows q → Stays true o q → Follows r → Stays true y r → (ps ≡ qs) × (q ≡ r)
-  merge_once (merge_last a) (merge_last b) f s g t = let e = operand_once a b f (stays_any s) g (stays_any t) in (ap (λ (x : PlainProcess). x ∷ []) e.0, e.1)
+  merge_once (merge_last a) (merge_last b) f s g t = let e = left_once a b f (stays_any s) (s.left_ends refl) g (stays_any t) (t.left_ends refl) in (ap (λ (x : PlainProcess). x ∷ []) e.0, e.1)
   merge_once (merge_last a) (merge_more {b = w} {us = us} b h d) f s g t =
-      let e = operand_once a b f (stays_any s) (at_parallel w us h) (stays_parallel w us h) in absurd (s.sum_ends refl (moved BarBar (sym e.1) h))
+      let e = left_once a b f (stays_any s) (s.left_ends refl) (at_parallel w us h) (stays_parallel w us h) (not_left w us h) in absurd (s.sum_ends refl (moved BarBar (sym e.1) h))
   merge_once (merge_more {b = w} {us = us} a h c) (merge_last b) f s g t =
-      let e = operand_once a b (at_parallel w us h) (stays_parallel w us h) g (stays_any t) in absurd (t.sum_ends refl (moved BarBar e.1 h))
+      let e = left_once a b (at_parallel w us h) (stays_parallel w us h) (not_left w us h) g (stays_any t) (t.left_ends refl) in absurd (t.sum_ends refl (moved BarBar e.1 h))
   merge_once (merge_more {p = p} {ps = ps} {b = w} {us = us} a h c) (merge_more {p = p'} {b = v} {us = vs} b k d) f s g t =
-      let e = operand_once a b (at_parallel w us h) (stays_parallel w us h) (at_parallel v vs k) (stays_parallel v vs k) in
+      let e = left_once a b (at_parallel w us h) (stays_parallel w us h) (not_left w us h) (at_parallel v vs k) (stays_parallel v vs k) (not_left v vs k) in
       let z = merge_once c (merge_from (tails e.1) d) f s g t in
       (ap (λ (x : PlainProcess). x ∷ ps) e.0 ∙ ap (λ (x : List PlainProcess). p' ∷ x) z.0, z.1)
 

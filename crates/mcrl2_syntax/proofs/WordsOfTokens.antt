@@ -1,5 +1,6 @@
 -- What tokens spell is made of their words.
-use Rattle.std.proofs.Common.{◌≡◌, ℕ, suc, Bool, true, false, List, [], ◌∷◌, Option, All, map, length, nat_eq, if◌then◌else◌, ◌-◌, take, drop, sym, subst}
+use Rattle.std.proofs.Common.{◌≡◌, ℕ, suc, Bool, true, false, List, [], ◌∷◌, Option, All, map, length, nat_eq, if◌then◌else◌, ◌-◌, take, drop, sym, subst, None, Some}
+use Rattle.std.specs.Prelude.{option_map, IfSome}
 use Rattle.std.specs.List.{AllByRecursion}
 use Rattle.std.proofs.lemmas.List.Elements.{All-head, All-tail}
 use Rattle.mcrl2_lexer.specs.declared.kind.Kind.{Kind}
@@ -12,14 +13,15 @@ use Rattle.mcrl2_syntax.specs.declared.declaration.SectionWord.{SectionWord}
 use Rattle.mcrl2_syntax.specs.Words.{PlainWord}
 use Rattle.mcrl2_syntax.specs.SortTrees.{PlainSort}
 use Rattle.mcrl2_syntax.specs.DataTrees.{PlainData, Operand, datas_of, operands_of}
-use Rattle.mcrl2_syntax.specs.ProcessTrees.{PlainProcess, processes_of}
+use Rattle.mcrl2_syntax.specs.ProcessTrees.{PlainProcess, acts, processes_of}
+use Rattle.mcrl2_syntax.specs.ProcessParts.{PlainAction}
 use Rattle.mcrl2_syntax.specs.Declarations.{PlainField, PlainDecl, PlainSection, PlainSpec}
 use Rattle.mcrl2_syntax.specs.InfixSigns.{to_left, to_right, to_sum, to_product, to_and, to_or, joined_by, grouped}
 use Rattle.mcrl2_syntax.specs.SpelledWords.{token_word, SpellsName, a_name, SpellsList, last_item, more_items, SpellsBraces, no_items, some_items}
 use Rattle.mcrl2_syntax.specs.SpelledSorts.{SpellsSort, spells_bool, spells_pos, spells_nat, spells_int, spells_list, spells_named_sort, spells_brackets_sort}
 use Rattle.mcrl2_syntax.specs.SpelledData.{SpellsUnit, unit_name, unit_numeral, unit_true, unit_false, unit_empty, unit_list, unit_apply, unit_brackets, unit_prefix, SpellsItems, items_last, items_more, SpellsLevel, level_unit, level_chain, SpellsTail, tail_end, tail_more}
 use Rattle.mcrl2_syntax.specs.SpelledLabels.{SpellsAction, action_tau, action_name, action_applied, SpellsLabel, label_actions, SpellsAssignment, assignment, SpellsCall, call_empty, call_assigns, SpellsNameSet, names_at_once, SpellsRenaming, renaming, SpellsCommRule, communication, SpellsVarGroup, variables, Operation, allowing, blocking, hiding, renamed_by, communicating, operated, SpellsOperation, spells_allow, spells_block, spells_hide, spells_rename, spells_comm}
-use Rattle.mcrl2_syntax.specs.SpelledProcesses.{sequenced, merged, chosen, SpellsAtom, atom_delta, atom_action, atom_multi, atom_call, atom_brackets, atom_operator, SpellsOperand, operand_sum, operand_cond, operand_parts, SpellsDots, dots_end, dots_atom, dots_sum, dots_cond, SpellsSum, sum_over, SpellsCond, cond_then, cond_else, SpellsMerge, merge_last, merge_more, SpellsChoices, choices_last, choices_more, SpellsProcess, spells_process}
+use Rattle.mcrl2_syntax.specs.SpelledProcesses.{sequenced, merged, chosen, all_acts, at_once, together, SpellsAtom, atom_delta, atom_action, atom_call, atom_brackets, atom_operator, SpellsMulti, multi_last, multi_more, SpellsOperand, operand_sum, operand_cond, operand_parts, SpellsDots, dots_end, dots_atom, dots_sum, dots_cond, SpellsSum, sum_over, SpellsCond, cond_then, cond_else, SpellsLeft, left_last, left_more, SpellsMerge, merge_last, merge_more, SpellsChoices, choices_last, choices_more, SpellsProcess, spells_process}
 use Rattle.mcrl2_syntax.specs.SpelledDeclarations.{SpellsField, field_bare, field_named, SpellsFields, no_fields, some_fields, SpellsRecogniser, no_recogniser, a_recogniser, SpellsConstructor, a_constructor, SpellsSignature, of_constants, of_functions, SpellsDecl, decl_sorts, decl_alias, decl_struct, decl_cons, decl_map, decl_vars, decl_equation, decl_conditional, decl_acts, decl_acts_over, decl_proc, decl_proc_over, decl_init, SpellsDecls, no_decls, more_decls, SpellsSections, no_sections, more_sections, SpellsSpec}
 use Rattle.mcrl2_syntax.specs.TreeWords.{IsName, AreNames, IsOptionalName, IsNumeral, IsSortOfWords, IsDataOfWords, AreDatasOfWords, AreOperandsOfWords, IsActionOfWords, IsLabelOfWords, IsAssignmentOfWords, IsNameSetOfWords, IsRenamingOfWords, IsRuleOfWords, IsGroupOfWords, IsProcessOfWords, AreProcessesOfWords, IsFieldOfWords, IsConstructorOfWords, IsDeclarationOfWords, IsSectionOfWords, IsSpecOfWords, SpecsAreOfWords, LabelsAreOfWords}
 use Rattle.mcrl2_syntax.proofs.Lists.{all_front, all_back}
@@ -241,6 +243,29 @@ sequenced_words [] all = tt
 sequenced_words (p ∷ []) all = all.0
 sequenced_words (p ∷ q ∷ ps) all = processes_words (p ∷ q ∷ ps) all
 
+-- where all are actions, these have their words
+acts_words : (ps : List PlainProcess) → AreProcesses ps → IfSome (all_acts ps) (AllByRecursion IsActionOfWords)
+acts_words [] all = tt
+acts_words (acts a ∷ ps) all = more_acts (all_acts ps) (acts_words ps all.1)
+  where
+    more_acts : (o : Option (List PlainAction)) → IfSome o (AllByRecursion IsActionOfWords) → IfSome (option_map (λ as_. a ∷ as_) o) (AllByRecursion IsActionOfWords)
+    more_acts None h = tt
+    more_acts (Some as_) h = (all.0, h)
+acts_words (_ ∷ ps) all = tt
+
+-- actions at once have the words of their actions
+at_once_words : (ps : List PlainProcess) → AreProcesses ps → IsProcessOfWords (at_once ps (all_acts ps))
+at_once_words ps all = by_acts ps (all_acts ps) (processes_words ps all) (acts_words ps all)
+  where
+    by_acts : (ps : List PlainProcess) (o : Option (List PlainAction)) → AreProcessesOfWords (processes_of ps) → IfSome o (AllByRecursion IsActionOfWords) → IsProcessOfWords (at_once ps o)
+    by_acts ps None h k = h
+    by_acts ps (Some as_) h k = k
+
+together_words : (ps : List PlainProcess) → AreProcesses ps → IsProcessOfWords (together ps)
+together_words [] all = tt
+together_words (p ∷ []) all = all.0
+together_words (p ∷ q ∷ ps) all = at_once_words (p ∷ q ∷ ps) all
+
 merged_words : (ps : List PlainProcess) → AreProcesses ps → IsProcessOfWords (merged ps)
 merged_words [] all = tt
 merged_words (p ∷ []) all = all.0
@@ -255,10 +280,6 @@ mutual
   atom_words : (text : List ℕ) → Makes text IsProcessOfWords (SpellsAtom text)
   atom_words text p ts r (atom_delta h) all = (tt, all.1)
   atom_words text p ts r (atom_action {a = b} a) all = action_words text b ts r a all
-  atom_words text p ts r (atom_multi {a = x} {as_ = xs} {b = b} {us = us} a h c) all =
-      let one = action_words text x ts (b ∷ us) a all in
-      let rest = list_words text IsActionOfWords (action_words text) xs us r c one.1.1 in
-      ((one.0, rest.0), rest.1)
   atom_words text p ts r (atom_call a) all = call_words text p ts r a all
   atom_words text p ts r (atom_brackets {v = v} {ps = ps} {ts = us} h a k) all = let inner = choices_words text ps us (v ∷ r) a all.1 in (chosen_words ps inner.0, inner.1.1)
   atom_words text p ts r (atom_operator {o = o} {t = t} {v = v} {ps = ps} {us = us} a b k) all =
@@ -266,20 +287,27 @@ mutual
       let inner = choices_words text ps us (v ∷ r) b front.1 in
       (operated_words _ o (chosen ps) front.0 (chosen_words ps inner.0), inner.1.1)
 
+  multi_words : (text : List ℕ) → Makes text AreProcesses (SpellsMulti text)
+  multi_words text ps ts r (multi_last {p = p} a) all = let one = atom_words text p ts r a all in ((one.0, tt), one.1)
+  multi_words text ps ts r (multi_more {p = p} {ps = qs} {b = b} {us = us} a h c) all =
+      let one = atom_words text p ts (b ∷ us) a all in
+      let rest = multi_words text qs us r c one.1.1 in
+      ((one.0, rest.0), rest.1)
+
   operand_words : (text : List ℕ) (s o : Bool) → Makes text IsProcessOfWords (SpellsOperand text s o)
   operand_words text s o p ts r (operand_sum a) all = sum_of_words text o p ts r a all
   operand_words text s o p ts r (operand_cond a) all = cond_words text s o p ts r a all
-  operand_words text s o p ts r (operand_parts {p = q} {ps = ps} {us = us} a b) all =
-      let first = atom_words text q ts us a all in
+  operand_words text s o p ts r (operand_parts {as_ = qs} {ps = ps} {us = us} a b) all =
+      let first = multi_words text qs ts us a all in
       let rest = dots_words text s o ps us r b first.1 in
-      (sequenced_words (q ∷ ps) (first.0, rest.0), rest.1)
+      (sequenced_words (together qs ∷ ps) (together_words qs first.0, rest.0), rest.1)
 
   dots_words : (text : List ℕ) (s o : Bool) → Makes text AreProcesses (SpellsDots text s o)
   dots_words text s o ps ts r dots_end all = (tt, all)
-  dots_words text s o ps ts r (dots_atom {p = p} {ps = qs} {ts = us} {us = vs} h a b) all =
-      let first = atom_words text p us vs a all.1 in
+  dots_words text s o ps ts r (dots_atom {as_ = os} {ps = qs} {ts = us} {us = vs} h a b) all =
+      let first = multi_words text os us vs a all.1 in
       let rest = dots_words text s o qs vs r b first.1 in
-      ((first.0, rest.0), rest.1)
+      ((together_words os first.0, rest.0), rest.1)
   dots_words text s o ps ts r (dots_sum {p = p} {ts = us} h a) all = let one = sum_of_words text o p us r a all.1 in ((one.0, tt), one.1)
   dots_words text s o ps ts r (dots_cond {p = p} {ts = us} h a) all = let one = cond_words text s o p us r a all.1 in ((one.0, tt), one.1)
 
@@ -300,10 +328,17 @@ mutual
       let other = operand_words text s o q2 vs r f one.1.1 in
       ((condition.0, one.0, other.0), other.1)
 
+  first_words : (text : List ℕ) (s o : Bool) → Makes text IsProcessOfWords (SpellsLeft text s o)
+  first_words text s o p ts r (left_last a) all = operand_words text s o p ts r a all
+  first_words text s o p ts r (left_more {z = z} {p = q} {q = q2} {b = b} {us = us} a h d) all =
+      let one = operand_words text false z q ts (b ∷ us) a all in
+      let rest = first_words text s o q2 us r d one.1.1 in
+      ((one.0, rest.0), rest.1)
+
   merge_words : (text : List ℕ) (o : Bool) → Makes text AreProcesses (SpellsMerge text o)
-  merge_words text o ps ts r (merge_last {s = s} {p = p} a) all = let one = operand_words text s o p ts r a all in ((one.0, tt), one.1)
+  merge_words text o ps ts r (merge_last {s = s} {p = p} a) all = let one = first_words text s o p ts r a all in ((one.0, tt), one.1)
   merge_words text o ps ts r (merge_more {z = z} {p = p} {ps = qs} {b = b} {us = us} a h d) all =
-      let one = operand_words text false z p ts (b ∷ us) a all in
+      let one = first_words text false z p ts (b ∷ us) a all in
       let rest = merge_words text o qs us r d one.1.1 in
       ((one.0, rest.0), rest.1)
 

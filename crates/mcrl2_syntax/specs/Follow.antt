@@ -1,6 +1,6 @@
 -- What can't follow an expression, a list of them, an action or a process term that was read to its end.
 use Rattle.std.specs.Prelude.{◌≡◌, ◌≢◌, ◌⊎◌, ◌<◌, ℕ, Bool, true, List, [], ◌∷◌}
-use Rattle.mcrl2_lexer.specs.declared.kind.Kind.TheVariants.{LeftParen, Comma, Plus, BarBar, Bar, Dot, Arrow, Else}
+use Rattle.mcrl2_lexer.specs.declared.kind.Kind.TheVariants.{LeftParen, Comma, Plus, BarBar, LeftMerge, Bar, Dot, Arrow, Else}
 use Rattle.mcrl2_lexer.specs.declared.token.Token.{Token}
 use Rattle.mcrl2_syntax.specs.Words.{Begins}
 use Rattle.mcrl2_syntax.specs.InfixSigns.{height}
@@ -30,6 +30,7 @@ pub record Follows (r : List Token) : Type 0 where
 -- What an operand that ends so can't go on with.
 pub record Stays (s o : Bool) (r : List Token) : Type 0 where
   pub sum_ends : s ≡ true → Begins BarBar r → ⊥
+  pub left_ends : s ≡ true → Begins LeftMerge r → ⊥
   pub open_ends : o ≡ true → Begins Else r → ⊥
 
 -- What no whole term can go on with.
@@ -37,4 +38,5 @@ pub record Ends (r : List Token) : Type 0 where
   pub follows : Follows r
   pub plus : Begins Plus r → ⊥
   pub parallel : Begins BarBar r → ⊥
+  pub left : Begins LeftMerge r → ⊥
   pub else : Begins Else r → ⊥

@@ -15,6 +15,7 @@ mutual
     delta : Span → PlainProcess
     acts : PlainAction → PlainProcess
     multi : Span → List PlainAction → PlainProcess
+    sync : Span → PlainProcesses → PlainProcess
     call : Span → PlainWord → List PlainAssignment → PlainProcess
     within : Span → PlainProcess → PlainProcess
     allow : Span → List PlainNameSet → PlainProcess → PlainProcess
@@ -26,6 +27,7 @@ mutual
     sum : Span → List PlainVarGroup → PlainProcess → PlainProcess
     when : Span → PlainData → PlainProcess → PlainProcess
     either : Span → PlainData → PlainProcess → PlainProcess → PlainProcess
+    left_merge : Span → PlainProcess → PlainProcess → PlainProcess
     parallel : Span → PlainProcesses → PlainProcess
     choice : Span → PlainProcesses → PlainProcess
 
@@ -41,6 +43,7 @@ abbrev pub plain_process_step : ProcTree-F PlainProcess → PlainProcess
 plain_process_step (open_.Delta span) = delta span
 plain_process_step (open_.Action action) = acts (plain_action action)
 plain_process_step (open_.Multi span actions) = multi span (map plain_action actions.items)
+plain_process_step (open_.Sync span parts) = sync span (processes_of parts.items)
 plain_process_step (open_.Call span name assignments) = call span (word_of name) (map assignment_of assignments.value.items)
 plain_process_step (open_.Brackets span inner) = within span inner.value
 plain_process_step (open_.Allow span sets inner) = allow span (map name_set_of sets.items) inner.value
@@ -52,6 +55,7 @@ plain_process_step (open_.Sequence span parts) = sequence span (processes_of par
 plain_process_step (open_.Sum span variables inner) = sum span (map var_group_of variables.items) inner.value
 plain_process_step (open_.When span condition then) = when span (plain_data condition.value) then.value
 plain_process_step (open_.Either span condition then other) = either span (plain_data condition.value) then.value other.value
+plain_process_step (open_.LeftMerge span first second) = left_merge span first.value second.value
 plain_process_step (open_.Parallel span parts) = parallel span (processes_of parts.items)
 plain_process_step (open_.Choice span parts) = choice span (processes_of parts.items)
 
@@ -63,6 +67,7 @@ abbrev pub process_span : PlainProcess → Span
 process_span (delta span) = span
 process_span (acts action) = action_span action
 process_span (multi span actions) = span
+process_span (sync span parts) = span
 process_span (call span name assignments) = span
 process_span (within span inner) = span
 process_span (allow span sets inner) = span
@@ -74,5 +79,6 @@ process_span (sequence span parts) = span
 process_span (sum span variables inner) = span
 process_span (when span condition then) = span
 process_span (either span condition then other) = span
+process_span (left_merge span first second) = span
 process_span (parallel span parts) = span
 process_span (choice span parts) = span

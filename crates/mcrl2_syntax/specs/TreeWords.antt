@@ -101,6 +101,7 @@ abbrev mutual
   IsProcessOfWords (processes.delta span) = Unit {0}
   IsProcessOfWords (processes.acts a) = IsActionOfWords a
   IsProcessOfWords (processes.multi span as_) = AllByRecursion IsActionOfWords as_
+  IsProcessOfWords (processes.sync span ps) = AreProcessesOfWords ps
   IsProcessOfWords (processes.call span p xs) = IsName p × AllByRecursion IsAssignmentOfWords xs
   IsProcessOfWords (processes.within span p) = IsProcessOfWords p
   IsProcessOfWords (processes.allow span sets p) = AllByRecursion IsNameSetOfWords sets × IsProcessOfWords p
@@ -112,6 +113,7 @@ abbrev mutual
   IsProcessOfWords (processes.sum span gs p) = AllByRecursion IsGroupOfWords gs × IsProcessOfWords p
   IsProcessOfWords (processes.when span d p) = IsDataOfWords d × IsProcessOfWords p
   IsProcessOfWords (processes.either span d p q) = IsDataOfWords d × IsProcessOfWords p × IsProcessOfWords q
+  IsProcessOfWords (processes.left_merge span p q) = IsProcessOfWords p × IsProcessOfWords q
   IsProcessOfWords (processes.parallel span ps) = AreProcessesOfWords ps
   IsProcessOfWords (processes.choice span ps) = AreProcessesOfWords ps
 

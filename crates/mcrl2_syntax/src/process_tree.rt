@@ -5,7 +5,7 @@ ghost use Rattle.mcrl2_syntax.specs.Words.{word_of};
 ghost use Rattle.mcrl2_syntax.specs.SortTrees.{plain_sort};
 ghost use Rattle.mcrl2_syntax.specs.DataTrees.{plain_data};
 ghost use Rattle.mcrl2_syntax.specs.ProcessParts.{tau_action, named_action, plain_action, action_span, assignment_of, name_set_of, renaming_of, comm_rule_of, var_group_of, label_of};
-ghost use Rattle.mcrl2_syntax.specs.ProcessTrees.{delta, acts, multi, call, within, allow, block, hide, rename, comm, sequence, sum, when, either, parallel, choice, processes_of, plain_process, process_span};
+ghost use Rattle.mcrl2_syntax.specs.ProcessTrees.{delta, acts, multi, sync, left_merge, call, within, allow, block, hide, rename, comm, sequence, sum, when, either, parallel, choice, processes_of, plain_process, process_span};
 
 use crate::data_list::DataList;
 use crate::data_tree::DataTree;
@@ -181,6 +181,8 @@ pub enum ProcTree {
     Action(ActionTree),
     /// `a|b(d)`
     Multi(Span, Vec<ActionTree>),
+    /// `p|q`, where one of them isn't an action
+    Sync(Span, Vec<ProcTree>),
     /// `P()` or `P(x = d)`
     Call(Span, Word, Box<Vec<Assignment>>),
     /// `(p)`
@@ -203,6 +205,8 @@ pub enum ProcTree {
     When(Span, Box<DataTree>, Box<ProcTree>),
     /// `c -> p <> q`
     Either(Span, Box<DataTree>, Box<ProcTree>, Box<ProcTree>),
+    /// `p ||_ q`
+    LeftMerge(Span, Box<ProcTree>, Box<ProcTree>),
     /// `p || q`
     Parallel(Span, Vec<ProcTree>),
     /// `p + q`
@@ -229,6 +233,13 @@ impl ProcTree {
         ensures { plain_process result ≡ multi span (map plain_action actions.items) }
     {
         ProcTree::Multi(span, actions)
+    }
+
+    /// Processes at once.
+    pub fn sync_at(span: Span, parts: Vec<ProcTree>) -> ProcTree
+        ensures { plain_process result ≡ sync span (processes_of (map plain_process parts.items)) }
+    {
+        ProcTree::Sync(span, parts)
     }
 
     /// A call with assignments.
@@ -323,6 +334,13 @@ impl ProcTree {
         ProcTree::Either(span, condition, then, other)
     }
 
+    /// Processes side by side, of which the first one goes first.
+    pub fn left_merge_at(span: Span, first: Box<ProcTree>, second: Box<ProcTree>) -> ProcTree
+        ensures { plain_process result ≡ left_merge span (plain_process first.value) (plain_process second.value) }
+    {
+        ProcTree::LeftMerge(span, first, second)
+    }
+
     /// Processes side by side.
     pub fn parallel_at(span: Span, parts: Vec<ProcTree>) -> ProcTree
         ensures { plain_process result ≡ parallel span (processes_of (map plain_process parts.items)) }
@@ -345,6 +363,7 @@ impl ProcTree {
             ProcTree::Delta(span) => *span,
             ProcTree::Action(action) => action.span(),
             ProcTree::Multi(span, _) => *span,
+            ProcTree::Sync(span, _) => *span,
             ProcTree::Call(span, _, _) => *span,
             ProcTree::Brackets(span, _) => *span,
             ProcTree::Allow(span, _, _) => *span,
@@ -356,6 +375,7 @@ impl ProcTree {
             ProcTree::Sum(span, _, _) => *span,
             ProcTree::When(span, _, _) => *span,
             ProcTree::Either(span, _, _, _) => *span,
+            ProcTree::LeftMerge(span, _, _) => *span,
             ProcTree::Parallel(span, _) => *span,
             ProcTree::Choice(span, _) => *span,
         }
