@@ -1,5 +1,6 @@
 -- Whether the operands of `|` are actions, and which.
 use Rattle.std.proofs.Common.{◌≡◌, ◌≢◌, ◌≤◌, ◌++◌, ℕ, arith, Bool, true, false, ◌&&◌, List, [], ◌∷◌, length, map, Option, Some, None, option_map, refl, ap, sym, ◌∙◌}
+use Rattle.std.proofs.lemmas.List.{length-map}
 use Rattle.std.specs.List.{list_all}
 use Rattle.mcrl2_syntax.specs.declared.word.Span.{Span}
 use Rattle.mcrl2_syntax.specs.Words.{spanned}
@@ -21,18 +22,21 @@ no_acts (acts a ∷ ps) e = ap (λ (x : Option (List PlainAction)). option_map (
 no_acts (_ ∷ ps) e = refl
 
 -- operands that aren't one, where all are actions
-pub multi_at_once : {ps : List PlainProcess} {as_ : List PlainAction} {x : PlainProcess} {at : Span} → length ps ≢ 1 → true ≡ are_acts ps → as_ ≡ acts_among ps → x ≡ multi at as_ → at ≡ spanned action_span as_ → x ≡ together ps
-multi_at_once {ps = []} n e f g h = absurd cc
-multi_at_once {ps = p ∷ []} n e f g h = absurd (n refl)
-multi_at_once {ps = p ∷ q ∷ ps} n e f g h = rw (g, h, f) (sym (ap (λ (o : Option (List PlainAction)). at_once (p ∷ q ∷ ps) o) (some_acts (p ∷ q ∷ ps) (sym e))))
+pub multi_at_once : (ps : List PlainProcess) {as_ : List PlainAction} {x : PlainProcess} {at : Span} → length ps ≢ 1 → true ≡ are_acts ps → as_ ≡ acts_among ps → x ≡ multi at as_ → at ≡ spanned action_span as_ → x ≡ together ps
+multi_at_once [] n e f g h = absurd cc
+multi_at_once (p ∷ []) n e f g h = absurd (n refl)
+multi_at_once (p ∷ q ∷ ps) n e f g h = rw (g, h, f) (sym (ap (λ (o : Option (List PlainAction)). at_once (p ∷ q ∷ ps) o) (some_acts (p ∷ q ∷ ps) (sym e))))
 
 -- and where not all are
-pub sync_at_once : {ps : List PlainProcess} {x : PlainProcess} {at : Span} → length ps ≢ 1 → false ≡ are_acts ps → x ≡ sync at (processes_of ps) → at ≡ spanned process_span ps → x ≡ together ps
-sync_at_once {ps = []} n e f g = rw (f, g) refl
-sync_at_once {ps = p ∷ []} n e f g = absurd (n refl)
-sync_at_once {ps = p ∷ q ∷ ps} n e f g = rw (f, g) (sym (ap (λ (o : Option (List PlainAction)). at_once (p ∷ q ∷ ps) o) (no_acts (p ∷ q ∷ ps) (sym e))))
+pub sync_at_once : (ps : List PlainProcess) {x : PlainProcess} {at : Span} → length ps ≢ 1 → false ≡ are_acts ps → x ≡ sync at (processes_of ps) → at ≡ spanned process_span ps → x ≡ together ps
+sync_at_once [] n e f g = rw (f, g) refl
+sync_at_once (p ∷ []) n e f g = absurd (n refl)
+sync_at_once (p ∷ q ∷ ps) n e f g = rw (f, g) (sym (ap (λ (o : Option (List PlainAction)). at_once (p ∷ q ∷ ps) o) (no_acts (p ∷ q ∷ ps) (sym e))))
 
 -- The same of trees.
+pub not_one : (xs : List ProcTree) → length xs ≢ 1 → length (map plain_process xs) ≢ 1
+not_one xs n e = n (sym (length-map xs plain_process) ∙ e)
+
 all_of : (xs : List ProcTree) → list_all (λ x. is_act (plain_process x)) xs ≡ list_all is_act (map plain_process xs)
 all_of [] = refl
 all_of (x ∷ xs) = ap (λ (b : Bool). is_act (plain_process x) && b) (all_of xs)

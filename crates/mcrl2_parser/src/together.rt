@@ -1,11 +1,11 @@
 //! The operands of `|` in one tree: actions at once where all are actions, and else processes at once.
 
-ghost use Rattle.std.specs.Prelude.{◌≡◌, ◌≢◌, IfErr, IfOk, length, map};
+ghost use Rattle.std.specs.Prelude.{◌≡◌, ◌≢◌, ◌++◌, [], IfErr, IfOk, OnOk, length, map, option_map, option_to_list};
 ghost use Rattle.std.specs.List.{list_all};
 ghost use Rattle.mcrl2_syntax.specs.ProcessParts.{plain_action};
 ghost use Rattle.mcrl2_syntax.specs.ProcessTrees.{plain_process};
 ghost use Rattle.mcrl2_syntax.specs.SpelledProcesses.{together};
-ghost use Rattle.mcrl2_parser.specs.AtOnce.{is_act, are_acts, acts_among};
+ghost use Rattle.mcrl2_parser.specs.AtOnce.{is_act, are_acts, acts_among, with_act};
 
 use crate::chains::{parts_span, single};
 use crate::parts::actions_span;
@@ -40,6 +40,27 @@ fn are_actions(parts: &[ProcTree]) -> bool
     }
 }
 
+// The action that a part is, where it is one.
+fn action_of(part: ProcTree) -> Option<ActionTree>
+    ensures { option_to_list (option_map plain_action result) ≡ with_act (plain_process part) [] }
+{
+    match part {
+        ProcTree::Action(action) => Some(action),
+        _ => None,
+    }
+}
+
+// Adds the action that a part is, where it is one.
+fn push_action(actions: &mut Vec<ActionTree>, part: ProcTree) -> Result<(), Fault>
+    ensures added { OnOk result (map plain_action actions.new.items ≡ map plain_action actions.old.items ++ with_act (plain_process part) []) }
+    ensures no_memory { IfErr result (λ e. e ≡ Fault.NoMemory) }
+{
+    if let Some(action) = action_of(part) {
+        actions.push(action)?;
+    }
+    Ok(())
+}
+
 // The actions among the parts, in a list without spare room where all are actions.
 fn actions_among(alloc: Global, parts: Vec<ProcTree>) -> Result<Vec<ActionTree>, Fault>
     ensures among { IfOk result (λ actions. map plain_action actions.items ≡ acts_among (map plain_process parts.items)) }
@@ -48,9 +69,7 @@ fn actions_among(alloc: Global, parts: Vec<ProcTree>) -> Result<Vec<ActionTree>,
     let mut actions = Vec::new(alloc);
     actions.reserve_exact(parts.len())?;
     for part in parts {
-        if let ProcTree::Action(action) = part {
-            actions.push(action)?;
-        }
+        push_action(&mut actions, part)?;
     }
     Ok(actions)
 }
