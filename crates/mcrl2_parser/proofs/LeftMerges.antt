@@ -1,5 +1,5 @@
 -- What the reader of operands with `||_` between them stands on.
-use Rattle.std.proofs.Common.{◌≡◌, ℕ, Bool, true, false, List, ◌∷◌, ap, sym, ◌∙◌, subst}
+use Rattle.std.proofs.Common.{◌≡◌, ℕ, Bool, true, false, List, ◌∷◌, refl, ap, sym, ◌∙◌, subst}
 use Rattle.mcrl2_lexer.specs.declared.kind.Kind.TheVariants.{LeftMerge}
 use Rattle.mcrl2_lexer.specs.declared.token.Token.{Token}
 use Rattle.mcrl2_syntax.specs.declared.word.Span.{Span}

@@ -189,7 +189,7 @@ impl Place {
                 self.conditions = 0;
             }
             Kind::Bar => {
-                self.at_once = self.at_once.max(self.operand);
+                self.at_once = self.at_once.max(self.operand).max(1);
                 self.operand = 0;
             }
             _ => self.take_sign(kind),
