@@ -279,7 +279,7 @@ module _ (v : FullVocabulary) where
     back xs bare.delta b l d = record { parts = tt; operators = tt; sums = tt }
     back xs (bare.acts as_) b l (label {m = m} e) = record { parts = (label_sound v xs as_ m e, tt); operators = tt; sums = tt }
     back xs (bare.acts as_) b l (call_in_order {x = x} {es = es} {k = k} {ps = ps} {ts = ts} e f) = record { parts = (call_sound v xs x es k ps ts e f, tt); operators = tt; sums = tt }
-    back xs (bare.acts as_) b l (one_by_one {bs = bs} n ds) = record { parts = (steps_sound v xs as_ bs ds, tt); operators = tt; sums = tt }
+    back xs (bare.acts _) b l (one_by_one {a = x} {b = y} {as_ = as_} {bs = bs} n ds) = record { parts = (steps_sound v xs (x ∷ y ∷ as_) bs ds, tt); operators = tt; sums = tt }
     back xs (bare.call x ds) b l (call_by_name {k = k} {ps = ps} {ts = ts} e a f) = record { parts = (named_sound v xs x ds k ps ts e a f, tt); operators = tt; sums = tt }
     back xs (bare.allow sets p) b l (only_these {b = c} f d) = around_sound v xs (processes.allow sets) (parts_in xs p) (operators_in p) (sums_in p) f (back xs p c l d)
     back xs (bare.block ns p) b l (none_of_these {b = c} f d) = around_sound v xs (processes.block ns) (parts_in xs p) (operators_in p) (sums_in p) f (back xs p c l d)
