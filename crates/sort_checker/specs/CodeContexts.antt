@@ -158,6 +158,8 @@ abbrev mutual
   SumNamesStand g (bare.sum xs p) = VariablesStand g xs × SumNamesStand g p
   SumNamesStand g (bare.when e p) = SumNamesStand g p
   SumNamesStand g (bare.either e p q) = SumNamesStand g p × SumNamesStand g q
+  SumNamesStand g (bare.sync ps) = AllSumNamesStand g ps
+  SumNamesStand g (bare.left_merge p q) = SumNamesStand g p × SumNamesStand g q
   SumNamesStand g (bare.parallel ps) = AllSumNamesStand g ps
   SumNamesStand g (bare.choice ps) = AllSumNamesStand g ps
 

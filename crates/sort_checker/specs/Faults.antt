@@ -81,10 +81,14 @@ abbrev pub unknown_name : FullVocabulary → ScopedPart → Option Name
 unknown_name v p = option_map name_of (find (λ u. not (is_known v p.variables u)) (uses_of p.part))
 
 -- ---- 13: what has no elaboration
--- actions, or the call of a process with arguments in order
-abbrev pub is_call_typed : FullVocabulary → Scope → List Action → Bool
-is_call_typed v scope (act x es ∷ []) = is_some (option_and_then (λ (r : ℕ × Parameters). arguments_in v.declared scope r.1 es) (process_named v x))
-is_call_typed v scope _ = false
+-- the call of a process with arguments in order
+abbrev pub is_call_typed : FullVocabulary → Scope → Action → Bool
+is_call_typed v scope tau = false
+is_call_typed v scope (act x es) = is_some (option_and_then (λ (r : ℕ × Parameters). arguments_in v.declared scope r.1 es) (process_named v x))
+
+-- an action or a call
+abbrev pub is_step_typed : FullVocabulary → Scope → Action → Bool
+is_step_typed v scope a = is_some (label_in v.declared scope (a ∷ [])) || is_call_typed v scope a
 
 -- what is assigned to a parameter checks at its sort
 abbrev pub is_value_typed : Vocabulary → Scope → List (Name × Expression) → Name × Sort → Bool
@@ -109,7 +113,7 @@ is_plain_sort g (Some (named d)) = is_no_struct (sort_at g d)
 is_plain_sort g _ = false
 
 abbrev pub is_typed_in : FullVocabulary → Scope → Part → Bool
-is_typed_in v scope (a_label as_) = is_some (label_in v.declared scope as_) || is_call_typed v scope as_
+is_typed_in v scope (a_label as_) = list_all (is_step_typed v scope) as_
 is_typed_in v scope (a_call x ds) = are_values_typed v.declared scope ds (process_named v x)
 is_typed_in v scope (a_condition e) = is_some ((typing_in v.declared scope e).checks boolean)
 is_typed_in v scope (an_operator o) = are_renamings_typed v.declared o

@@ -86,6 +86,8 @@ abbrev mutual
   EachExpression P (bare.sum xs p) = EachExpression P p
   EachExpression P (bare.when e p) = P e × EachExpression P p
   EachExpression P (bare.either e p q) = P e × EachExpression P p × EachExpression P q
+  EachExpression P (bare.sync ps) = EachExpressionOf P ps
+  EachExpression P (bare.left_merge p q) = EachExpression P p × EachExpression P q
   EachExpression P (bare.parallel ps) = EachExpressionOf P ps
   EachExpression P (bare.choice ps) = EachExpressionOf P ps
 

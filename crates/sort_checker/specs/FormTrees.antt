@@ -51,7 +51,9 @@ pub record IsUnder (g : Sig) (o : Around) (inner whole : PlainProcess) : Type 0 
 -- ---- chains
 -- the tree is a chain of these
 abbrev pub IsChain : ProcTree → Vec ProcTree → Type 0
-IsChain tree list = ((span : Span) × (tree ≡ forms.Sequence span list)) ⊎ ((span : Span) × (tree ≡ forms.Parallel span list)) ⊎ ((span : Span) × (tree ≡ forms.Choice span list))
+IsChain tree list =
+    ((span : Span) × (tree ≡ forms.Sequence span list)) ⊎ ((span : Span) × (tree ≡ forms.Parallel span list)) ⊎ ((span : Span) × (tree ≡ forms.Choice span list))
+    ⊎ ((span : Span) × (tree ≡ forms.Sync span list))
 
 abbrev pub parts_of : List ProcTree → Processes
 parts_of list = bare_processes (processes_of (map plain_process list))

@@ -32,6 +32,8 @@ abbrev mutual
   operators_in (bare.sum xs p) = operators_in p
   operators_in (bare.when e p) = operators_in p
   operators_in (bare.either e p q) = operators_in p ++ operators_in q
+  operators_in (bare.sync ps) = operators_in_all ps
+  operators_in (bare.left_merge p q) = operators_in p ++ operators_in q
   operators_in (bare.parallel ps) = operators_in_all ps
   operators_in (bare.choice ps) = operators_in_all ps
 

@@ -9,7 +9,7 @@ use Rattle.sort_table.specs.BareProcesses.{Variables, Action, Process, Processes
 use Rattle.sort_table.specs.BareDeclarations.{Declaration, constructors, variables, equation, process, initial, Section}
 use Rattle.sort_checker.specs.Operators.{renaming_of, rule_of}
 
--- A multi-action or a call with arguments in order; a call by assignment; the condition of a process; an operator; an equation with
+-- Actions and calls with arguments in order, alone or with `|` between them; a call by assignment; the condition of a process; an operator; an equation with
 -- its condition and sides; the result of a `cons`.
 pub data Part : Type 0 where
   a_label : List Action → Part
@@ -42,6 +42,8 @@ abbrev mutual
   parts_in xs (bare.sum ys p) = parts_in (xs ++ ys) p
   parts_in xs (bare.when e p) = scoped xs (a_condition e) ∷ parts_in xs p
   parts_in xs (bare.either e p q) = scoped xs (a_condition e) ∷ parts_in xs p ++ parts_in xs q
+  parts_in xs (bare.sync ps) = parts_in_all xs ps
+  parts_in xs (bare.left_merge p q) = parts_in xs p ++ parts_in xs q
   parts_in xs (bare.parallel ps) = parts_in_all xs ps
   parts_in xs (bare.choice ps) = parts_in_all xs ps
 

@@ -39,6 +39,7 @@ abbrev mutual
   leaves_in (processes.delta span) = []
   leaves_in (processes.acts a) = leaves_of_action a
   leaves_in (processes.multi span as_) = flat_map leaves_of_action as_
+  leaves_in (processes.sync span ps) = leaves_in_all ps
   leaves_in (processes.call span p xs) = leaves_of_values xs
   leaves_in (processes.within span p) = leaves_in p
   leaves_in (processes.allow span sets p) = leaves_in p
@@ -50,6 +51,7 @@ abbrev mutual
   leaves_in (processes.sum span gs p) = map some_variables gs ++ leaves_in p
   leaves_in (processes.when span d p) = an_expression d ∷ leaves_in p
   leaves_in (processes.either span d p q) = an_expression d ∷ (leaves_in p ++ leaves_in q)
+  leaves_in (processes.left_merge span p q) = leaves_in p ++ leaves_in q
   leaves_in (processes.parallel span ps) = leaves_in_all ps
   leaves_in (processes.choice span ps) = leaves_in_all ps
 

@@ -25,6 +25,8 @@ abbrev mutual
   stops_in (bare.sum ys p) = enter ys ∷ (stops_in p ++ leave ys ∷ [])
   stops_in (bare.when e p) = at (a_condition e) ∷ stops_in p
   stops_in (bare.either e p q) = at (a_condition e) ∷ (stops_in p ++ stops_in q)
+  stops_in (bare.sync ps) = stops_in_all ps
+  stops_in (bare.left_merge p q) = stops_in p ++ stops_in q
   stops_in (bare.parallel ps) = stops_in_all ps
   stops_in (bare.choice ps) = stops_in_all ps
 

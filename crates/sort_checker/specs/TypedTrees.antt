@@ -63,10 +63,10 @@ is_call c x ts = is_some (option_and_then (λ ps. all_at checked (map (λ (p : N
 abbrev pub fits_action : Sig → List Typing → Bor ActEntry → Bool
 fits_action g ts a = is_some (all_at exactly (map (sort_under g) a.now.sorts.items) ts) || is_some (all_at checked (map (sort_under g) a.now.sorts.items) ts)
 
--- an action, or a call where it stands alone
-abbrev pub is_step : TextContext → VariableScope → Bool → PlainAction → Bool
-is_step c s alone (tau_action span) = true
-is_step c s alone (named_action span x ds) = is_action c x.bytes (map (typing_of c s) (map bare_data ds)) || (alone && is_call c x.bytes (map (typing_of c s) (map bare_data ds)))
+-- an action or a call
+abbrev pub is_step : TextContext → VariableScope → PlainAction → Bool
+is_step c s (tau_action span) = true
+is_step c s (named_action span x ds) = is_action c x.bytes (map (typing_of c s) (map bare_data ds)) || is_call c x.bytes (map (typing_of c s) (map bare_data ds))
 
 -- ---- calls by assignment
 abbrev pub value_under : BTreeMap (Bor Name) Reading → Name → Option Reading

@@ -66,7 +66,7 @@ pub(crate) fn around(
     }
 }
 
-/// The chain that a tree is, of process terms in code: one behind the other, side by side, or else a choice of them.
+/// The chain that a tree is, of process terms in code: one behind the other, side by side, at once, or else a choice of them.
 #[inline(never)]
 pub(crate) fn joined(tree: &ProcTree, parts: Vec<Proc>) -> Proc
     ensures { (list : Vec ProcTree) → IsChain tree.now list → (v : FullVocabulary) (variables : Scope) (g : Sig) (p : PoolContents) → AreElaborated v variables (parts_of list.items) g p (map code.plain_process parts.items) → IsElaborated v variables (bare_process (plain_process tree.now)) g p (code.plain_process result) }
@@ -74,6 +74,7 @@ pub(crate) fn joined(tree: &ProcTree, parts: Vec<Proc>) -> Proc
     match tree {
         ProcTree::Sequence(_, _) => Proc::Seq(parts),
         ProcTree::Parallel(_, _) => Proc::Merge(parts),
+        ProcTree::Sync(_, _) => Proc::Sync(parts),
         _ => Proc::Choice(parts),
     }
 }

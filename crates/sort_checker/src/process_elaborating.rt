@@ -78,7 +78,10 @@ pub(crate) fn process_of<'a>(
             let inner = boxed_process(alloc, sig, pool, tables, scope, processes, inner)?;
             around(alloc, sig, tree, inner)
         }
-        ProcTree::Sequence(_, list) | ProcTree::Parallel(_, list) | ProcTree::Choice(_, list) => {
+        ProcTree::Sequence(_, list)
+        | ProcTree::Parallel(_, list)
+        | ProcTree::Choice(_, list)
+        | ProcTree::Sync(_, list) => {
             let parts = processes_of(alloc, sig, pool, tables, scope, processes, list.as_slice())?;
             Ok(joined(tree, parts))
         }
@@ -91,6 +94,9 @@ pub(crate) fn process_of<'a>(
         ),
         ProcTree::Either(_, test, one, other) => either_of(
             alloc, sig, pool, tables, scope, processes, test, one, other,
+        ),
+        ProcTree::LeftMerge(_, first, second) => left_merge_of(
+            alloc, sig, pool, tables, scope, processes, first, second,
         ),
     }
 }
@@ -232,4 +238,31 @@ fn either_of<'a>(
     let then = boxed_process(alloc, sig, pool, tables, scope, processes, then)?;
     let other = boxed_process(alloc, sig, pool, tables, scope, processes, other)?;
     Ok(Proc::Cond(condition, then, other))
+}
+
+/// Two process terms side by side, of which the first one goes first.
+#[cycle(elaborating)]
+fn left_merge_of<'a>(
+    alloc: Global,
+    sig: &mut Signature,
+    pool: &mut Pool,
+    tables: &mut SortTables,
+    scope: &mut Scope,
+    processes: &ProcessTable<'a>,
+    first: &'a ProcTree,
+    second: &'a ProcTree,
+) -> Result<Proc, NoMemory>
+    requires ready { IsReady sig.old pool.old tables.old scope.old }
+    requires table { IsTableOver sig.old processes.now }
+    requires words { IsProcessOfWords (plain_process first.now) × IsProcessOfWords (plain_process second.now) }
+    requires names { SumNamesStand sig.old (bare_process (plain_process first.now)) × SumNamesStand sig.old (bare_process (plain_process second.now)) }
+    requires elaborates { CanElaborate sig.old processes.now scope.old (bare.left_merge (bare_process (plain_process first.now)) (bare_process (plain_process second.now))) }
+    ensures kept { GoesOn sig.old pool.old sig.new pool.new }
+    ensures ready { OnOk result (IsReady sig.new pool.new tables.new scope.new) }
+    ensures scope { OnOk result (scope.new ≡ scope.old) }
+    ensures means { IfOk result (λ made. (v : FullVocabulary) (variables : meanings.Scope) → Sees sig.old processes.now scope.old v variables → IsElaborated v variables (bare.left_merge (bare_process (plain_process first.now)) (bare_process (plain_process second.now))) sig.new pool.new (code.plain_process made)) }
+{
+    let first = boxed_process(alloc, sig, pool, tables, scope, processes, first)?;
+    let second = boxed_process(alloc, sig, pool, tables, scope, processes, second)?;
+    Ok(Proc::LeftMerge(first, second))
 }

@@ -89,8 +89,14 @@ fn again_in_process<'a>(alloc: Global, process: &'a ProcTree) -> Result<Option<&
             Some(name) => Ok(Some(name)),
             None => again_in_process(alloc, other),
         },
-        ProcTree::Sequence(_, parts) | ProcTree::Parallel(_, parts) | ProcTree::Choice(_, parts) =>
-            again_in_processes(alloc, parts.as_slice()),
+        ProcTree::Sequence(_, parts)
+        | ProcTree::Parallel(_, parts)
+        | ProcTree::Choice(_, parts)
+        | ProcTree::Sync(_, parts) => again_in_processes(alloc, parts.as_slice()),
+        ProcTree::LeftMerge(_, first, second) => match again_in_process(alloc, first)? {
+            Some(name) => Ok(Some(name)),
+            None => again_in_process(alloc, second),
+        },
     }
 }
 

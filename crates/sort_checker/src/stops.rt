@@ -20,7 +20,7 @@ use std::alloc::Global;
 pub(crate) enum PartTree<'a> {
     /// An action, or a call with arguments in order.
     Action(&'a ActionTree),
-    /// A multi-action.
+    /// Several of these with `|` between them.
     Multi(&'a [ActionTree]),
     /// A call by assignment.
     Call(&'a Word, &'a [Assignment]),
@@ -113,8 +113,14 @@ fn add_process<'a>(list: &mut Vec<StopTree<'a>>, process: &'a ProcTree) -> Resul
             list.push(StopTree::Leave(groups.as_slice()))?;
             Ok(())
         }
-        ProcTree::Sequence(_, parts) | ProcTree::Parallel(_, parts) | ProcTree::Choice(_, parts) =>
-            { add_processes(list, parts.as_slice()) }
+        ProcTree::Sequence(_, parts)
+        | ProcTree::Parallel(_, parts)
+        | ProcTree::Choice(_, parts)
+        | ProcTree::Sync(_, parts) => add_processes(list, parts.as_slice()),
+        ProcTree::LeftMerge(_, first, second) => {
+            add_process(list, first)?;
+            add_process(list, second)
+        }
     }
 }
 

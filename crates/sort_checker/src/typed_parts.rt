@@ -213,18 +213,17 @@ fn is_call<'a>(
     all_fit(readings, sorts.as_slice(), Way::Checked)
 }
 
-/// Whether this is an action, or `tau`, or the call of a process where it stands alone.
+/// Whether this is an action, or `tau`, or the call of a process.
 pub(crate) fn is_step<'a>(
     alloc: Global,
     context: &TextContext<'a>,
     scope: &VariableScope,
-    alone: bool,
     action: &'a ActionTree,
 ) -> Result<bool, NoMemory>
     requires context { IsContext context.now }
     requires scope { IsScopeOver context.now.sig.now scope.now.scope }
     requires ready { AreReadyLeaves context.now.sig.now.texts (leaves_of_action (plain_action action.now)) }
-    ensures { IfOk result (λ b. b ≡ is_step context.now scope.now alone (plain_action action.now)) }
+    ensures { IfOk result (λ b. b ≡ is_step context.now scope.now (plain_action action.now)) }
 {
     let ActionTree::Named(_, name, arguments) = action else {
         return Ok(true);
@@ -234,13 +233,10 @@ pub(crate) fn is_step<'a>(
     if is_action(alloc, context, name, readings.as_slice())? {
         return Ok(true);
     }
-    if !alone {
-        return Ok(false);
-    }
     is_call(alloc, context, name, readings.as_slice())
 }
 
-/// Whether these are all actions, or one call of a process.
+/// Whether each of these is an action, or `tau`, or the call of a process.
 pub(crate) fn are_steps<'a>(
     alloc: Global,
     context: &TextContext<'a>,
@@ -250,11 +246,10 @@ pub(crate) fn are_steps<'a>(
     requires context { IsContext context.now }
     requires scope { IsScopeOver context.now.sig.now scope.now.scope }
     requires ready { AreReadyLeaves context.now.sig.now.texts (flat_map leaves_of_action (map plain_action actions.now)) }
-    ensures { IfOk result (λ b. b ≡ list_all (is_step context.now scope.now (length actions.now == 1)) (map plain_action actions.now)) }
+    ensures { IfOk result (λ b. b ≡ list_all (is_step context.now scope.now) (map plain_action actions.now)) }
 {
-    let alone = actions.len() == 1;
     for action in actions {
-        if !is_step(alloc, context, scope, alone, action)? {
+        if !is_step(alloc, context, scope, action)? {
             return Ok(false);
         }
     }

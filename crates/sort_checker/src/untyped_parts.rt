@@ -47,7 +47,7 @@ fn is_part_typed<'a>(
     ensures { IfOk result (λ b. (v : FullVocabulary) (xs : Variables) → IsContextOver v context.now → HasInScope context.now.sig.now xs scope.now → b ≡ is_typed v (scoped xs (part_of part.entry))) }
 {
     match part {
-        PartTree::Action(action) => is_step(alloc, context, scope, true, action),
+        PartTree::Action(action) => is_step(alloc, context, scope, action),
         PartTree::Multi(actions) => are_steps(alloc, context, scope, actions),
         PartTree::Call(name, assignments) => {
             are_values(alloc, context, scope, name.bytes.as_slice(), assignments)

@@ -81,6 +81,7 @@ module _ (P : Name → Type 0) where
     of_process (processes.delta span) all = tt
     of_process (processes.acts a) all = tt
     of_process (processes.multi span as_) all = tt
+    of_process (processes.sync span ps) all = of_processes ps all
     of_process (processes.call span f xs) all = tt
     of_process (processes.within span p) all = of_process p all
     of_process (processes.allow span sets p) all = of_process p (all_back P _ (in_process p) all)
@@ -95,6 +96,7 @@ module _ (P : Name → Type 0) where
     of_process (processes.either span d p q) all =
         let both = all_back P _ (in_process p ++ in_process q) all in
         sums_both (sums_in (bare_process p)) (sums_in (bare_process q)) (of_process p (all_front P _ (in_process q) both)) (of_process q (all_back P (in_process p) _ both))
+    of_process (processes.left_merge span p q) all = sums_both (sums_in (bare_process p)) (sums_in (bare_process q)) (of_process p (all_front P _ (in_process q) all)) (of_process q (all_back P (in_process p) _ all))
     of_process (processes.parallel span ps) all = of_processes ps all
     of_process (processes.choice span ps) all = of_processes ps all
 

@@ -107,6 +107,7 @@ mutual
   of_process (processes.delta span) is = tt
   of_process (processes.acts a) is = of_action a is
   of_process (processes.multi span as_) is = in_each IsActionOfWords in_action of_action as_ is
+  of_process (processes.sync span ps) is = of_processes ps is
   of_process (processes.call span p xs) is = (identifier_is_text is.0, in_each IsAssignmentOfWords in_assignment of_assignment xs is.1)
   of_process (processes.within span p) is = of_process p is
   of_process (processes.allow span sets p) is =
@@ -120,6 +121,7 @@ mutual
   of_process (processes.when span d p) is = all_both IsUtf8 (in_data d) (in_process p) (of_data d is.0) (of_process p is.1)
   of_process (processes.either span d p q) is =
       all_both IsUtf8 (in_data d) (in_process p ++ in_process q) (of_data d is.0) (all_both IsUtf8 (in_process p) (in_process q) (of_process p is.1) (of_process q is.2))
+  of_process (processes.left_merge span p q) is = all_both IsUtf8 (in_process p) (in_process q) (of_process p is.0) (of_process q is.1)
   of_process (processes.parallel span ps) is = of_processes ps is
   of_process (processes.choice span ps) is = of_processes ps is
 

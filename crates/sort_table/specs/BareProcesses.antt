@@ -48,6 +48,8 @@ mutual
     sum : Variables → Process → Process
     when : Expression → Process → Process
     either : Expression → Process → Process → Process
+    sync : Processes → Process
+    left_merge : Process → Process → Process
     parallel : Processes → Process
     choice : Processes → Process
 
@@ -60,6 +62,7 @@ abbrev mutual
   bare_process (trees.delta span) = delta
   bare_process (trees.acts a) = acts (bare_action a ∷ [])
   bare_process (trees.multi span as_) = acts (map bare_action as_)
+  bare_process (trees.sync span ps) = sync (bare_processes ps)
   bare_process (trees.call span p ds) = call p.bytes (map (λ (d : PlainAssignment). (d.name.bytes, bare_data d.value)) ds)
   bare_process (trees.within span p) = bare_process p
   bare_process (trees.allow span sets p) = allow (map (λ (s : PlainNameSet). bare_names s.names) sets) (bare_process p)
@@ -71,6 +74,7 @@ abbrev mutual
   bare_process (trees.sum span gs p) = sum (bare_variables gs) (bare_process p)
   bare_process (trees.when span d p) = when (bare_data d) (bare_process p)
   bare_process (trees.either span d p q) = either (bare_data d) (bare_process p) (bare_process q)
+  bare_process (trees.left_merge span p q) = left_merge (bare_process p) (bare_process q)
   bare_process (trees.parallel span ps) = parallel (bare_processes ps)
   bare_process (trees.choice span ps) = choice (bare_processes ps)
 
@@ -93,6 +97,8 @@ abbrev mutual
   sums_in (sum vs p) = vs ∷ sums_in p
   sums_in (when d p) = sums_in p
   sums_in (either d p q) = sums_in p ++ sums_in q
+  sums_in (sync ps) = sums_in_all ps
+  sums_in (left_merge p q) = sums_in p ++ sums_in q
   sums_in (parallel ps) = sums_in_all ps
   sums_in (choice ps) = sums_in_all ps
 

@@ -85,6 +85,7 @@ abbrev mutual
   in_process (processes.delta span) = []
   in_process (processes.acts a) = in_action a
   in_process (processes.multi span as_) = flat_map in_action as_
+  in_process (processes.sync span ps) = in_processes ps
   in_process (processes.call span p xs) = p.bytes ∷ flat_map in_assignment xs
   in_process (processes.within span p) = in_process p
   in_process (processes.allow span sets p) = flat_map in_set sets ++ in_process p
@@ -96,6 +97,7 @@ abbrev mutual
   in_process (processes.sum span gs p) = flat_map in_group gs ++ in_process p
   in_process (processes.when span d p) = in_data d ++ in_process p
   in_process (processes.either span d p q) = in_data d ++ (in_process p ++ in_process q)
+  in_process (processes.left_merge span p q) = in_process p ++ in_process q
   in_process (processes.parallel span ps) = in_processes ps
   in_process (processes.choice span ps) = in_processes ps
 

@@ -419,8 +419,14 @@ fn add_process<'a>(list: &mut Vec<&'a [u8]>, process: &'a ProcTree) -> Result<()
             add_process(list, then)?;
             add_process(list, other)
         }
-        ProcTree::Sequence(_, parts) | ProcTree::Parallel(_, parts) | ProcTree::Choice(_, parts) =>
-            { add_processes(list, parts.as_slice()) }
+        ProcTree::Sequence(_, parts)
+        | ProcTree::Sync(_, parts)
+        | ProcTree::Parallel(_, parts)
+        | ProcTree::Choice(_, parts) => add_processes(list, parts.as_slice()),
+        ProcTree::LeftMerge(_, first, second) => {
+            add_process(list, first)?;
+            add_process(list, second)
+        }
     }
 }
 

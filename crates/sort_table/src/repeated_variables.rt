@@ -89,8 +89,16 @@ fn repeats_in_process(alloc: Global, process: &ProcTree) -> Result<bool, NoMemor
             }
             repeats_in_process(alloc, other)
         }
-        ProcTree::Sequence(_, parts) | ProcTree::Parallel(_, parts) | ProcTree::Choice(_, parts) =>
-            repeats_in_processes(alloc, parts.as_slice()),
+        ProcTree::Sequence(_, parts)
+        | ProcTree::Sync(_, parts)
+        | ProcTree::Parallel(_, parts)
+        | ProcTree::Choice(_, parts) => repeats_in_processes(alloc, parts.as_slice()),
+        ProcTree::LeftMerge(_, first, second) => {
+            if repeats_in_process(alloc, first)? {
+                return Ok(true);
+            }
+            repeats_in_process(alloc, second)
+        }
     }
 }
 

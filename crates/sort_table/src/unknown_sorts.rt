@@ -206,8 +206,14 @@ fn unknown_in_process<'a>(index: &SortIndex<'a>, process: &'a ProcTree) -> Optio
             Some(name) => Some(name),
             None => unknown_in_process(index, other),
         },
-        ProcTree::Sequence(_, parts) | ProcTree::Parallel(_, parts) | ProcTree::Choice(_, parts) =>
-            unknown_in_processes(index, parts.as_slice()),
+        ProcTree::Sequence(_, parts)
+        | ProcTree::Sync(_, parts)
+        | ProcTree::Parallel(_, parts)
+        | ProcTree::Choice(_, parts) => unknown_in_processes(index, parts.as_slice()),
+        ProcTree::LeftMerge(_, first, second) => match unknown_in_process(index, first) {
+            Some(name) => Some(name),
+            None => unknown_in_process(index, second),
+        },
     }
 }
 
