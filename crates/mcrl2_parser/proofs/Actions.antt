@@ -1,21 +1,17 @@
 -- Actions, as the code comes to them: what it made, and each list of tokens, by an equation.
 use Rattle.std.proofs.Common.{◌≡◌, ℕ, List, [], ◌∷◌, map, refl, sym, subst, ◌∙◌}
-use Rattle.std.specs.List.{insert}
 use Rattle.mcrl2_lexer.specs.declared.kind.Kind.TheVariants.{Identifier, Tau, LeftParen, RightParen}
 use Rattle.mcrl2_lexer.specs.declared.token.Token.{Token}
 use Rattle.mcrl2_syntax.specs.declared.word.Span.{Span}
 use Rattle.mcrl2_syntax.specs.declared.data_tree.DataTree.{DataTree}
-use Rattle.mcrl2_syntax.specs.declared.process_tree.ActionTree.{ActionTree}
 use Rattle.mcrl2_syntax.specs.Words.{PlainWord, Begins, span_of, spanned}
 use Rattle.mcrl2_syntax.specs.DataTrees.{PlainData, plain_data}
-use Rattle.mcrl2_syntax.specs.ProcessParts.{PlainAction, tau_action, named_action, plain_action, action_span, PlainLabel}
-use Rattle.mcrl2_syntax.specs.ProcessTrees.{PlainProcess, multi}
-use Rattle.mcrl2_syntax.specs.SpelledWords.{token_word, last_item, more_items}
+use Rattle.mcrl2_syntax.specs.ProcessParts.{PlainAction, tau_action, named_action, action_span, PlainLabel}
+use Rattle.mcrl2_syntax.specs.SpelledWords.{token_word}
 use Rattle.mcrl2_syntax.specs.SpelledData.{SpellsItems}
 use Rattle.mcrl2_syntax.specs.SpelledLabels.{SpellsAction, action_tau, action_name, action_applied, SpellsActions, label_from, SpellsLabel, label_actions}
 use Rattle.mcrl2_syntax.proofs.Lists.{heads, tails}
 use Rattle.mcrl2_syntax.proofs.LabelsOnce.{NoParen}
-use Rattle.mcrl2_parser.specs.ProcessReading.{acted, SpellsMulti, multi_actions}
 
 pub by_tau : {text : List ℕ} {ts r : List Token} {t : Token} {a : PlainAction} {at : Span} → a ≡ tau_action at → at ≡ span_of t t → ts ≡ t ∷ r → t.kind ≡ Tau → SpellsAction text a ts r
 by_tau p i e h = rw (p, i, e) (action_tau h)
@@ -84,30 +80,3 @@ labelled (label_actions {actions = actions} d) = record { actions = actions; rea
 pub label_only : {text : List ℕ} {ts q r : List Token} {l m : PlainLabel} {actions : List PlainAction} {at : Span} → l ≡ record { span = at; actions = actions } → at ≡ spanned action_span actions
     → (g : Labelled text m ts r) → (actions ≡ g.actions) × (q ≡ r) → (l ≡ m) × (q ≡ r)
 label_only p i g same = (rw (p, i, same.0) g.whole, same.1)
-
--- a first action in front of others
-pub by_multi : {text : List ℕ} {ts r : List Token} {p : PlainProcess} {first : PlainAction} {others all : List PlainAction} {at : Span} → p ≡ multi at all → at ≡ spanned action_span all → all ≡ first ∷ others
-    → SpellsActions text others ts r → SpellsMulti text first p ts r
-by_multi p i e (last_item d) = rw (p, i, e) (multi_actions (last_item d))
-by_multi p i e (more_items d h c) = rw (p, i, e) (multi_actions (more_items d h c))
-
-pub put_first : {trees others all : List ActionTree} {first : ActionTree} → all ≡ insert trees 0 first → trees ≡ others → map plain_action all ≡ plain_action first ∷ map plain_action others
-put_first e f = rw (e, f) refl
-
--- the actions behind a first one
-pub record Further (text : List ℕ) (p : PlainProcess) (first : PlainAction) (ts r : List Token) : Type 0 where
-  pub actions : List PlainAction
-  pub read : SpellsActions text actions ts r
-  pub whole : acted (spanned action_span (first ∷ actions)) (first ∷ actions) ≡ p
-
-pub further : {text : List ℕ} {ts r : List Token} {p : PlainProcess} {first : PlainAction} → SpellsMulti text first p ts r → Further text p first ts r
-further (multi_actions {as_ = as_} d) = record { actions = as_; read = d; whole = refl }
-
-several : {text : List ℕ} {ts r : List Token} {first : PlainAction} {others : List PlainAction} → SpellsActions text others ts r
-    → multi (spanned action_span (first ∷ others)) (first ∷ others) ≡ acted (spanned action_span (first ∷ others)) (first ∷ others)
-several (last_item d) = refl
-several (more_items d h c) = refl
-
-pub multi_only : {text : List ℕ} {ts q r : List Token} {p o : PlainProcess} {first : PlainAction} {others all : List PlainAction} {at : Span} → p ≡ multi at all → at ≡ spanned action_span all → all ≡ first ∷ others
-    → (g : Further text o first ts r) → (others ≡ g.actions) × (q ≡ r) → (p ≡ o) × (q ≡ r)
-multi_only p i e g same = (rw (p, i, e, same.0) (several g.read ∙ g.whole), same.1)

@@ -9,12 +9,13 @@ use Rattle.mcrl2_syntax.specs.DataTrees.{PlainData}
 use Rattle.mcrl2_syntax.specs.ProcessParts.{PlainVarGroup}
 use Rattle.mcrl2_syntax.specs.ProcessTrees.{PlainProcess}
 use Rattle.mcrl2_syntax.specs.SpelledLabels.{SpellsVars, Operation, SpellsOperation}
+use Rattle.mcrl2_syntax.specs.SpelledProcesses.{SpellsAtom}
 use Rattle.mcrl2_parser.specs.declared.levels.Effect.{Effect}
 use Rattle.mcrl2_parser.specs.declared.levels.Effect.TheVariants.{Opens, Closes, Counts, Stops, Stays}
 use Rattle.mcrl2_parser.specs.Levels.{effect_of}
-use Rattle.mcrl2_parser.specs.ProcessReading.{SpellsGuard, spells_guard, SpellsLast, last_sum, last_cond, FindsPart, finds_last, finds_atom, FindsOperand, FindsMerge}
+use Rattle.mcrl2_parser.specs.ProcessReading.{SpellsGuard, spells_guard, SpellsLast, last_sum, last_cond, FindsPart, finds_last, finds_multi, FindsOperand, FindsLeft, FindsMerge}
 use Rattle.mcrl2_parser.specs.Arrows.{is_arrow, begins_arrow, closes, closes_at_arrow, with_closer, first_end, ends_of, ends_at_arrow, arrows_of, IsRest, whole, behind, HasArrows}
-use Rattle.mcrl2_parser.proofs.Rests.{rests_join, ends_step, unit_passes, vars_pass, operation_rest, atom_passes, operand_passes, sum_passes, cond_passes, merge_passes}
+use Rattle.mcrl2_parser.proofs.Rests.{rests_join, ends_step, unit_passes, vars_pass, operation_rest, atom_passes, multi_passes, operand_passes, sum_passes, cond_passes, left_passes, merge_passes}
 
 rest_shorter : {r ts : List Token} → IsRest r ts → length r ≤ length ts
 rest_shorter whole = omega arith
@@ -103,7 +104,13 @@ last_rest (last_cond a) = (cond_passes a).rest
 
 pub part_rest : {text : List ℕ} {p : PlainProcess} {ts r : List Token} → FindsPart text p ts r → IsRest r ts
 part_rest (finds_last a) = last_rest a.is
-part_rest (finds_atom a) = (atom_passes a).rest
+part_rest (finds_multi a) = (multi_passes a.is).rest
+
+pub atom_rest : {text : List ℕ} {p : PlainProcess} {ts r : List Token} → SpellsAtom text p ts r → IsRest r ts
+atom_rest a = (atom_passes a).rest
+
+pub left_rest : {text : List ℕ} {p : PlainProcess} {ts r : List Token} → FindsLeft text p ts r → IsRest r ts
+left_rest a = (left_passes a.is).rest
 
 pub operand_rest : {text : List ℕ} {p : PlainProcess} {ts r : List Token} → FindsOperand text p ts r → IsRest r ts
 operand_rest a = (operand_passes a.is).rest

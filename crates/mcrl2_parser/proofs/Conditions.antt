@@ -8,11 +8,11 @@ use Rattle.mcrl2_syntax.specs.DataTrees.{PlainData, data_span}
 use Rattle.mcrl2_syntax.specs.ProcessParts.{PlainVarGroup}
 use Rattle.mcrl2_syntax.specs.ProcessTrees.{PlainProcess, sum, when, either, process_span}
 use Rattle.mcrl2_syntax.specs.SpelledLabels.{SpellsVars}
-use Rattle.mcrl2_syntax.specs.SpelledProcesses.{merged, SpellsAtom, atom_delta, atom_action, atom_multi, atom_call, atom_brackets, atom_operator, SpellsOperand, SpellsSum, sum_over, SpellsCond, cond_then, cond_else, SpellsMerge}
+use Rattle.mcrl2_syntax.specs.SpelledProcesses.{merged, SpellsAtom, atom_delta, atom_action, atom_call, atom_brackets, atom_operator, SpellsMulti, multi_last, multi_more, SpellsOperand, SpellsSum, sum_over, SpellsCond, cond_then, cond_else, SpellsMerge}
 use Rattle.mcrl2_syntax.specs.Follow.{NoAction, Follows, Stays}
 use Rattle.mcrl2_syntax.proofs.Lists.{tails, moved}
 use Rattle.mcrl2_syntax.proofs.LabelsOnce.{no_other}
-use Rattle.mcrl2_syntax.proofs.ProcessesOnce.{at_else, stays_else, then_stays, guard_once, operand_from, merge_from, sum_unit, unit_apart, unit_atom, class, apart, action_class, call_class, operation_class}
+use Rattle.mcrl2_syntax.proofs.ProcessesOnce.{at_else, stays_else, then_stays, guard_once, operand_from, merge_from, sum_unit, unit_apart, unit_atom, at_bar, class, apart, action_class, call_class, operation_class}
 use Rattle.mcrl2_parser.specs.ProcessReading.{SpellsGuard, spells_guard, SpellsLast, last_sum, last_cond, FindsLast, FindsOperand, FindsMerge}
 use Rattle.mcrl2_parser.proofs.ProcessChains.{OnlyMerge, OnlyOperand}
 
@@ -130,7 +130,7 @@ then_with (spells_guard u k) a = cond_then u k a
 
 pub then_found : {text : List ℕ} {c : PlainData} {q x : PlainProcess} {at : Span} {ts us rest : List Token} → SpellsGuard text c ts us → FindsOperand text q us rest → (Begins Else rest → ⊥) → x ≡ when at c q
     → at ≡ joined (data_span c) (process_span q) → FindsLast text x ts rest
-then_found g found n i j = rw (i, j) (record { s = found.s; o = true; is = last_cond (then_with g found.is); stays = record { sum_ends = found.stays.sum_ends; open_ends = λ e. n }; dot = found.dot })
+then_found g found n i j = rw (i, j) (record { s = found.s; o = true; is = last_cond (then_with g found.is); stays = record { sum_ends = found.stays.sum_ends; left_ends = found.stays.left_ends; open_ends = λ e. n }; dot = found.dot })
 
 else_with : {text : List ℕ} {s o z : Bool} {c : PlainData} {p q : PlainProcess} {e : Token} {ts us vs r : List Token} → SpellsGuard text c ts us → SpellsOperand text z false p us (e ∷ vs) → e.kind ≡ Else
     → SpellsOperand text s o q vs r → SpellsCond text s o (either (joined (data_span c) (process_span q)) c p q) ts r
@@ -176,17 +176,21 @@ pub last_err : (Q : Type 0) {text : List ℕ} {s o : Bool} {p : PlainProcess} {t
 last_err Q n f (last_sum a) = absurd (n (sum_begins a))
 last_err Q n f (last_cond a) = let g = guard_of a in f g.0 g.1 g.2
 
-pub no_atom : {text : List ℕ} {c : PlainData} {p : PlainProcess} {ts us r : List Token} → SpellsGuard text c ts us → SpellsAtom text p ts r → NoAction r → (Begins Arrow r → ⊥) → ⊥
-no_atom (spells_guard u k) a n b = unit_atom u k a (record { arrow = b; paren = n.paren; bar = n.bar })
+pub no_multi : {text : List ℕ} {c : PlainData} {ps : List PlainProcess} {ts us r : List Token} → SpellsGuard text c ts us → SpellsMulti text ps ts r → NoAction r → (Begins Arrow r → ⊥) → ⊥
+no_multi (spells_guard u k) (multi_last a) n b = unit_atom u k a (record { arrow = b; paren = n.paren })
+no_multi (spells_guard u k) (multi_more {b = v} {us = vs} a h c) n b = unit_atom u k a (at_bar v vs h)
 
-pub no_sum : {text : List ℕ} {p : PlainProcess} {ts r : List Token} → Begins Sum ts → SpellsAtom text p ts r → ⊥
-no_sum {ts = []} b a = elim b [ ]
-no_sum {ts = t ∷ us} b a = begun b a
+sum_atom : {text : List ℕ} {p : PlainProcess} {ts r : List Token} → Begins Sum ts → SpellsAtom text p ts r → ⊥
+sum_atom {ts = []} b a = elim b [ ]
+sum_atom {ts = t ∷ us} b a = begun b a
   where
     begun : {text : List ℕ} {p : PlainProcess} {t : Token} {us r : List Token} → t.kind ≡ Sum → SpellsAtom text p (t ∷ us) r → ⊥
     begun h (atom_delta k) = cc
     begun h (atom_action a) = apart (action_class a) (ap class h) (λ e. cc)
-    begun h (atom_multi a k c) = apart (action_class a) (ap class h) (λ e. cc)
     begun h (atom_call a) = apart (call_class a) (ap class h) (λ e. cc)
     begun h (atom_brackets k a i) = cc
     begun h (atom_operator o a i) = apart (operation_class o) (ap class h) (λ e. cc)
+
+pub no_sum : {text : List ℕ} {ps : List PlainProcess} {ts r : List Token} → Begins Sum ts → SpellsMulti text ps ts r → ⊥
+no_sum b (multi_last a) = sum_atom b a
+no_sum b (multi_more a h c) = sum_atom b a

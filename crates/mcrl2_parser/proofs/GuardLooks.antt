@@ -11,7 +11,7 @@ use Rattle.mcrl2_syntax.specs.ProcessParts.{PlainAction}
 use Rattle.mcrl2_syntax.specs.ProcessTrees.{PlainProcess}
 use Rattle.mcrl2_syntax.specs.SpelledData.{SpellsUnit, unit_name, unit_numeral, unit_true, unit_false, unit_empty, unit_list, unit_apply, unit_brackets, unit_prefix}
 use Rattle.mcrl2_syntax.specs.SpelledLabels.{SpellsAction, action_tau, action_name, action_applied, SpellsCall, call_empty, call_assigns, Operation, SpellsOperation, spells_allow, spells_block, spells_hide, spells_rename, spells_comm}
-use Rattle.mcrl2_syntax.specs.SpelledProcesses.{SpellsAtom, atom_delta, atom_action, atom_multi, atom_call, atom_brackets, atom_operator}
+use Rattle.mcrl2_syntax.specs.SpelledProcesses.{SpellsAtom, atom_delta, atom_action, atom_call, atom_brackets, atom_operator, SpellsMulti, multi_last, multi_more}
 use Rattle.mcrl2_syntax.specs.Follow.{NoAction}
 use Rattle.mcrl2_syntax.proofs.LabelsOnce.{no_other}
 use Rattle.mcrl2_parser.specs.declared.levels.Effect.TheVariants.{Closes}
@@ -101,11 +101,15 @@ no_operation_guard e (spells_rename {t = t} {u = u} {ts = ts} h i a j) = no_kind
 no_operation_guard e (spells_comm {t = t} {u = u} {ts = ts} h i a j) = no_kind Comm t (u ∷ ts) h refl e
 
 -- where the look says so, no atom begins that ends as one does
-pub no_atom_guard : {text : List ℕ} {p : PlainProcess} {ts r : List Token} → begins_guard ts ≡ true → SpellsAtom text p ts r → NoAction r → (Begins Arrow r → ⊥) → ⊥
+no_atom_guard : {text : List ℕ} {p : PlainProcess} {ts r : List Token} → begins_guard ts ≡ true → SpellsAtom text p ts r → (Begins LeftParen r → ⊥) → (Begins Arrow r → ⊥) → ⊥
 no_atom_guard e (atom_delta {t = t} {r = r} h) n m = no_kind Delta t r h refl e
-no_atom_guard e (atom_action a) n m = no_action_guard e a n.paren m
-no_atom_guard e (atom_multi {b = b} {us = us} a h c) n m = no_action_guard e a (no_other Bar LeftParen b us h (λ f. cc)) (no_other Bar Arrow b us h (λ f. cc))
+no_atom_guard e (atom_action a) n m = no_action_guard e a n m
 no_atom_guard e (atom_call a) n m = no_call_guard e a m
 no_atom_guard e (atom_brackets {t = t} {v = v} {ts = ts} {r = r} h a i) n m =
     m (arrow_begins r (sym (ends_with ts r v (choices_pass a).ends (ap effect_of i)) ∙ sym (with_kind LeftParen t ts h) ∙ e))
 no_atom_guard e (atom_operator a b i) n m = no_operation_guard e a
+
+-- nor atoms with `|` between them
+pub no_multi_guard : {text : List ℕ} {ps : List PlainProcess} {ts r : List Token} → begins_guard ts ≡ true → SpellsMulti text ps ts r → NoAction r → (Begins Arrow r → ⊥) → ⊥
+no_multi_guard e (multi_last a) n m = no_atom_guard e a n.paren m
+no_multi_guard e (multi_more {b = b} {us = us} a h c) n m = no_atom_guard e a (no_other Bar LeftParen b us h (λ f. cc)) (no_other Bar Arrow b us h (λ f. cc))

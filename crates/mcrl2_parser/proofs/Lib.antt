@@ -16,6 +16,9 @@ mod ProcessGuards
 mod ChainLeft
 mod Atoms
 mod ProcessChains
+mod LeftMerges
+mod MultiChains
+mod AtOnceLemmas
 mod Conditions
 pub mod Braces
 pub mod Names

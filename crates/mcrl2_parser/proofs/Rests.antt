@@ -15,7 +15,7 @@ use Rattle.mcrl2_syntax.specs.SpelledWords.{SpellsName, a_name, SpellsList, last
 use Rattle.mcrl2_syntax.specs.SpelledSorts.{SpellsSort, spells_bool, spells_pos, spells_nat, spells_int, spells_list, spells_named_sort, spells_brackets_sort}
 use Rattle.mcrl2_syntax.specs.SpelledData.{SpellsUnit, unit_name, unit_numeral, unit_true, unit_false, unit_empty, unit_list, unit_apply, unit_brackets, unit_prefix, SpellsItems, items_last, items_more, SpellsLevel, level_unit, level_chain, SpellsTail, tail_end, tail_more}
 use Rattle.mcrl2_syntax.specs.SpelledLabels.{SpellsAction, action_tau, action_name, action_applied, SpellsAssignment, assignment, SpellsCall, call_empty, call_assigns, SpellsNameSet, names_at_once, SpellsRenaming, renaming, SpellsCommRule, communication, SpellsVarGroup, variables, SpellsVars, Operation, SpellsOperation, spells_allow, spells_block, spells_hide, spells_rename, spells_comm}
-use Rattle.mcrl2_syntax.specs.SpelledProcesses.{SpellsAtom, atom_delta, atom_action, atom_multi, atom_call, atom_brackets, atom_operator, SpellsOperand, operand_sum, operand_cond, operand_parts, SpellsDots, dots_end, dots_atom, dots_sum, dots_cond, SpellsSum, sum_over, SpellsCond, cond_then, cond_else, SpellsMerge, merge_last, merge_more, SpellsChoices, choices_last, choices_more}
+use Rattle.mcrl2_syntax.specs.SpelledProcesses.{SpellsAtom, atom_delta, atom_action, atom_call, atom_brackets, atom_operator, SpellsMulti, multi_last, multi_more, SpellsOperand, operand_sum, operand_cond, operand_parts, SpellsDots, dots_end, dots_atom, dots_sum, dots_cond, SpellsSum, sum_over, SpellsCond, cond_then, cond_else, SpellsLeft, left_last, left_more, SpellsMerge, merge_last, merge_more, SpellsChoices, choices_last, choices_more}
 use Rattle.mcrl2_parser.specs.declared.levels.Effect.{Effect}
 use Rattle.mcrl2_parser.specs.declared.levels.Effect.TheVariants.{Opens, Closes}
 use Rattle.mcrl2_parser.specs.Levels.{effect_of}
@@ -194,19 +194,22 @@ mutual
   pub atom_passes : {text : List ℕ} {p : PlainProcess} {ts r : List Token} → SpellsAtom text p ts r → Passes ts r
   atom_passes (atom_delta {t = t} {r = r} h) = pass_one _ t r h (λ x y. refl)
   atom_passes {ts = ts} {r = r} (atom_action {a = x} a) = action_passes x ts r a
-  atom_passes {ts = ts} (atom_multi {a = x} {b = b} {us = us} a h c) = pass_then (action_passes x ts (b ∷ us) a) (pass_then (pass_one _ b us h (λ x y. refl)) (list_passes action_passes (λ x y. refl) c))
   atom_passes (atom_call a) = call_passes a
   atom_passes (atom_brackets {t = t} {v = v} h a i) = pass_enclosed t v (ap effect_of h) (choices_pass a) (ap effect_of i)
   atom_passes (atom_operator {v = v} a b i) = leave v (operation_enters a) (choices_pass b) (ap effect_of i)
 
+  pub multi_passes : {text : List ℕ} {ps : List PlainProcess} {ts r : List Token} → SpellsMulti text ps ts r → Passes ts r
+  multi_passes (multi_last a) = atom_passes a
+  multi_passes (multi_more {b = b} {us = us} a h c) = pass_then (atom_passes a) (pass_then (pass_one _ b us h (λ x y. refl)) (multi_passes c))
+
   pub operand_passes : {text : List ℕ} {s o : Bool} {p : PlainProcess} {ts r : List Token} → SpellsOperand text s o p ts r → Passes ts r
   operand_passes (operand_sum a) = sum_passes a
   operand_passes (operand_cond a) = cond_passes a
-  operand_passes (operand_parts a b) = pass_then (atom_passes a) (dots_pass b)
+  operand_passes (operand_parts a b) = pass_then (multi_passes a) (dots_pass b)
 
   dots_pass : {text : List ℕ} {s o : Bool} {ps : List PlainProcess} {ts r : List Token} → SpellsDots text s o ps ts r → Passes ts r
   dots_pass dots_end = pass_none
-  dots_pass (dots_atom {t = t} {ts = ts} h a b) = pass_then (pass_one _ t ts h (λ x y. refl)) (pass_then (atom_passes a) (dots_pass b))
+  dots_pass (dots_atom {t = t} {ts = ts} h a b) = pass_then (pass_one _ t ts h (λ x y. refl)) (pass_then (multi_passes a) (dots_pass b))
   dots_pass (dots_sum {t = t} {ts = ts} h a) = pass_then (pass_one _ t ts h (λ x y. refl)) (sum_passes a)
   dots_pass (dots_cond {t = t} {ts = ts} h a) = pass_then (pass_one _ t ts h (λ x y. refl)) (cond_passes a)
 
@@ -218,9 +221,13 @@ mutual
   cond_passes (cond_else {a = t} {e = e} {us = us} {vs = vs} a h b k c) =
       pass_then (unit_passes a) (pass_then (pass_one _ t us h (λ x y. refl)) (pass_then (operand_passes b) (pass_then (pass_one _ e vs k (λ x y. refl)) (operand_passes c))))
 
+  pub left_passes : {text : List ℕ} {s o : Bool} {p : PlainProcess} {ts r : List Token} → SpellsLeft text s o p ts r → Passes ts r
+  left_passes (left_last a) = operand_passes a
+  left_passes (left_more {b = b} {us = us} a h c) = pass_then (operand_passes a) (pass_then (pass_one _ b us h (λ x y. refl)) (left_passes c))
+
   pub merge_passes : {text : List ℕ} {o : Bool} {ps : List PlainProcess} {ts r : List Token} → SpellsMerge text o ps ts r → Passes ts r
-  merge_passes (merge_last a) = operand_passes a
-  merge_passes (merge_more {b = b} {us = us} a h c) = pass_then (operand_passes a) (pass_then (pass_one _ b us h (λ x y. refl)) (merge_passes c))
+  merge_passes (merge_last a) = left_passes a
+  merge_passes (merge_more {b = b} {us = us} a h c) = pass_then (left_passes a) (pass_then (pass_one _ b us h (λ x y. refl)) (merge_passes c))
 
   pub choices_pass : {text : List ℕ} {ps : List PlainProcess} {ts r : List Token} → SpellsChoices text ps ts r → Passes ts r
   choices_pass (choices_last a) = merge_passes a

@@ -1,7 +1,7 @@
 -- How deep the tokens of a declaration nest.
 use Rattle.std.specs.Prelude.{ℕ, ◌+◌, max, List, [], ◌∷◌, sum}
 use Rattle.mcrl2_lexer.specs.declared.kind.Kind.{Kind}
-use Rattle.mcrl2_lexer.specs.declared.kind.Kind.TheVariants.{LeftParen, RightParen, LeftBracket, RightBracket, LeftBrace, RightBrace, Comma, Hash, Exclamation, Plus, Minus, Star, BarBar, AndAnd, Implies, EqualsEquals, NotEquals, Less, LessEquals, Greater, GreaterEquals, Prepend, Append, Concat, Arrow, Else, Div, Mod, In, Sum}
+use Rattle.mcrl2_lexer.specs.declared.kind.Kind.TheVariants.{LeftParen, RightParen, LeftBracket, RightBracket, LeftBrace, RightBrace, Comma, Hash, Exclamation, Plus, Minus, Star, BarBar, LeftMerge, AndAnd, Implies, EqualsEquals, NotEquals, Less, LessEquals, Greater, GreaterEquals, Prepend, Append, Concat, Arrow, Else, Div, Mod, In, Sum}
 use Rattle.mcrl2_lexer.specs.declared.token.Token.{Token}
 use Rattle.mcrl2_parser.specs.declared.levels.Effect.{Effect}
 use Rattle.mcrl2_parser.specs.declared.levels.Effect.TheVariants.{Opens, Closes, Counts, Stops, Stays}
@@ -34,6 +34,7 @@ effect_of GreaterEquals = Counts
 effect_of Arrow = Counts
 effect_of Else = Counts
 effect_of Sum = Counts
+effect_of LeftMerge = Counts
 effect_of Comma = Stops
 effect_of Plus = Stops
 effect_of BarBar = Stops

@@ -3,6 +3,7 @@ pub mod Declarations
 pub mod Levels
 pub mod Faults
 pub mod Operators
+pub mod AtOnce
 pub mod ProcessReading
 pub mod DeclarationParts
 pub mod Lists

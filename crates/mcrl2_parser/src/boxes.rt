@@ -5,13 +5,14 @@ ghost use Rattle.std.specs.Prelude.{◌≡◌, ◌++◌, ◌∷◌, [], IfErr, I
 ghost use Rattle.mcrl2_syntax.specs.Words.{span_of, joined};
 ghost use Rattle.mcrl2_syntax.specs.DataTrees.{plain_data, data_span};
 ghost use Rattle.mcrl2_syntax.specs.ProcessParts.{var_group_of};
-ghost use Rattle.mcrl2_syntax.specs.ProcessTrees.{plain_process, process_span, delta, within, sum, when, either};
+ghost use Rattle.mcrl2_syntax.specs.ProcessTrees.{plain_process, process_span, delta, within, sum, when, either, left_merge};
 ghost use Rattle.mcrl2_syntax.specs.SpelledLabels.{operated};
-ghost use Rattle.mcrl2_syntax.specs.SpelledProcesses.{sequenced, merged, chosen};
+ghost use Rattle.mcrl2_syntax.specs.SpelledProcesses.{together, sequenced, merged, chosen};
 ghost use Rattle.mcrl2_parser.specs.Operators.{operation_of};
 
 use crate::chains::{in_choice, in_parallel, in_sequence};
 use crate::operators::Operator;
+use crate::together::at_once;
 use crate::words::Fault;
 use mcrl2_lexer::Token;
 use mcrl2_syntax::{DataTree, ProcTree, VarGroup, joined_spans, token_span};
@@ -36,6 +37,16 @@ pub fn push_part(parts: &mut Vec<ProcTree>, part: Box<ProcTree>) -> Result<(), F
     Ok(())
 }
 
+/// Operands of `|` in one tree.
+#[inline(never)]
+pub fn boxed_together(alloc: Global, parts: Vec<ProcTree>) -> Result<Box<ProcTree>, Fault>
+    ensures tree { IfOk result (λ tree. plain_process tree.value ≡ together (map plain_process parts.items)) }
+    ensures no_memory { IfErr result (λ e. e ≡ Fault.NoMemory) }
+{
+    let tree = at_once(alloc, parts)?;
+    Ok(Box::new(alloc, tree)?)
+}
+
 /// Parts of a sequence in one tree.
 #[inline(never)]
 pub fn boxed_sequence(alloc: Global, parts: Vec<ProcTree>) -> Result<Box<ProcTree>, Fault>
@@ -43,6 +54,22 @@ pub fn boxed_sequence(alloc: Global, parts: Vec<ProcTree>) -> Result<Box<ProcTre
     ensures no_memory { IfErr result (λ e. e ≡ Fault.NoMemory) }
 {
     Ok(Box::new(alloc, in_sequence(parts))?)
+}
+
+/// A process that goes first, side by side with another one.
+#[inline(never)]
+pub fn boxed_left_merge(
+    alloc: Global,
+    first: Box<ProcTree>,
+    second: Box<ProcTree>,
+) -> Result<Box<ProcTree>, Fault>
+    ensures tree { IfOk result (λ tree. plain_process tree.value
+        ≡ left_merge (joined (process_span (plain_process first.value)) (process_span (plain_process second.value))) (plain_process first.value) (plain_process second.value)) }
+    ensures no_memory { IfErr result (λ e. e ≡ Fault.NoMemory) }
+{
+    let span = joined_spans(first.span(), second.span());
+    let tree = ProcTree::left_merge_at(span, first, second);
+    Ok(Box::new(alloc, tree)?)
 }
 
 /// Operands of `||` in one tree.

@@ -7,8 +7,8 @@ ghost use Rattle.mcrl2_syntax.specs.SpelledProcesses.{sequenced, merged, chosen}
 
 use mcrl2_syntax::{ProcTree, Span, joined_spans};
 
-// The only item, or the items where there isn't just one, in a list without spare room.
-fn single<T: Drop>(items: Vec<T>) -> Result<T, Vec<T>>
+/// The only item, or the items where there isn't just one, in a list without spare room.
+pub fn single<T: Drop>(items: Vec<T>) -> Result<T, Vec<T>>
     ensures one { IfOk result (λ item. items.items ≡ item ∷ []) }
     ensures others { IfErr result (λ same. (same.items ≡ items.items) × (length items.items ≢ 1)) }
 {
@@ -23,8 +23,8 @@ fn single<T: Drop>(items: Vec<T>) -> Result<T, Vec<T>>
     }
 }
 
-// From the first byte of the first part to the last byte of the last one.
-fn parts_span(parts: &[ProcTree]) -> Span
+/// From the first byte of the first part to the last byte of the last one.
+pub fn parts_span(parts: &[ProcTree]) -> Span
     ensures { result ≡ spanned process_span (map plain_process parts.now) }
 {
     match parts {

@@ -35,7 +35,7 @@ pub(crate) fn effect_of(kind: Kind) -> Effect
         Kind::Star | Kind::Div | Kind::Mod | Kind::In => Effect::Counts,
         Kind::EqualsEquals | Kind::NotEquals => Effect::Counts,
         Kind::Less | Kind::LessEquals | Kind::Greater | Kind::GreaterEquals => Effect::Counts,
-        Kind::Arrow | Kind::Else | Kind::Sum => Effect::Counts,
+        Kind::Arrow | Kind::Else | Kind::Sum | Kind::LeftMerge => Effect::Counts,
         Kind::Comma | Kind::Plus | Kind::BarBar | Kind::AndAnd => Effect::Stops,
         _ => Effect::Stays,
     }
@@ -67,8 +67,8 @@ fn step(outer: &mut Vec<usize>, inner: usize, effect: Effect) -> Result<usize, A
 /// The level of a declaration's tokens: the greatest level at one of them, or `MAX_LEVEL + 1` where that is greater.
 ///
 /// At each token count: the brackets that are open there, and the signs and words that nest what follows them and that no
-/// sign between has stopped. These are the prefix signs, the infix signs of data but `+`, `.`, `&&` and `||`, and `->`, `<>`
-/// and `sum`. A `,`, `+`, `||` or `&&` stops those of its own bracket, or of the outside, and a closing bracket those in it.
+/// sign between has stopped. These are the prefix signs, the infix signs of data but `+`, `.`, `&&` and `||`, and `->`, `<>`,
+/// `sum` and `||_`. A `,`, `+`, `||` or `&&` stops those of its own bracket, or of the outside, and a closing bracket those in it.
 /// The levels are no notion of the mCRL2 language reference: they bound how deep a reader of its grammar has to nest.
 ///
 /// # Errors

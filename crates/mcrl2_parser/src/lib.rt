@@ -32,6 +32,7 @@ mod sectioning;
 mod sections;
 mod signature_readers;
 mod stack;
+mod together;
 mod words;
 
 pub use declaring::{Declaration, declarations};

@@ -11,7 +11,6 @@ ghost use Rattle.mcrl2_syntax.specs.Follow.{Stops, Closed, NoAction};
 ghost use Rattle.mcrl2_syntax.specs.SpelledWords.{SpellsName, SpellsList};
 ghost use Rattle.mcrl2_syntax.specs.SpelledData.{SpellsItems};
 ghost use Rattle.mcrl2_syntax.specs.SpelledLabels.{SpellsVarGroup, SpellsVars, SpellsAction, SpellsActions, SpellsLabel, SpellsAssignment, SpellsCall};
-ghost use Rattle.mcrl2_parser.specs.ProcessReading.{SpellsMulti};
 
 use crate::datas::{data, items};
 use crate::lists::{Part, list};
@@ -231,8 +230,8 @@ fn last_action(here: Span, actions: &[ActionTree]) -> Span
     span
 }
 
-// From the first byte of the first action to the last byte of the last one.
-fn actions_span(actions: &[ActionTree]) -> Span
+/// From the first byte of the first action to the last byte of the last one.
+pub fn actions_span(actions: &[ActionTree]) -> Span
     ensures { result ≡ spanned action_span (map plain_action actions.now) }
 {
     match actions {
@@ -259,30 +258,6 @@ pub fn label<'a>(
 {
     let (actions, rest) = actions(alloc, text, tokens)?;
     Ok((LabelTree::new(actions_span(&actions), actions), rest))
-}
-
-/// The actions that a front of the tokens spells, in one tree with a first one that stands in front of them, and the rest.
-///
-/// # Errors
-///
-/// `Syntax` where no front of them spells any.
-#[inline(never)]
-pub fn multi<'a>(
-    alloc: Global,
-    text: &[u8],
-    first: ActionTree,
-    tokens: &'a [Token],
-) -> Result<(ProcTree, &'a [Token]), Fault>
-    ensures shorter { IfOk result (λ x. length x.1.now < length tokens.now) }
-    ensures found { IfOk result (λ x. SpellsMulti text.now (plain_action first) (plain_process x.0) tokens.now x.1.now) }
-    ensures only { (p : PlainProcess) (r : List Token) → SpellsMulti text.now (plain_action first) p tokens.now r → NoAction r
-        → MatchResult result (λ x. (plain_process x.0 ≡ p) × (x.1.now ≡ r)) (λ e. e ≡ Fault.NoMemory) }
-{
-    let (others, rest) = actions(alloc, text, tokens)?;
-    let mut all = others;
-    all.reserve_exact(1)?;
-    all.insert(0, first)?;
-    Ok((ProcTree::multi_at(actions_span(&all), all), rest))
 }
 
 /// The call with assignments that a front of the tokens spells, and the rest.

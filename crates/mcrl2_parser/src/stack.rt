@@ -69,12 +69,16 @@ impl Chain {
 struct Place {
     /// Sums, and the conditions that stand in front of one: they go on up to a `+`.
     sums: usize,
-    /// Conditions behind the last sum, which go on up to a `||` or a `+`.
+    /// Left merges behind the last sum, which go on up to a `||` or a `+`.
+    lefts: usize,
+    /// Conditions behind the last sum or left merge, which go on up to a `||_`, a `||` or a `+`.
     conditions: usize,
     /// The prefix signs of the operand that is read.
     prefixes: usize,
     /// How deep the operand that is read nests, without them, and 0 in front of it.
     operand: usize,
+    /// How deep the deepest of the terms nests that stand in front of a `|` at that operand, and 0 where there is none.
+    at_once: usize,
     /// What the infix signs of each level have joined, the tightest first.
     chains: [Chain; LEVELS],
     /// The tightest level whose signs have joined something, or `LEVELS + 1` where there is none.
@@ -88,31 +92,41 @@ impl Place {
     fn new() -> Place {
         Place {
             sums: 0,
+            lefts: 0,
             conditions: 0,
             prefixes: 0,
             operand: 0,
+            at_once: 0,
             chains: [Chain::new(); LEVELS],
             tightest: LEVELS + 1,
             deepest: 0,
         }
     }
 
+    /// What nests all that is read here up to a `||` or a `+`.
+    fn around(&self) -> usize {
+        self.sums
+            .saturating_add(self.lefts)
+            .saturating_add(self.conditions)
+    }
+
     /// How deep a reader goes down here: infix signs are read in a row.
     fn read(&self) -> usize {
-        self.sums
-            .saturating_add(self.conditions)
+        self.around()
             .saturating_add(self.prefixes)
             .saturating_add(1)
     }
 
     /// Ends the operand, and gives its depth: the signs and conditions in front of it nest it.
     fn end_operand(&mut self) -> usize {
+        if self.at_once > 0 {
+            self.operand = self.at_once.max(self.operand).saturating_add(1);
+        }
         let depth = self.operand.saturating_add(self.prefixes);
-        let nested = depth
-            .saturating_add(self.sums)
-            .saturating_add(self.conditions);
+        let nested = depth.saturating_add(self.around());
         self.deepest = self.deepest.max(nested);
         self.operand = 0;
+        self.at_once = 0;
         self.prefixes = 0;
         depth
     }
@@ -165,8 +179,18 @@ impl Place {
             }
             Kind::Sum => {
                 self.end();
-                self.sums = self.sums.saturating_add(self.conditions).saturating_add(1);
+                self.sums = self.around().saturating_add(1);
+                self.lefts = 0;
                 self.conditions = 0;
+            }
+            Kind::LeftMerge => {
+                self.end();
+                self.lefts = self.lefts.saturating_add(1);
+                self.conditions = 0;
+            }
+            Kind::Bar => {
+                self.at_once = self.at_once.max(self.operand);
+                self.operand = 0;
             }
             _ => self.take_sign(kind),
         }
@@ -179,9 +203,13 @@ impl Place {
             None => self.end(),
         }
         match kind {
-            Kind::BarBar | Kind::Comma => self.conditions = 0,
+            Kind::BarBar | Kind::Comma => {
+                self.lefts = 0;
+                self.conditions = 0;
+            }
             Kind::Plus => {
                 self.sums = 0;
+                self.lefts = 0;
                 self.conditions = 0;
             }
             _ => {}
