@@ -13,8 +13,10 @@ Each text that differs is printed with why, the last line counts, and the status
 
 import argparse
 import collections
+import concurrent.futures
 import functools
 import itertools
+import os
 import pathlib
 import random
 import re
@@ -28,8 +30,8 @@ import cases  # noqa: E402
 import unproved  # noqa: E402
 
 PROGRAM = TOP / "crates" / "mcrl2lin" / "out" / "mcrl2lin"
-# A text that has more states is left out.
-MOST_STATES = 400
+# A text with more states is left out, and one whose linear process may have more summands.
+MOST_STATES, MOST_SUMMANDS = 400, 60
 # What a step comes to where the process ends.
 END = ("end",)
 TRUTH = (True, False)
@@ -148,6 +150,26 @@ class Text:
             found += [(tuple(sorted(one + other)), beside(then, left))
                       for (one, then), (other, left) in itertools.product(lefts, self.steps_of(parts[1]))]
         return found
+
+
+def actions_in(term, called):
+    """How many labels a term has, where a call has so many."""
+    kind, *parts = term
+    if kind in ("act", "call"):
+        return 1 if kind == "act" else called
+    return sum(actions_in(part, called) for part in parts if isinstance(part, tuple) and part[:1] and part[0] in LEVELS)
+
+
+def summands_in(text, term):
+    """How many summands the linear process of a term may have, about."""
+    kind, *parts = term
+    if kind in ("par", "left", "sync"):
+        return (1 + summands_in(text, parts[0])) * (1 + summands_in(text, parts[1])) - 1
+    if kind in AROUND:
+        return summands_in(text, parts[1])
+    if kind == "call" and parts[0] in NETS:
+        return summands_in(text, text.definitions[parts[0]][1])
+    return actions_in(term, sum(actions_in(body, 0) for name, (_, body) in text.definitions.items() if name not in NETS))
 
 
 def searched(start, steps_of, most):
@@ -355,7 +377,9 @@ class Linear:
 
 # ---- Random texts.
 
+# Names of actions without and with a value, and of processes without and with parallel operators.
 PLAIN, VALUED = "abcd", "efg"
+COMPONENTS, NETS = "XYZ", "NM"
 LEVELS = {"choice": 0, "sum": 0, "par": 1, "left": 2, "if": 2.5, "sync": 4, "seq": 3, "act": 4}
 
 
@@ -435,7 +459,7 @@ class Maker:
         return (kind, tuple(names), term)
 
     def text(self):
-        names = {name: self.some((), ("t",)) for name in "XYZ"[: self.random.randrange(4)]}
+        names = {name: self.some((), ("t",)) for name in COMPONENTS[: self.random.randrange(4)]}
         definitions = {name: (params, self.body(names, params)) for name, params in names.items()}
         nets = []
 
@@ -446,7 +470,7 @@ class Maker:
                 return self.call(names, ())
             return self.sequential(self.some(0, 1, 2, 2, 3), names, [])
 
-        for name in ("N", "M")[: self.some(0, 0, 1, 2)]:
+        for name in NETS[: self.some(0, 0, 1, 2)]:
             definitions[name] = ((), self.parallel(self.some(1, 2), leaf))
             nets.append(name)
         return Text(definitions, self.parallel(self.some(2, 2, 3, 3, 4), leaf))
@@ -524,10 +548,11 @@ class Trial:
     """A text, what the search found of it, and what the program is asked."""
 
     def __init__(self, maker):
-        self.text, self.found = None, None
+        self.found = None
         while self.found is None:
             self.text = maker.text()
-            self.found = searched(self.text.init, self.text.steps_of, MOST_STATES)
+            if summands_in(self.text, self.text.init) <= MOST_SUMMANDS:
+                self.found = searched(self.text.init, self.text.steps_of, MOST_STATES)
         self.method = maker.some("auto", "auto", "stack")
         self.traces = [self.trace(maker) for _ in range(2)]
 
@@ -613,8 +638,9 @@ def main():
     if asked.quick:
         number, wrong = tell(trials, unproved.answers([case for _, _, case in trials]))
     else:
-        with tempfile.TemporaryDirectory() as folder:
-            number, wrong = tell(trials, ((case, cases.answered(asked.program, case, folder)) for _, _, case in trials))
+        with tempfile.TemporaryDirectory() as folder, concurrent.futures.ThreadPoolExecutor(os.cpu_count()) as pool:
+            answers = pool.map(lambda trial: (trial[2], cases.answered(asked.program, trial[2], folder)), trials)
+            number, wrong = tell(trials, answers)
     print(f"{asked.texts} texts, {number} runs, {wrong} texts differ")
     return 1 if wrong else 0
 
