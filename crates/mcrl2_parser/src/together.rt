@@ -1,6 +1,7 @@
 //! The operands of `|` in one tree: actions at once where all are actions, and else processes at once.
 
 ghost use Rattle.std.specs.Prelude.{◌≡◌, ◌≢◌, IfErr, IfOk, length, map};
+ghost use Rattle.std.specs.List.{list_all};
 ghost use Rattle.mcrl2_syntax.specs.ProcessParts.{plain_action};
 ghost use Rattle.mcrl2_syntax.specs.ProcessTrees.{plain_process};
 ghost use Rattle.mcrl2_syntax.specs.SpelledProcesses.{together};
@@ -22,13 +23,20 @@ fn is_action(part: &ProcTree) -> bool
     }
 }
 
+// Whether all parts are actions.
+fn all_actions(parts: &[ProcTree]) -> bool
+    ensures { result ≡ list_all (λ part. is_act (plain_process part)) parts.now }
+{
+    parts.iter().all(|part| is_action(part))
+}
+
 // Whether there are parts, and all are actions.
 fn are_actions(parts: &[ProcTree]) -> bool
     ensures { result ≡ are_acts (map plain_process parts.now) }
 {
     match parts {
         [] => false,
-        [_, ..] => parts.iter().all(|part| is_action(part)),
+        [_, ..] => all_actions(parts),
     }
 }
 

@@ -8,7 +8,7 @@ use Rattle.mcrl2_syntax.specs.declared.word.Span.{Span}
 use Rattle.mcrl2_syntax.specs.declared.data_tree.DataTree.{DataTree}
 use Rattle.mcrl2_syntax.specs.declared.process_tree.Renaming.{Renaming}
 use Rattle.mcrl2_syntax.specs.declared.process_tree.ProcTree.{ProcTree}
-use Rattle.mcrl2_syntax.specs.declared.process_tree.ProcTree.TheVariants.{Rename, Either, rolls-Rename, rolls-Either}
+use Rattle.mcrl2_syntax.specs.declared.process_tree.ProcTree.TheVariants.{Rename, Either, LeftMerge, rolls-Rename, rolls-Either, rolls-LeftMerge}
 use Rattle.mcrl2_syntax.specs.declared.process_tree.ProcTree.TheFolds.{fold-roll-ProcTree}
 use Rattle.mcrl2_syntax.specs.ProcessParts.{PlainRenaming, renaming_of}
 use Rattle.mcrl2_syntax.specs.ProcessTrees.{PlainProcess, plain_process, plain_process_step, processes_of}
@@ -33,6 +33,11 @@ pub either_again : (span : Span) (d : Box DataTree) (then other : Box ProcTree) 
 either_again span d then other =
     ap again_in_process (ap plain_process (sym (rolls-Either span d then other)) ∙ fold-roll-ProcTree PlainProcess plain_process_step _)
     ∙ first_append renamed_twice (operators_in (bare_process (plain_process then.value))) (operators_in (bare_process (plain_process other.value)))
+
+pub left_merge_again : (span : Span) (first second : Box ProcTree) → again_in_one (LeftMerge span first second) ≡ option_or (again_in_one first.value) (again_in_one second.value)
+left_merge_again span first second =
+    ap again_in_process (ap plain_process (sym (rolls-LeftMerge span first second)) ∙ fold-roll-ProcTree PlainProcess plain_process_step _)
+    ∙ first_append renamed_twice (operators_in (bare_process (plain_process first.value))) (operators_in (bare_process (plain_process second.value)))
 
 bare_names_again : (rs : List PlainRenaming) → first_again (map (λ (r : written.Renaming). r.from) (map operators.renaming_of (map (λ (r : PlainRenaming). (r.old.bytes, r.renamed.bytes)) rs))) ≡ again_among rs
 bare_names_again rs = ap first_again (map-map (λ (r : written.Renaming). r.from) operators.renaming_of (map (λ (r : PlainRenaming). (r.old.bytes, r.renamed.bytes)) rs) ∙ map-map (λ (r : Name × Name). r.0) (λ (r : PlainRenaming). (r.old.bytes, r.renamed.bytes)) rs)

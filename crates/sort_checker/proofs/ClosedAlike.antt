@@ -1,6 +1,6 @@
 -- Under one table, a process term of a text closes to one process, whatever its numbers.
-use Rattle.std.proofs.Common.{◌≡◌, ◌≢◌, ℕ, Bool, cond, List, [], ◌∷◌, ⊎_elim, if◌then◌else◌, map, refl, sym, ap, ap₂, ◌∙◌, subst}
-use Rattle.std.specs.Prelude.{Option, Some, None, option_map, option_and_then, Contains}
+use Rattle.std.proofs.Common.{◌≡◌, ◌≢◌, ℕ, Bool, true, false, ◌||◌, cond, List, [], ◌∷◌, ⊎_elim, if◌then◌else◌, map, refl, sym, ap, ap₂, ◌∙◌, subst}
+use Rattle.std.specs.Prelude.{Option, Some, None, is_some, option_map, option_and_then, Contains}
 use Rattle.std.proofs.lemmas.Bool.Decides.{eqb_tells}
 use Rattle.data_theory.specs.Terms.{Sort, boolean, Term, Terms, variable, apply, put, put_all}
 use Rattle.data_theory.specs.Terms as terms
@@ -10,7 +10,7 @@ use Rattle.data_theory.proofs.EnvironmentLemmas.{put-apply, contains_first, cont
 use Rattle.process_terms.specs.Labels as written
 use Rattle.process_terms.specs.Labels.{Label, put_action, put_label}
 use Rattle.process_terms.specs.Processes as processes
-use Rattle.process_terms.specs.Processes.{Body, Table, close, written_choice, written_seq, written_merge, chain_of, choice_of, seq_of, merge_of, merged_with, sums_around, act, cond as either, choice, seq, merge, call, around, delta}
+use Rattle.process_terms.specs.Processes.{Body, Table, close, written_choice, written_seq, written_merge, written_starting, chain_of, choice_of, seq_of, merge_of, merged_with, sync_of, synced_with, sums_around, act, cond as either, choice, seq, merge, starting, call, around, delta}
 use Rattle.sort_table.specs.Expressions.{Name, Expression}
 use Rattle.data_typing.specs.Typings.{sort_eq, Typing, exactly, checked}
 use Rattle.sort_table.specs.NamedLists.{all_named, first_named}
@@ -22,7 +22,7 @@ use Rattle.sort_checker.specs.FullVocabularies.{Parameters, FullVocabulary, proc
 use Rattle.sort_checker.specs.Scopes.{numbers_of, Binds, binds_none, binds_more}
 use Rattle.sort_checker.specs.PartTypings.{action_at, action_of, label_in, arguments_in, variable_at, assigned_or, assigned_in}
 use Rattle.sort_checker.specs.Operators.{renaming_of, rule_of}
-use Rattle.sort_checker.specs.Elaborations.{Elaborates, nothing, label, call_in_order, call_by_name, only_these, none_of_these, unseen, renamed, joined, in_sequence, one_of, side_by_side, for_each, where_true, by_truth, AllElaborate, all_done, one_and_more}
+use Rattle.sort_checker.specs.Elaborations.{names_process, Elaborates, nothing, label, call_in_order, one_by_one, call_by_name, only_these, none_of_these, unseen, renamed, joined, in_sequence, one_of, at_once, left_first, side_by_side, for_each, where_true, by_truth, AllElaborate, all_done, one_and_more}
 use Rattle.sort_checker.specs.ScopeLaws.{Both, neither, both}
 use Rattle.sort_checker.specs.ClosingLaws.{NamesApart, ScopesAgree, agree_none, agree_more, ElaborationsCloseAlike}
 use Rattle.sort_checker.proofs.RelatedTypings.{AllRelated, related_none, related_more, Keeps, map_both, then_both, or_both, cond_both, first_both, AllTypings, exactly_kept, checked_kept, Kept, all_both, RelatedScopes, scopes_none, scopes_more, RelatedBounds, found_both, scoped_both, all_scoped}
@@ -142,10 +142,35 @@ merges : {d : Table} {e k : Environment} {bs cs : List Body} → AllClose d e k 
 merges close_none = refl
 merges (close_more {b = b} {c = c} h hs) = merged_same b c h hs
 
+synced_same : {d : Table} {e k : Environment} (p q : Body) {bs cs : List Body} → close d e p ≡ close d k q → AllClose d e k bs cs → close d e (synced_with p bs) ≡ close d k (synced_with q cs)
+synced_same p q h close_none = h
+synced_same p q h (close_more {b = b} {c = c} g hs) = synced_same (written_starting processes.sync p b) (written_starting processes.sync q c) (ap₂ (starting processes.sync) h g) hs
+
+syncs : {d : Table} {e k : Environment} {bs cs : List Body} → AllClose d e k bs cs → close d e (sync_of bs) ≡ close d k (sync_of cs)
+syncs close_none = refl
+syncs (close_more {b = b} {c = c} h hs) = synced_same b c h hs
+
 -- ---- the whole
 no_label : (v : FullVocabulary) → NamesApart v → (scope : Scope) (x : Name) (es : List Expression) (r : ℕ × Parameters) (m : Label) → process_named v x ≡ Some r → label_in v.declared scope (named x es ∷ []) ≡ Some m → ⊥
 no_label v apart scope x es r m f g =
     let h : None ≡ Some m = sym (ap (λ (sss : List (List Sort)). option_and_then (λ (a : written.Action). option_map (λ (l : Label). a ∷ l) (label_in v.declared scope [])) (action_of x (map (typing_in v.declared scope) es) sss)) (apart x r f)) ∙ g in absurd cc
+
+-- nor are several, one of which is a process
+label_behind : (o : Option written.Action) (q : Option Label) (m : Label) → option_and_then (λ (a : written.Action). option_map (λ (l : Label). a ∷ l) q) o ≡ Some m → (l : Label) × (q ≡ Some l)
+label_behind None q m e = absurd cc
+label_behind (Some a) None m e = absurd cc
+label_behind (Some a) (Some l) m e = (l, refl)
+
+no_labels : (v : FullVocabulary) → NamesApart v → (scope : Scope) (as_ : List Action) (m : Label) → names_process v as_ ≡ true → label_in v.declared scope as_ ≡ Some m → ⊥
+no_labels v apart scope [] m f g = let never : false ≡ true = f in absurd cc
+no_labels v apart scope (tau ∷ as_) m f g = no_labels v apart scope as_ m f g
+no_labels v apart scope (named x es ∷ as_) m f g = by_process (no_labels v apart scope as_) (process_named v x) refl f
+  where
+    by_process : ((l : Label) → names_process v as_ ≡ true → label_in v.declared scope as_ ≡ Some l → ⊥) → (o : Option (ℕ × Parameters)) → process_named v x ≡ o → (is_some o || names_process v as_) ≡ true → ⊥
+    by_process later (Some r) e k =
+        let h : None ≡ Some m = sym (ap (λ (sss : List (List Sort)). option_and_then (λ (a : written.Action). option_map (λ (l : Label). a ∷ l) (label_in v.declared scope as_)) (action_of x (map (typing_in v.declared scope) es) sss)) (apart x r e)) ∙ g in absurd cc
+    by_process later None e k =
+        let rest = label_behind (action_of x (map (typing_in v.declared scope) es) (all_named x v.declared.actions)) (label_in v.declared scope as_) m g in later rest.0 k rest.1
 
 mutual
   closing : {v : FullVocabulary} → NamesApart v → {one other : Scope} {p : bare.Process} {b c : Body} → Elaborates v one p b → Elaborates v other p c → (d : Table) (e k : Environment) → ScopesAgree e k one other → close d e b ≡ close d k c
@@ -157,6 +182,9 @@ mutual
       let same = some_same f f' in
       ap₂ (λ (n : ℕ) (ts : List Term). call d n ts) (ap (λ (r : ℕ × Parameters). r.0) same)
       (met (arguments_same v.declared e k h ps es) g (subst (λ (r : Parameters). arguments_in v.declared other r es ≡ Some us) (sym (ap (λ (r : ℕ × Parameters). r.1) same)) g'))
+  closing {v = v} a {one = one} (label {m = m} f) (one_by_one {a = x} {b = y} {as_ = as_} n ys) d e k h = absurd (no_labels v a one (x ∷ y ∷ as_) m n f)
+  closing {v = v} a {other = other} (one_by_one {a = x} {b = y} {as_ = as_} n ys) (label {m = m} f) d e k h = absurd (no_labels v a other (x ∷ y ∷ as_) m n f)
+  closing a (one_by_one n xs) (one_by_one m ys) d e k h = syncs (all_closing a xs ys d e k h)
   closing {v = v} a {one = one} {other = other} (call_by_name {ds = ds} {k = i} {ps = ps} f y g) (call_by_name {k = j} {ps = qs} {ts = us} f' y' g') d e k h =
       let same = some_same f f' in
       ap₂ (λ (n : ℕ) (ts : List Term). call d n ts) (ap (λ (r : ℕ × Parameters). r.0) same)
@@ -168,6 +196,8 @@ mutual
   closing a (joined {cs = cs} f x) (joined g y) d e k h = ap (around (processes.comm (map rule_of cs))) (closing a x y d e k h)
   closing a (in_sequence xs) (in_sequence ys) d e k h = seqs (all_closing a xs ys d e k h)
   closing a (one_of xs) (one_of ys) d e k h = choices (all_closing a xs ys d e k h)
+  closing a (at_once xs) (at_once ys) d e k h = syncs (all_closing a xs ys d e k h)
+  closing a (left_first x y) (left_first x' y') d e k h = ap₂ (starting processes.left_merge) (closing a x x' d e k h) (closing a y y' d e k h)
   closing a (side_by_side xs) (side_by_side ys) d e k h = merges (all_closing a xs ys d e k h)
   closing a (for_each {b = p} bs x) (for_each {b = q} cs y) d e k h = sums_same d p q bs cs (λ e' k' h'. closing a x y d e' k' h') e k h
   closing {v = v} a {one = one} {other = other} (where_true {e = w} f x) (where_true g y) d e k h =

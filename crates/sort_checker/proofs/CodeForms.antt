@@ -8,7 +8,7 @@ use Rattle.process_terms.specs.declared.comm_rules.CommSet.{CommSet}
 use Rattle.process_terms.specs.declared.processes.Proc.{Proc}
 use Rattle.process_terms.specs.declared.processes.Proc.TheVariants as procs
 use Rattle.process_terms.specs.declared.processes.Proc.TheFolds.{fold-roll-Proc}
-use Rattle.process_terms.specs.PlainProcesses.{PlainProcess, delta, choice, seq, cond, sum, merge, around, allow, block, hide, rename, comm, items_of_each, plain_rules, processes_of, plain_process, plain_process_step}
+use Rattle.process_terms.specs.PlainProcesses.{PlainProcess, delta, choice, seq, cond, sum, merge, left_merge, sync, around, allow, block, hide, rename, comm, items_of_each, plain_rules, processes_of, plain_process, plain_process_step}
 
 pub delta_step : plain_process procs.Delta ≡ delta
 delta_step = ap plain_process (sym procs.rolls-Delta) ∙ fold-roll-Proc PlainProcess plain_process_step _
@@ -21,6 +21,12 @@ seq_step parts = ap plain_process (sym (procs.rolls-Seq parts)) ∙ fold-roll-Pr
 
 pub merge_step : (parts : Vec Proc Global) → plain_process (procs.Merge parts) ≡ merge (processes_of (map plain_process parts.items))
 merge_step parts = ap plain_process (sym (procs.rolls-Merge parts)) ∙ fold-roll-Proc PlainProcess plain_process_step _
+
+pub sync_step : (parts : Vec Proc Global) → plain_process (procs.Sync parts) ≡ sync (processes_of (map plain_process parts.items))
+sync_step parts = ap plain_process (sym (procs.rolls-Sync parts)) ∙ fold-roll-Proc PlainProcess plain_process_step _
+
+pub left_merge_step : (p q : Box Proc) → plain_process (procs.LeftMerge p q) ≡ left_merge (plain_process p.value) (plain_process q.value)
+left_merge_step p q = ap plain_process (sym (procs.rolls-LeftMerge p q)) ∙ fold-roll-Proc PlainProcess plain_process_step _
 
 pub cond_step : (c : TermId) (p q : Box Proc) → plain_process (procs.Cond c p q) ≡ cond c (plain_process p.value) (plain_process q.value)
 cond_step c p q = ap plain_process (sym (procs.rolls-Cond c p q)) ∙ fold-roll-Proc PlainProcess plain_process_step _

@@ -8,7 +8,8 @@ use Rattle.data_theory.specs.declared.ids.TermId.{TermId}
 use Rattle.data_theory.specs.Terms.{Term, boolean}
 use Rattle.data_theory.specs.Signature.{Sig}
 use Rattle.term_pool.specs.Pools.{PoolContents}
-use Rattle.process_terms.specs.Processes.{Around, Bound, Body, written_delta, written_cond, written_around, sums_around, seq_of, choice_of, merge_of}
+use Rattle.process_terms.specs.Processes as written
+use Rattle.process_terms.specs.Processes.{Around, Bound, Body, written_delta, written_cond, written_starting, written_around, sums_around, seq_of, choice_of, merge_of, sync_of}
 use Rattle.process_terms.specs.PlainProcesses as code
 use Rattle.process_terms.specs.PlainProcesses.{PlainAround, PlainProcess, processes_of}
 use Rattle.sort_table.specs.Expressions.{Expression}
@@ -23,7 +24,7 @@ use Rattle.sort_checker.specs.Additions.{GoesOn}
 use Rattle.sort_checker.specs.ElaboratedParts.{IsTerm, IsAround, AreBinders}
 use Rattle.sort_checker.specs.CodeContexts.{IsElaborated, AreElaborated}
 use Rattle.sort_checker.proofs.WhatStays.{term_on, body_on}
-use Rattle.sort_checker.proofs.MadeBodies.{delta_made, cond_made, seq_made, choice_made, merge_made, sum_made, around_made, none_made, more_made}
+use Rattle.sort_checker.proofs.MadeBodies.{delta_made, cond_made, seq_made, choice_made, merge_made, sync_made, left_merge_made, sum_made, around_made, none_made, more_made}
 use Rattle.sort_checker.proofs.ProcessTreeForms.{bare_one, bare_all}
 
 module _ (v : FullVocabulary) (scope : Scope) where
@@ -65,6 +66,18 @@ module _ (v : FullVocabulary) (scope : Scope) where
 
   pub parallel_elaborated : (ps : Processes) (g : Sig) (o : PoolContents) (xs : List PlainProcess) → AreElaborated v scope ps g o xs → IsElaborated v scope (bare.parallel ps) g o (code.merge (processes_of xs))
   parallel_elaborated ps g o xs made = record { body = merge_of made.bodies; elaborates = forms.side_by_side made.elaborate; stands = merge_made g o xs made.bodies made.stand }
+
+  pub sync_elaborated : (ps : Processes) (g : Sig) (o : PoolContents) (xs : List PlainProcess) → AreElaborated v scope ps g o xs → IsElaborated v scope (bare.sync ps) g o (code.sync (processes_of xs))
+  sync_elaborated ps g o xs made = record { body = sync_of made.bodies; elaborates = forms.at_once made.elaborate; stands = sync_made g o xs made.bodies made.stand }
+
+  -- the first one was made before the second
+  pub left_merge_elaborated : (p r : Process) (m : Sig) (n : PoolContents) (h : Sig) (q : PoolContents) → GoesOn m n h q → (x y : PlainProcess) → IsElaborated v scope p m n x → IsElaborated v scope r h q y
+      → IsElaborated v scope (bare.left_merge p r) h q (code.left_merge x y)
+  left_merge_elaborated p r m n h q then x y one other = record {
+    body = written_starting written.left_merge one.body other.body;
+    elaborates = forms.left_first one.elaborates other.elaborates;
+    stands = left_merge_made h q x y one.body other.body (body_on m n h q then x one.body one.stands) other.stands;
+  }
 
   -- variables that came into scope, with the body in the inner scope
   pub sum_elaborated : (xs : Variables) (p : Process) (inner : Scope) (bounds : List Bound) (g : Sig) (o : PoolContents) (h : Sig) (q : PoolContents) → GoesOn g o h q → (ids : List VarId) (x : PlainProcess) → Binds v.declared scope xs inner bounds

@@ -22,8 +22,8 @@ use Rattle.sort_checker.specs.FullVocabularies.{FullVocabulary}
 use Rattle.sort_checker.specs.Additions.{GoesOn}
 use Rattle.sort_checker.specs.ElaboratedParts.{IsTerm}
 use Rattle.sort_checker.specs.CodeContexts.{Sees, AreBound, IsElaborated, AreElaborated}
-use Rattle.sort_checker.proofs.CodeForms.{delta_step, choice_step, seq_step, merge_step, cond_step, sum_step}
-use Rattle.sort_checker.proofs.ElaboratedForms.{delta_elaborated, when_elaborated, either_elaborated, sequence_elaborated, choice_elaborated, parallel_elaborated, sum_elaborated}
+use Rattle.sort_checker.proofs.CodeForms.{delta_step, choice_step, seq_step, merge_step, sync_step, left_merge_step, cond_step, sum_step}
+use Rattle.sort_checker.proofs.ElaboratedForms.{delta_elaborated, when_elaborated, either_elaborated, sequence_elaborated, choice_elaborated, parallel_elaborated, sync_elaborated, left_merge_elaborated, sum_elaborated}
 use Rattle.sort_checker.proofs.ElaboratedInside.{sees_inside}
 
 -- ---- by their parts
@@ -39,6 +39,14 @@ module _ (v : FullVocabulary) (scope : Scope) where
 
   pub parallel_in_code : (ps : Processes) (g : Sig) (o : PoolContents) (made : Vec Proc Global) → AreElaborated v scope ps g o (map plain_process made.items) → IsElaborated v scope (bare.parallel ps) g o (plain_process (procs.Merge made))
   parallel_in_code ps g o made are = subst (IsElaborated v scope (bare.parallel ps) g o) (sym (merge_step made)) (parallel_elaborated v scope ps g o (map plain_process made.items) are)
+
+  pub sync_in_code : (ps : Processes) (g : Sig) (o : PoolContents) (made : Vec Proc Global) → AreElaborated v scope ps g o (map plain_process made.items) → IsElaborated v scope (bare.sync ps) g o (plain_process (procs.Sync made))
+  sync_in_code ps g o made are = subst (IsElaborated v scope (bare.sync ps) g o) (sym (sync_step made)) (sync_elaborated v scope ps g o (map plain_process made.items) are)
+
+  pub left_merge_in_code : (p r : Process) (m : Sig) (n : PoolContents) (h : Sig) (q : PoolContents) → GoesOn m n h q → (first second : Box Proc) → IsElaborated v scope p m n (plain_process first.value) → IsElaborated v scope r h q (plain_process second.value)
+      → IsElaborated v scope (bare.left_merge p r) h q (plain_process (procs.LeftMerge first second))
+  left_merge_in_code p r m n h q further first second one made =
+      subst (IsElaborated v scope (bare.left_merge p r) h q) (sym (left_merge_step first second)) (left_merge_elaborated v scope p r m n h q further (plain_process first.value) (plain_process second.value) one made)
 
   pub when_in_code : (e : Expression) (p : Process) (g : Sig) (o : PoolContents) (h : Sig) (q : PoolContents) → GoesOn g o h q → (id : TermId) (then other : Box Proc) → other.value ≡ procs.Delta → (t : Term) × ChecksAs v.declared scope e boolean t × IsTerm g o id t
       → IsElaborated v scope p h q (plain_process then.value) → IsElaborated v scope (bare.when e p) h q (plain_process (procs.Cond id then other))

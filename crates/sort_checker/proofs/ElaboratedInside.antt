@@ -33,7 +33,7 @@ use Rattle.sort_checker.specs.Faults.{is_action, are_renamings_typed}
 use Rattle.sort_checker.specs.SoundTexts.{HaveSorts}
 use Rattle.sort_checker.specs.NumberedWords.{StandIn}
 use Rattle.sort_checker.specs.Additions.{GoesOn}
-use Rattle.sort_checker.specs.Elaborations.{Fits, Elaborates, only_these, none_of_these, unseen, renamed, joined, in_sequence, one_of, side_by_side, for_each, where_true, by_truth, AllElaborate, one_and_more}
+use Rattle.sort_checker.specs.Elaborations.{Fits, Elaborates, only_these, none_of_these, unseen, renamed, joined, in_sequence, one_of, at_once, left_first, side_by_side, for_each, where_true, by_truth, AllElaborate, one_and_more}
 use Rattle.sort_checker.specs.CodeContexts.{IsNumbered, IsReady, Sees, CanCheck, CanElaborate, AllCanElaborate, AreBound, SumNamesStand, AllSumNamesStand}
 use Rattle.sort_checker.proofs.Adding.{vocabulary_stays}
 use Rattle.sort_checker.proofs.WhatStays.{sees_after}
@@ -57,6 +57,8 @@ mutual
   names_on g h e (bare.sum xs p) n = (subst (λ (ts : List Name). AllByRecursion (λ (x : Name × SortExpression). Contains ts x.0) xs) (sym e) n.0, names_on g h e p n.1)
   names_on g h e (bare.when d p) n = names_on g h e p n
   names_on g h e (bare.either d p q) n = (names_on g h e p n.0, names_on g h e q n.1)
+  names_on g h e (bare.sync ps) n = all_names_on g h e ps n
+  names_on g h e (bare.left_merge p q) n = (names_on g h e p n.0, names_on g h e q n.1)
   names_on g h e (bare.parallel ps) n = all_names_on g h e ps n
   names_on g h e (bare.choice ps) n = all_names_on g h e ps n
 
@@ -168,6 +170,18 @@ module _ (g : Sig) (t : ProcessTable) (bs : List Bound) where
     where
       by_form : (v : FullVocabulary) (scope : Scope) → Sees g t bs v scope → (b : Body) → Elaborates v scope (bare.parallel ps) b → AllCanElaborate g t bs ps
       by_form v scope sees b (side_by_side {bs = cs} ds) = record { vocabulary = v; scope = scope; sees = sees; bodies = cs; elaborate = ds }
+
+  pub can_sync : (ps : Processes) → CanElaborate g t bs (bare.sync ps) → AllCanElaborate g t bs ps
+  can_sync ps can = by_form can.vocabulary can.scope can.sees can.body can.elaborates
+    where
+      by_form : (v : FullVocabulary) (scope : Scope) → Sees g t bs v scope → (b : Body) → Elaborates v scope (bare.sync ps) b → AllCanElaborate g t bs ps
+      by_form v scope sees b (at_once {bs = cs} ds) = record { vocabulary = v; scope = scope; sees = sees; bodies = cs; elaborate = ds }
+
+  pub can_left_merge : (p q : Process) → CanElaborate g t bs (bare.left_merge p q) → CanElaborate g t bs p × CanElaborate g t bs q
+  can_left_merge p q can = by_form can.vocabulary can.scope can.sees can.body can.elaborates
+    where
+      by_form : (v : FullVocabulary) (scope : Scope) → Sees g t bs v scope → (b : Body) → Elaborates v scope (bare.left_merge p q) b → CanElaborate g t bs p × CanElaborate g t bs q
+      by_form v scope sees b (left_first {b = one} {d = other} d f) = (can_here v scope sees p one d, can_here v scope sees q other f)
 
   pub can_part : (xs : List ProcTree) (i : ℕ) (x : ProcTree) → i < length xs → x ≡ get_or xs i x → AllCanElaborate g t bs (bare_all xs) → CanElaborate g t bs (bare_one x)
   can_part xs i x l e can = let one = part_elaborates can.vocabulary can.scope xs i x l e can.bodies can.elaborate in can_here can.vocabulary can.scope can.sees (bare_one x) one.0 one.1

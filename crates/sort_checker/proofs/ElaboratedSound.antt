@@ -4,6 +4,7 @@ use Rattle.std.specs.Prelude.{Option, Some, None, is_some, is_none, option_map, 
 use Rattle.std.specs.Option.{option_or}
 use Rattle.std.specs.List.{AllByRecursion, find, flat_map, list_all}
 use Rattle.std.proofs.lemmas.Option.{none-some, option_and_then_some}
+use Rattle.std.proofs.lemmas.List.{append-nil}
 use Rattle.std.proofs.lemmas.List.Folds.{find-append}
 use Rattle.std.proofs.lemmas.Slice.Eq.{bytes_eq-Decides}
 use Rattle.data_theory.specs.Terms.{Sort, boolean, Term}
@@ -26,12 +27,13 @@ use Rattle.sort_checker.specs.Operators.{renaming_of, rule_of, operators_in, ope
 use Rattle.sort_checker.specs.Parts.{a_label, a_call, a_condition, an_operator, ScopedPart, scoped, parts_in, parts_in_all}
 use Rattle.sort_checker.specs.Scopes.{Binds, binds_none, binds_more, scope_behind, scope_of}
 use Rattle.sort_checker.specs.PartTypings.{action_of, label_in, arguments_in, left_out, assigned_or, assigned_in, assigned_names, are_assignments}
-use Rattle.sort_checker.specs.Faults.{words_in, Use, of_data, of_process, of_action, name_of, is_action, is_known, uses_in_data, uses_of_action, is_call_typed, is_value_typed, are_values_typed, first_left_out}
-use Rattle.sort_checker.specs.Elaborations.{Fits, Elaborates, label, call_in_order, call_by_name, only_these, none_of_these, unseen, renamed, joined, in_sequence, one_of, side_by_side, for_each, where_true, by_truth, AllElaborate, one_and_more}
+use Rattle.sort_checker.specs.Faults.{words_in, Use, of_data, of_process, of_action, name_of, is_action, is_known, uses_in_data, uses_of_action, is_call_typed, is_step_typed, is_value_typed, are_values_typed, first_left_out}
+use Rattle.sort_checker.specs.Elaborations.{each_alone, Fits, Elaborates, label, call_in_order, one_by_one, call_by_name, only_these, none_of_these, unseen, renamed, joined, in_sequence, one_of, at_once, left_first, side_by_side, for_each, where_true, by_truth, AllElaborate, one_and_more}
 use Rattle.sort_checker.specs.ScopeLaws.{SameNames, same_none, same_more}
 use Rattle.sort_checker.specs.SoundTexts.{IsSoundPart, IsSoundOperator, HaveSorts, ElaboratedProcessesAreSound}
+use Rattle.sort_checker.proofs.EachAlone.{is_action_in, label_told}
 use Rattle.sort_checker.proofs.OtherNumbers.{anew, bound_alike}
-use Rattle.sort_checker.proofs.SoundElaborations.{AreBelow, bind_all, numbers_below, scope_append, none_below, both_true}
+use Rattle.sort_checker.proofs.SoundElaborations.{AreBelow, bind_all, numbers_below, scope_append, none_below, both_true, no_name}
 use Rattle.sort_checker.proofs.MeantWords.{AreMeant, checked_words, action_words, argument_words, meant_is_known}
 
 or_true : (b : Bool) → (b || true) ≡ true
@@ -81,10 +83,19 @@ label_known v xs (act x es ∷ as_) m h =
     (λ l others q. this_known v xs (of_process x) (uses_in_data es ++ flat_map uses_of_action as_) (true_or (is_action v.declared x) (is_some (process_named v x)) (action_known v.declared x (map (typing_in v.declared scope) es) a first))
     (both_known v xs (uses_in_data es) (flat_map uses_of_action as_) (data_known v xs (flat_map words_in es) (action_words x (meaning v.declared scope) es (all_named x v.declared.actions) a first)) (label_known v xs as_ l others))))
 
+step_of_action : (v : FullVocabulary) (scope : Scope) (a : Action) → is_action_in v.declared scope a ≡ true → is_step_typed v scope a ≡ true
+step_of_action v scope a h = true_or (is_some (label_in v.declared scope (a ∷ []))) (is_call_typed v scope a) (label_told v.declared scope (a ∷ []) ∙ ap (λ (b : Bool). b && true) h)
+
+steps_of_actions : (v : FullVocabulary) (scope : Scope) (as_ : List Action) → list_all (is_action_in v.declared scope) as_ ≡ true → list_all (is_step_typed v scope) as_ ≡ true
+steps_of_actions v scope [] h = refl
+steps_of_actions v scope (a ∷ as_) h =
+    let both = both_true (is_action_in v.declared scope a) (list_all (is_action_in v.declared scope) as_) h in
+    ap₂ (λ (p q : Bool). p && q) (step_of_action v scope a both.0) (steps_of_actions v scope as_ both.1)
+
 label_sound : (v : FullVocabulary) (xs : Variables) (as_ : List Action) (m : Label) → label_in v.declared (scope_of v.declared xs) as_ ≡ Some m → IsSoundPart v (scoped xs (a_label as_))
 label_sound v xs as_ m h = record {
   known = ap (option_map name_of) (label_known v xs as_ m h);
-  typed = ap (λ (o : Option Label). is_some o || is_call_typed v (scope_of v.declared xs) as_) h;
+  typed = steps_of_actions v (scope_of v.declared xs) as_ (sym (label_told v.declared (scope_of v.declared xs) as_) ∙ ap is_some h);
   closed = refl;
 }
 
@@ -100,8 +111,25 @@ call_sound v xs x es k ps ts e f =
     mapped lists.list_of (all_at checked (map (λ (p : Name × Sort). p.1) ps) (map (typing_in v.declared scope) es)) ts f (λ us there q. argument_words (meaning v.declared scope) (map (λ (p : Name × Sort). p.1) ps) es us there) in
     record {
       known = ap (option_map name_of) (this_known v xs (of_process x) (uses_in_data es ++ []) (process_known v xs x (k, ps) e) (both_known v xs (uses_in_data es) [] (data_known v xs (flat_map words_in es) meant) refl));
-      typed = ap (λ (b : Bool). is_some (label_in v.declared scope (act x es ∷ [])) || b) (ap (λ (o : Option (ℕ × Parameters)). is_some (option_and_then (λ (r : ℕ × Parameters). arguments_in v.declared scope r.1 es) o)) e ∙ ap is_some f)
-          ∙ or_true (is_some (label_in v.declared scope (act x es ∷ [])));
+      typed = ap (λ (b : Bool). (is_some (label_in v.declared scope (act x es ∷ [])) || b) && true) (ap (λ (o : Option (ℕ × Parameters)). is_some (option_and_then (λ (r : ℕ × Parameters). arguments_in v.declared scope r.1 es) o)) e ∙ ap is_some f)
+          ∙ ap (λ (b : Bool). b && true) (or_true (is_some (label_in v.declared scope (act x es ∷ []))));
+      closed = refl;
+    }
+
+-- ---- several, one by one
+step_sound : (v : FullVocabulary) (xs : Variables) (a : Action) (b : Body) → Elaborates v (scope_of v.declared xs) (bare.acts (a ∷ [])) b → IsSoundPart v (scoped xs (a_label (a ∷ [])))
+step_sound v xs a b (label {m = m} e) = label_sound v xs (a ∷ []) m e
+step_sound v xs _ b (call_in_order {x = x} {es = es} {k = k} {ps = ps} {ts = ts} e f) = call_sound v xs x es k ps ts e f
+
+steps_sound : (v : FullVocabulary) (xs : Variables) (as_ : List Action) (bs : List Body) → AllElaborate v (scope_of v.declared xs) (each_alone as_) bs → IsSoundPart v (scoped xs (a_label as_))
+steps_sound v xs [] bs d = record { known = refl; typed = refl; closed = refl }
+steps_sound v xs (a ∷ as_) _ (one_and_more {b = b} {bs = bs} d ds) =
+    let first = step_sound v xs a b d in
+    let rest = steps_sound v xs as_ bs ds in
+    let alone : find (unknown v xs) (uses_of_action a) ≡ None = ap (find (unknown v xs)) (sym (append-nil (uses_of_action a))) ∙ no_name name_of (find (unknown v xs) (uses_of_action a ++ [])) first.known in
+    record {
+      known = ap (option_map name_of) (both_known v xs (uses_of_action a) (flat_map uses_of_action as_) alone (no_name name_of (find (unknown v xs) (flat_map uses_of_action as_)) rest.known));
+      typed = ap₂ (λ (p q : Bool). p && q) (both_true (is_step_typed v (scope_of v.declared xs) a) true first.typed).0 rest.typed;
       closed = refl;
     }
 
@@ -251,6 +279,7 @@ module _ (v : FullVocabulary) where
     back xs bare.delta b l d = record { parts = tt; operators = tt; sums = tt }
     back xs (bare.acts as_) b l (label {m = m} e) = record { parts = (label_sound v xs as_ m e, tt); operators = tt; sums = tt }
     back xs (bare.acts as_) b l (call_in_order {x = x} {es = es} {k = k} {ps = ps} {ts = ts} e f) = record { parts = (call_sound v xs x es k ps ts e f, tt); operators = tt; sums = tt }
+    back xs (bare.acts as_) b l (one_by_one {bs = bs} n ds) = record { parts = (steps_sound v xs as_ bs ds, tt); operators = tt; sums = tt }
     back xs (bare.call x ds) b l (call_by_name {k = k} {ps = ps} {ts = ts} e a f) = record { parts = (named_sound v xs x ds k ps ts e a f, tt); operators = tt; sums = tt }
     back xs (bare.allow sets p) b l (only_these {b = c} f d) = around_sound v xs (processes.allow sets) (parts_in xs p) (operators_in p) (sums_in p) f (back xs p c l d)
     back xs (bare.block ns p) b l (none_of_these {b = c} f d) = around_sound v xs (processes.block ns) (parts_in xs p) (operators_in p) (sums_in p) f (back xs p c l d)
@@ -271,6 +300,8 @@ module _ (v : FullVocabulary) where
     back xs (bare.either e p q) b l (by_truth {c = c} {b = one} {d = other} h d f) =
         let r = sound_and v (parts_in xs p) (parts_in xs q) (operators_in p) (operators_in q) (sums_in p) (sums_in q) (back xs p one l d) (back xs q other l f) in
         record { parts = (condition_sound v xs e c h, r.parts); operators = r.operators; sums = r.sums }
+    back xs (bare.sync qs) b l (at_once {bs = bs} ds) = all_back xs qs bs l ds
+    back xs (bare.left_merge p q) b l (left_first {b = one} {d = other} d f) = sound_and v (parts_in xs p) (parts_in xs q) (operators_in p) (operators_in q) (sums_in p) (sums_in q) (back xs p one l d) (back xs q other l f)
     back xs (bare.parallel qs) b l (side_by_side {bs = bs} ds) = all_back xs qs bs l ds
     back xs (bare.choice qs) b l (one_of {bs = bs} ds) = all_back xs qs bs l ds
 

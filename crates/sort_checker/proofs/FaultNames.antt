@@ -189,6 +189,7 @@ module _ (Q : Name → Type 0) where
       unknown_gives xs (trees.delta span) all = gives_none
       unknown_gives xs (trees.acts a) all = part_first xs (a_label (bare_action a ∷ [])) [] (label_gives v xs (a ∷ []) (all_both Q (in_action a) [] all tt)) gives_none
       unknown_gives xs (trees.multi span as_) all = part_first xs (a_label (map bare_action as_)) [] (label_gives v xs as_ all) gives_none
+      unknown_gives xs (trees.sync span ps) all = all_unknown_give xs ps all
       unknown_gives xs (trees.call span p ds) all = part_first xs (a_call p.bytes (map (λ (d : PlainAssignment). (d.name.bytes, bare_data d.value)) ds)) [] (use_gives v xs (of_process p.bytes) (uses_in_data (map (λ (d : Name × Expression). d.1) (map (λ (d : PlainAssignment). (d.name.bytes, bare_data d.value)) ds))) all.0 (values_give v xs ds all.1)) gives_none
       unknown_gives xs (trees.within span p) all = unknown_gives xs p all
       unknown_gives xs (trees.allow span sets p) all = part_first xs (an_operator (written.allow (map (λ (s : PlainNameSet). bare_names s.names) sets))) (parts_in xs (bare_process p)) (actions_give v xs (names_of (written.allow (map (λ (s : PlainNameSet). bare_names s.names) sets))) (sets_hold sets (all_front Q (flat_map in_set sets) (in_process p) all))) (unknown_gives xs p (all_back Q (flat_map in_set sets) (in_process p) all))
@@ -203,6 +204,8 @@ module _ (Q : Name → Type 0) where
           let rest = all_back Q (in_data d) (in_process p ++ in_process q) all in
           part_first xs (a_condition (bare_data d)) (parts_in xs (bare_process p) ++ parts_in xs (bare_process q)) (datas_give v xs (d ∷ []) (all_both Q (in_data d) [] (all_front Q (in_data d) (in_process p ++ in_process q) all) tt))
           (first_both (unknown_name v) (parts_in xs (bare_process p)) (parts_in xs (bare_process q)) (unknown_gives xs p (all_front Q (in_process p) (in_process q) rest)) (unknown_gives xs q (all_back Q (in_process p) (in_process q) rest)))
+      unknown_gives xs (trees.left_merge span p q) all =
+          first_both (unknown_name v) (parts_in xs (bare_process p)) (parts_in xs (bare_process q)) (unknown_gives xs p (all_front Q (in_process p) (in_process q) all)) (unknown_gives xs q (all_back Q (in_process p) (in_process q) all))
       unknown_gives xs (trees.parallel span ps) all = all_unknown_give xs ps all
       unknown_gives xs (trees.choice span ps) all = all_unknown_give xs ps all
 
@@ -262,6 +265,8 @@ module _ (Q : Name → Type 0) where
         free_gives xs (bare.sum ys p) = free_gives (xs ++ ys) p
         free_gives xs (bare.when e p) = free_gives xs p
         free_gives xs (bare.either e p q) = first_both (free_variable v) (parts_in xs p) (parts_in xs q) (free_gives xs p) (free_gives xs q)
+        free_gives xs (bare.sync ps) = all_free_give xs ps
+        free_gives xs (bare.left_merge p q) = first_both (free_variable v) (parts_in xs p) (parts_in xs q) (free_gives xs p) (free_gives xs q)
         free_gives xs (bare.parallel ps) = all_free_give xs ps
         free_gives xs (bare.choice ps) = all_free_give xs ps
 
@@ -310,6 +315,7 @@ module _ (Q : Name → Type 0) where
     twice_gives (trees.delta span) all = gives_none
     twice_gives (trees.acts a) all = gives_none
     twice_gives (trees.multi span as_) all = gives_none
+    twice_gives (trees.sync span ps) all = all_twice_give ps all
     twice_gives (trees.call span p ds) all = gives_none
     twice_gives (trees.within span p) all = twice_gives p all
     twice_gives (trees.allow span sets p) all = twice_gives p (all_back Q (flat_map in_set sets) (in_process p) all)
@@ -324,6 +330,8 @@ module _ (Q : Name → Type 0) where
     twice_gives (trees.either span d p q) all =
         let rest = all_back Q (in_data d) (in_process p ++ in_process q) all in
         again_both (operators_in (bare_process p)) (operators_in (bare_process q)) (twice_gives p (all_front Q (in_process p) (in_process q) rest)) (twice_gives q (all_back Q (in_process p) (in_process q) rest))
+    twice_gives (trees.left_merge span p q) all =
+        again_both (operators_in (bare_process p)) (operators_in (bare_process q)) (twice_gives p (all_front Q (in_process p) (in_process q) all)) (twice_gives q (all_back Q (in_process p) (in_process q) all))
     twice_gives (trees.parallel span ps) all = all_twice_give ps all
     twice_gives (trees.choice span ps) all = all_twice_give ps all
 

@@ -46,7 +46,7 @@ use Rattle.sort_checker.specs.Additions.{GoesOn}
 use Rattle.sort_checker.specs.CodeContexts.{IsElaborated}
 use Rattle.sort_checker.specs.ElaboratedLabels.{IsAction, IsWishedAction, no_action, the_action, IsWishedLabel, no_label, the_label, IsWishedCall, no_call, the_call}
 use Rattle.sort_checker.specs.ElaboratedParts.{AreTerms, IsLabel, IsBody}
-use Rattle.sort_checker.specs.Elaborations.{Elaborates, label, call_in_order, call_by_name}
+use Rattle.sort_checker.specs.Elaborations.{names_process, each_alone, Elaborates, label, call_in_order, one_by_one, call_by_name, AllElaborate}
 use Rattle.sort_checker.specs.FullVocabularies.{Parameters, FullVocabulary, process_named}
 use Rattle.sort_checker.specs.PartTypings.{action_of, label_in, arguments_in, are_assignments, assigned_in}
 use Rattle.sort_checker.specs.SortedActions.{sorts_of, IsSortedAction}
@@ -162,6 +162,9 @@ call_made g p k ids ts are =
     subst (λ (x : PlainProcess). IsBody g p x (written_call k ts)) (sym (call_step (record { 0 = k }) ids)) (record { there = λ h q on. are.there h q on; means = λ h q on. ap (written_call k) (are.means h q on) })
 
 -- ---- what elaborates
+two_or_more : (a b : Action) (as_ : List Action) → ¬ (length (a ∷ b ∷ as_) ≡ 1)
+two_or_more a b as_ one = let never : ⊥ = omega (arith, one) in absurd never
+
 module _ (v : FullVocabulary) (s : Scope) where
   pub record IsCall (x : Name) (es : List Expression) : Type 0 where
     pub place : ℕ
@@ -178,16 +181,24 @@ module _ (v : FullVocabulary) (s : Scope) where
     pub assignments : are_assignments parameters ds ≡ true
     pub values : assigned_in v.declared s parameters ds ≡ Some terms
 
-  pub by_acts : (P : Type 0) (as_ : List Action) (b : Body) → Elaborates v s (bare.acts as_) b → ((m : Label) → label_in v.declared s as_ ≡ Some m → P) → ((x : Name) (es : List Expression) → as_ ≡ act x es ∷ [] → IsCall x es → P) → P
-  by_acts P as_ b (label {m = m} e) f k = f m e
-  by_acts P _ b (call_in_order {x = x} {es = es} {k = n} {ps = ps} {ts = ts} e a) f k = k x es refl (record { place = n; parameters = ps; terms = ts; process = e; arguments = a })
+  -- one of the names is that of a process, and each elaborates alone
+  pub record AreOneByOne (as_ : List Action) : Type 0 where
+    pub bodies : List Body
+    pub named : names_process v as_ ≡ true
+    pub elaborate : AllElaborate v s (each_alone as_) bodies
+
+  pub by_acts : (P : Type 0) (as_ : List Action) (b : Body) → Elaborates v s (bare.acts as_) b → ((m : Label) → label_in v.declared s as_ ≡ Some m → P) → ((x : Name) (es : List Expression) → as_ ≡ act x es ∷ [] → IsCall x es → P)
+      → (¬ (length as_ ≡ 1) → AreOneByOne as_ → P) → P
+  by_acts P as_ b (label {m = m} e) f k l = f m e
+  by_acts P _ b (call_in_order {x = x} {es = es} {k = n} {ps = ps} {ts = ts} e a) f k l = k x es refl (record { place = n; parameters = ps; terms = ts; process = e; arguments = a })
+  by_acts P _ b (one_by_one {a = a} {b = c} {as_ = as_} {bs = bs} n ds) f k l = l (two_or_more a c as_) (record { bodies = bs; named = n; elaborate = ds })
 
   pub of_call : (x : Name) (ds : List (Name × Expression)) (b : Body) → Elaborates v s (bare.call x ds) b → IsAssigned x ds
   of_call x ds b (call_by_name {k = n} {ps = ps} {ts = ts} e a d) = record { place = n; parameters = ps; terms = ts; process = e; assignments = a; values = d }
 
-  -- more actions than one, or none, are a label
-  pub several_labelled : (as_ : List Action) (b : Body) → ¬ (length as_ ≡ 1) → Elaborates v s (bare.acts as_) b → (m : Label) × (label_in v.declared s as_ ≡ Some m)
-  several_labelled as_ b several e = by_acts ((m : Label) × (label_in v.declared s as_ ≡ Some m)) as_ b e (λ m l. (m, l)) (λ x es one is. absurd (several (ap length one)))
+  -- more than one, or none, that are no label
+  pub several_elaborate : (as_ : List Action) (b : Body) → ¬ (length as_ ≡ 1) → label_in v.declared s as_ ≡ None → Elaborates v s (bare.acts as_) b → AreOneByOne as_
+  several_elaborate as_ b several none e = by_acts (AreOneByOne as_) as_ b e (λ m l. absurd (none-some m (sym none ∙ l))) (λ x es one is. absurd (several (ap length one))) (λ n are. are)
 
   abbrev IsSingleCall : List Action → Type 0
   IsSingleCall (act y ds ∷ []) = IsCall y ds
@@ -195,7 +206,7 @@ module _ (v : FullVocabulary) (s : Scope) where
 
   -- a name with arguments is an action or a call
   pub one_elaborates : (P : Type 0) (x : Name) (es : List Expression) (b : Body) → Elaborates v s (bare.acts (act x es ∷ [])) b → ((a : written.Action) → action_in v.declared s x es ≡ Some a → P) → (IsCall x es → P) → P
-  one_elaborates P x es b e f k = by_acts P (act x es ∷ []) b e (λ m l. let p = parts v.declared s (action_in v.declared s x es) (Some []) m l in f p.first p.here) (λ y ds one is. k (subst (λ (as_ : List Action). IsSingleCall as_) (sym one) is))
+  one_elaborates P x es b e f k = by_acts P (act x es ∷ []) b e (λ m l. let p = parts v.declared s (action_in v.declared s x es) (Some []) m l in f p.first p.here) (λ y ds one is. k (subst (λ (as_ : List Action). IsSingleCall as_) (sym one) is)) (λ n are. absurd (n refl))
 
   pub action_elaborates : (x : Name) (es : List Expression) (a : written.Action) → action_in v.declared s x es ≡ Some a → Elaborates v s (bare.acts (act x es ∷ [])) (written_act (a ∷ []))
   action_elaborates x es a e = label (join v.declared s (action_in v.declared s x es) (Some []) a [] e refl)

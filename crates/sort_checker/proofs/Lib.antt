@@ -2,6 +2,7 @@ pub mod SingleFaults
 pub mod Members
 pub mod VariableWords
 pub mod RelatedTypings
+pub mod EachAlone
 pub mod OtherNumbers
 pub mod EquationNumbers
 pub mod ClosedAlike
@@ -79,6 +80,7 @@ pub mod ProcessTreeForms
 pub mod CodeForms
 pub mod OperatorNumbers
 pub mod ElaboratedForms
+pub mod AloneInCode
 pub mod ElaboratedInside
 pub mod ElaboratedInCode
 pub mod TreeSizes

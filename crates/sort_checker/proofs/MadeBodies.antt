@@ -5,8 +5,9 @@ use Rattle.data_theory.specs.declared.ids.TermId.{TermId}
 use Rattle.data_theory.specs.Terms.{Term}
 use Rattle.data_theory.specs.Signature.{Sig}
 use Rattle.term_pool.specs.Pools.{PoolContents}
-use Rattle.process_terms.specs.Processes.{Around, Bound, Body, written_delta, written_cond, written_around, choice_of, seq_of, merge_of, sums_around}
-use Rattle.process_terms.specs.PlainProcesses.{PlainAround, PlainProcess, delta, choice, seq, cond, sum, merge, around, processes_of}
+use Rattle.process_terms.specs.Processes as written
+use Rattle.process_terms.specs.Processes.{Around, Bound, Body, written_delta, written_cond, written_starting, written_around, choice_of, seq_of, merge_of, sync_of, sums_around}
+use Rattle.process_terms.specs.PlainProcesses.{PlainAround, PlainProcess, delta, choice, seq, cond, sum, merge, left_merge, sync, around, processes_of}
 use Rattle.process_terms.specs.Meanings.{Entries, body_of, bodies_of, HasProcess, HasProcesses}
 use Rattle.sort_checker.specs.Additions.{GoesOn}
 use Rattle.sort_checker.specs.ElaboratedParts.{IsTerm, IsAround, AreBinders, IsBody, AreBodies}
@@ -29,6 +30,15 @@ choice_made g p xs bs are = record { there = λ h q on. are.there h q on; means 
 
 pub merge_made : (g : Sig) (p : PoolContents) (xs : List PlainProcess) (bs : List Body) → AreBodies g p xs bs → IsBody g p (merge (processes_of xs)) (merge_of bs)
 merge_made g p xs bs are = record { there = λ h q on. are.there h q on; means = λ h q on. ap merge_of (are.means h q on) }
+
+pub sync_made : (g : Sig) (p : PoolContents) (xs : List PlainProcess) (bs : List Body) → AreBodies g p xs bs → IsBody g p (sync (processes_of xs)) (sync_of bs)
+sync_made g p xs bs are = record { there = λ h q on. are.there h q on; means = λ h q on. ap sync_of (are.means h q on) }
+
+pub left_merge_made : (g : Sig) (p : PoolContents) (x y : PlainProcess) (b d : Body) → IsBody g p x b → IsBody g p y d → IsBody g p (left_merge x y) (written_starting written.left_merge b d)
+left_merge_made g p x y b d one other = record {
+  there = λ h q on. (one.there h q on, other.there h q on);
+  means = λ h q on. ap₂ (written_starting written.left_merge) (one.means h q on) (other.means h q on);
+}
 
 -- the binders are those of an earlier signature
 pub sum_made : (g : Sig) (o : PoolContents) (h : Sig) (p : PoolContents) → GoesOn g o h p → (ids : List VarId) (bounds : List Bound) (x : PlainProcess) (b : Body) → AreBinders g ids bounds → IsBody h p x b → IsBody h p (sum ids x) (sums_around bounds b)

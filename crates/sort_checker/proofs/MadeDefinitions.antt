@@ -69,6 +69,7 @@ module _ (g : Sig) where
     sums_stand (trees.delta span) all = tt
     sums_stand (trees.acts a) all = tt
     sums_stand (trees.multi span as_) all = tt
+    sums_stand (trees.sync span ps) all = all_sums_stand ps all
     sums_stand (trees.call span p xs) all = tt
     sums_stand (trees.within span p) all = sums_stand p all
     sums_stand (trees.allow span sets p) all = sums_stand p all
@@ -83,6 +84,7 @@ module _ (g : Sig) where
     )
     sums_stand (trees.when span d p) all = sums_stand p all.1
     sums_stand (trees.either span d p q) all = (sums_stand p (all_front (IsReadyLeaf g.texts) (leaves_in p) (leaves_in q) all.1), sums_stand q (all_back (IsReadyLeaf g.texts) (leaves_in p) (leaves_in q) all.1))
+    sums_stand (trees.left_merge span p q) all = (sums_stand p (all_front (IsReadyLeaf g.texts) (leaves_in p) (leaves_in q) all), sums_stand q (all_back (IsReadyLeaf g.texts) (leaves_in p) (leaves_in q) all))
     sums_stand (trees.parallel span ps) all = all_sums_stand ps all
     sums_stand (trees.choice span ps) all = all_sums_stand ps all
 

@@ -7,7 +7,7 @@ use Rattle.data_theory.proofs.EnvironmentLemmas.{put-apply, contains_cases, cont
 use Rattle.process_terms.specs.Labels as written
 use Rattle.process_terms.specs.Labels.{Label}
 use Rattle.process_terms.specs.Processes as processes
-use Rattle.process_terms.specs.Processes.{Body, written_delta, written_act, written_cond, written_call, written_around, choice_of, seq_of, merge_of, sums_around}
+use Rattle.process_terms.specs.Processes.{Body, written_delta, written_act, written_cond, written_call, written_starting, written_around, choice_of, seq_of, merge_of, sync_of, sums_around}
 use Rattle.sort_table.specs.Expressions.{Name, Expression}
 use Rattle.data_typing.specs.Typings.{sort_eq, Typing, exactly, checked}
 use Rattle.sort_table.specs.NamedLists.{all_named, first_named}
@@ -18,7 +18,7 @@ use Rattle.sort_checker.specs.FullVocabularies.{Parameters, FullVocabulary}
 use Rattle.sort_checker.specs.Scopes.{numbers_of, Binds, binds_none, binds_more}
 use Rattle.sort_checker.specs.PartTypings.{action_at, action_of, label_in, arguments_in, variable_at, assigned_or, assigned_in}
 use Rattle.sort_checker.specs.Operators.{renaming_of, rule_of}
-use Rattle.sort_checker.specs.Elaborations.{Elaborates, nothing, label, call_in_order, call_by_name, only_these, none_of_these, unseen, renamed, joined, in_sequence, one_of, side_by_side, for_each, where_true, by_truth, AllElaborate, all_done, one_and_more}
+use Rattle.sort_checker.specs.Elaborations.{Elaborates, nothing, label, call_in_order, one_by_one, call_by_name, only_these, none_of_these, unseen, renamed, joined, in_sequence, one_of, at_once, left_first, side_by_side, for_each, where_true, by_truth, AllElaborate, all_done, one_and_more}
 use Rattle.sort_checker.specs.ScopeLaws.{Both, neither, both, with_number, IsRenamed, TypingsAreRenamed, SameNames, same_none, same_more, AnyTerms, TypingNeedsNoNumbers, ElaboratingNeedsNoNumbers, DefinitionsNeedNoNumbers}
 use Rattle.sort_checker.proofs.RelatedTypings.{AllRelated, related_none, related_more, Keeps, map_both, then_both, or_both, cond_both, first_both, AllTypings, exactly_kept, checked_kept, Kept, all_both, RelatedScopes, scopes_none, scopes_more, RelatedBounds, found_both, scoped_both, all_scoped}
 
@@ -119,6 +119,7 @@ mutual
   anew h nothing = (written_delta, nothing)
   anew {v = v} h (label {as_ = as_} e) = let r = there (label_any v.declared h as_) e in (written_act r.0, label r.1)
   anew {v = v} h (call_in_order {es = es} {k = k} {ps = ps} e f) = let r = there (arguments_any v.declared h ps es) f in (written_call k r.0, call_in_order e r.1)
+  anew h (one_by_one n ds) = let r = all_anew h ds in (sync_of r.0, one_by_one n r.1)
   anew {v = v} h (call_by_name {ds = ds} {k = k} {ps = ps} e a f) = let r = there (all_assigned v.declared h ps ds) f in (written_call k r.0, call_by_name e a r.1)
   anew h (only_these {sets = sets} f d) = let r = anew h d in (written_around (processes.allow sets) r.0, only_these f r.1)
   anew h (none_of_these {xs = xs} f d) = let r = anew h d in (written_around (processes.block xs) r.0, none_of_these f r.1)
@@ -127,6 +128,8 @@ mutual
   anew h (joined {cs = cs} f d) = let r = anew h d in (written_around (processes.comm (map rule_of cs)) r.0, joined f r.1)
   anew h (in_sequence ds) = let r = all_anew h ds in (seq_of r.0, in_sequence r.1)
   anew h (one_of ds) = let r = all_anew h ds in (choice_of r.0, one_of r.1)
+  anew h (at_once ds) = let r = all_anew h ds in (sync_of r.0, at_once r.1)
+  anew h (left_first d f) = let r = anew h d in let q = anew h f in (written_starting processes.left_merge r.0 q.0, left_first r.1 q.1)
   anew h (side_by_side ds) = let r = all_anew h ds in (merge_of r.0, side_by_side r.1)
   anew h (for_each bs d) = let i = binds_anew h bs in let r = anew i.same d in (sums_around i.bounds r.0, for_each i.binds r.1)
   anew {v = v} {one = one} {other = other} h (where_true {e = e} c d) = let t = there ((typing_needs_no_numbers v.declared one other h e).checks boolean) c in let r = anew h d in (written_cond t.0 r.0 written_delta, where_true t.1 r.1)

@@ -32,11 +32,11 @@ use Rattle.sort_checker.specs.ElaboratedParts.{IsAround}
 use Rattle.sort_checker.specs.CodeContexts.{Sees, CanElaborate, AllCanElaborate, IsElaborated, AreElaborated, SumNamesStand, AllSumNamesStand}
 use Rattle.sort_checker.specs.FormTrees.{StandsAround, operator_of, IsUnder, IsChain}
 use Rattle.sort_checker.proofs.Adding.{goes_nowhere}
-use Rattle.sort_checker.proofs.TreeSizes.{allow_smaller, block_smaller, hide_smaller, rename_smaller, comm_smaller, sequence_smaller, parallel_smaller, choice_smaller}
-use Rattle.sort_checker.proofs.ProcessTreeForms.{bare_one, bare_all, allow_plain, block_plain, hide_plain, rename_plain, comm_plain, sequence_plain, parallel_plain, choice_plain, allow_same, block_same, hide_same, rename_same, comm_same, sequence_same, parallel_same, choice_same}
+use Rattle.sort_checker.proofs.TreeSizes.{allow_smaller, block_smaller, hide_smaller, rename_smaller, comm_smaller, sequence_smaller, parallel_smaller, choice_smaller, sync_smaller}
+use Rattle.sort_checker.proofs.ProcessTreeForms.{bare_one, bare_all, allow_plain, block_plain, hide_plain, rename_plain, comm_plain, sequence_plain, parallel_plain, choice_plain, sync_plain, allow_same, block_same, hide_same, rename_same, comm_same, sequence_same, parallel_same, choice_same, sync_same}
 use Rattle.sort_checker.proofs.ElaboratedForms.{around_elaborated}
-use Rattle.sort_checker.proofs.ElaboratedInside.{CanOperate, can_allow, can_block, can_hide, can_rename, can_comm, can_sequence, can_parallel, can_choice}
-use Rattle.sort_checker.proofs.ElaboratedInCode.{sequence_in_code, choice_in_code, parallel_in_code}
+use Rattle.sort_checker.proofs.ElaboratedInside.{CanOperate, can_allow, can_block, can_hide, can_rename, can_comm, can_sequence, can_parallel, can_choice, can_sync}
+use Rattle.sort_checker.proofs.ElaboratedInCode.{sequence_in_code, choice_in_code, parallel_in_code, sync_in_code}
 
 -- ---- operators
 -- what a tree that is an operator tells of the tree inside
@@ -154,13 +154,21 @@ chained tree ps list f (inr (inl (span, is))) =
       names = λ g n. subst (SumNamesStand g) e n;
       can = λ g t bs c. can_parallel g t bs (bare_all ps) (subst (CanElaborate g t bs) e c);
     }
-chained tree ps list f (inr (inr (span, is))) =
+chained tree ps list f (inr (inr (inl (span, is)))) =
     let e = choice_same tree span list ps is f in
     record {
       smaller = choice_smaller tree ps span list is f;
       words = λ w. subst IsProcessOfWords (choice_plain tree span list ps is f) w;
       names = λ g n. subst (SumNamesStand g) e n;
       can = λ g t bs c. can_choice g t bs (bare_all ps) (subst (CanElaborate g t bs) e c);
+    }
+chained tree ps list f (inr (inr (inr (span, is)))) =
+    let e = sync_same tree span list ps is f in
+    record {
+      smaller = sync_smaller tree ps span list is f;
+      words = λ w. subst IsProcessOfWords (sync_plain tree span list ps is f) w;
+      names = λ g n. subst (SumNamesStand g) e n;
+      can = λ g t bs c. can_sync g t bs (bare_all ps) (subst (CanElaborate g t bs) e c);
     }
 
 -- a tree of one form is a chain of that form
@@ -177,17 +185,29 @@ module _ (v : FullVocabulary) (scope : Scope) (g : Sig) (q : PoolContents) (made
   by_choice : (span : Span) → tree ≡ forms.Choice span list → MakesChain (procs.Choice made)
   by_choice span is are = subst (λ p. IsElaborated v scope p g q (code.plain_process (procs.Choice made))) (sym (choice_same tree span list list.items is refl)) (choice_in_code v scope (bare_all list.items) g q made are)
 
+  by_sync : (span : Span) → tree ≡ forms.Sync span list → MakesChain (procs.Sync made)
+  by_sync span is are = subst (λ p. IsElaborated v scope p g q (code.plain_process (procs.Sync made))) (sym (sync_same tree span list list.items is refl)) (sync_in_code v scope (bare_all list.items) g q made are)
+
   pub sequence_made : (span : Span) (other : Vec ProcTree) → tree ≡ forms.Sequence span other → IsChain tree list → MakesChain (procs.Seq made)
   sequence_made span other is (inl (_, same)) = by_sequence _ same
   sequence_made span other is (inr (inl (at, same))) = let never : bare.sequence (bare_all other.items) ≡ bare.parallel (bare_all list.items) = sym (sequence_same tree span other other.items is refl) ∙ parallel_same tree at list list.items same refl in cc
-  sequence_made span other is (inr (inr (at, same))) = let never : bare.sequence (bare_all other.items) ≡ bare.choice (bare_all list.items) = sym (sequence_same tree span other other.items is refl) ∙ choice_same tree at list list.items same refl in cc
+  sequence_made span other is (inr (inr (inl (at, same)))) = let never : bare.sequence (bare_all other.items) ≡ bare.choice (bare_all list.items) = sym (sequence_same tree span other other.items is refl) ∙ choice_same tree at list list.items same refl in cc
+  sequence_made span other is (inr (inr (inr (at, same)))) = let never : bare.sequence (bare_all other.items) ≡ bare.sync (bare_all list.items) = sym (sequence_same tree span other other.items is refl) ∙ sync_same tree at list list.items same refl in cc
 
   pub parallel_made : (span : Span) (other : Vec ProcTree) → tree ≡ forms.Parallel span other → IsChain tree list → MakesChain (procs.Merge made)
   parallel_made span other is (inr (inl (_, same))) = by_parallel _ same
   parallel_made span other is (inl (at, same)) = let never : bare.parallel (bare_all other.items) ≡ bare.sequence (bare_all list.items) = sym (parallel_same tree span other other.items is refl) ∙ sequence_same tree at list list.items same refl in cc
-  parallel_made span other is (inr (inr (at, same))) = let never : bare.parallel (bare_all other.items) ≡ bare.choice (bare_all list.items) = sym (parallel_same tree span other other.items is refl) ∙ choice_same tree at list list.items same refl in cc
+  parallel_made span other is (inr (inr (inl (at, same)))) = let never : bare.parallel (bare_all other.items) ≡ bare.choice (bare_all list.items) = sym (parallel_same tree span other other.items is refl) ∙ choice_same tree at list list.items same refl in cc
+  parallel_made span other is (inr (inr (inr (at, same)))) = let never : bare.parallel (bare_all other.items) ≡ bare.sync (bare_all list.items) = sym (parallel_same tree span other other.items is refl) ∙ sync_same tree at list list.items same refl in cc
 
-  pub choice_made : ((span : Span) → tree ≡ forms.Sequence span list → ⊥) → ((span : Span) → tree ≡ forms.Parallel span list → ⊥) → IsChain tree list → MakesChain (procs.Choice made)
-  choice_made no_sequence no_parallel (inl (span, same)) = absurd (no_sequence span same)
-  choice_made no_sequence no_parallel (inr (inl (span, same))) = absurd (no_parallel span same)
-  choice_made no_sequence no_parallel (inr (inr (span, same))) = by_choice span same
+  pub sync_made : (span : Span) (other : Vec ProcTree) → tree ≡ forms.Sync span other → IsChain tree list → MakesChain (procs.Sync made)
+  sync_made span other is (inr (inr (inr (_, same)))) = by_sync _ same
+  sync_made span other is (inl (at, same)) = let never : bare.sync (bare_all other.items) ≡ bare.sequence (bare_all list.items) = sym (sync_same tree span other other.items is refl) ∙ sequence_same tree at list list.items same refl in cc
+  sync_made span other is (inr (inl (at, same))) = let never : bare.sync (bare_all other.items) ≡ bare.parallel (bare_all list.items) = sym (sync_same tree span other other.items is refl) ∙ parallel_same tree at list list.items same refl in cc
+  sync_made span other is (inr (inr (inl (at, same)))) = let never : bare.sync (bare_all other.items) ≡ bare.choice (bare_all list.items) = sym (sync_same tree span other other.items is refl) ∙ choice_same tree at list list.items same refl in cc
+
+  pub choice_made : ((span : Span) → tree ≡ forms.Sequence span list → ⊥) → ((span : Span) → tree ≡ forms.Parallel span list → ⊥) → ((span : Span) → tree ≡ forms.Sync span list → ⊥) → IsChain tree list → MakesChain (procs.Choice made)
+  choice_made no_sequence no_parallel no_sync (inl (span, same)) = absurd (no_sequence span same)
+  choice_made no_sequence no_parallel no_sync (inr (inl (span, same))) = absurd (no_parallel span same)
+  choice_made no_sequence no_parallel no_sync (inr (inr (inl (span, same)))) = by_choice span same
+  choice_made no_sequence no_parallel no_sync (inr (inr (inr (span, same)))) = absurd (no_sync span same)

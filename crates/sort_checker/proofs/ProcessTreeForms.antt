@@ -103,6 +103,15 @@ pub choice_plain : (tree : ProcTree) (span : Span) (parts : Vec ProcTree) (ps : 
 choice_plain tree span parts ps is e =
     ap plain_process is ∙ (ap plain_process (sym (forms.rolls-Choice span parts)) ∙ (fold-roll-ProcTree PlainProcess plain_process_step _ ∙ ap (λ (qs : List ProcTree). trees.choice span (processes_of (map plain_process qs))) (sym e)))
 
+pub sync_plain : (tree : ProcTree) (span : Span) (parts : Vec ProcTree) (ps : List ProcTree) → tree ≡ forms.Sync span parts → ps ≡ parts.items → plain_process tree ≡ trees.sync span (processes_of (map plain_process ps))
+sync_plain tree span parts ps is e =
+    ap plain_process is ∙ (ap plain_process (sym (forms.rolls-Sync span parts)) ∙ (fold-roll-ProcTree PlainProcess plain_process_step _ ∙ ap (λ (qs : List ProcTree). trees.sync span (processes_of (map plain_process qs))) (sym e)))
+
+pub left_merge_plain : (tree : ProcTree) (span : Span) (first second : Box ProcTree) (p r : ProcTree) → tree ≡ forms.LeftMerge span first second → p ≡ first.value → r ≡ second.value → plain_process tree ≡ trees.left_merge span (plain_process p) (plain_process r)
+left_merge_plain tree span first second p r is f k =
+    ap plain_process is
+    ∙ (ap plain_process (sym (forms.rolls-LeftMerge span first second)) ∙ (fold-roll-ProcTree PlainProcess plain_process_step _ ∙ ap₂ (λ (q s : ProcTree). trees.left_merge span (plain_process q) (plain_process s)) (sym f) (sym k)))
+
 -- ---- sums and conditions
 pub sum_plain : (tree : ProcTree) (span : Span) (groups : Vec VarGroup) (inner : Box ProcTree) (gs : List VarGroup) (p : ProcTree) → tree ≡ forms.Sum span groups inner → gs ≡ groups.items → p ≡ inner.value → plain_process tree ≡ trees.sum span (map var_group_of gs) (plain_process p)
 sum_plain tree span groups inner gs p is e f =
@@ -158,6 +167,12 @@ parallel_same tree span parts ps is e = ap bare_process (parallel_plain tree spa
 
 pub choice_same : (tree : ProcTree) (span : Span) (parts : Vec ProcTree) (ps : List ProcTree) → tree ≡ forms.Choice span parts → ps ≡ parts.items → bare_one tree ≡ bare.choice (bare_all ps)
 choice_same tree span parts ps is e = ap bare_process (choice_plain tree span parts ps is e)
+
+pub sync_same : (tree : ProcTree) (span : Span) (parts : Vec ProcTree) (ps : List ProcTree) → tree ≡ forms.Sync span parts → ps ≡ parts.items → bare_one tree ≡ bare.sync (bare_all ps)
+sync_same tree span parts ps is e = ap bare_process (sync_plain tree span parts ps is e)
+
+pub left_merge_same : (tree : ProcTree) (span : Span) (first second : Box ProcTree) (p r : ProcTree) → tree ≡ forms.LeftMerge span first second → p ≡ first.value → r ≡ second.value → bare_one tree ≡ bare.left_merge (bare_one p) (bare_one r)
+left_merge_same tree span first second p r is f k = ap bare_process (left_merge_plain tree span first second p r is f k)
 
 pub sum_same : (tree : ProcTree) (span : Span) (groups : Vec VarGroup) (inner : Box ProcTree) (gs : List VarGroup) (p : ProcTree) → tree ≡ forms.Sum span groups inner → gs ≡ groups.items → p ≡ inner.value → bare_one tree ≡ bare.sum (bare_variables (map var_group_of gs)) (bare_one p)
 sum_same tree span groups inner gs p is e f = ap bare_process (sum_plain tree span groups inner gs p is e f)

@@ -125,6 +125,7 @@ module _ (texts : List Name) where
     process_ready (processes.delta span) is among = tt
     process_ready (processes.acts a) is among = action_ready a is
     process_ready (processes.multi span as_) is among = actions_ready as_ is
+    process_ready (processes.sync span ps) is among = all_ready ps is among
     process_ready (processes.call span p xs) is among = values_ready xs is.1
     process_ready (processes.within span p) is among = process_ready p is among
     process_ready (processes.allow span sets p) is among = process_ready p is.1 (all_back Among (flat_map in_set sets) (in_process p) among)
@@ -139,6 +140,8 @@ module _ (texts : List Name) where
     process_ready (processes.either span d p q) is among =
         let rest = all_back Among (in_data d) (in_process p ++ in_process q) among in
         (is.0, all_both (IsReadyLeaf texts) (leaves_in p) (leaves_in q) (process_ready p is.1 (all_front Among (in_process p) (in_process q) rest)) (process_ready q is.2 (all_back Among (in_process p) (in_process q) rest)))
+    process_ready (processes.left_merge span p q) is among =
+        all_both (IsReadyLeaf texts) (leaves_in p) (leaves_in q) (process_ready p is.0 (all_front Among (in_process p) (in_process q) among)) (process_ready q is.1 (all_back Among (in_process p) (in_process q) among))
     process_ready (processes.parallel span ps) is among = all_ready ps is among
     process_ready (processes.choice span ps) is among = all_ready ps is among
 

@@ -72,6 +72,7 @@ mutual
   small_process (processes.delta span) h = tt
   small_process (processes.acts a) h = (small_action a h, tt)
   small_process (processes.multi span as_) h = small_actions as_ h
+  small_process (processes.sync span ps) h = small_processes ps h
   small_process (processes.call span p ds) h = small_values ds h.1
   small_process (processes.within span p) h = small_process p h
   small_process (processes.allow span sets p) h = small_process p h.1
@@ -83,6 +84,7 @@ mutual
   small_process (processes.sum span gs p) h = small_process p h.1
   small_process (processes.when span d p) h = (small_data d h.0, small_process p h.1)
   small_process (processes.either span d p q) h = (small_data d h.0, small_process p h.1, small_process q h.2)
+  small_process (processes.left_merge span p q) h = (small_process p h.0, small_process q h.1)
   small_process (processes.parallel span ps) h = small_processes ps h
   small_process (processes.choice span ps) h = small_processes ps h
 

@@ -7,7 +7,7 @@ use Rattle.data_theory.specs.Terms.{Sort, boolean, Term}
 use Rattle.data_theory.proofs.EnvironmentLemmas.{contains_nothing, contains_cases}
 use Rattle.process_terms.specs.Labels.{Label}
 use Rattle.process_terms.specs.Processes as processes
-use Rattle.process_terms.specs.Processes.{Around, Body, written_delta, written_act, written_cond, written_call, written_around, choice_of, seq_of, merge_of, sums_around}
+use Rattle.process_terms.specs.Processes.{Around, Body, written_delta, written_act, written_cond, written_call, written_starting, written_around, choice_of, seq_of, merge_of, sync_of, sums_around}
 use Rattle.sort_table.specs.Expressions.{Name, Expression}
 use Rattle.sort_table.specs.NamedLists.{first_named}
 use Rattle.sort_table.specs.BareSorts.{SortExpression}
@@ -20,9 +20,10 @@ use Rattle.sort_checker.specs.Operators.{renaming_of, rule_of, operators_in, ope
 use Rattle.sort_checker.specs.Parts.{an_operator, scoped, parts_in, parts_in_all}
 use Rattle.sort_checker.specs.Scopes.{numbers_of, Binds, binds_none, binds_more, numbered, scope_behind, scope_of}
 use Rattle.sort_checker.specs.PartTypings.{label_in, arguments_in, left_out, assigned_or, assigned_in, are_assignments}
-use Rattle.sort_checker.specs.Faults.{Use, of_action, name_of, is_action, is_known, is_call_typed, is_value_typed, are_values_typed, first_left_out}
-use Rattle.sort_checker.specs.Elaborations.{Fits, Elaborates, nothing, label, call_in_order, call_by_name, only_these, none_of_these, unseen, renamed, joined, in_sequence, one_of, side_by_side, for_each, where_true, by_truth, AllElaborate, all_done, one_and_more}
+use Rattle.sort_checker.specs.Faults.{Use, of_action, name_of, is_action, is_known, is_call_typed, is_step_typed, is_value_typed, are_values_typed, first_left_out}
+use Rattle.sort_checker.specs.Elaborations.{is_process, names_process, each_alone, Fits, Elaborates, nothing, label, call_in_order, one_by_one, call_by_name, only_these, none_of_these, unseen, renamed, joined, in_sequence, one_of, at_once, left_first, side_by_side, for_each, where_true, by_truth, AllElaborate, all_done, one_and_more}
 use Rattle.sort_checker.specs.SoundTexts.{IsSoundPart, IsSoundOperator, HaveSorts, SoundProcessesElaborate, SoundDefinitionsElaborate}
+use Rattle.sort_checker.proofs.EachAlone.{is_action_in, label_told}
 
 -- ---- options and tests
 pub there : {A : Type 0} (o : Option A) → is_some o ≡ true → (x : A) × (o ≡ Some x)
@@ -100,28 +101,64 @@ bind_all v scope ((x, e) ∷ xs) below h =
 abbrev Stands : FullVocabulary → Scope → Process → Type 0
 Stands v scope p = (b : Body) × Elaborates v scope p b
 
-call_there : (v : FullVocabulary) (scope : Scope) (as_ : List Action) → is_call_typed v scope as_ ≡ true → Stands v scope (bare.acts as_)
-call_there v scope [] h = let never : false ≡ true = h in cc
-call_there v scope (tau ∷ as_) h = let never : false ≡ true = h in cc
-call_there v scope (act x es ∷ []) h =
+call_there : (v : FullVocabulary) (scope : Scope) (a : Action) → is_call_typed v scope a ≡ true → Stands v scope (bare.acts (a ∷ []))
+call_there v scope tau h = let never : false ≡ true = h in cc
+call_there v scope (act x es) h =
     let r = there_then (λ (r : ℕ × Parameters). arguments_in v.declared scope r.1 es) (process_named v x) h in
     let ts = there (arguments_in v.declared scope r.0.1 es) r.1.1 in (written_call r.0.0 ts.0, call_in_order r.1.0 ts.1)
-call_there v scope (act x es ∷ a ∷ as_) h = let never : false ≡ true = h in cc
 
-label_there : (v : FullVocabulary) (scope : Scope) (as_ : List Action) → (is_some (label_in v.declared scope as_) || is_call_typed v scope as_) ≡ true → Stands v scope (bare.acts as_)
-label_there v scope as_ h = by_label (label_in v.declared scope as_) refl h
+step_there : (v : FullVocabulary) (scope : Scope) (a : Action) → is_step_typed v scope a ≡ true → Stands v scope (bare.acts (a ∷ []))
+step_there v scope a h = by_label (label_in v.declared scope (a ∷ [])) refl h
   where
-    by_label : (o : Option Label) → label_in v.declared scope as_ ≡ o → (is_some o || is_call_typed v scope as_) ≡ true → Stands v scope (bare.acts as_)
+    by_label : (o : Option Label) → label_in v.declared scope (a ∷ []) ≡ o → (is_some o || is_call_typed v scope a) ≡ true → Stands v scope (bare.acts (a ∷ []))
     by_label (Some m) e k = (written_act m, label e)
-    by_label None e k = call_there v scope as_ k
+    by_label None e k = call_there v scope a k
 
-not_none : {A : Type 0} (o : Option A) → is_none o ≡ false → (x : A) × (o ≡ Some x)
-not_none None h = let never : true ≡ false = h in cc
-not_none (Some x) h = (x, refl)
+steps_there : (v : FullVocabulary) (scope : Scope) (as_ : List Action) → list_all (is_step_typed v scope) as_ ≡ true → (bs : List Body) × AllElaborate v scope (each_alone as_) bs
+steps_there v scope [] h = ([], all_done)
+steps_there v scope (a ∷ as_) h =
+    let both = both_true (is_step_typed v scope a) (list_all (is_step_typed v scope) as_) h in
+    let r = step_there v scope a both.0 in
+    let rs = steps_there v scope as_ both.1 in (r.0 ∷ rs.0, one_and_more r.1 rs.1)
+
+-- where no name is that of a process, all are actions
+neither_true : (a b : Bool) → (a || b) ≡ false → (a ≡ false) × (b ≡ false)
+neither_true true b h = let never : true ≡ false = h in cc
+neither_true false b h = (refl, h)
 
 or_no : (b : Bool) → (b || false) ≡ true → b ≡ true
 or_no true h = refl
 or_no false h = h
+
+action_there : (v : FullVocabulary) (scope : Scope) (a : Action) → is_process v a ≡ false → is_step_typed v scope a ≡ true → is_action_in v.declared scope a ≡ true
+action_there v scope tau n h = refl
+action_there v scope (act x es) n h = by_process (process_named v x) n h
+  where
+    by_process : (o : Option (ℕ × Parameters)) → is_some o ≡ false → (is_some (label_in v.declared scope (act x es ∷ [])) || is_some (option_and_then (λ (r : ℕ × Parameters). arguments_in v.declared scope r.1 es) o)) ≡ true
+        → is_action_in v.declared scope (act x es) ≡ true
+    by_process None n k = (both_true (is_action_in v.declared scope (act x es)) true (sym (label_told v.declared scope (act x es ∷ [])) ∙ or_no (is_some (label_in v.declared scope (act x es ∷ []))) k)).0
+    by_process (Some r) n k = let never : true ≡ false = n in cc
+
+actions_there : (v : FullVocabulary) (scope : Scope) (as_ : List Action) → names_process v as_ ≡ false → list_all (is_step_typed v scope) as_ ≡ true → list_all (is_action_in v.declared scope) as_ ≡ true
+actions_there v scope [] n h = refl
+actions_there v scope (a ∷ as_) n h =
+    let both = both_true (is_step_typed v scope a) (list_all (is_step_typed v scope) as_) h in
+    let none = neither_true (is_process v a) (names_process v as_) n in
+    ap₂ (λ (p q : Bool). p && q) (action_there v scope a none.0 both.0) (actions_there v scope as_ none.1 both.1)
+
+label_there : (v : FullVocabulary) (scope : Scope) (as_ : List Action) → list_all (is_step_typed v scope) as_ ≡ true → Stands v scope (bare.acts as_)
+label_there v scope [] h = (written_act [], label refl)
+label_there v scope (a ∷ []) h = step_there v scope a (both_true (is_step_typed v scope a) true h).0
+label_there v scope (a ∷ b ∷ as_) h = by_names (names_process v (a ∷ b ∷ as_)) refl
+  where
+    by_names : (c : Bool) → names_process v (a ∷ b ∷ as_) ≡ c → Stands v scope (bare.acts (a ∷ b ∷ as_))
+    by_names true e = let r = steps_there v scope (a ∷ b ∷ as_) h in (sync_of r.0, one_by_one e r.1)
+    by_names false e =
+        let m = there (label_in v.declared scope (a ∷ b ∷ as_)) (label_told v.declared scope (a ∷ b ∷ as_) ∙ actions_there v scope (a ∷ b ∷ as_) e h) in (written_act m.0, label m.1)
+
+not_none : {A : Type 0} (o : Option A) → is_none o ≡ false → (x : A) × (o ≡ Some x)
+not_none None h = let never : true ≡ false = h in cc
+not_none (Some x) h = (x, refl)
 
 value_there : (v : Vocabulary) (scope : Scope) (p : Name × Sort) (o : Option Expression) → (is_some (option_and_then (λ (e : Expression). (typing_in v scope e).checks p.1) o) || is_none o) ≡ true → (is_none o && is_none (left_out scope p)) ≡ false
     → (t : Term) × (assigned_or v scope p o ≡ Some t)
@@ -196,6 +233,13 @@ module _ (v : FullVocabulary) where
         let sums = front_all (HaveSorts v.declared) (sums_in p) (sums_in q) ss in
         let r = sound xs p l parts.0 operators.0 sums.0 in
         let s = sound xs q l parts.1 operators.1 sums.1 in (written_cond c.0 r.0 s.0, by_truth c.1 r.1 s.1)
+    sound xs (bare.sync qs) l ps os ss = let r = all_sound xs qs l ps os ss in (sync_of r.0, at_once r.1)
+    sound xs (bare.left_merge p q) l ps os ss =
+        let parts = front_all (IsSoundPart v) (parts_in xs p) (parts_in xs q) ps in
+        let operators = front_all (IsSoundOperator v) (operators_in p) (operators_in q) os in
+        let sums = front_all (HaveSorts v.declared) (sums_in p) (sums_in q) ss in
+        let r = sound xs p l parts.0 operators.0 sums.0 in
+        let s = sound xs q l parts.1 operators.1 sums.1 in (written_starting processes.left_merge r.0 s.0, left_first r.1 s.1)
     sound xs (bare.parallel qs) l ps os ss = let r = all_sound xs qs l ps os ss in (merge_of r.0, side_by_side r.1)
     sound xs (bare.choice qs) l ps os ss = let r = all_sound xs qs l ps os ss in (choice_of r.0, one_of r.1)
 

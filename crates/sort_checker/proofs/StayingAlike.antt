@@ -25,9 +25,10 @@ use Rattle.sort_checker.specs.FullVocabularies.{Parameters, FullVocabulary}
 use Rattle.sort_checker.specs.Scopes.{Binds, binds_none, binds_more}
 use Rattle.sort_checker.specs.Operators.{renaming_fits, rule_fits, rule_fits_at, has_action, are_apart}
 use Rattle.sort_checker.specs.PartTypings.{action_of, label_in, arguments_in, assigned_or, assigned_in, left_side, condition_at}
-use Rattle.sort_checker.specs.Elaborations.{Fits, Elaborates, nothing, label, call_in_order, call_by_name, only_these, none_of_these, unseen, renamed, joined, in_sequence, one_of, side_by_side, for_each, where_true, by_truth, AllElaborate, all_done, one_and_more}
+use Rattle.sort_checker.specs.Elaborations.{Fits, Elaborates, nothing, label, call_in_order, one_by_one, call_by_name, only_these, none_of_these, unseen, renamed, joined, in_sequence, one_of, at_once, left_first, side_by_side, for_each, where_true, by_truth, AllElaborate, all_done, one_and_more}
 use Rattle.sort_checker.specs.FittingBodies.{EachExpression, EachExpressionOf, EachArgument, EachValue, EachOption}
 use Rattle.sort_checker.specs.GrowthLaws.{fuller, HasNoneOf, ProcessesStayAlike, DefinitionsStayAlike, EquationsStayAlike}
+use Rattle.sort_checker.proofs.EachAlone.{expressions_alone, names_alike}
 
 -- ---- sorts
 found_in_front : {A : Type 0} (n : Name) (rs qs : List (Name × A)) (x : A) → first_named n rs ≡ Some x → first_named n (rs ++ qs) ≡ Some x
@@ -121,6 +122,7 @@ module _ (v : FullVocabulary) (m : More) (over : IsOverData v.declared) where
     stay h nothing = nothing
     stay {scope = scope} h (label {as_ = as_} e) = label (same_label scope as_ h ∙ e)
     stay {scope = scope} h (call_in_order {es = es} {ps = ps} e f) = call_in_order e (same_arguments scope ps es h.0 ∙ f)
+    stay h (one_by_one {a = x} {b = y} {as_ = as_} n ds) = one_by_one (names_alike (fuller v m) v (λ z. refl) (x ∷ y ∷ as_) ∙ n) (all_stay (expressions_alone (HasNoneOf m) (x ∷ y ∷ as_) h) ds)
     stay {scope = scope} h (call_by_name {ds = ds} {ps = ps} e a f) = call_by_name e a (same_assigned scope ps ds h ∙ f)
     stay h (only_these {sets = sets} f d) = only_these (allow_fits v m sets f) (stay h d)
     stay h (none_of_these {xs = xs} f d) = none_of_these (block_fits v m xs f) (stay h d)
@@ -129,6 +131,8 @@ module _ (v : FullVocabulary) (m : More) (over : IsOverData v.declared) where
     stay h (joined f d) = joined (comm_fits v m _ f) (stay h d)
     stay h (in_sequence ds) = in_sequence (all_stay h ds)
     stay h (one_of ds) = one_of (all_stay h ds)
+    stay h (at_once ds) = at_once (all_stay h ds)
+    stay h (left_first d f) = left_first (stay h.0 d) (stay h.1 f)
     stay h (side_by_side ds) = side_by_side (all_stay h ds)
     stay h (for_each bs d) = for_each (binds_stay v.declared m bs) (stay h d)
     stay {scope = scope} h (where_true {e = e} c d) = where_true (ap (λ (t : Typing). t.checks boolean) (same_typing scope e h.0) ∙ c) (stay h.1 d)

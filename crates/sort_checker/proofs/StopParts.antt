@@ -47,6 +47,10 @@ mutual
       ap (λ (ps : List ScopedPart). scoped xs (a_condition e) ∷ ps)
       (ap (scoped_along xs) (append_assoc (stops_in p) (stops_in q) rest)
       ∙ (parts_and xs p (stops_in q ++ rest) ∙ (ap (λ (ps : List ScopedPart). parts_in xs p ++ ps) (parts_and xs q rest) ∙ sym (append_assoc (parts_in xs p) (parts_in xs q) (scoped_along xs rest)))))
+  parts_and xs (bare.sync ps) rest = all_parts_and xs ps rest
+  parts_and xs (bare.left_merge p q) rest =
+      ap (scoped_along xs) (append_assoc (stops_in p) (stops_in q) rest)
+      ∙ (parts_and xs p (stops_in q ++ rest) ∙ (ap (λ (ps : List ScopedPart). parts_in xs p ++ ps) (parts_and xs q rest) ∙ sym (append_assoc (parts_in xs p) (parts_in xs q) (scoped_along xs rest))))
   parts_and xs (bare.parallel ps) rest = all_parts_and xs ps rest
   parts_and xs (bare.choice ps) rest = all_parts_and xs ps rest
 
@@ -73,6 +77,8 @@ mutual
   operators_along (bare.sum ys p) = flat_map-append operators_by (stops_in p) (leave ys ∷ []) ∙ (append-nil (flat_map operators_by (stops_in p)) ∙ operators_along p)
   operators_along (bare.when e p) = operators_along p
   operators_along (bare.either e p q) = flat_map-append operators_by (stops_in p) (stops_in q) ∙ ap₂ (λ (os us : List Around). os ++ us) (operators_along p) (operators_along q)
+  operators_along (bare.sync ps) = all_operators_along ps
+  operators_along (bare.left_merge p q) = flat_map-append operators_by (stops_in p) (stops_in q) ∙ ap₂ (λ (os us : List Around). os ++ us) (operators_along p) (operators_along q)
   operators_along (bare.parallel ps) = all_operators_along ps
   operators_along (bare.choice ps) = all_operators_along ps
 

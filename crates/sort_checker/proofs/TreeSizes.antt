@@ -10,7 +10,7 @@ use Rattle.mcrl2_syntax.specs.declared.process_tree.Renaming.{Renaming}
 use Rattle.mcrl2_syntax.specs.declared.process_tree.CommRule.{CommRule}
 use Rattle.mcrl2_syntax.specs.declared.process_tree.ProcTree.{ProcTree}
 use Rattle.mcrl2_syntax.specs.declared.process_tree.ProcTree.TheVariants as forms
-use Rattle.mcrl2_syntax.specs.declared.process_tree.ProcTree.TheViews.{sized-Allow, sized-Block, sized-Hide, sized-Rename, sized-Comm, sized-Sequence, sized-When, sized-Either, sized-Parallel, sized-Choice}
+use Rattle.mcrl2_syntax.specs.declared.process_tree.ProcTree.TheViews.{sized-Allow, sized-Block, sized-Hide, sized-Rename, sized-Comm, sized-Sequence, sized-When, sized-Either, sized-Parallel, sized-Choice, sized-Sync, sized-LeftMerge}
 use Rattle.mcrl2_syntax.proofs.process_tree.ProcTree.TheLaws.{the_size}
 
 module _ (tree p : ProcTree) (span : Span) where
@@ -62,6 +62,18 @@ module _ (tree p : ProcTree) (span : Span) where
       let part : the_size p ≡ the_size other.value = ap the_size e in
       omega (arith, sized-Either span d then other, whole, part)
 
+  pub first_smaller : (first second : Box ProcTree) → tree ≡ forms.LeftMerge span first second → p ≡ first.value → the_size p < the_size tree
+  first_smaller first second is e =
+      let whole : the_size tree ≡ the_size (forms.LeftMerge span first second) = ap the_size is in
+      let part : the_size p ≡ the_size first.value = ap the_size e in
+      omega (arith, sized-LeftMerge span first second, whole, part)
+
+  pub second_smaller : (first second : Box ProcTree) → tree ≡ forms.LeftMerge span first second → p ≡ second.value → the_size p < the_size tree
+  second_smaller first second is e =
+      let whole : the_size tree ≡ the_size (forms.LeftMerge span first second) = ap the_size is in
+      let part : the_size p ≡ the_size second.value = ap the_size e in
+      omega (arith, sized-LeftMerge span first second, whole, part)
+
 module _ (tree : ProcTree) (ps : List ProcTree) (span : Span) (parts : Vec ProcTree) where
   pub sequence_smaller : tree ≡ forms.Sequence span parts → ps ≡ parts.items → most the_size ps < the_size tree
   sequence_smaller is e =
@@ -80,3 +92,9 @@ module _ (tree : ProcTree) (ps : List ProcTree) (span : Span) (parts : Vec ProcT
       let whole : the_size tree ≡ the_size (forms.Choice span parts) = ap the_size is in
       let part : most the_size ps ≡ most the_size parts.items = ap (most the_size) e in
       omega (arith, sized-Choice span parts, whole, part)
+
+  pub sync_smaller : tree ≡ forms.Sync span parts → ps ≡ parts.items → most the_size ps < the_size tree
+  sync_smaller is e =
+      let whole : the_size tree ≡ the_size (forms.Sync span parts) = ap the_size is in
+      let part : most the_size ps ≡ most the_size parts.items = ap (most the_size) e in
+      omega (arith, sized-Sync span parts, whole, part)

@@ -26,7 +26,7 @@ use Rattle.data_typing.proofs.SortsFirst.{still_there}
 use Rattle.sort_checker.specs.declared.text_contexts.TextContext.{TextContext}
 use Rattle.sort_checker.specs.declared.variable_scopes.VariableScope.{VariableScope}
 use Rattle.sort_checker.specs.FullVocabularies.{Parameters, FullVocabulary, process_named}
-use Rattle.sort_checker.specs.Faults.{is_call_typed, is_value_typed, are_values_typed, is_plain_sort, is_typed}
+use Rattle.sort_checker.specs.Faults.{is_call_typed, is_step_typed, is_value_typed, are_values_typed, is_plain_sort, is_typed}
 use Rattle.sort_checker.specs.Operators.{renaming_of, renaming_fits}
 use Rattle.sort_checker.specs.PartTypings.{action_of, label_in, arguments_in, are_assignments, right_side, condition_at}
 use Rattle.sort_checker.specs.Parts.{a_label, a_call, a_condition, an_operator, an_equation, a_result, scoped}
@@ -35,32 +35,7 @@ use Rattle.sort_checker.specs.Scopes.{scope_of}
 use Rattle.sort_checker.specs.TextContexts.{IsContextOver}
 use Rattle.sort_checker.specs.TypedTrees.{typing_of, is_action, is_call, is_step, values_check, are_values, is_condition, is_equation, renaming_at}
 use Rattle.sort_checker.specs.VariableScopes.{HasInScope}
-
--- ---- labels, over any vocabulary and scope
-two_or_more : (n : ℕ) → (suc (suc n) == 1) ≡ false
-two_or_more n = by_test (suc (suc n) == 1) refl
-  where
-    by_test : (b : Bool) → (suc (suc n) == 1) ≡ b → (suc (suc n) == 1) ≡ false
-    by_test false e = e
-    by_test true e = let same : suc (suc n) ≡ 1 = eqb-true (suc (suc n)) 1 e in let never : ⊥ = omega (arith, same) in absurd never
-
--- each of these has an elaboration
-abbrev is_action_in : Vocabulary → Scope → bare.Action → Bool
-is_action_in v sc bare.tau = true
-is_action_in v sc (bare.act x es) = is_some (action_of x (map (typing_in v sc) es) (all_named x v.actions))
-
-label_told : (v : Vocabulary) (sc : Scope) (as_ : List bare.Action) → is_some (label_in v sc as_) ≡ list_all (is_action_in v sc) as_
-label_told v sc [] = refl
-label_told v sc (bare.tau ∷ as_) = label_told v sc as_
-label_told v sc (bare.act x es ∷ as_) = of_action (label_told v sc as_) (action_of x (map (typing_in v sc) es) (all_named x v.actions))
-  where
-    of_action : is_some (label_in v sc as_) ≡ list_all (is_action_in v sc) as_ → (o : Option written.Action) → is_some (option_and_then (λ a. option_map (λ m. a ∷ m) (label_in v sc as_)) o) ≡ (is_some o && list_all (is_action_in v sc) as_)
-    of_action later None = refl
-    of_action later (Some a) = sym (still_there (λ m. a ∷ m) (label_in v sc as_)) ∙ later
-
-or_false : (b : Bool) → (b || false) ≡ b
-or_false true = refl
-or_false false = refl
+use Rattle.sort_checker.proofs.EachAlone.{is_action_in, label_told}
 
 pub and_true : (b : Bool) → (b && true) ≡ b
 and_true true = refl
@@ -101,7 +76,7 @@ module _ (v : FullVocabulary) (xs : Variables) (c : TextContext) (s : VariableSc
   typings_same : (es : List Expression) → map (typing_of c s) es ≡ map (typing_in v.declared scope) es
   typings_same es = ap₂ (λ (w : Vocabulary) (sc : Scope). map (typing_in w sc) es) (sym over.declared) scope_same
 
-  call_same : (x : Name) (es : List Expression) → is_call c x (map (typing_of c s) es) ≡ is_call_typed v scope (bare.act x es ∷ [])
+  call_same : (x : Name) (es : List Expression) → is_call c x (map (typing_of c s) es) ≡ is_call_typed v scope (bare.act x es)
   call_same x es =
       ap₂ (λ (o : Option Parameters) (ts : List Typing). is_some (option_and_then (λ ps. all_at checked (map (λ (p : Name × Sort). p.1) ps) ts) o)) (over.processes x) (typings_same es) ∙ of_process (process_named v x)
     where
@@ -110,32 +85,19 @@ module _ (v : FullVocabulary) (xs : Variables) (c : TextContext) (s : VariableSc
       of_process None = refl
       of_process (Some r) = still_there lists.list_of (all_at checked (map (λ (p : Name × Sort). p.1) r.1) (map (typing_in v.declared scope) es))
 
-  -- an action among others
-  step_among : (a : PlainAction) → is_step c s false a ≡ is_action_in v.declared scope (bare_action a)
-  step_among (tau_action span) = refl
-  step_among (named_action span x ds) = or_false (is_action c x.bytes (map (typing_of c s) (map bare_data ds))) ∙ action_same x.bytes (map bare_data ds)
-
-  steps_among : (as_ : List PlainAction) → list_all (is_step c s false) as_ ≡ is_some (label_in v.declared scope (map bare_action as_))
-  steps_among as_ = all_of as_ ∙ sym (label_told v.declared scope (map bare_action as_))
-    where
-      all_of : (bs : List PlainAction) → list_all (is_step c s false) bs ≡ list_all (is_action_in v.declared scope) (map bare_action bs)
-      all_of [] = refl
-      all_of (b ∷ bs) = ap₂ (λ (p q : Bool). p && q) (step_among b) (all_of bs)
-
-  -- an action, or a call, alone
-  pub step_told : (a : PlainAction) → is_step c s true a ≡ is_typed v (scoped xs (a_label (bare_action a ∷ [])))
-  step_told (tau_action span) = refl
-  step_told (named_action span x ds) =
+  -- an action or a call
+  step_same : (a : PlainAction) → is_step c s a ≡ is_step_typed v scope (bare_action a)
+  step_same (tau_action span) = refl
+  step_same (named_action span x ds) =
       ap₂ (λ (p q : Bool). p || q) (action_same x.bytes (map bare_data ds) ∙ (sym (and_true (is_action_in v.declared scope (bare.act x.bytes (map bare_data ds)))) ∙ sym (label_told v.declared scope (bare.act x.bytes (map bare_data ds) ∷ []))))
       (call_same x.bytes (map bare_data ds))
 
-  pub steps_told : (as_ : List PlainAction) → list_all (is_step c s (length as_ == 1)) as_ ≡ is_typed v (scoped xs (a_label (map bare_action as_)))
+  pub step_told : (a : PlainAction) → is_step c s a ≡ is_typed v (scoped xs (a_label (bare_action a ∷ [])))
+  step_told a = step_same a ∙ sym (and_true (is_step_typed v scope (bare_action a)))
+
+  pub steps_told : (as_ : List PlainAction) → list_all (is_step c s) as_ ≡ is_typed v (scoped xs (a_label (map bare_action as_)))
   steps_told [] = refl
-  steps_told (a ∷ []) = and_true (is_step c s true a) ∙ step_told a
-  steps_told (tau_action span ∷ b ∷ as_) =
-      ap (λ (t : Bool). list_all (is_step c s t) (tau_action span ∷ b ∷ as_)) (two_or_more (length as_)) ∙ (steps_among (tau_action span ∷ b ∷ as_) ∙ sym (or_false (is_some (label_in v.declared scope (map bare_action (tau_action span ∷ b ∷ as_))))))
-  steps_told (named_action span x ds ∷ b ∷ as_) =
-      ap (λ (t : Bool). list_all (is_step c s t) (named_action span x ds ∷ b ∷ as_)) (two_or_more (length as_)) ∙ (steps_among (named_action span x ds ∷ b ∷ as_) ∙ sym (or_false (is_some (label_in v.declared scope (map bare_action (named_action span x ds ∷ b ∷ as_))))))
+  steps_told (a ∷ as_) = ap₂ (λ (p q : Bool). p && q) (step_same a) (steps_told as_)
 
   -- ---- calls by assignment
   values_same : (ds : List (Name × Expression)) (ps : Parameters) → values_check c s ds ps ≡ list_all (is_value_typed v.declared scope ds) ps

@@ -1,4 +1,4 @@
--- The worked definition and equation, step by step.
+-- The worked definition, process term and equation, step by step.
 use Rattle.std.proofs.Common.{◌≡◌, ℕ, Bool, true, false, [], ◌∷◌, refl, ap, ⊎_elim, arith}
 use Rattle.std.specs.Prelude.{codes}
 use Rattle.std.specs.List.{Contains}
@@ -6,9 +6,9 @@ use Rattle.data_theory.specs.Table.{language_table, truth_rows, sort_rows, compa
 use Rattle.data_theory.specs.Terms.{natural, boolean, Term, variable, application}
 use Rattle.data_theory.proofs.EnvironmentLemmas.{contains_nothing, contains_cases}
 use Rattle.sort_checker.specs.Scopes.{binds_none, binds_more}
-use Rattle.sort_checker.specs.Elaborations.{ElaboratesDefinition, ElaboratesEquation, label, call_by_name, in_sequence, for_each, where_true, all_done, one_and_more}
+use Rattle.sort_checker.specs.Elaborations.{Elaborates, ElaboratesDefinition, ElaboratesEquation, label, call_in_order, one_by_one, call_by_name, in_sequence, for_each, where_true, all_done, one_and_more}
 use Rattle.sort_checker.specs.WorkedFaults.{small}
-use Rattle.sort_checker.specs.WorkedElaborations.{p, p_elaborated, f_is_one, f_is_one_elaborated, TheseElaborate}
+use Rattle.sort_checker.specs.WorkedElaborations.{p, p_elaborated, at_once, at_once_elaborated, f_is_one, f_is_one_elaborated, TheseElaborate}
 
 zero_not_three : Contains {X = ℕ} (3 ∷ []) 0 → ⊥
 zero_not_three h = ⊎_elim (λ (e : ◌≡◌ {A = ℕ} 3 0). omega (arith, e)) (λ k. contains_nothing 0 k) (contains_cases 3 0 [] h)
@@ -30,6 +30,10 @@ p_elaborates = record {
       for_each (binds_more {n = 8} refl eight_is_new binds_none)
       (where_true refl (in_sequence (one_and_more (label refl) (one_and_more (call_by_name refl refl refl) all_done))));
 }
+
+at_once_elaborates : Elaborates small [] at_once at_once_elaborated
+unfolding language_table truth_rows sort_rows comparison_rows sum_rows first_rows quotient_rows extreme_rows step_rows list_rows
+at_once_elaborates = one_by_one refl (one_and_more (label refl) (one_and_more (call_in_order refl refl) all_done))
 
 is_application : Term → Bool
 is_application (application f ts) = true
@@ -55,4 +59,4 @@ f_is_one_elaborates = record {
 }
 
 pub these_elaborate : TheseElaborate
-these_elaborate = record { definition = p_elaborates; equation = f_is_one_elaborates }
+these_elaborate = record { definition = p_elaborates; term = at_once_elaborates; equation = f_is_one_elaborates }

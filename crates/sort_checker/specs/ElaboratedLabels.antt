@@ -1,5 +1,5 @@
 -- Actions, labels and calls in code.
-use Rattle.std.specs.Prelude.{◌≡◌, ℕ, Bool, false, List, Option, Some, None, is_some, option_map}
+use Rattle.std.specs.Prelude.{◌≡◌, ℕ, List, Option, Some, None, option_map}
 use Rattle.data_theory.specs.Signature.{Sig}
 use Rattle.process_terms.specs.Labels.{Action, Label}
 use Rattle.process_terms.specs.Meanings as code
@@ -9,19 +9,16 @@ use Rattle.process_terms.specs.Processes.{written_call}
 use Rattle.process_terms.specs.SignatureEntries.{entries_of}
 use Rattle.term_pool.specs.Pools.{PoolContents}
 use Rattle.sort_table.specs.Expressions.{Name, Expression}
-use Rattle.sort_table.specs.BareProcesses as bare
 use Rattle.sort_table.specs.NamedLists.{all_named}
 use Rattle.sort_table.specs.SignatureVocabularies.{vocabulary_of}
 use Rattle.data_typing.specs.Meanings.{Scope}
 use Rattle.data_typing.specs.Typings.{Typing, all_at, first_of}
 use Rattle.data_theory.specs.Terms.{Sort, Term}
 use Rattle.sort_checker.specs.declared.chosen_actions.Chosen.{Chosen}
-use Rattle.sort_checker.specs.declared.process_tables.ProcessTable.{ProcessTable}
 use Rattle.sort_checker.specs.declared.sorted_actions.SortedAction.{SortedAction}
 use Rattle.sort_checker.specs.Additions.{GoesOn}
 use Rattle.sort_checker.specs.ElaboratedParts.{IsLabel, IsBody}
 use Rattle.sort_checker.specs.FullVocabularies.{Parameters, FullVocabulary, process_named}
-use Rattle.sort_checker.specs.NameNumbers.{number_under}
 use Rattle.sort_checker.specs.PartTypings.{action_of, arguments_in}
 use Rattle.sort_checker.specs.ReadArguments.{HaveTermsAt}
 use Rattle.sort_checker.specs.SortedActions.{sorts_of, IsSortedAction}
@@ -47,12 +44,6 @@ pub record IsChosen (g : Sig) (x : Name) (ts : List Typing) (c : Chosen) (us : L
 pub data IsChoice (g : Sig) (x : Name) (ts : List Typing) : Option Chosen → Type 0 where
   no_choice : action_of x ts (all_named x (vocabulary_of g).actions) ≡ None → IsChoice g x ts None
   the_choice : {c : Chosen} (us : List Term) → IsChosen g x ts c us → action_of x ts (all_named x (vocabulary_of g).actions) ≡ Some (record { name = x; sorts = sorts_of c.action.now; args = us }) → IsChoice g x ts (Some c)
-
--- ---- operands of `|`
--- the name is that of a process
-abbrev pub is_process_in : ProcessTable → bare.Action → Bool
-is_process_in t bare.tau = false
-is_process_in t (bare.act x es) = is_some (number_under t.places x)
 
 -- ---- answers
 -- the action in code stands for this one

@@ -64,13 +64,14 @@ pub record TheseHaveFaults : Type 0 where
   -- a([]), and 1 as a condition
   pub no_sort : Has (starts (does (codes "a") (listed expressions.none))) (Some (untyped 1))
   pub no_truth : Has (starts (when (numeral 1) delta)) (Some (untyped 1))
-  -- P(1), a|P(1, true), a(), P(z = 1, ..) and P(n = 1, n = 2, ..); but P(1, true) is well typed
+  -- P(1), a(1)|P(1), a(), P(z = 1, ..) and P(n = 1, n = 2, ..); but P(1, true) and a(1)|P(1, true) are well typed
   pub argument_missing : Has (starts (does (codes "P") (numeral 1))) (Some (untyped 1))
-  pub call_among_actions : Has (starts (acts (act (codes "a") (numeral 1 ∷ []) ∷ act (codes "P") (numeral 1 ∷ name (codes "true") ∷ []) ∷ []))) (Some (untyped 1))
+  pub argument_missing_at_once : Has (starts (acts (act (codes "a") (numeral 1 ∷ []) ∷ act (codes "P") (numeral 1 ∷ []) ∷ []))) (Some (untyped 1))
   pub action_called : Has (starts (call (codes "a") [])) (Some (untyped 1))
   pub no_parameter : Has (starts (call (codes "P") ((codes "z", numeral 1) ∷ []))) (Some (untyped 1))
   pub assigned_again : Has (starts (call (codes "P") (n_is (numeral 1) ∷ n_is (numeral 2) ∷ []))) (Some (untyped 1))
   pub called : Has (starts (acts (act (codes "P") (numeral 1 ∷ name (codes "true") ∷ []) ∷ []))) None
+  pub called_at_once : Has (starts (acts (act (codes "a") (numeral 1 ∷ []) ∷ act (codes "P") (numeral 1 ∷ name (codes "true") ∷ []) ∷ []))) None
   -- c isn't declared with a Bool, as a is
   pub new_name_lacks_sorts : Has (starts (rename ((codes "a", codes "c") ∷ []) delta)) (Some (untyped 1))
   -- cons k: Nat

@@ -1,7 +1,7 @@
 //! Actions, multi-actions and calls in code, from trees.
 
 ghost use Rattle.std.specs.Prelude.{◌≡◌, ◌∷◌, [], ℕ, List, Some, map, option_map, IfOk, OnOk};
-ghost use Rattle.std.specs.List.{AllByRecursion, list_any};
+ghost use Rattle.std.specs.List.{AllByRecursion};
 ghost use Rattle.data_theory.specs.Terms.{Term};
 ghost use Rattle.mcrl2_syntax.specs.Words.{word_of};
 ghost use Rattle.mcrl2_syntax.specs.DataTrees.{plain_data};
@@ -22,7 +22,7 @@ ghost use Rattle.sort_checker.specs.FullVocabularies.{FullVocabulary};
 ghost use Rattle.sort_checker.specs.Additions.{GoesOn};
 ghost use Rattle.sort_checker.specs.AssignedTrees.{assigned_value};
 ghost use Rattle.sort_checker.specs.CodeContexts.{IsReady, IsTableOver, SeesData, Sees, CanElaborate, AllCanElaborate, IsElaborated, AreElaborated};
-ghost use Rattle.sort_checker.specs.ElaboratedLabels.{IsChosen, IsAction, IsWishedAction, IsWishedLabel, IsWishedCall, is_process_in};
+ghost use Rattle.sort_checker.specs.ElaboratedLabels.{IsChosen, IsAction, IsWishedAction, IsWishedLabel, IsWishedCall};
 ghost use Rattle.sort_checker.specs.Elaborations.{each_alone};
 ghost use Rattle.sort_checker.specs.PartTypings.{action_of, label_in};
 ghost use Rattle.sort_checker.specs.SortedActions.{sorts_of, AreActionsOf};
@@ -199,28 +199,6 @@ pub(crate) fn action_or_call<'a>(
     Ok(Proc::Act(Label { actions }))
 }
 
-/// Whether the name is that of a process.
-fn is_process<'a>(processes: &ProcessTable<'a>, action: &'a ActionTree) -> bool
-    ensures { result ≡ is_process_in processes.now (bare_action (plain_action action.now)) }
-{
-    match action {
-        ActionTree::Tau(_) => false,
-        ActionTree::Named(_, name, _) => processes.places.get(name.bytes.as_slice()).is_some(),
-    }
-}
-
-/// Whether one of the names is that of a process.
-fn name_process<'a>(processes: &ProcessTable<'a>, actions: &'a [ActionTree]) -> bool
-    ensures { result ≡ list_any (is_process_in processes.now) (map bare_action (map plain_action actions.now)) }
-{
-    for action in actions {
-        if is_process(processes, action) {
-            return true;
-        }
-    }
-    false
-}
-
 /// The actions and calls that names with arguments elaborate to, one by one.
 fn each_alone<'a>(
     alloc: Global,
@@ -247,7 +225,7 @@ fn each_alone<'a>(
     Ok(made)
 }
 
-/// What happens at once: a label, or, where one of the names is that of a process, a synchronous composition.
+/// What happens at once: a label, or, where one of the names is that of a process, these one by one.
 ///
 /// # Errors
 ///
@@ -273,16 +251,13 @@ pub(crate) fn multi_action<'a>(
     if actions.len() == 1 {
         return action_or_call(alloc, sig, pool, tables, scope, processes, &actions[0]);
     }
-    if name_process(processes, actions) {
-        let parts = each_alone(alloc, sig, pool, tables, scope, processes, actions)?;
-        return Ok(Proc::Sync(parts));
-    }
     let table = &processes.actions;
     let made = label_of(alloc, sig, pool, tables, scope, table, actions)?;
-    let Some(label) = made else {
-        unreachable!();
-    };
-    Ok(Proc::Act(label))
+    if let Some(label) = made {
+        return Ok(Proc::Act(label));
+    }
+    let parts = each_alone(alloc, sig, pool, tables, scope, processes, actions)?;
+    Ok(Proc::Sync(parts))
 }
 
 /// The call that a call by assignment elaborates to.

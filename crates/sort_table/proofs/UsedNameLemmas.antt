@@ -17,7 +17,7 @@ use Rattle.mcrl2_syntax.specs.declared.data_tree.DataTree.{DataTree}
 use Rattle.mcrl2_syntax.specs.declared.declaration.Field.{Field}
 use Rattle.mcrl2_syntax.specs.declared.process_tree.VarGroup.{VarGroup}
 use Rattle.mcrl2_syntax.specs.declared.process_tree.ProcTree.{ProcTree}
-use Rattle.mcrl2_syntax.specs.declared.process_tree.ProcTree.TheVariants.{Sum, Either, rolls-Sum, rolls-Either}
+use Rattle.mcrl2_syntax.specs.declared.process_tree.ProcTree.TheVariants.{Sum, Either, LeftMerge, rolls-Sum, rolls-Either, rolls-LeftMerge}
 use Rattle.mcrl2_syntax.specs.declared.process_tree.ProcTree.TheFolds.{fold-roll-ProcTree}
 use Rattle.mcrl2_syntax.specs.SortTrees.{plain_sort}
 use Rattle.mcrl2_syntax.specs.ProcessParts.{var_group_of}
@@ -93,6 +93,11 @@ pub either_names : (span : Span) (d : Box DataTree) (then other : Box ProcTree) 
 either_names span d then other =
     ap names_of_sums (ap plain_process (sym (rolls-Either span d then other)) ∙ fold-roll-ProcTree PlainProcess plain_process_step _)
     ∙ flat_map-append names_of_variables (sums_in (bare_process (plain_process then.value))) (sums_in (bare_process (plain_process other.value)))
+
+pub left_merge_names : (span : Span) (first second : Box ProcTree) → sums_of_one (LeftMerge span first second) ≡ sums_of_one first.value ++ sums_of_one second.value
+left_merge_names span first second =
+    ap names_of_sums (ap plain_process (sym (rolls-LeftMerge span first second)) ∙ fold-roll-ProcTree PlainProcess plain_process_step _)
+    ∙ flat_map-append names_of_variables (sums_in (bare_process (plain_process first.value))) (sums_in (bare_process (plain_process second.value)))
 
 -- ---- in one list or behind it
 pub in_front : (ks : List (Name × Kind)) (ns xs ys : List Name) (o : Option (Bor Name)) (b : Bor Name) → ns ≡ xs ++ ys → option_map (λ (n : Bor Name). n.now) o ≡ unknown_among ks xs → o ≡ Some b → Some b.now ≡ unknown_among ks ns

@@ -4,13 +4,15 @@ use Rattle.std.proofs.lemmas.Grind.{common_steps}
 use Rattle.mcrl2_lexer.specs.declared.kind.Kind.TheVariants.{Sum}
 use Rattle.mcrl2_syntax.specs.ProcessTrees.{plain_process}
 use Rattle.mcrl2_syntax.specs.SpelledProcesses.{SpellsMerge}
-use Rattle.mcrl2_parser.specs.ProcessReading.{finds_last, finds_atom}
+use Rattle.mcrl2_parser.specs.ProcessReading.{finds_last, finds_multi}
 use Rattle.mcrl2_parser.proofs.ChainLeft.{chain_begins, chain_goes_on, shorter_behind}
-use Rattle.mcrl2_parser.proofs.ProcessChains.{IsChoices, EndsChoices, EndsMerge, IsParts, EndsParts, next_choice, choices_err, choices_found, choices_only, next_operand, merge_err, merge_found, merge_only, next_part, parts_err, parts_found, parts_only}
-use Rattle.mcrl2_parser.proofs.Conditions.{of_sum, dot_err, last_is_sum, last_is_cond, no_last, last_err, no_atom, no_sum, sum_found, sum_only, of_guard, then_err, then_only, then_found, else_err, else_only, else_found}
+use Rattle.mcrl2_parser.proofs.ProcessChains.{IsChoices, EndsChoices, EndsMerge, IsParts, EndsParts, next_choice, choices_err, choices_found, choices_only, next_left, merge_err, merge_found, merge_only, next_part, parts_err, parts_found, parts_only}
+use Rattle.mcrl2_parser.proofs.LeftMerges.{first_err, alone_found, alone_only, left_found, second_err, left_only}
+use Rattle.mcrl2_parser.proofs.MultiChains.{IsMulti, EndsMulti, next_atom, multi_err, multi_found, multi_only}
+use Rattle.mcrl2_parser.proofs.Conditions.{of_sum, dot_err, last_is_sum, last_is_cond, no_last, last_err, no_multi, no_sum, sum_found, sum_only, of_guard, then_err, then_only, then_found, else_err, else_only, else_found}
 use Rattle.mcrl2_parser.proofs.Atoms.{atom_step, by_delta, by_brackets, by_operator, of_brackets, of_operator, of_step, inner_err, close_err, brackets_only, around_err, shut_err, operator_only, is_operation}
-use Rattle.mcrl2_parser.proofs.ArrowTables.{behind_less, has_behind, has_next, has_behind_guard, has_under, part_rest, operand_rest, merge_rest, vars_rest}
-use Rattle.mcrl2_parser.proofs.GuardLooks.{no_atom_guard, not_guard}
+use Rattle.mcrl2_parser.proofs.ArrowTables.{behind_less, has_behind, has_next, has_behind_guard, has_under, part_rest, atom_rest, operand_rest, left_rest, merge_rest, vars_rest}
+use Rattle.mcrl2_parser.proofs.GuardLooks.{no_multi_guard, not_guard}
 use Rattle.mcrl2_parser.proofs.ProcessGuards.{begun, unbegun}
 use Rattle.mcrl2_parser.proofs.processes.+process.Goals as goal
 
@@ -61,9 +63,9 @@ merge-returns-in_default-clause-only t c = λ o ps r. merge_only {all = plain_pr
 
 pub merge-parts-init : goal.merge-parts-init
 merge-parts-init t c = let pushed = rw c.new-parts.ensures.items at c.in_ok-push_part.ensures.pushed in (
-  chain_goes_on (SpellsMerge c.args.text.now) EndsMerge (chain_begins (SpellsMerge c.args.text.now) EndsMerge c.args.tokens.now) (next_operand c.in_ok-first.ensures.found c.in_ok-first.ensures.only c.in-Ok.ensures.found.0 c.in-Ok.ensures.found.1)
+  chain_goes_on (SpellsMerge c.args.text.now) EndsMerge (chain_begins (SpellsMerge c.args.text.now) EndsMerge c.args.tokens.now) (next_left c.in_ok-first.ensures.found c.in_ok-first.ensures.only c.in-Ok.ensures.found.0 c.in-Ok.ensures.found.1)
       (shorter_behind c.in_ok-first.ensures.shorter c.in-Ok.ensures.found.0) pushed,
-  has_next c.requires (operand_rest c.in_ok-first.ensures.found) c.in-Ok.ensures.found.0,
+  has_next c.requires (left_rest c.in_ok-first.ensures.found) c.in-Ok.ensures.found.0,
 )
 
 pub merge-returns-in_err-part-clause-only : goal.merge-returns-in_err-part-clause-only
@@ -79,42 +81,65 @@ merge-returns-in_default-expect-clause-only t c =
 
 pub merge-parts-preserved : goal.merge-parts-preserved
 merge-parts-preserved t c = (
-  chain_goes_on (SpellsMerge c.args.text.now) EndsMerge c.parts.invariant.0 (next_operand c.in_ok-part.ensures.found c.in_ok-part.ensures.only c.in-Ok-expect.ensures.found.0 c.in-Ok-expect.ensures.found.1)
+  chain_goes_on (SpellsMerge c.args.text.now) EndsMerge c.parts.invariant.0 (next_left c.in_ok-part.ensures.found c.in_ok-part.ensures.only c.in-Ok-expect.ensures.found.0 c.in-Ok-expect.ensures.found.1)
       (shorter_behind c.in_ok-part.ensures.shorter c.in-Ok-expect.ensures.found.0) c.in_ok-push_part-2.ensures.pushed,
-  has_next c.parts.invariant.1 (operand_rest c.in_ok-part.ensures.found) c.in-Ok-expect.ensures.found.0,
+  has_next c.parts.invariant.1 (left_rest c.in_ok-part.ensures.found) c.in-Ok-expect.ensures.found.0,
 )
+
+pub left-returns-in_err-first-clause-only : goal.left-returns-in_err-first-clause-only
+left-returns-in_err-first-clause-only t c = λ s o p r a f k n. let x = err_from_is_err_and c.from_residual.result c.from_residual.ensures.1 in
+    rw x.1 (x.2 ∙ first_err _ c.in_err-first.ensures.only a f k)
+
+pub left-returns-in_default-clause-found : goal.left-returns-in_default-clause-found
+left-returns-in_default-clause-found t c = alone_found c.in_ok-first.ensures.found (c.in_default.ensures.none refl)
+
+pub left-returns-in_default-clause-only : goal.left-returns-in_default-clause-only
+left-returns-in_default-clause-only t c = λ s o p r a f k n. alone_only c.in_ok-first.ensures.only (c.in_default.ensures.none refl) a f k
+
+pub left-left-requires : goal.left-left-requires
+left-left-requires t c = let has = has_next c.requires (operand_rest c.in_ok-first.ensures.found) c.in-Ok.ensures.found.0 in search rules
+
+pub left-returns-in_err-second-clause-only : goal.left-returns-in_err-second-clause-only
+left-returns-in_err-second-clause-only t c = λ s o p r a f k n. let x = err_from_is_err_and c.from_residual-in_err-second.result c.from_residual-in_err-second.ensures.1 in
+    rw x.1 (x.2 ∙ second_err _ c.in_ok-first.ensures.only c.in-Ok.ensures.found.0 c.in-Ok.ensures.found.1 c.in_err-second.ensures.only a f k n)
+
+pub left-returns-clause-found : goal.left-returns-clause-found
+left-returns-clause-found t c = left_found c.in_ok-first.ensures.found c.in-Ok.ensures.found.0 c.in-Ok.ensures.found.1 c.in_ok-second.ensures.found c.in_ok-tree.ensures.tree refl
+
+pub left-returns-clause-only : goal.left-returns-clause-only
+left-returns-clause-only t c = λ s o p r a f k n. left_only c.in_ok-first.ensures.only c.in-Ok.ensures.found.0 c.in-Ok.ensures.found.1 c.in_ok-second.ensures.only c.in_ok-tree.ensures.tree refl a f k n
 
 pub operand-returns-in_err-first-clause-only : goal.operand-returns-in_err-first-clause-only
 operand-returns-in_err-first-clause-only t c = λ s o p r a f k. let x = err_from_is_err_and c.from_residual.result c.from_residual.ensures.1 in
-    rw x.1 (x.2 ∙ parts_err _ (chain_begins (IsParts c.args.text.now) EndsParts c.args.tokens.now) c.in_err-first.ensures.last c.in_err-first.ensures.atom a f k)
+    rw x.1 (x.2 ∙ parts_err _ (chain_begins (IsParts c.args.text.now) EndsParts c.args.tokens.now) c.in_err-first.ensures.last c.in_err-first.ensures.multi a f k)
 
 pub operand-returns-in_default-clause-found : goal.operand-returns-in_default-clause-found
 operand-returns-in_default-clause-found t c = parts_found {all = plain_process c.in_ok-first.first.value ∷ []} (chain_begins (IsParts c.args.text.now) EndsParts c.args.tokens.now) c.in_ok-first.ensures.found (c.in_default.ensures.none refl) refl refl
 
 pub operand-returns-in_default-clause-only : goal.operand-returns-in_default-clause-only
-operand-returns-in_default-clause-only t c = λ s o p r. parts_only {all = plain_process c.in_ok-first.first.value ∷ []} (chain_begins (IsParts c.args.text.now) EndsParts c.args.tokens.now) c.in_ok-first.ensures.last c.in_ok-first.ensures.atom (c.in_default.ensures.none refl) refl refl
+operand-returns-in_default-clause-only t c = λ s o p r. parts_only {all = plain_process c.in_ok-first.first.value ∷ []} (chain_begins (IsParts c.args.text.now) EndsParts c.args.tokens.now) c.in_ok-first.ensures.last c.in_ok-first.ensures.multi (c.in_default.ensures.none refl) refl refl
 
 pub operand-parts-init : goal.operand-parts-init
 operand-parts-init t c = let pushed = rw c.new-parts.ensures.items at c.in_ok-push_part.ensures.pushed in (
-  chain_goes_on (IsParts c.args.text.now) EndsParts (chain_begins (IsParts c.args.text.now) EndsParts c.args.tokens.now) (next_part c.in_ok-first.ensures.found c.in_ok-first.ensures.last c.in_ok-first.ensures.atom c.in-Ok.ensures.found.0 c.in-Ok.ensures.found.1)
+  chain_goes_on (IsParts c.args.text.now) EndsParts (chain_begins (IsParts c.args.text.now) EndsParts c.args.tokens.now) (next_part c.in_ok-first.ensures.found c.in_ok-first.ensures.last c.in_ok-first.ensures.multi c.in-Ok.ensures.found.0 c.in-Ok.ensures.found.1)
       (shorter_behind c.in_ok-first.ensures.shorter c.in-Ok.ensures.found.0) pushed,
   has_next c.requires (part_rest c.in_ok-first.ensures.found) c.in-Ok.ensures.found.0,
 )
 
 pub operand-returns-in_err-part-clause-only : goal.operand-returns-in_err-part-clause-only
 operand-returns-in_err-part-clause-only t c = λ s o p r a f k. let x = err_from_is_err_and c.from_residual-in_err-part.result c.from_residual-in_err-part.ensures.1 in
-    rw x.1 (x.2 ∙ parts_err _ c.parts.invariant.0 c.in_err-part.ensures.last c.in_err-part.ensures.atom a f k)
+    rw x.1 (x.2 ∙ parts_err _ c.parts.invariant.0 c.in_err-part.ensures.last c.in_err-part.ensures.multi a f k)
 
 pub operand-returns-in_default-expect-clause-found : goal.operand-returns-in_default-expect-clause-found
 operand-returns-in_default-expect-clause-found t c = parts_found {all = map plain_process c.push_part-in-parts.new.parts.items} c.parts.invariant.0 c.in_ok-part.ensures.found (c.in_default-expect.ensures.none refl) c.in_ok-push_part-2.ensures.pushed c.in_ok-tree.ensures.tree
 
 pub operand-returns-in_default-expect-clause-only : goal.operand-returns-in_default-expect-clause-only
 operand-returns-in_default-expect-clause-only t c =
-    λ s o p r. parts_only {all = map plain_process c.push_part-in-parts.new.parts.items} c.parts.invariant.0 c.in_ok-part.ensures.last c.in_ok-part.ensures.atom (c.in_default-expect.ensures.none refl) c.in_ok-push_part-2.ensures.pushed c.in_ok-tree.ensures.tree
+    λ s o p r. parts_only {all = map plain_process c.push_part-in-parts.new.parts.items} c.parts.invariant.0 c.in_ok-part.ensures.last c.in_ok-part.ensures.multi (c.in_default-expect.ensures.none refl) c.in_ok-push_part-2.ensures.pushed c.in_ok-tree.ensures.tree
 
 pub operand-parts-preserved : goal.operand-parts-preserved
 operand-parts-preserved t c = (
-  chain_goes_on (IsParts c.args.text.now) EndsParts c.parts.invariant.0 (next_part c.in_ok-part.ensures.found c.in_ok-part.ensures.last c.in_ok-part.ensures.atom c.in-Ok-expect.ensures.found.0 c.in-Ok-expect.ensures.found.1)
+  chain_goes_on (IsParts c.args.text.now) EndsParts c.parts.invariant.0 (next_part c.in_ok-part.ensures.found c.in_ok-part.ensures.last c.in_ok-part.ensures.multi c.in-Ok-expect.ensures.found.0 c.in-Ok-expect.ensures.found.1)
       (shorter_behind c.in_ok-part.ensures.shorter c.in-Ok-expect.ensures.found.0) c.in_ok-push_part-2.ensures.pushed,
   has_next c.parts.invariant.1 (part_rest c.in_ok-part.ensures.found) c.in-Ok-expect.ensures.found.0,
 )
@@ -125,15 +150,15 @@ part-returns-then-is_ok-clause-found t c = IfOk-weaker _ _ _ (λ x a. finds_last
 pub part-returns-then-is_ok-clause-last : goal.part-returns-then-is_ok-clause-last
 part-returns-then-is_ok-clause-last t c = λ s o p r a f k. let x = last_is_sum (begun Sum c.args.tokens.now c.expect.result c.expect.ensures.found (sym c.is_ok.ensures.value ∙ c.if-is_ok.true)) a k in c.sum.ensures.only o p r x.0 f x.1
 
-pub part-returns-then-is_ok-clause-atom : goal.part-returns-then-is_ok-clause-atom
-part-returns-then-is_ok-clause-atom t c = λ p r a n b. absurd (no_sum (begun Sum c.args.tokens.now c.expect.result c.expect.ensures.found (sym c.is_ok.ensures.value ∙ c.if-is_ok.true)) a)
+pub part-returns-then-is_ok-clause-multi : goal.part-returns-then-is_ok-clause-multi
+part-returns-then-is_ok-clause-multi t c = λ p r a n b. absurd (no_sum (begun Sum c.args.tokens.now c.expect.result c.expect.ensures.found (sym c.is_ok.ensures.value ∙ c.if-is_ok.true)) a)
 
 pub part-returns-in_err-guard-clause-last : goal.part-returns-in_err-guard-clause-last
 part-returns-in_err-guard-clause-last t c = λ s o p r a f k. let x = err_from_is_err_and c.from_residual.result c.from_residual.ensures.1 in
     rw x.1 (x.2 ∙ last_err _ (unbegun Sum c.args.tokens.now c.expect.result c.expect.ensures.none (sym c.is_ok.ensures.value ∙ c.if-is_ok.false)) c.in_err-guard.ensures.only a)
 
-pub part-returns-in_err-guard-clause-atom : goal.part-returns-in_err-guard-clause-atom
-part-returns-in_err-guard-clause-atom t c = λ p r a n b. absurd (no_atom_guard (sym c.if-begins_guard.ensures) a n b)
+pub part-returns-in_err-guard-clause-multi : goal.part-returns-in_err-guard-clause-multi
+part-returns-in_err-guard-clause-multi t c = λ p r a n b. absurd (no_multi_guard (sym c.if-begins_guard.ensures) a n b)
 
 pub part-condition-requires : goal.part-condition-requires
 part-condition-requires t c = (search rules, has_behind_guard c.requires c.in_ok-guard.ensures.found)
@@ -144,14 +169,49 @@ part-returns-then-begins_guard-clause-found t c = IfOk-weaker _ _ _ (λ x a. fin
 pub part-returns-then-begins_guard-clause-last : goal.part-returns-then-begins_guard-clause-last
 part-returns-then-begins_guard-clause-last t c = λ s o p r a f k. c.condition.ensures.only c.args.tokens.now s o p r c.in_ok-guard.ensures.found (last_is_cond c.in_ok-guard.ensures.found a) f k
 
-pub part-returns-then-begins_guard-clause-atom : goal.part-returns-then-begins_guard-clause-atom
-part-returns-then-begins_guard-clause-atom t c = λ p r a n b. absurd (no_atom c.in_ok-guard.ensures.found a n b)
+pub part-returns-then-begins_guard-clause-multi : goal.part-returns-then-begins_guard-clause-multi
+part-returns-then-begins_guard-clause-multi t c = λ p r a n b. absurd (no_multi c.in_ok-guard.ensures.found a n b)
 
 pub part-returns-clause-found : goal.part-returns-clause-found
-part-returns-clause-found t c = IfOk-weaker _ _ _ (λ x a. finds_atom a) c.atom.ensures.found
+part-returns-clause-found t c = IfOk-weaker _ _ _ (λ x a. finds_multi a) c.multi.ensures.found
 
 pub part-returns-clause-last : goal.part-returns-clause-last
 part-returns-clause-last t c = λ s o p r a f k. absurd (no_last (unbegun Sum c.args.tokens.now c.expect.result c.expect.ensures.none (sym c.is_ok.ensures.value ∙ c.if-is_ok.false)) (λ d us g. not_guard c.if-begins_guard.ensures g) a)
+
+pub multi-returns-in_err-first-clause-only : goal.multi-returns-in_err-first-clause-only
+multi-returns-in_err-first-clause-only t c = λ ps r a n. let x = err_from_is_err_and c.from_residual.result c.from_residual.ensures.1 in
+    rw x.1 (x.2 ∙ multi_err _ (chain_begins (IsMulti c.args.text.now) EndsMulti c.args.tokens.now) c.in_err-first.ensures.only a n)
+
+pub multi-returns-in_default-clause-found : goal.multi-returns-in_default-clause-found
+multi-returns-in_default-clause-found t c = multi_found {all = plain_process c.in_ok-first.first.value ∷ []} (chain_begins (IsMulti c.args.text.now) EndsMulti c.args.tokens.now) c.in_ok-first.ensures.found refl refl
+
+pub multi-returns-in_default-clause-only : goal.multi-returns-in_default-clause-only
+multi-returns-in_default-clause-only t c = λ ps r. multi_only {all = plain_process c.in_ok-first.first.value ∷ []} (chain_begins (IsMulti c.args.text.now) EndsMulti c.args.tokens.now) c.in_ok-first.ensures.only (c.in_default.ensures.none refl) refl refl
+
+pub multi-parts-init : goal.multi-parts-init
+multi-parts-init t c = let pushed = rw c.new-parts.ensures.items at c.in_ok-push_part.ensures.pushed in (
+  chain_goes_on (IsMulti c.args.text.now) EndsMulti (chain_begins (IsMulti c.args.text.now) EndsMulti c.args.tokens.now) (next_atom c.in_ok-first.ensures.found c.in_ok-first.ensures.only c.in-Ok.ensures.found.0 c.in-Ok.ensures.found.1)
+      (shorter_behind c.in_ok-first.ensures.shorter c.in-Ok.ensures.found.0) pushed,
+  has_next c.requires (atom_rest c.in_ok-first.ensures.found) c.in-Ok.ensures.found.0,
+)
+
+pub multi-returns-in_err-part-clause-only : goal.multi-returns-in_err-part-clause-only
+multi-returns-in_err-part-clause-only t c = λ ps r a n. let x = err_from_is_err_and c.from_residual-in_err-part.result c.from_residual-in_err-part.ensures.1 in
+    rw x.1 (x.2 ∙ multi_err _ c.parts.invariant.0 c.in_err-part.ensures.only a n)
+
+pub multi-returns-in_default-expect-clause-found : goal.multi-returns-in_default-expect-clause-found
+multi-returns-in_default-expect-clause-found t c = multi_found {all = map plain_process c.push_part-in-parts.new.parts.items} c.parts.invariant.0 c.in_ok-part.ensures.found c.in_ok-push_part-2.ensures.pushed c.in_ok-tree.ensures.tree
+
+pub multi-returns-in_default-expect-clause-only : goal.multi-returns-in_default-expect-clause-only
+multi-returns-in_default-expect-clause-only t c =
+    λ ps r. multi_only {all = map plain_process c.push_part-in-parts.new.parts.items} c.parts.invariant.0 c.in_ok-part.ensures.only (c.in_default-expect.ensures.none refl) c.in_ok-push_part-2.ensures.pushed c.in_ok-tree.ensures.tree
+
+pub multi-parts-preserved : goal.multi-parts-preserved
+multi-parts-preserved t c = (
+  chain_goes_on (IsMulti c.args.text.now) EndsMulti c.parts.invariant.0 (next_atom c.in_ok-part.ensures.found c.in_ok-part.ensures.only c.in-Ok-expect.ensures.found.0 c.in-Ok-expect.ensures.found.1)
+      (shorter_behind c.in_ok-part.ensures.shorter c.in-Ok-expect.ensures.found.0) c.in_ok-push_part-2.ensures.pushed,
+  has_next c.parts.invariant.1 (atom_rest c.in_ok-part.ensures.found) c.in-Ok-expect.ensures.found.0,
+)
 
 pub sum-merge-requires : goal.sum-merge-requires
 sum-merge-requires t c = (grind (arith, common_steps), has_next (has_behind c.requires c.in_ok-word.ensures.found.0) (vars_rest c.in_ok-variables.ensures.found) c.in_ok-rest.ensures.found.0)

@@ -22,14 +22,14 @@ use Rattle.sort_checker.specs.Operators.{names_of}
 use Rattle.sort_checker.specs.NumberedWords.{StandIn}
 use Rattle.sort_checker.specs.CodeContexts.{IsReady, Sees, SumNamesStand, CanElaborate, IsElaborated, AreElaborated}
 use Rattle.sort_checker.specs.FormTrees.{operator_names}
-use Rattle.sort_checker.proofs.TreeSizes.{when_smaller, then_smaller, other_smaller}
+use Rattle.sort_checker.proofs.TreeSizes.{when_smaller, then_smaller, other_smaller, first_smaller, second_smaller}
 use Rattle.sort_checker.proofs.Adding.{goes_nowhere, goes_then, texts_stay}
 use Rattle.sort_checker.proofs.WhatStays.{sees_after, table_on}
 use Rattle.sort_checker.proofs.PartsOfTrees.{operated, operated_in_code, chained}
-use Rattle.sort_checker.proofs.ProcessTreeForms.{bare_one, bare_all, when_plain, either_plain, delta_same, call_same, when_same, either_same}
+use Rattle.sort_checker.proofs.ProcessTreeForms.{bare_one, bare_all, when_plain, either_plain, left_merge_plain, delta_same, call_same, when_same, either_same, left_merge_same}
 use Rattle.sort_checker.proofs.ElaboratedForms.{none_elaborated, next_elaborated}
-use Rattle.sort_checker.proofs.ElaboratedInside.{names_on, part_names, part_words, can_when, can_either, can_part, sum_sorts, can_after, can_inside, left_again, ready_front}
-use Rattle.sort_checker.proofs.ElaboratedInCode.{delta_in_code, when_in_code, either_in_code, sum_in_code}
+use Rattle.sort_checker.proofs.ElaboratedInside.{names_on, part_names, part_words, can_when, can_either, can_left_merge, can_part, sum_sorts, can_after, can_inside, left_again, ready_front}
+use Rattle.sort_checker.proofs.ElaboratedInCode.{delta_in_code, when_in_code, either_in_code, left_merge_in_code, sum_in_code}
 use Rattle.sort_checker.proofs.process_elaborating.+elaborating.Goals as goal
 
 pub process_of-call_by_name-requires-clause-elaborates : goal.process_of-call_by_name-requires-clause-elaborates
@@ -285,3 +285,54 @@ either_of-returns-clause-means t c =
     (c.in_ok-condition.ensures.means v.declared variables sees.sees_data)
     (c.in_ok-then.ensures.means v variables (sees_after c.args.sig.now c.args.pool.now c.condition_term.new.sig c.condition_term.new.pool c.requires.ready.signature c.condition_term.ensures.kept c.args.processes.now c.args.scope.now v variables sees))
     (c.in_ok-other.ensures.means v variables (subst (λ bs. Sees c.boxed_process.new.sig c.args.processes.now bs v variables) (sym c.in_ok-then.ensures.scope) (sees_after c.args.sig.now c.args.pool.now c.boxed_process.new.sig c.boxed_process.new.pool c.requires.ready.signature (goes_then c.args.sig.now c.args.pool.now c.condition_term.new.sig c.condition_term.new.pool c.boxed_process.new.sig c.boxed_process.new.pool c.condition_term.ensures.kept c.boxed_process.ensures.kept) c.args.processes.now c.args.scope.now v variables sees)))
+
+pub process_of-left_merge_of-requires : goal.process_of-left_merge_of-requires
+process_of-left_merge_of-requires t c =
+    let w = subst IsProcessOfWords (left_merge_plain c.args.tree.now c.in-LeftMerge.field-0 c.in-LeftMerge.first c.in-LeftMerge.second c.deref-in-LeftMerge.result.now c.deref-in-LeftMerge-2.result.now c.in-LeftMerge.is c.deref-in-LeftMerge.ensures c.deref-in-LeftMerge-2.ensures) c.requires.words in
+    let e = left_merge_same c.args.tree.now c.in-LeftMerge.field-0 c.in-LeftMerge.first c.in-LeftMerge.second c.deref-in-LeftMerge.result.now c.deref-in-LeftMerge-2.result.now c.in-LeftMerge.is c.deref-in-LeftMerge.ensures c.deref-in-LeftMerge-2.ensures in
+    let one = first_smaller c.args.tree.now c.deref-in-LeftMerge.result.now c.in-LeftMerge.field-0 c.in-LeftMerge.first c.in-LeftMerge.second c.in-LeftMerge.is c.deref-in-LeftMerge.ensures in
+    let two = second_smaller c.args.tree.now c.deref-in-LeftMerge-2.result.now c.in-LeftMerge.field-0 c.in-LeftMerge.first c.in-LeftMerge.second c.in-LeftMerge.is c.deref-in-LeftMerge-2.ensures in
+    (omega (arith, c.decreases, one, two), (c.requires.ready, (c.requires.table, (w, (subst (SumNamesStand c.args.sig.now) e c.requires.names, subst (CanElaborate c.args.sig.now c.args.processes.now c.args.scope.now) e c.requires.elaborates)))))
+
+pub process_of-returns-in-LeftMerge-clause-means : goal.process_of-returns-in-LeftMerge-clause-means
+process_of-returns-in-LeftMerge-clause-means t c =
+    subst (λ p. IfOk c.left_merge_of.result (λ made. (v : FullVocabulary) (variables : Scope) → Sees c.args.sig.now c.args.processes.now c.args.scope.now v variables → IsElaborated v variables p c.left_merge_of.new.sig c.left_merge_of.new.pool (code.plain_process made)))
+    (sym (left_merge_same c.args.tree.now c.in-LeftMerge.field-0 c.in-LeftMerge.first c.in-LeftMerge.second c.deref-in-LeftMerge.result.now c.deref-in-LeftMerge-2.result.now c.in-LeftMerge.is c.deref-in-LeftMerge.ensures c.deref-in-LeftMerge-2.ensures)) c.left_merge_of.ensures.means
+
+pub left_merge_of-boxed_process-requires : goal.left_merge_of-boxed_process-requires
+left_merge_of-boxed_process-requires t c =
+    (omega (arith, c.decreases), (c.requires.ready, (c.requires.table, (c.requires.words.0, (c.requires.names.0, (can_left_merge c.args.sig.now c.args.processes.now c.args.scope.now (bare_one c.args.first.now) (bare_one c.args.second.now) c.requires.elaborates).0)))))
+
+pub left_merge_of-boxed_process-requires-2 : goal.left_merge_of-boxed_process-requires-2
+left_merge_of-boxed_process-requires-2 t c =
+    let on = c.boxed_process.ensures.kept in (
+      omega (arith, c.decreases),
+      (
+        c.in_ok-first.ensures.ready,
+        (
+          table_on c.args.sig.now c.args.pool.now c.boxed_process.new.sig c.boxed_process.new.pool c.requires.ready.signature on c.args.processes.now c.requires.table,
+          (
+            c.requires.words.1,
+            (
+              names_on c.args.sig.now c.boxed_process.new.sig (texts_stay c.args.sig.now c.boxed_process.new.sig c.requires.ready.signature on.added) (bare_one c.args.second.now) c.requires.names.1,
+              subst (λ bs. CanElaborate c.boxed_process.new.sig c.args.processes.now bs (bare_one c.args.second.now)) (sym c.in_ok-first.ensures.scope) (can_after c.args.sig.now c.args.pool.now c.boxed_process.new.sig c.boxed_process.new.pool c.requires.ready.signature on c.args.processes.now c.args.scope.now (bare_one c.args.second.now) (can_left_merge c.args.sig.now c.args.processes.now c.args.scope.now (bare_one c.args.first.now) (bare_one c.args.second.now) c.requires.elaborates).1),
+            ),
+          ),
+        ),
+      ),
+    )
+
+pub left_merge_of-returns-in_err-second-clause-kept : goal.left_merge_of-returns-in_err-second-clause-kept
+left_merge_of-returns-in_err-second-clause-kept t c =
+    goes_then c.args.sig.now c.args.pool.now c.boxed_process.new.sig c.boxed_process.new.pool c.boxed_process-2.new.sig c.boxed_process-2.new.pool c.boxed_process.ensures.kept c.boxed_process-2.ensures.kept
+
+pub left_merge_of-returns-clause-kept : goal.left_merge_of-returns-clause-kept
+left_merge_of-returns-clause-kept t c =
+    goes_then c.args.sig.now c.args.pool.now c.boxed_process.new.sig c.boxed_process.new.pool c.boxed_process-2.new.sig c.boxed_process-2.new.pool c.boxed_process.ensures.kept c.boxed_process-2.ensures.kept
+
+pub left_merge_of-returns-clause-means : goal.left_merge_of-returns-clause-means
+left_merge_of-returns-clause-means t c =
+    λ v variables sees.
+    left_merge_in_code v variables (bare_one c.args.first.now) (bare_one c.args.second.now) c.boxed_process.new.sig c.boxed_process.new.pool c.boxed_process-2.new.sig c.boxed_process-2.new.pool c.boxed_process-2.ensures.kept c.in_ok-first.first c.in_ok-second.second
+    (c.in_ok-first.ensures.means v variables sees)
+    (c.in_ok-second.ensures.means v variables (subst (λ bs. Sees c.boxed_process.new.sig c.args.processes.now bs v variables) (sym c.in_ok-first.ensures.scope) (sees_after c.args.sig.now c.args.pool.now c.boxed_process.new.sig c.boxed_process.new.pool c.requires.ready.signature c.boxed_process.ensures.kept c.args.processes.now c.args.scope.now v variables sees)))

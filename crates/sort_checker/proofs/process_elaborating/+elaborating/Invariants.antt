@@ -28,6 +28,9 @@ decreases-when_of l = 3 * the_size l.then.now + 2
 abbrev pub decreases-either_of : goal.decreases-either_of
 decreases-either_of l = 3 * (the_size l.then.now + (the_size l.other.now - the_size l.then.now)) + 2
 
+abbrev pub decreases-left_merge_of : goal.decreases-left_merge_of
+decreases-left_merge_of l = 3 * (the_size l.first.now + (the_size l.second.now - the_size l.first.now)) + 2
+
 abbrev pub invariant-processes_of-loop-part : goal.invariant-processes_of-loop-part
 invariant-processes_of-loop-part l = record {
   kept : GoesOn l.fn.sig l.fn.pool l.sig l.pool;

@@ -7,7 +7,7 @@ use Rattle.mcrl2_syntax.specs.ProcessParts.{renaming_of}
 use Rattle.sort_table.specs.Expressions.{Name}
 use Rattle.sort_checker.specs.RenamedTrees.{again_among}
 use Rattle.sort_checker.proofs.Firsts.{here, further, none_told, some_told, ok_then}
-use Rattle.sort_checker.proofs.AgainNames.{again_in_one, again_in_all, processes_searched, rename_again, either_again, in_front, in_back}
+use Rattle.sort_checker.proofs.AgainNames.{again_in_one, again_in_all, processes_searched, rename_again, either_again, left_merge_again, in_front, in_back}
 use Rattle.sort_checker.proofs.renamings.+renames.Goals as goal
 
 abbrev now_of : Bor Name → Name
@@ -38,6 +38,19 @@ again_in_process-returns-in-None-2 t c =
     (λ q told. in_back now_of (again_in_one c.args.process.now) (again_in_one c.deref-in-Either.result.now) (again_in_one c.deref-in-None-2.result.now) c.in_ok-name-in-Either.field-0 q
     (ap again_in_one c.in-Either.is ∙ (either_again c.in-Either.field-0 c.in-Either.field-1 c.in-Either.then c.in-Either.other ∙ (λ i. option_or (again_in_one (sym c.deref-in-Either.ensures i)) (again_in_one (sym c.deref-in-None-2.ensures i)))))
     c.in_ok-name-in-Either.ensures c.in-None-2.is told)
+
+pub again_in_process-returns-in-Some-3 : goal.again_in_process-returns-in-Some-3
+again_in_process-returns-in-Some-3 t c =
+    in_front now_of (again_in_one c.args.process.now) (again_in_one c.deref-in-LeftMerge.result.now) (again_in_one c.in-LeftMerge.second.value) c.in_ok-name-in-LeftMerge.field-0 c.in-Some-3.name
+    (ap again_in_one c.in-LeftMerge.is ∙ (left_merge_again c.in-LeftMerge.field-0 c.in-LeftMerge.first c.in-LeftMerge.second ∙ ap (λ (p : ProcTree). option_or (again_in_one p) (again_in_one c.in-LeftMerge.second.value)) (sym c.deref-in-LeftMerge.ensures)))
+    c.in_ok-name-in-LeftMerge.ensures c.in-Some-3.is
+
+pub again_in_process-returns-in-None-3 : goal.again_in_process-returns-in-None-3
+again_in_process-returns-in-None-3 t c =
+    ok_then c.again_in_process-in-None-3.result c.again_in_process-in-None-3.ensures
+    (λ q told. in_back now_of (again_in_one c.args.process.now) (again_in_one c.deref-in-LeftMerge.result.now) (again_in_one c.deref-in-None-3.result.now) c.in_ok-name-in-LeftMerge.field-0 q
+    (ap again_in_one c.in-LeftMerge.is ∙ (left_merge_again c.in-LeftMerge.field-0 c.in-LeftMerge.first c.in-LeftMerge.second ∙ (λ i. option_or (again_in_one (sym c.deref-in-LeftMerge.ensures i)) (again_in_one (sym c.deref-in-None-3.ensures i)))))
+    c.in_ok-name-in-LeftMerge.ensures c.in-None-3.is told)
 
 pub again_in_processes-returns-in-Some : goal.again_in_processes-returns-in-Some
 again_in_processes-returns-in-Some t c =

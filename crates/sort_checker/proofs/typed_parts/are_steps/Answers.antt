@@ -1,4 +1,4 @@
-use Rattle.std.proofs.Common.{◌==◌, length, sym, ◌∙◌}
+use Rattle.std.proofs.Common.{sym, ◌∙◌}
 use Rattle.mcrl2_syntax.specs.ProcessParts.{plain_action}
 use Rattle.sort_checker.specs.ReadyTrees.{IsReadyLeaf, leaves_of_action}
 use Rattle.sort_checker.specs.TypedTrees.{is_step}
@@ -11,4 +11,4 @@ is_step-requires-clause-ready c = holds_along_mapped plain_action leaves_of_acti
 
 pub returns-then-not-branch : goal.returns-then-not-branch
 returns-then-not-branch c =
-    sym (one_image_fails (is_step c.args.context.now c.args.scope.now (length c.args.actions.now == 1)) plain_action c.args.actions.now c.loop-action.action-index c.action-item.result c.loop-action-test.true c.action-item.is (sym c.in_ok-is_step.ensures ∙ c.if-not-branch.true))
+    sym (one_image_fails (is_step c.args.context.now c.args.scope.now) plain_action c.args.actions.now c.loop-action.action-index c.action-item.result c.loop-action-test.true c.action-item.is (sym c.in_ok-is_step.ensures ∙ c.if-not-branch.true))

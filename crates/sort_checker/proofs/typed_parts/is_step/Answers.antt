@@ -1,4 +1,4 @@
-use Rattle.std.proofs.Common.{◌≡◌, ◌&&◌, ◌||◌, Bool, List, map, sym, subst, ap, ap₂, ◌∙◌}
+use Rattle.std.proofs.Common.{◌≡◌, ◌||◌, Bool, List, map, sym, subst, ap, ap₂, ◌∙◌}
 use Rattle.std.specs.List.{AllByRecursion}
 use Rattle.mcrl2_syntax.specs.declared.data_tree.DataTree.{DataTree}
 use Rattle.mcrl2_syntax.specs.declared.process_tree.ActionTree.{ActionTree}
@@ -26,21 +26,10 @@ returns-then-branch c =
     let scope = c.args.scope.now in
     let x : Name = c.as_slice-name.result.now in
     let ts : List Typing = typings_of ctx scope c.as_slice.result.now in
-    let whole : (is_action ctx x ts || (c.args.alone && is_call ctx x ts)) ≡ is_step ctx scope c.args.alone (plain_action c.args.action.now)
-    = ap₂ (λ (n : Name) (ds : List DataTree). is_action ctx n (typings_of ctx scope ds) || (c.args.alone && is_call ctx n (typings_of ctx scope ds))) c.as_slice-name.ensures.value c.as_slice.ensures.value ∙ ap (λ (a : ActionTree). is_step ctx scope c.args.alone (plain_action a)) (sym c.in-Named.is) in
+    let whole : (is_action ctx x ts || is_call ctx x ts) ≡ is_step ctx scope (plain_action c.args.action.now)
+    = ap₂ (λ (n : Name) (ds : List DataTree). is_action ctx n (typings_of ctx scope ds) || is_call ctx n (typings_of ctx scope ds)) c.as_slice-name.ensures.value c.as_slice.ensures.value ∙ ap (λ (a : ActionTree). is_step ctx scope (plain_action a)) (sym c.in-Named.is) in
     let read : AreReadings ctx.sig.now c.as_slice-2.result.now ts = subst (λ (rs : List Reading). AreReadings ctx.sig.now rs ts) (sym c.as_slice-2.ensures.value) c.in_ok-readings.ensures.typings in
-    ap (λ (b : Bool). b || (c.args.alone && is_call ctx x ts)) (sym c.if-branch.true ∙ c.in_ok-is_action.ensures ts read) ∙ whole
-
-pub returns-then-not-alone : goal.returns-then-not-alone
-returns-then-not-alone c =
-    let ctx = c.args.context.now in
-    let scope = c.args.scope.now in
-    let x : Name = c.as_slice-name.result.now in
-    let ts : List Typing = typings_of ctx scope c.as_slice.result.now in
-    let whole : (is_action ctx x ts || (c.args.alone && is_call ctx x ts)) ≡ is_step ctx scope c.args.alone (plain_action c.args.action.now)
-    = ap₂ (λ (n : Name) (ds : List DataTree). is_action ctx n (typings_of ctx scope ds) || (c.args.alone && is_call ctx n (typings_of ctx scope ds))) c.as_slice-name.ensures.value c.as_slice.ensures.value ∙ ap (λ (a : ActionTree). is_step ctx scope c.args.alone (plain_action a)) (sym c.in-Named.is) in
-    let read : AreReadings ctx.sig.now c.as_slice-2.result.now ts = subst (λ (rs : List Reading). AreReadings ctx.sig.now rs ts) (sym c.as_slice-2.ensures.value) c.in_ok-readings.ensures.typings in
-    ap₂ (λ (b t : Bool). b || (t && is_call ctx x ts)) (sym c.if-branch.false ∙ c.in_ok-is_action.ensures ts read) (sym c.if-not-alone.true) ∙ whole
+    ap (λ (b : Bool). b || is_call ctx x ts) (sym c.if-branch.true ∙ c.in_ok-is_action.ensures ts read) ∙ whole
 
 pub returns : goal.returns
 returns c =
@@ -48,8 +37,8 @@ returns c =
     let scope = c.args.scope.now in
     let x : Name = c.as_slice-name.result.now in
     let ts : List Typing = typings_of ctx scope c.as_slice.result.now in
-    let whole : (is_action ctx x ts || (c.args.alone && is_call ctx x ts)) ≡ is_step ctx scope c.args.alone (plain_action c.args.action.now)
-    = ap₂ (λ (n : Name) (ds : List DataTree). is_action ctx n (typings_of ctx scope ds) || (c.args.alone && is_call ctx n (typings_of ctx scope ds))) c.as_slice-name.ensures.value c.as_slice.ensures.value ∙ ap (λ (a : ActionTree). is_step ctx scope c.args.alone (plain_action a)) (sym c.in-Named.is) in
+    let whole : (is_action ctx x ts || is_call ctx x ts) ≡ is_step ctx scope (plain_action c.args.action.now)
+    = ap₂ (λ (n : Name) (ds : List DataTree). is_action ctx n (typings_of ctx scope ds) || is_call ctx n (typings_of ctx scope ds)) c.as_slice-name.ensures.value c.as_slice.ensures.value ∙ ap (λ (a : ActionTree). is_step ctx scope (plain_action a)) (sym c.in-Named.is) in
     let read : AreReadings ctx.sig.now c.as_slice-2.result.now ts = subst (λ (rs : List Reading). AreReadings ctx.sig.now rs ts) (sym c.as_slice-2.ensures.value) c.in_ok-readings.ensures.typings in
     let again : AreReadings ctx.sig.now c.as_slice-3.result.now ts = subst (λ (rs : List Reading). AreReadings ctx.sig.now rs ts) (sym c.as_slice-3.ensures.value) c.in_ok-readings.ensures.typings in
-    ok_then c.is_call.result c.is_call.ensures (λ b told. told ts again ∙ (ap₂ (λ (p t : Bool). p || (t && is_call ctx x ts)) (sym c.if-branch.false ∙ c.in_ok-is_action.ensures ts read) (sym c.if-not-alone.false) ∙ whole))
+    ok_then c.is_call.result c.is_call.ensures (λ b told. told ts again ∙ (ap (λ (p : Bool). p || is_call ctx x ts) (sym c.if-branch.false ∙ c.in_ok-is_action.ensures ts read) ∙ whole))

@@ -1,7 +1,5 @@
-use Rattle.std.proofs.Common.{◌==◌, ℕ, List, map, length, sym, ap, ◌∙◌, subst}
-use Rattle.std.specs.List.{list_all}
+use Rattle.std.proofs.Common.{map, sym, ap, ◌∙◌, subst}
 use Rattle.std.specs.Prelude.{option_map}
-use Rattle.std.proofs.lemmas.List.{length-map}
 use Rattle.mcrl2_syntax.specs.DataTrees.{plain_data}
 use Rattle.mcrl2_syntax.specs.ProcessParts.{plain_action}
 use Rattle.sort_table.specs.BareData.{bare_data}
@@ -13,7 +11,7 @@ use Rattle.sort_checker.specs.ParameterTables.{parameters_of, parameters_under}
 use Rattle.sort_checker.specs.Parts.{scoped}
 use Rattle.sort_checker.specs.ReadyTrees.{AreReadyLeaves, leaves_of_part}
 use Rattle.sort_checker.specs.StopTrees.{part_of}
-use Rattle.sort_checker.specs.TypedTrees.{is_step, are_values}
+use Rattle.sort_checker.specs.TypedTrees.{are_values}
 use Rattle.sort_checker.proofs.Firsts.{ok_then}
 use Rattle.sort_checker.proofs.TypedParts.{condition_told, step_told, steps_told, values_told, renamings_told}
 use Rattle.sort_checker.proofs.untyped_parts.is_part_typed.Goals as goal
@@ -39,8 +37,7 @@ pub returns-in-Multi : goal.returns-in-Multi
 returns-in-Multi c =
     ok_then c.are_steps.result c.are_steps.ensures
     (λ b h v xs over inside.
-    h ∙ (ap (λ (n : ℕ). list_all (is_step c.args.context.now c.args.scope.now (n == 1)) (map plain_action c.in-Multi.actions.now)) (sym (length-map c.in-Multi.actions.now plain_action))
-    ∙ (steps_told v xs c.args.context.now c.args.scope.now over inside (map plain_action c.in-Multi.actions.now) ∙ ap (λ (p : PartTree). is_typed v (scoped xs (part_of p))) (sym c.in-Multi.is))))
+    h ∙ (steps_told v xs c.args.context.now c.args.scope.now over inside (map plain_action c.in-Multi.actions.now) ∙ ap (λ (p : PartTree). is_typed v (scoped xs (part_of p))) (sym c.in-Multi.is)))
 
 pub returns-in-Call : goal.returns-in-Call
 returns-in-Call c =
