@@ -627,7 +627,7 @@ def tell(trials, answers):
 
 
 def main():
-    words = argparse.ArgumentParser(usage=__doc__.split("\n\n")[1])
+    words = argparse.ArgumentParser(usage="bench/starting.py [--quick] [--seed N] [--texts N] [PROGRAM WORD..]")
     words.add_argument("--quick", action="store_true")
     words.add_argument("--seed", type=int, default=1)
     words.add_argument("--texts", type=int, default=600)
