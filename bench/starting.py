@@ -455,7 +455,7 @@ class Maker:
         if kind == "allow":
             pairs = itertools.combinations_with_replacement(PLAIN + VALUED, 2)
             sets = [*((name,) for name in PLAIN + VALUED), *pairs]
-            return (kind, tuple({tuple(sorted(names)) for names in self.random.sample(sets, self.random.randrange(8, 25))}), term)
+            return (kind, tuple(self.random.sample(sets, self.random.randrange(8, 25))), term)
         return (kind, tuple(names), term)
 
     def text(self):
