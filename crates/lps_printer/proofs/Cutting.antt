@@ -57,7 +57,7 @@ cut_token : (p : Piece) {rest : List ℕ} {pieces : List Piece} → IsPiece p �
 cut_token p {rest = rest} {pieces = pieces} ok apart c front =
     let bytes : List ℕ = p.bytes in
     let k : Kind = p.kind in
-    let token : TokenAt (bytes ++ rest) (length bytes) k = token_front rest ok.token ok.kept (stops_from bytes (get_or rest 0 0) apart) in
+    let token : TokenAt (bytes ++ rest) (length bytes) k = token_front rest ok.token (stops_from bytes (get_or rest 0 0) apart) in
     let r = behind front bytes rest pieces c in
     let size : length front + length bytes - length front ≡ length bytes = omega arith in
     let tail : drop (length front) (front ++ (bytes ++ rest)) ≡ bytes ++ rest = drop-append_seam front (bytes ++ rest) in

@@ -11,7 +11,7 @@ use Rattle.mcrl2_syntax.specs.ProcessTrees as trees
 use Rattle.mcrl2_syntax.specs.ProcessTrees.{PlainProcess}
 use Rattle.mcrl2_syntax.specs.Declarations.{PlainDecl}
 use Rattle.mcrl2_syntax.specs.SpelledLabels.{SpellsVars}
-use Rattle.mcrl2_syntax.specs.SpelledProcesses.{chosen, atom_delta, atom_action, operand_parts, dots_end, merge_last, SpellsChoices, choices_last, SpellsProcess, spells_process}
+use Rattle.mcrl2_syntax.specs.SpelledProcesses.{chosen, atom_delta, atom_action, multi_last, operand_parts, dots_end, left_last, merge_last, SpellsChoices, choices_last, SpellsProcess, spells_process}
 use Rattle.mcrl2_syntax.specs.SpelledDeclarations.{SpellsDecl, decl_proc, decl_proc_over, decl_init}
 use Rattle.process_terms.specs.Processes.{Bound}
 use Rattle.sort_table.specs.Expressions.{Name}
@@ -64,7 +64,7 @@ record BodyRead (text : List ℕ) (ss : List Summand) (ts : List Token) : Type 0
 read_all : (text : List ℕ) (ss : List Summand) → AreSpelledSummands ss → (ts : List Token) → Says text (print_choice ss []) ts → BodyRead text ss ts
 read_all text [] ok ts (says_more {t = t} {ts = us} k slice says) = record {
   tree = _;
-  spells = spells_process (subst (λ (r : List Token). SpellsChoices text (trees.delta (span_of t t) ∷ []) (t ∷ us) r) (nothing_left says) (choices_last (merge_last (operand_parts (atom_delta k) dots_end))));
+  spells = spells_process (subst (λ (r : List Token). SpellsChoices text (trees.delta (span_of t t) ∷ []) (t ∷ us) r) (nothing_left says) (choices_last (merge_last (left_last (operand_parts (multi_last (atom_delta k)) dots_end)))));
   is = refl;
 }
 read_all text (s ∷ ss) ok ts says =
@@ -117,7 +117,7 @@ starts_spell_back a ok =
       tokens = l.tokens;
       cut = l.cut;
       declaration = _;
-      spells = decl_init (spells_process (subst (λ (us : List Token). SpellsChoices text (trees.acts r.tree ∷ []) l.tokens us) (nothing_left r.says) (choices_last (merge_last (operand_parts (atom_action r.spells) dots_end)))));
+      spells = decl_init (spells_process (subst (λ (us : List Token). SpellsChoices text (trees.acts r.tree ∷ []) l.tokens us) (nothing_left r.says) (choices_last (merge_last (left_last (operand_parts (multi_last (atom_action r.spells)) dots_end))))));
       is = ap (λ (x : bare.Action). initial (bare.acts (x ∷ []))) (action_is r.tree ∙ ap plain_action r.is);
     }
 

@@ -5,11 +5,11 @@ use Rattle.std.proofs.lemmas.Bool.{and_from}
 use Rattle.std.proofs.lemmas.Bool.Decides.{nat_tests}
 use Rattle.std.proofs.lemmas.List.Elements.{All-head, All-tail}
 use Rattle.mcrl2_lexer.specs.declared.kind.Kind.{Kind}
-use Rattle.mcrl2_lexer.specs.Words.{word_kind, sign_kind, is_letter, is_digit, is_name_byte, is_left_out}
+use Rattle.mcrl2_lexer.specs.Words.{word_kind, sign_kind, is_letter, is_digit, is_name_byte}
 use Rattle.mcrl2_lexer.specs.Tokens.{AreNameBytes, IsToken, name_or_word, zero_numeral, numeral, sign, TokenAt}
 use Rattle.mcrl2_lexer.proofs.Signs.{four_are_none, letter_begins_none, digit_begins_none}
 use Rattle.lps_printer.specs.Pieces.{cannot_go_on, is_not, is_none, is_quiet}
-use Rattle.mcrl2_lexer.proofs.Fronts.{digit_no_letter, nothing_no_token}
+use Rattle.mcrl2_lexer.proofs.Fronts.{digit_no_letter, nothing_no_token, three_at}
 use Rattle.mcrl2_lexer.proofs.Spelled.{name_front, zero_front, numeral_front, single_front, pair_front}
 
 names_pass : (bytes : List ℕ) → AreNameBytes bytes → list_all is_name_byte bytes ≡ true
@@ -24,20 +24,27 @@ pub record Stops (bytes : List ℕ) (next : ℕ) : Type 0 where
   pub one : (a : ℕ) → bytes ≡ a ∷ [] → sign_kind (a ∷ next ∷ []) ≡ None
   pub two : (a b : ℕ) → bytes ≡ a ∷ b ∷ [] → sign_kind (a ∷ b ∷ next ∷ []) ≡ None
 
-three_left_out : (a b c : ℕ) (kind : Kind) → sign_kind (a ∷ b ∷ c ∷ []) ≡ Some kind → is_left_out kind ≡ false → ⊥
-three_left_out a b c kind found kept = grind (arith, nat_tests)
+no_letter : (a b c : ℕ) (kind : Kind) → sign_kind (a ∷ b ∷ c ∷ []) ≡ Some kind → is_letter a ≡ false
+no_letter a b c kind found = grind (arith, nat_tests)
 
-pub token_front : {bytes : List ℕ} {kind : Kind} (rest : List ℕ) → IsToken bytes kind → is_left_out kind ≡ false → Stops bytes (get_or rest 0 0)
+no_digit : (a b c : ℕ) (kind : Kind) → sign_kind (a ∷ b ∷ c ∷ []) ≡ Some kind → is_digit a ≡ false
+no_digit a b c kind found = grind (arith, nat_tests)
+
+-- a sign of three bytes, in front of any byte
+three_front : (a b c : ℕ) (rest : List ℕ) (kind : Kind) → sign_kind (a ∷ b ∷ c ∷ []) ≡ Some kind → TokenAt (a ∷ b ∷ c ∷ rest) 3 kind
+three_front a b c rest kind found = three_at (a ∷ b ∷ c ∷ rest) kind (record { no_letter = no_letter a b c kind found; no_digit = no_digit a b c kind found }) found
+
+pub token_front : {bytes : List ℕ} {kind : Kind} (rest : List ℕ) → IsToken bytes kind → Stops bytes (get_or rest 0 0)
     → TokenAt (bytes ++ rest) (length bytes) kind
-token_front rest (name_or_word {first = first} {others = others} letter names) kept stops =
+token_front rest (name_or_word {first = first} {others = others} letter names) stops =
     name_front (first ∷ others) rest (word_kind (first ∷ others)) (and_from (is_letter first) (list_all is_name_byte others) letter (names_pass others names)) refl (stops.name first others refl letter)
-token_front rest zero_numeral kept stops = zero_front rest
-token_front rest (numeral {first = first} {others = others} some digit digits) kept stops = numeral_front first others rest some digit digits (stops.digit first others refl digit)
-token_front {kind = kind} rest (sign {bytes = []} found) kept stops = absurd cc
-token_front {kind = kind} rest (sign {bytes = a ∷ []} found) kept stops = single_front a rest kind found (stops.one a refl)
-token_front {kind = kind} rest (sign {bytes = a ∷ b ∷ []} found) kept stops = pair_front a b rest kind found (stops.two a b refl)
-token_front {kind = kind} rest (sign {bytes = a ∷ b ∷ c ∷ []} found) kept stops = absurd (three_left_out a b c kind found kept)
-token_front {kind = kind} rest (sign {bytes = a ∷ b ∷ c ∷ d ∷ others} found) kept stops = let none = four_are_none a b c d others in absurd cc
+token_front rest zero_numeral stops = zero_front rest
+token_front rest (numeral {first = first} {others = others} some digit digits) stops = numeral_front first others rest some digit digits (stops.digit first others refl digit)
+token_front {kind = kind} rest (sign {bytes = []} found) stops = absurd cc
+token_front {kind = kind} rest (sign {bytes = a ∷ []} found) stops = single_front a rest kind found (stops.one a refl)
+token_front {kind = kind} rest (sign {bytes = a ∷ b ∷ []} found) stops = pair_front a b rest kind found (stops.two a b refl)
+token_front {kind = kind} rest (sign {bytes = a ∷ b ∷ c ∷ []} found) stops = three_front a b c rest kind found
+token_front {kind = kind} rest (sign {bytes = a ∷ b ∷ c ∷ d ∷ others} found) stops = let none = four_are_none a b c d others in absurd cc
 
 no_both : (b : Bool) → b ≡ true → b ≡ false → ⊥
 no_both b e f = cc

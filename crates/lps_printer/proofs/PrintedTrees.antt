@@ -70,6 +70,8 @@ mutual
   tree_is (trees.comm span cs p) h = absurd h
   tree_is (trees.either span d p q) h = absurd h
   tree_is (trees.parallel span ps) h = absurd h
+  tree_is (trees.sync span ps) h = absurd h
+  tree_is (trees.left_merge span p q) h = absurd h
 
   trees_are : (ps : PlainProcesses) → ArePrinted (printed_.bare_processes ps) → bare_processes ps ≡ plain_processes (printed_.bare_processes ps)
   trees_are no_processes h = refl

@@ -1,5 +1,6 @@
 -- What is printed for the summands of a linear process spells a tree of them.
-use Rattle.std.proofs.Common.{◌≡◌, ℕ, Bool, true, false, List, [], ◌∷◌, map, codes, Option, Some, None, refl, ap, ap₂}
+use Rattle.std.proofs.Common.{◌≡◌, ℕ, Bool, true, false, List, [], ◌∷◌, map, codes, Option, Some, None, refl, ap, ap₂, ◌∙◌}
+use Rattle.std.specs.Prelude.{option_map}
 use Rattle.mcrl2_lexer.specs.declared.kind.Kind.TheVariants as kind_
 use Rattle.mcrl2_lexer.specs.declared.token.Token.{Token}
 use Rattle.mcrl2_lexer.specs.Tokens.{slice_of}
@@ -9,9 +10,10 @@ use Rattle.mcrl2_syntax.specs.SpelledSorts.{SpellsSort, spells_bool, spells_pos,
 use Rattle.mcrl2_syntax.specs.DataTrees.{PlainData, datas_of}
 use Rattle.mcrl2_syntax.specs.SpelledData.{unit_brackets, SpellsItems, SpellsLevel}
 use Rattle.mcrl2_syntax.specs.ProcessParts.{PlainAction, PlainAssignment, PlainVarGroup}
+use Rattle.mcrl2_syntax.specs.ProcessTrees as trees_
 use Rattle.mcrl2_syntax.specs.ProcessTrees.{PlainProcess, processes_of}
 use Rattle.mcrl2_syntax.specs.SpelledLabels.{SpellsAction, action_tau, action_name, action_applied, SpellsActions, SpellsAssignment, assignment, call_empty, call_assigns, SpellsVarGroup, variables, SpellsVars}
-use Rattle.mcrl2_syntax.specs.SpelledProcesses.{chosen, SpellsAtom, atom_action, atom_multi, atom_call, SpellsOperand, operand_sum, operand_cond, operand_parts, dots_end, dots_atom, sum_over, cond_then, merge_last, SpellsChoices, choices_last, choices_more}
+use Rattle.mcrl2_syntax.specs.SpelledProcesses.{all_acts, at_once, together, chosen, SpellsAtom, atom_action, atom_call, SpellsMulti, multi_last, multi_more, SpellsOperand, operand_sum, operand_cond, operand_parts, dots_end, dots_atom, sum_over, cond_then, left_last, merge_last, SpellsChoices, choices_last, choices_more}
 use Rattle.lps_printer.specs.Pieces.{Piece, Says, says_more}
 use Rattle.lps_printer.specs.PrintedExpressions.{Expression, Expressions, bare, bare_all, none, more}
 use Rattle.lps_printer.specs.DataLayout.{piece, space, IsSpellable, AreSpellable}
@@ -71,13 +73,13 @@ abbrev pub AreSpelledActions : List Action → Type 0
 AreSpelledActions [] = Unit {0}
 AreSpelledActions (a ∷ as_) = IsSpelledAction a × AreSpelledActions as_
 
--- the first action, and the further ones behind a bar
+-- the actions, as processes with a bar between them
 record LabelRead (text : List ℕ) (a : Action) (as_ : List Action) (rest : List Piece) (ts : List Token) : Type 0 where
-  tree : PlainProcess
+  parts : List PlainProcess
   after : List Token
-  spells : SpellsAtom text tree ts after
+  spells : SpellsMulti text parts ts after
   says : Says text rest after
-  is : bare_process tree ≡ proc_.acts (a ∷ as_)
+  is : bare_process (together parts) ≡ proc_.acts (a ∷ as_)
 
 record ActionsRead (text : List ℕ) (as_ : List Action) (rest : List Piece) (ts : List Token) : Type 0 where
   trees : List PlainAction
@@ -102,19 +104,30 @@ read_actions text a (b ∷ as_) ok oks gap rest ts says =
     let r = read_action text a ok gap (print_bars (b ∷ as_) rest) ts says in
     one_action text a b as_ rest ts r.after r.tree r.spells r.is (λ vs s. read_actions text b as_ oks.0 oks.1 [] rest vs s) r.says
 
-behind_bar : (text : List ℕ) (a b : Action) (as_ : List Action) → IsSpelledAction b → AreSpelledActions as_ → (rest : List Piece) (ts us : List Token) (tree : PlainAction) → SpellsAction text tree ts us → bare_action tree ≡ a
-    → Says text (piece [] kind_.Bar (codes "|") ∷ print_action b [] (print_bars as_ rest)) us → LabelRead text a (b ∷ as_) rest ts
-behind_bar text a b as_ ok oks rest ts us tree spells is (says_more {ts = vs} k slice says) =
-    let r = read_actions text b as_ ok oks [] rest vs says in
-    record { tree = _; after = r.after; spells = atom_multi spells k r.spells; says = r.says; is = ap₂ (λ (x : Action) (xs : List Action). proc_.acts (x ∷ xs)) is r.is }
+-- actions with a bar between them are processes with a bar between them, and are read as these actions at once
+abbrev each_alone : List PlainAction → List PlainProcess
+each_alone as_ = map (λ (a : PlainAction). trees_.acts a) as_
+
+spelled_alone : {text : List ℕ} {as_ : List PlainAction} {ts r : List Token} → SpellsActions text as_ ts r → SpellsMulti text (each_alone as_) ts r
+spelled_alone (last_item a) = multi_last (atom_action a)
+spelled_alone (more_items a k rest) = multi_more (atom_action a) k (spelled_alone rest)
+
+all_are_acts : (as_ : List PlainAction) → all_acts (each_alone as_) ≡ Some as_
+all_are_acts [] = refl
+all_are_acts (a ∷ as_) = ap (option_map (λ (xs : List PlainAction). a ∷ xs)) (all_are_acts as_)
+
+acts_together : (a : PlainAction) (as_ : List PlainAction) → bare_process (together (each_alone (a ∷ as_))) ≡ proc_.acts (map bare_action (a ∷ as_))
+acts_together a [] = refl
+acts_together a (b ∷ as_) = ap (λ (o : Option (List PlainAction)). bare_process (at_once (each_alone (a ∷ b ∷ as_)) o)) (all_are_acts (a ∷ b ∷ as_))
+
+label_together : (a : Action) (as_ : List Action) (trees : List PlainAction) → map bare_action trees ≡ a ∷ as_ → bare_process (together (each_alone trees)) ≡ proc_.acts (a ∷ as_)
+label_together a as_ [] is = absurd cc
+label_together a as_ (x ∷ xs) is = acts_together x xs ∙ ap (λ (bs : List Action). proc_.acts bs) is
 
 read_label : (text : List ℕ) (a : Action) (as_ : List Action) → IsSpelledAction a → AreSpelledActions as_ → (gap : List ℕ) (rest : List Piece) (ts : List Token) → Says text (print_action a gap (print_bars as_ rest)) ts → LabelRead text a as_ rest ts
-read_label text a [] ok oks gap rest ts says =
-    let r = read_action text a ok gap rest ts says in
-    record { tree = _; after = r.after; spells = atom_action r.spells; says = r.says; is = ap (λ (x : Action). proc_.acts (x ∷ [])) r.is }
-read_label text a (b ∷ as_) ok oks gap rest ts says =
-    let r = read_action text a ok gap (print_bars (b ∷ as_) rest) ts says in
-    behind_bar text a b as_ oks.0 oks.1 rest ts r.after r.tree r.spells r.is r.says
+read_label text a as_ ok oks gap rest ts says =
+    let r = read_actions text a as_ ok oks gap rest ts says in
+    record { parts = each_alone r.trees; after = r.after; spells = spelled_alone r.spells; says = r.says; is = label_together a as_ r.trees r.is }
 
 -- ---- a call
 
@@ -175,30 +188,30 @@ record OperandRead (text : List ℕ) (p : Process) (rest : List Piece) (ts : Lis
   is : bare_process tree ≡ p
 
 -- a label with what comes behind it
-label_next : (text : List ℕ) (a : Action) (as_ : List Action) (next : Next) → IsSpelledNext next → (rest : List Piece) (ts us : List Token) (tree : PlainProcess) → SpellsAtom text tree ts us → bare_process tree ≡ proc_.acts (a ∷ as_)
+label_next : (text : List ℕ) (a : Action) (as_ : List Action) (next : Next) → IsSpelledNext next → (rest : List Piece) (ts us : List Token) (parts : List PlainProcess) → SpellsMulti text parts ts us → bare_process (together parts) ≡ proc_.acts (a ∷ as_)
     → Says text (print_next next rest) us → OperandRead text (with_next (proc_.acts (a ∷ as_)) next) rest ts
-label_next text a as_ ends ok rest ts us tree spells is says = record { in_sum = false; in_cond = false; tree = tree; after = us; spells = operand_parts spells dots_end; says = says; is = is }
-label_next text a as_ (goes_bare x) ok rest ts us tree spells is (says_more k slice (says_more {ts = vs} l other says)) =
+label_next text a as_ ends ok rest ts us parts spells is says = record { in_sum = false; in_cond = false; tree = together parts; after = us; spells = operand_parts spells dots_end; says = says; is = is }
+label_next text a as_ (goes_bare x) ok rest ts us parts spells is (says_more k slice (says_more {ts = vs} l other says)) =
     record {
       in_sum = false;
       in_cond = false;
       tree = _;
       after = vs;
-      spells = operand_parts spells (dots_atom k (atom_action (action_name l)) dots_end);
+      spells = operand_parts spells (dots_atom k (multi_last (atom_action (action_name l))) dots_end);
       says = says;
       is = ap₂ (λ (p : Process) (y : List ℕ). proc_.sequence (proc_.more p (proc_.more (proc_.acts (act y none ∷ [])) proc_.none))) is other;
     }
-label_next text a as_ (goes x []) ok rest ts us tree spells is (says_more k slice (says_more l other (says_more m open_ (says_more {ts = vs} q closed_ says)))) =
+label_next text a as_ (goes x []) ok rest ts us parts spells is (says_more k slice (says_more l other (says_more m open_ (says_more {ts = vs} q closed_ says)))) =
     record {
       in_sum = false;
       in_cond = false;
       tree = _;
       after = vs;
-      spells = operand_parts spells (dots_atom k (atom_call (call_empty l m q)) dots_end);
+      spells = operand_parts spells (dots_atom k (multi_last (atom_call (call_empty l m q))) dots_end);
       says = says;
       is = ap₂ (λ (p : Process) (y : List ℕ). proc_.sequence (proc_.more p (proc_.more (proc_.call y []) proc_.none))) is other;
     }
-label_next text a as_ (goes x (y ∷ ys)) ok rest ts us tree spells is (says_more k slice (says_more {t = t} l other (says_more {t = u} {ts = vs} m open_ says))) =
+label_next text a as_ (goes x (y ∷ ys)) ok rest ts us parts spells is (says_more k slice (says_more {t = t} l other (says_more {t = u} {ts = vs} m open_ says))) =
     let r = read_assignments text y ys ok.0 ok.1 [] (piece [] kind_.RightParen (codes ")") ∷ rest) vs says in
     let c = close_assigns text x (y ∷ ys) rest t u vs r.after r.trees l other m r.spells r.is r.says in
     record {
@@ -206,7 +219,7 @@ label_next text a as_ (goes x (y ∷ ys)) ok rest ts us tree spells is (says_mor
       in_cond = false;
       tree = _;
       after = c.after;
-      spells = operand_parts spells (dots_atom k c.spells dots_end);
+      spells = operand_parts spells (dots_atom k (multi_last c.spells) dots_end);
       says = c.says;
       is = ap₂ (λ (p q : Process). proc_.sequence (proc_.more p (proc_.more q proc_.none))) is c.is;
     }
@@ -215,7 +228,7 @@ read_body : (text : List ℕ) (a : Action) (as_ : List Action) (next : Next) →
     → OperandRead text (with_next (proc_.acts (a ∷ as_)) next) rest ts
 read_body text a as_ next ok oks on gap rest ts says =
     let r = read_label text a as_ ok oks gap (print_next next rest) ts says in
-    label_next text a as_ next on rest ts r.after r.tree r.spells r.is r.says
+    label_next text a as_ next on rest ts r.after r.parts r.spells r.is r.says
 
 abbrev pub IsSpelledCondition : Option Expression → Type 0
 IsSpelledCondition None = Unit {0}
@@ -268,7 +281,7 @@ behind_sums : (text : List ℕ) (vs : List Variable) (p : Process) (rest behind 
     → ((xs : List Token) → Says text behind xs → OperandRead text p rest xs) → Says text (piece space kind_.Dot (codes ".") ∷ behind) us → OperandRead text (proc_.sum (map one_variable vs) p) rest (t ∷ ts)
 behind_sums text vs p rest behind t ts us trees k spells is read (says_more {ts = xs} l slice says) =
     let r = read xs says in
-    record { in_sum = true; in_cond = r.in_cond; tree = _; after = r.after; spells = operand_sum (sum_over k spells l (merge_last r.spells)); says = r.says; is = ap₂ (λ (x : List Variables) (q : Process). proc_.sum x q) is r.is }
+    record { in_sum = true; in_cond = r.in_cond; tree = _; after = r.after; spells = operand_sum (sum_over k spells l (merge_last (left_last r.spells))); says = r.says; is = ap₂ (λ (x : List Variables) (q : Process). proc_.sum x q) is r.is }
 
 pub record IsSpelledSummand (s : Summand) : Type 0 where
   pub condition : IsSpelledCondition s.condition
@@ -308,12 +321,12 @@ one_choice : (text : List ℕ) (s r : Summand) (ss : List Summand) (rest : List 
 one_choice text s r ss rest ts us a b tree spells is read (says_more {ts = vs} k slice says) =
     let c = read vs says in
     let all : bare_processes (processes_of (tree ∷ c.head ∷ c.tail)) ≡ all_summands s (r ∷ ss) = ap₂ (λ (p : Process) (ps : Processes). proc_.more p ps) is c.is in
-    record { head = tree; tail = c.head ∷ c.tail; after = c.after; spells = choices_more (merge_last spells) k c.spells; says = c.says; is = all; whole = ap (λ (ps : Processes). proc_.choice ps) all }
+    record { head = tree; tail = c.head ∷ c.tail; after = c.after; spells = choices_more (merge_last (left_last spells)) k c.spells; says = c.says; is = all; whole = ap (λ (ps : Processes). proc_.choice ps) all }
 
 pub read_choice : (text : List ℕ) (s : Summand) (ss : List Summand) → IsSpelledSummand s → AreSpelledSummands ss → (gap : List ℕ) (rest : List Piece) (ts : List Token) → Says text (print_summand s gap (print_summands ss rest)) ts → ChoiceRead text s ss rest ts
 read_choice text s [] ok oks gap rest ts says =
     let r = read_summand text s ok gap rest ts says in
-    record { head = r.tree; tail = []; after = r.after; spells = choices_last (merge_last r.spells); says = r.says; is = ap (λ (p : Process). proc_.more p proc_.none) r.is; whole = r.is }
+    record { head = r.tree; tail = []; after = r.after; spells = choices_last (merge_last (left_last r.spells)); says = r.says; is = ap (λ (p : Process). proc_.more p proc_.none) r.is; whole = r.is }
 read_choice text s (r ∷ ss) ok oks gap rest ts says =
     let o = read_summand text s ok gap (print_summands (r ∷ ss) rest) ts says in
     one_choice text s r ss rest ts o.after o.in_sum o.in_cond o.tree o.spells o.is (λ vs q. read_choice text r ss oks.0 oks.1 space rest vs q) o.says

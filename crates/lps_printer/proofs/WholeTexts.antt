@@ -6,7 +6,7 @@ use Rattle.mcrl2_lexer.specs.declared.token.Token.{Token}
 use Rattle.mcrl2_syntax.specs.declared.declaration.SectionWord.TheVariants as sections
 use Rattle.mcrl2_syntax.specs.ProcessTrees as trees
 use Rattle.mcrl2_syntax.specs.ProcessTrees.{PlainProcess}
-use Rattle.mcrl2_syntax.specs.SpelledProcesses.{atom_action, operand_parts, dots_end, merge_last, SpellsChoices, choices_last, spells_process}
+use Rattle.mcrl2_syntax.specs.SpelledProcesses.{atom_action, multi_last, operand_parts, dots_end, left_last, merge_last, SpellsChoices, choices_last, spells_process}
 use Rattle.mcrl2_syntax.specs.SpelledDeclarations.{decl_init}
 use Rattle.data_theory.specs.Terms.{Term}
 use Rattle.bisim_laws.specs.LinearProcesses.{Linear}
@@ -59,7 +59,7 @@ start_reads a ok text ts says =
     let r = read_action text a (of_action a ok) space [] ts says in
     record {
       tree = _;
-      spells = decl_init (spells_process (subst (λ (us : List Token). SpellsChoices text (trees.acts r.tree ∷ []) ts us) (nothing_left r.says) (choices_last (merge_last (operand_parts (atom_action r.spells) dots_end)))));
+      spells = decl_init (spells_process (subst (λ (us : List Token). SpellsChoices text (trees.acts r.tree ∷ []) ts us) (nothing_left r.says) (choices_last (merge_last (left_last (operand_parts (multi_last (atom_action r.spells)) dots_end))))));
       is = ap (λ (x : bare.Action). initial (bare.acts (x ∷ []))) (action_is r.tree ∙ ap plain_action r.is);
     }
 
