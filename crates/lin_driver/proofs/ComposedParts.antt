@@ -246,17 +246,22 @@ first_parts : (o : Origin) (b : PlainSign) (g : Sig) (ts : List Tree) (n whole :
     → (between : List PlainLinear) × HasParts o g ts (leaves n) queue between × HasParts o g ts (more_leaves ns) between rest
 first_parts o b g ts n whole ns queue rest first k = parts_parted o g ts (leaves n) (more_leaves ns) queue rest (subst (λ cs. HasParts o g ts cs queue rest) (whole_leaves first) k.parts)
 
+-- the labels that matter of the first one fit, too
+first_part_can : (o : Origin) (b : PlainSign) (g : Sig) (ts : List Tree) (n whole : PlainNetwork) (ns : PlainNetworks) (queue between rest : List PlainLinear) → IsFirstOf b n ns whole → CanBeComposed o (around_sign b) g ts whole queue rest → HasParts o g ts (leaves n) queue between
+    → CanBeComposed o (beside_sign b n) g ts n queue between
+first_part_can o b g ts n whole ns queue between rest first k parts = record { since = k.since; identifiers = k.identifiers; operators = (whole_fits o.signature first k.operators).0; scope = beside_fits o.signature b n k.scope; parts = parts }
+
 pub first_can : (o : Origin) (b : PlainSign) (g : Sig) (ts : List Tree) (n whole : PlainNetwork) (ns : PlainNetworks) (queue rest : List PlainLinear) → IsFirstOf b n ns whole → CanBeComposed o (around_sign b) g ts whole queue rest
     → (between : List PlainLinear) × CanBeComposed o (beside_sign b n) g ts n queue between
 first_can o b g ts n whole ns queue rest first k =
     let p = first_parts o b g ts n whole ns queue rest first k in
-    (p.0, record { since = k.since; identifiers = k.identifiers; operators = (whole_fits o.signature first k.operators).0; scope = beside_fits o.signature b n k.scope; parts = p.1 })
+    (p.0, first_part_can o b g ts n whole ns queue p.0 rest first k p.1)
 
 pub first_joined : (o : Origin) (b : PlainSign) (g h : Sig) (ts us : List Tree) (n whole : PlainNetwork) (ns : PlainNetworks) (queue left rest : List PlainLinear) (l : PlainLinear) → IsFirstOf b n ns whole → IsSignature g → CanBeComposed o (around_sign b) g ts whole queue rest
     → GrowsByNames g h → Extends ts us → Composes (beside_sign b n) g ts n queue h us left l → CanBeJoined o b (network_in o whole) h us l ns left rest
 first_joined o b g h ts us n whole ns queue left rest l first s k by kept f =
     let p = first_parts o b g ts n whole ns queue rest first k in
-    let c = f o p.0 (first_can o b g ts n whole ns queue rest first k).1 in
+    let c = f o p.0 (first_part_can o b g ts n whole ns queue p.0 rest first k p.1) in
     record {
       since = since_then o g h by k.since;
       identifiers = c.identifiers;

@@ -74,13 +74,20 @@ come_by g h i ts us vs left l k r by kept fits = record {
 come_last : (b : PlainSign) (g h i : Sig) (ts us vs : List Tree) (left last : List PlainLinear) (l k : PlainLinear) → JoinedWith b h us l no_networks left i vs last k → HasCome g h ts us left l → HasCome g i ts vs last k
 come_last b g h i ts us vs left last l k with_none r = r
 
+-- the right side of a left merge
+come_second : (n : PlainNetwork) (g h : Sig) (ts us : List Tree) (l : PlainLinear) (queue left : List PlainLinear) (k : PlainLinear)
+    → ((i j : Sig) (vs xs : List Tree) (ls rest : List PlainLinear) (m : PlainLinear) → ComposedFrom everything i vs n ls j xs rest m → IsSignature i → All (Fits i vs) ls → HasCome i j vs xs rest m)
+    → JoinedWith (beginning written.left_merge) g ts l (more_networks n no_networks) queue h us left k → IsSignature g → All (Fits g ts) queue → HasCome g h ts us left k
+come_second n g h ts us l queue left k comes (with_one_more {h = i} {i = j} {us = vs} {vs = xs} {between = between} {r = r} {m = m} c by kept fits joint more) s f =
+    come_last (beginning written.left_merge) g j h ts xs us between left m k more (come_by g i j ts vs xs between r m (comes g i ts vs queue between r c s f) by kept fits)
+
 mutual
   come : (n : PlainNetwork) (w : PlainScope) (g h : Sig) (ts us : List Tree) (queue left : List PlainLinear) (l : PlainLinear) → ComposedFrom w g ts n queue h us left l → IsSignature g → All (Fits g ts) queue → HasCome g h ts us left l
   come (leaf c) w g h ts us queue left l that_of_the_leaf s f = come_first g ts l left s f
   come (side_by_side ns) w g h ts us queue left l d s f = come_beside ns w g h ts us queue left l d s f
   come (left_merge m n) w g h ts us queue left l (left_merged_with {h = i} {us = vs} {between = between} {l = k} c j) s f =
       let r = come m everything g i ts vs queue between k c s f in
-      come_on g i h ts vs us between left k l r (come_second n i h vs us k between left l j r.grown.stands r.left_fit)
+      come_on g i h ts vs us between left k l r (come_second n i h vs us k between left l (come n everything) j r.grown.stands r.left_fit)
   come (sync ns) w g h ts us queue left l d s f = come_synced ns w g h ts us queue left l d s f
   come (under a n) w g h ts us queue left l (under_an_operator {us = vs} {l = m} d kept fits made) s f =
       let r = come n _ g h ts vs queue left m d s f in
@@ -91,12 +98,6 @@ mutual
   come_beside (more_networks n ns) w g h ts us queue left l (side_by_side_with {h = i} {us = vs} {between = between} {l = m} c j) s f =
       let r = come n (inside w n) g i ts vs queue between m c s f in
       come_on g i h ts vs us between left m l r (come_joined ns (merging w) i h vs us m between left l j r.grown.stands r.fits r.left_fit)
-
-  -- the right side of a left merge
-  come_second : (n : PlainNetwork) (g h : Sig) (ts us : List Tree) (l : PlainLinear) (queue left : List PlainLinear) (k : PlainLinear) → JoinedWith (beginning written.left_merge) g ts l (more_networks n no_networks) queue h us left k → IsSignature g → All (Fits g ts) queue → HasCome g h ts us left k
-  come_second n g h ts us l queue left k (with_one_more {h = i} {i = j} {us = vs} {vs = xs} {between = between} {r = r} {m = m} c by kept fits joint more) s f =
-      let next = come n everything g i ts vs queue between r c s f in
-      come_last (beginning written.left_merge) g j h ts xs us between left m k more (come_by g i j ts vs xs between r m next by kept fits)
 
   come_synced : (ns : PlainNetworks) (w : PlainScope) (g h : Sig) (ts us : List Tree) (queue left : List PlainLinear) (l : PlainLinear) → ComposedFrom w g ts (sync ns) queue h us left l → IsSignature g → All (Fits g ts) queue → HasCome g h ts us left l
   come_synced no_networks w g h ts us queue left l that_of_no_sync s f = come_first g ts l left s f

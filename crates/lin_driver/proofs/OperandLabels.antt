@@ -1,5 +1,5 @@
 -- Operands of `|`, one of which is a process, are no multi-action.
-use Rattle.std.proofs.Common.{◌≡◌, ◌||◌, ℕ, Bool, true, false, List, [], ◌∷◌, map, sym, ap, ◌∙◌, refl}
+use Rattle.std.proofs.Common.{◌≡◌, ◌||◌, ℕ, true, false, List, [], ◌∷◌, map, sym, ap, ◌∙◌, refl}
 use Rattle.std.specs.Prelude.{Option, Some, None, is_some, option_map, option_and_then}
 use Rattle.data_theory.specs.Terms.{Sort}
 use Rattle.process_terms.specs.Labels as written

@@ -2,7 +2,6 @@
 -- parameter which says that the first step is still to come.
 use Rattle.std.proofs.Common.{◌≡◌, ℕ, Bool, true, false, List, [], ◌∷◌, ◌++◌, map, refl, sym, ap, ap₂, ◌∙◌, subst, ⊎_elim, Option, Some, None}
 use Rattle.std.specs.Prelude.{Contains, option_map}
-use Rattle.std.specs.List.{All}
 use Rattle.std.proofs.lemmas.List.{map-append}
 use Rattle.std.proofs.lemmas.List.Elements.{All-nil, All-cons, All-append, Contains-append_cases, Contains-append_left, Contains-append_right}
 use Rattle.data_theory.specs.declared.ids.VarId.{VarId}
@@ -19,13 +18,13 @@ use Rattle.process_terms.specs.Processes.{Start, Bound}
 use Rattle.process_terms.specs.SignatureEntries.{entries_of, BothGrow}
 use Rattle.bisim_laws.specs.BaseStates.{Side}
 use Rattle.bisim_laws.specs.LinearProcesses.{Summand, Linear}
-use Rattle.bisim_laws.proofs.Firing.{contains_first, contains_cases, contains_none}
+use Rattle.bisim_laws.proofs.Firing.{contains_first}
 use Rattle.lps_core.specs.Conditions.{parts}
 use Rattle.lps_core.specs.Fitting.{Fits}
 use Rattle.lps_core.specs.MadeTerms.{Written, Origin, origin_of, IsMade, a_variable, the_true, the_false, AreMade, none_made, more_made, IsAdded, against_a_flag, the_whole, IsPlainPart, plain_part, HasPlainParts, SummandIsPlain, IsPlainlyConditioned}
 use Rattle.lps_core.specs.Naming.{GrowsByNames}
 use Rattle.lps_core.specs.PlainLinears.{PlainLinear, linear_of, initial_of}
-use Rattle.lps_core.proofs.Members.{all_from, contains_map}
+use Rattle.lps_core.proofs.Members.{contains_map}
 use Rattle.lps_core.proofs.PoolTrees.{extends_itself}
 use Rattle.lps_core.proofs.Staying.{what_fits_stays}
 use Rattle.lps_core.proofs.StayingFits.{what_fits_fits_still}

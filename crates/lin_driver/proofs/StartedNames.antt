@@ -1,6 +1,6 @@
 -- The names behind a product whose first step is of one kind: those behind the product, and that of the parameter which says that the first step is
 -- still to come.
-use Rattle.std.proofs.Common.{◌≡◌, ◌++◌, ◌∷◌, List, [], codes, refl, sym, subst, ⊎_elim}
+use Rattle.std.proofs.Common.{◌++◌, ◌∷◌, List, [], codes, refl, sym, subst, ⊎_elim}
 use Rattle.std.specs.List.{All, Contains}
 use Rattle.std.proofs.lemmas.List.Elements.{All-contains, Contains-append_cases}
 use Rattle.data_theory.specs.declared.ids.VarId.{VarId}
@@ -17,7 +17,6 @@ use Rattle.lps_core.proofs.FunctionNames.{functions_taken, function_names_stay}
 use Rattle.lps_core.proofs.Members.{all_from}
 use Rattle.summand_expander.specs.Product.{product}
 use Rattle.summand_expander.specs.StartedProducts.{IsFirst, new_first, IsProductFrom}
-use Rattle.summand_expander.specs.WholeProducts.{HaveDifferentNames}
 use Rattle.summand_expander.proofs.DoneStarting.{first_stands, one_more_name}
 use Rattle.summand_expander.proofs.Separating.{IsNewFlag}
 use Rattle.lin_driver.specs.TakenNames.{HaveIdentifiers}

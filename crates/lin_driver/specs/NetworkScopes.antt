@@ -1,5 +1,6 @@
 -- Which labels matter of the parts of a network: those that can do something once the operators around the part are applied.
-use Rattle.std.specs.Prelude.{Bool, true, false, List, [], ◌∷◌, Bor, Option, Some, None}
+use Rattle.std.specs.Prelude.{Bool, true, false, List, [], ◌∷◌, Option, Some, None}
+use denote.Ref.{Bor}
 use Rattle.data_theory.specs.declared.ids.NameId.{NameId}
 use Rattle.data_theory.specs.Signature.{Sig}
 use Rattle.process_terms.specs.PlainProcesses.{PlainRule, PlainAround, allow, block, hide, rename, comm}

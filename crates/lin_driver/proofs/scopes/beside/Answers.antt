@@ -1,6 +1,5 @@
-use Rattle.std.proofs.Common.{ap, sym, ◌∙◌}
-use Rattle.proc_unfold.specs.Networks.{plain_network}
-use Rattle.lin_driver.specs.NetworkScopes.{beside_sign, plain_sign}
+use Rattle.std.proofs.Common.{sym, ◌∙◌}
+use Rattle.lin_driver.specs.NetworkScopes.{plain_sign}
 use Rattle.lin_driver.proofs.NetworkScopes.{beside_a_merge, beside_a_leaf, beside_a_left_merge, beside_a_sync, beside_an_operator}
 use Rattle.lin_driver.proofs.scopes.beside.Goals as goal
 
