@@ -153,9 +153,7 @@ pub(crate) fn compose(
         Network::LeftMerge(first, second) => {
             compose_left_merge(alloc, first, second, parts, sig, pool)
         }
-        Network::Sync(networks) => {
-            compose_beside(alloc, networks, Sign::Sync, parts, sig, pool)
-        }
+        Network::Sync(networks) => { compose_beside(alloc, networks, Sign::Sync, parts, sig, pool) }
     }
 }
 
