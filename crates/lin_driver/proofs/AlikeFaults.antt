@@ -11,7 +11,7 @@ use Rattle.sort_table.specs.BareDeclarations.{Section, declarations_in}
 use Rattle.sort_table.specs.SortMeanings.{UnderNames, under_names}
 use Rattle.data_typing.specs.Typings.{first_of}
 use Rattle.sort_checker.specs.FullVocabularies.{Parameters, FullVocabulary, process_named, Written, processes_in, IsFullVocabularyOf}
-use Rattle.sort_checker.specs.Faults.{Use, of_data, of_process, of_action, name_of, uses_of, names_of_variables, is_function, is_action, is_known, unknown_name, is_call_typed, is_typed_in, is_typed, free_among, free_variable, operators_of}
+use Rattle.sort_checker.specs.Faults.{Use, of_data, of_process, of_action, name_of, uses_of, names_of_variables, is_function, is_action, is_known, unknown_name, is_call_typed, is_step_typed, is_typed_in, is_typed, free_among, free_variable, operators_of}
 use Rattle.sort_checker.specs.Operators.{stands_in, has_comm_fault}
 use Rattle.sort_checker.specs.PartTypings.{arguments_in}
 use Rattle.sort_checker.specs.Parts.{Part, a_label, a_call, a_condition, an_operator, an_equation, a_result, ScopedPart, ScopedDeclaration, scoped_declarations, parts_of}
@@ -47,20 +47,23 @@ module _ (ds : List Section) (v w : FullVocabulary) (iv : IsFullVocabularyOf (de
   unknown_same p = ap (option_map name_of) (found_same p.variables (uses_of p.part))
 
   -- ---- parts that don't type
-  call_typed : (xs : Variables) (as_ : List Action) → is_call_typed v (scope_of v.declared xs) as_ ≡ is_call_typed w (scope_of w.declared xs) as_
-  call_typed xs [] = refl
-  call_typed xs (tau ∷ as_) = refl
-  call_typed xs (act x es ∷ []) = same_some (call_both (place_both x))
+  call_typed : (xs : Variables) (a : Action) → is_call_typed v (scope_of v.declared xs) a ≡ is_call_typed w (scope_of w.declared xs) a
+  call_typed xs tau = refl
+  call_typed xs (act x es) = same_some (call_both (place_both x))
     where
       call_both : {o q : Option (ℕ × Parameters)} → Both (SamePlace u v.declared w.declared) o q
           → Both AnyLists (option_and_then (λ (r : ℕ × Parameters). arguments_in v.declared (scope_of v.declared xs) r.1 es) o) (option_and_then (λ (r : ℕ × Parameters). arguments_in w.declared (scope_of w.declared xs) r.1 es) q)
       call_both neither = neither
       call_both (both h) = arguments_both u v.declared w.declared iv.declared iw.declared (scope_of v.declared xs) (scope_of w.declared xs) (scopes xs) es h.1
-  call_typed xs (act x es ∷ a ∷ as_) = refl
+
+  steps_typed : (xs : Variables) (as_ : List Action) → list_all (is_step_typed v (scope_of v.declared xs)) as_ ≡ list_all (is_step_typed w (scope_of w.declared xs)) as_
+  steps_typed xs [] = refl
+  steps_typed xs (a ∷ as_) =
+      ap₂ (λ (b c : Bool). b && c)
+      (ap₂ (λ (b c : Bool). b || c) (same_some (label_both u v.declared w.declared iv.declared iw.declared (scope_of v.declared xs) (scope_of w.declared xs) (scopes xs) (a ∷ []))) (call_typed xs a)) (steps_typed xs as_)
 
   typed_same_in : (xs : Variables) (p : Part) → is_typed_in v (scope_of v.declared xs) p ≡ is_typed_in w (scope_of w.declared xs) p
-  typed_same_in xs (a_label as_) =
-      ap₂ (λ (b c : Bool). b || c) (same_some (label_both u v.declared w.declared iv.declared iw.declared (scope_of v.declared xs) (scope_of w.declared xs) (scopes xs) as_)) (call_typed xs as_)
+  typed_same_in xs (a_label as_) = steps_typed xs as_
   typed_same_in xs (a_call x es) = values_same u v.declared w.declared iv.declared iw.declared (scope_of v.declared xs) (scope_of w.declared xs) (scopes xs) es (place_both x)
   typed_same_in xs (a_condition e) = same_some ((here u v.declared w.declared iv.declared iw.declared (scope_of v.declared xs) (scope_of w.declared xs) (scopes xs) e).checks boolean boolean same_booleans)
   typed_same_in xs (an_operator o) = operators_same u v.declared w.declared iv.declared iw.declared o

@@ -1,5 +1,5 @@
 -- Networks in code, composed step by step.
-use Rattle.std.proofs.Common.{◌≡◌, ◌==◌, ◌≤◌, ◌<◌, ◌+◌, ℕ, zero, suc, Bool, true, false, List, [], ◌∷◌, map, drop, length, get_or, refl, sym, ap, subst, ◌∙◌, arith}
+use Rattle.std.proofs.Common.{◌≡◌, ◌==◌, ◌≤◌, ◌<◌, ◌+◌, ℕ, zero, suc, Bool, true, false, List, [], ◌∷◌, map, drop, length, get_or, refl, sym, ap, ap₂, subst, ◌∙◌, arith}
 use Rattle.std.specs.Global.{Global, Box}
 use Rattle.std.specs.Prelude.{IfOk, Result, Ok, Err, Vec}
 use Rattle.std.proofs.lemmas.Bool.Decides.{Decides-eqb}
@@ -10,7 +10,7 @@ use Rattle.data_theory.specs.IdTrees.{Tree}
 use Rattle.term_pool.specs.Pools.{Extends}
 use Rattle.process_terms.specs.Meanings.{rule_of}
 use Rattle.process_terms.specs.PlainProcesses.{delta, PlainAround, comm, PlainRule, PlainComponent, plain_component, term_of}
-use Rattle.process_terms.specs.Processes.{Process}
+use Rattle.process_terms.specs.Processes as written
 use Rattle.process_terms.specs.declared.components.Component.{Component}
 use Rattle.lps_core.specs.declared.linears.Linear.{Linear}
 use Rattle.lps_core.specs.Fitting.{Fits}
@@ -21,16 +21,21 @@ use Rattle.lps_core.proofs.NamedSums.{names_then}
 use Rattle.lps_core.proofs.PoolTrees.{extends_on}
 use Rattle.action_filters.specs.Filters.{IsGoodAround}
 use Rattle.communication.specs.Communicated.{communicating}
+use Rattle.summand_expander.specs.StartedProducts.{IsProductFrom}
+use Rattle.summand_expander.specs.WholeFirstSteps.{IsGoodProductFrom}
 use Rattle.proc_unfold.specs.declared.networks.NetOp.{NetOp}
 use Rattle.proc_unfold.specs.declared.networks.Network.{Network}
 use Rattle.proc_unfold.specs.declared.networks.Network.TheVariants as nets
 use Rattle.proc_unfold.specs.Networks.{PlainNetwork, PlainNetworks, leaf, side_by_side, left_merge, sync, under, no_networks, more_networks, networks_of, plain_network, plain_operator}
 use Rattle.proc_unfold.proofs.ProcessSteps.{leaf_step, side_step, left_merged_step, synced_step, under_step}
 use Rattle.lin_driver.specs.FittingOperators.{OperatorFits}
-use Rattle.lin_driver.specs.NetworkProducts.{IsJoint, IsAround, ComposedFrom, that_of_the_leaf, that_of_none, side_by_side_with, as_side_by_side, under_an_operator, JoinedWith, with_none, with_one_more}
-use Rattle.lin_driver.specs.NetworkScopes.{PlainScope, everything, scope_meant, ScopeFits, below, inside}
+use Rattle.lin_driver.specs.NetworkProducts.{IsJoint, IsAround, ComposedFrom, that_of_the_leaf, that_of_none, that_of_no_sync, left_merged_with, synced_with, under_an_operator, JoinedWith, with_none, with_one_more}
+use Rattle.lin_driver.specs.declared.scopes.Sign.{Sign}
+use Rattle.lin_driver.specs.declared.scopes.Sign.TheVariants as signs
+use Rattle.lin_driver.specs.NetworkScopes.{PlainScope, everything, scope_meant, ScopeFits, below, PlainSign, beginning, around_sign, beside_sign, plain_sign, networks_with}
 use Rattle.lin_driver.specs.Parts.{Origin, entries_in, network_in, HasParts, CanBeComposed, HasItsParts, Composes, LeadsBeside}
-use Rattle.lin_driver.proofs.ComposedParts.{CanBeJoined, scope_fits_now, since_then, leaf_composed, there_is_one, inside_can, operator_can, under_composed, sync_can, sync_composed, first_can, first_joined, next_can, so_far_fits, next_joined, all_joined}
+use Rattle.lin_driver.proofs.ComposedParts.{IsFirstOf, of_a_merge, of_a_left_merge, of_a_sync, whole_composed, CanBeJoined, scope_fits_now, since_then, leaf_composed, there_is_one, inside_can, operator_can, under_composed, all_can, composed_for_some, first_can, first_joined, next_can, so_far_fits, next_joined, all_joined}
+use Rattle.lin_driver.proofs.JointLinears.{start_leads}
 
 -- ---- a leaf
 some_in_front : (o : Origin) (g : Sig) (ts : List Tree) (c : PlainComponent) (items : List Linear) (rest : List PlainLinear) → HasParts o g ts (c ∷ []) (map plain_linear items) rest → 0 < length items
@@ -79,7 +84,7 @@ operator_composed_from w v g h ts us vs n a b m queue left l k is part scope f k
     let own = subst (λ z. ComposedFrom z g ts (plain_network b.value) queue h us left l) scope (subst (λ z. ComposedFrom v g ts (plain_network z) queue h us left l) part f) in
     subst (λ m. ComposedFrom w g ts m queue h vs left k) (sym (ap plain_network is ∙ under_step a b)) (under_an_operator own kept fits made)
 
--- ---- side by side
+-- ---- networks with a sign between them
 pub beside_parts : (w : PlainScope) (g : Sig) (ts : List Tree) (n : Network) (ns : Vec Network Global) (items : List Network) (queue : List PlainLinear) → n ≡ nets.Merge ns → items ≡ ns.items → HasItsParts w g ts (plain_network n) queue
     → HasItsParts w g ts (side_by_side (networks_of (map plain_network items))) queue
 beside_parts w g ts n ns items queue is e k =
@@ -95,132 +100,166 @@ pub beside_composed_from : (w : PlainScope) (g h : Sig) (ts us : List Tree) (n :
 beside_composed_from w g h ts us n ns items queue left l is e f =
     subst (λ m. ComposedFrom w g ts m queue h us left l) (sym (ap plain_network is ∙ side_step ns)) (subst (λ zs. ComposedFrom w g ts (side_by_side (networks_of (map plain_network zs))) queue h us left l) e f)
 
--- ---- a left merge, and a `|`, which has at most one part
-pub no_left_merge : (w : PlainScope) (g : Sig) (ts : List Tree) (n : Network) (a b : Box Network) (queue : List PlainLinear) → n ≡ nets.LeftMerge a b → HasItsParts w g ts (plain_network n) queue → ⊥
-no_left_merge w g ts n a b queue is k = (subst (λ m. CanBeComposed k.0 w g ts m queue k.1) (ap plain_network is ∙ left_merged_step a b) k.2).operators
+-- a network in code that is a left merge, or networks with `|` between them
+pub left_merged_is : (n : Network) (a b : Box Network) (first second : Network) → n ≡ nets.LeftMerge a b → first ≡ a.value → second ≡ b.value → plain_network n ≡ left_merge (plain_network first) (plain_network second)
+left_merged_is n a b first second is e f = ap plain_network is ∙ left_merged_step a b ∙ ap₂ (λ x y. left_merge (plain_network x) (plain_network y)) (sym e) (sym f)
 
-pub synced_parts : (w : PlainScope) (g : Sig) (ts : List Tree) (n : Network) (ns : Vec Network Global) (items : List Network) (queue : List PlainLinear) → n ≡ nets.Sync ns → items ≡ ns.items → HasItsParts w g ts (plain_network n) queue
-    → HasItsParts everything g ts (side_by_side (networks_of (map plain_network items))) queue
-synced_parts w g ts n ns items queue is e k = (
-  k.0,
-  k.1,
-  subst (λ zs. CanBeComposed k.0 everything g ts (side_by_side (networks_of (map plain_network zs))) queue k.1) (sym e)
-      (sync_can k.0 w g ts (networks_of (map plain_network ns.items)) queue k.1 (subst (λ m. CanBeComposed k.0 w g ts m queue k.1) (ap plain_network is ∙ synced_step ns) k.2)),
-)
+pub synced_is : (n : Network) (ns : Vec Network Global) (items : List Network) → n ≡ nets.Sync ns → items ≡ ns.items → plain_network n ≡ sync (networks_of (map plain_network items))
+synced_is n ns items is e = ap plain_network is ∙ synced_step ns ∙ ap (λ xs. sync (networks_of (map plain_network xs))) (sym e)
 
-pub synced_composes : (w : PlainScope) (g h : Sig) (ts us : List Tree) (n : Network) (ns : Vec Network Global) (items : List Network) (queue left : List PlainLinear) (l : PlainLinear) → n ≡ nets.Sync ns → items ≡ ns.items
-    → Composes everything g ts (side_by_side (networks_of (map plain_network items))) queue h us left l → Composes w g ts (plain_network n) queue h us left l
-synced_composes w g h ts us n ns items queue left l is e f =
-    subst (λ m. Composes w g ts m queue h us left l) (sym (ap plain_network is ∙ synced_step ns))
-    (λ o rest k. sync_composed o w g h ts us (networks_of (map plain_network ns.items)) queue left rest l k (subst (λ zs. Composes everything g ts (side_by_side (networks_of (map plain_network zs))) queue h us left l) e f))
+-- such ones are made whole
+pub whole_parts : (w : PlainScope) (g : Sig) (ts : List Tree) (n m : PlainNetwork) (queue : List PlainLinear) → n ≡ m → HasItsParts w g ts n queue → HasItsParts everything g ts m queue
+whole_parts w g ts n m queue is k = (k.0, k.1, all_can k.0 w g ts m queue k.1 (subst (λ z. CanBeComposed k.0 w g ts z queue k.1) is k.2))
 
-pub synced_composed_from : (w : PlainScope) (g h : Sig) (ts us : List Tree) (n : Network) (ns : Vec Network Global) (items : List Network) (queue left : List PlainLinear) (l : PlainLinear) → n ≡ nets.Sync ns → items ≡ ns.items
-    → ComposedFrom everything g ts (side_by_side (networks_of (map plain_network items))) queue h us left l → ComposedFrom w g ts (plain_network n) queue h us left l
-synced_composed_from w g h ts us n ns items queue left l is e f =
-    subst (λ m. ComposedFrom w g ts m queue h us left l) (sym (ap plain_network is ∙ synced_step ns))
-    (as_side_by_side (subst (λ zs. ComposedFrom everything g ts (side_by_side (networks_of (map plain_network zs))) queue h us left l) e f))
+pub whole_composes : (w : PlainScope) (g h : Sig) (ts us : List Tree) (n m : PlainNetwork) (queue left : List PlainLinear) (l : PlainLinear) → n ≡ m → Composes everything g ts m queue h us left l → Composes w g ts n queue h us left l
+whole_composes w g h ts us n m queue left l is f =
+    subst (λ z. Composes w g ts z queue h us left l) (sym is) (λ o rest k. composed_for_some (scope_meant (entries_in o) w) (network_in o m) h us left rest l (f o rest (all_can o w g ts m queue rest k)))
 
-abbrev pub beside_all : List Network → PlainNetwork
-beside_all xs = side_by_side (networks_of (map plain_network xs))
+left_merged_whole : (v w : PlainScope) (g h : Sig) (ts us : List Tree) (m n : PlainNetwork) (queue left : List PlainLinear) (l : PlainLinear) → ComposedFrom v g ts (left_merge m n) queue h us left l → ComposedFrom w g ts (left_merge m n) queue h us left l
+left_merged_whole v w g h ts us m n queue left l (left_merged_with c j) = left_merged_with c j
+
+synced_whole : (v w : PlainScope) (g h : Sig) (ts us : List Tree) (ns : PlainNetworks) (queue left : List PlainLinear) (l : PlainLinear) → ComposedFrom v g ts (sync ns) queue h us left l → ComposedFrom w g ts (sync ns) queue h us left l
+synced_whole v w g h ts us no_networks queue left l that_of_no_sync = that_of_no_sync
+synced_whole v w g h ts us (more_networks n ns) queue left l (synced_with c j) = synced_with c j
+
+pub left_merged_composed_from : (w : PlainScope) (g h : Sig) (ts us : List Tree) (n first second : PlainNetwork) (queue left : List PlainLinear) (l : PlainLinear) → n ≡ left_merge first second → ComposedFrom everything g ts (left_merge first second) queue h us left l
+    → ComposedFrom w g ts n queue h us left l
+left_merged_composed_from w g h ts us n first second queue left l is c = subst (λ z. ComposedFrom w g ts z queue h us left l) (sym is) (left_merged_whole everything w g h ts us first second queue left l c)
+
+pub synced_composed_from : (w : PlainScope) (g h : Sig) (ts us : List Tree) (n : PlainNetwork) (ns : PlainNetworks) (queue left : List PlainLinear) (l : PlainLinear) → n ≡ sync ns → ComposedFrom everything g ts (sync ns) queue h us left l → ComposedFrom w g ts n queue h us left l
+synced_composed_from w g h ts us n ns queue left l is c = subst (λ z. ComposedFrom w g ts z queue h us left l) (sym is) (synced_whole everything w g h ts us ns queue left l c)
+
+-- ---- where there is none
+abbrev pub all_with : Sign → List Network → PlainNetwork
+all_with sign xs = networks_with sign (networks_of (map plain_network xs))
 
 none_is : (xs : List Network) → length xs ≡ 0 → xs ≡ []
 none_is [] e = refl
 none_is (x ∷ xs) e = absurd (omega (arith, e))
 
-pub none_has_one : (w : PlainScope) (g : Sig) (ts : List Tree) (xs : List Network) (items : List Linear) → length xs ≡ 0 → HasItsParts w g ts (beside_all xs) (map plain_linear items) → 0 < length items
-none_has_one w g ts xs items e k =
-    let can = subst (λ zs. CanBeComposed k.0 w g ts (beside_all zs) (map plain_linear items) k.1) (none_is xs e) k.2 in
-    some_in_front k.0 g ts (term_of delta) items k.1 can.parts
+none_in_front : (sign : Sign) (o : Origin) (w : PlainScope) (g : Sig) (ts : List Tree) (queue rest : List PlainLinear) → CanBeComposed o w g ts (networks_with sign no_networks) queue rest → HasParts o g ts (term_of delta ∷ []) queue rest
+none_in_front (signs.Merge within) o w g ts queue rest k = k.parts
+none_in_front signs.Sync o w g ts queue rest k = k.parts
 
-pub none_composes : (w : PlainScope) (g : Sig) (ts : List Tree) (xs : List Network) (queue left : List PlainLinear) (l : PlainLinear) → length xs ≡ 0 → queue ≡ l ∷ left → Composes w g ts (beside_all xs) queue g ts left l
-none_composes w g ts xs queue left l e is =
-    subst (λ zs. Composes w g ts (beside_all zs) queue g ts left l) (sym (none_is xs e)) (λ o rest can. leaf_composed o (scope_meant (entries_in o) w) g ts (term_of delta) queue left rest l can.identifiers can.parts is)
+pub none_has_one : (sign : Sign) (g : Sig) (ts : List Tree) (xs : List Network) (items : List Linear) → length xs ≡ 0 → HasItsParts (around_sign (plain_sign sign)) g ts (all_with sign xs) (map plain_linear items) → 0 < length items
+none_has_one sign g ts xs items e k =
+    let w = around_sign (plain_sign sign) in
+    let can = subst (λ zs. CanBeComposed k.0 w g ts (all_with sign zs) (map plain_linear items) k.1) (none_is xs e) k.2 in
+    some_in_front k.0 g ts (term_of delta) items k.1 (none_in_front sign k.0 w g ts (map plain_linear items) k.1 can)
 
-pub none_composed_from : (w : PlainScope) (g : Sig) (ts : List Tree) (xs : List Network) (queue left : List PlainLinear) (l : PlainLinear) → length xs ≡ 0 → queue ≡ l ∷ left → ComposedFrom w g ts (beside_all xs) queue g ts left l
-none_composed_from w g ts xs queue left l e is =
-    subst (λ zs. ComposedFrom w g ts (beside_all zs) queue g ts left l) (sym (none_is xs e)) (subst (λ ls. ComposedFrom w g ts (side_by_side no_networks) ls g ts left l) (sym is) that_of_none)
+no_network : (sign : Sign) (w : PlainScope) (g : Sig) (ts : List Tree) (queue left : List PlainLinear) (l : PlainLinear) → queue ≡ l ∷ left → Composes w g ts (networks_with sign no_networks) queue g ts left l
+no_network (signs.Merge within) w g ts queue left l is o rest can = leaf_composed o (scope_meant (entries_in o) w) g ts (term_of delta) queue left rest l can.identifiers can.parts is
+no_network signs.Sync w g ts queue left l is o rest can = leaf_composed o (scope_meant (entries_in o) w) g ts (term_of delta) queue left rest l can.identifiers can.parts is
 
+pub none_composes : (sign : Sign) (g : Sig) (ts : List Tree) (xs : List Network) (queue left : List PlainLinear) (l : PlainLinear) → length xs ≡ 0 → queue ≡ l ∷ left → Composes (around_sign (plain_sign sign)) g ts (all_with sign xs) queue g ts left l
+none_composes sign g ts xs queue left l e is =
+    let w = around_sign (plain_sign sign) in
+    subst (λ zs. Composes w g ts (all_with sign zs) queue g ts left l) (sym (none_is xs e)) (no_network sign w g ts queue left l is)
+
+from_none : (sign : Sign) (w : PlainScope) (g : Sig) (ts : List Tree) (left : List PlainLinear) (l : PlainLinear) → ComposedFrom w g ts (networks_with sign no_networks) (l ∷ left) g ts left l
+from_none (signs.Merge within) w g ts left l = that_of_none
+from_none signs.Sync w g ts left l = that_of_no_sync
+
+pub none_composed_from : (sign : Sign) (g : Sig) (ts : List Tree) (xs : List Network) (queue left : List PlainLinear) (l : PlainLinear) → length xs ≡ 0 → queue ≡ l ∷ left → ComposedFrom (around_sign (plain_sign sign)) g ts (all_with sign xs) queue g ts left l
+none_composed_from sign g ts xs queue left l e is =
+    let w = around_sign (plain_sign sign) in
+    subst (λ zs. ComposedFrom w g ts (all_with sign zs) queue g ts left l) (sym (none_is xs e)) (subst (λ ls. ComposedFrom w g ts (networks_with sign no_networks) ls g ts left l) (sym is) (from_none sign w g ts left l))
+
+-- ---- the first one, and the one at a place
 first_is : (xs : List Network) (x : Network) → 0 < length xs → x ≡ get_or xs 0 x → xs ≡ x ∷ drop 1 xs
 first_is [] x l e = absurd (omega (arith, l))
 first_is (y ∷ xs) x l e = ap (λ z. z ∷ xs) (sym e)
 
-pub first_has : (w : PlainScope) (g : Sig) (ts : List Tree) (xs : List Network) (x : Network) (queue : List PlainLinear) → 0 < length xs → x ≡ get_or xs 0 x → HasItsParts w g ts (beside_all xs) queue → HasItsParts (inside w (plain_network x)) g ts (plain_network x) queue
-first_has w g ts xs x queue l e k =
-    let can = subst (λ zs. CanBeComposed k.0 w g ts (beside_all zs) queue k.1) (first_is xs x l e) k.2 in
-    let f = first_can k.0 w g ts (plain_network x) (networks_of (map plain_network (drop 1 xs))) queue k.1 can in
-    (k.0, f.0, f.1)
+first_with : (sign : Sign) (n : PlainNetwork) (ns : PlainNetworks) → IsFirstOf (plain_sign sign) n ns (networks_with sign (more_networks n ns))
+first_with (signs.Merge within) n ns = of_a_merge
+first_with signs.Sync n ns = of_a_sync
 
--- what stands with the networks from a place on
-pub record IsJoining (w : PlainScope) (g : Sig) (ts : List Tree) (xs : List Network) (queue : List PlainLinear) (place : ℕ) (h : Sig) (us : List Tree) (left : List PlainLinear) (l : PlainLinear) : Type 0 where
+-- those from a place on
+abbrev pub from_place : List Network → ℕ → PlainNetworks
+from_place xs place = networks_of (map plain_network (drop place xs))
+
+pub first_of_all : (sign : Sign) (xs : List Network) (x : Network) → 0 < length xs → x ≡ get_or xs 0 x → IsFirstOf (plain_sign sign) (plain_network x) (from_place xs 1) (all_with sign xs)
+first_of_all sign xs x some e = subst (λ zs. IsFirstOf (plain_sign sign) (plain_network x) (from_place xs 1) (all_with sign zs)) (sym (first_is xs x some e)) (first_with sign (plain_network x) (from_place xs 1))
+
+at_place : (xs : List Network) (place : ℕ) (x : Network) → place < length xs → x ≡ get_or xs place x → from_place xs place ≡ more_networks (plain_network x) (from_place xs (place + 1))
+at_place xs place x there e = ap (λ zs. networks_of (map plain_network zs)) (drop_more xs place x there ∙ ap (λ z. z ∷ drop (place + 1) xs) (sym e))
+
+none_from : (xs : List Network) (place : ℕ) → length xs ≤ place → from_place xs place ≡ no_networks
+none_from xs place done = ap (λ zs. networks_of (map plain_network zs)) (drop_all place xs done)
+
+-- ---- one behind the other
+pub first_has : (b : PlainSign) (g : Sig) (ts : List Tree) (n whole : PlainNetwork) (ns : PlainNetworks) (queue : List PlainLinear) → IsFirstOf b n ns whole → HasItsParts (around_sign b) g ts whole queue → HasItsParts (beside_sign b n) g ts n queue
+first_has b g ts n whole ns queue first k = let f = first_can k.0 b g ts n whole ns queue k.1 first k.2 in (k.0, f.0, f.1)
+
+-- what stands where these networks are still to come
+pub record IsJoining (b : PlainSign) (g : Sig) (ts : List Tree) (whole : PlainNetwork) (queue : List PlainLinear) (ns : PlainNetworks) (h : Sig) (us : List Tree) (left : List PlainLinear) (l : PlainLinear) : Type 0 where
   pub grown : GrowsByNames g h
   pub kept : Extends ts us
-  pub can : (o : Origin) (rest : List PlainLinear) → CanBeComposed o w g ts (beside_all xs) queue rest → CanBeJoined o w (network_in o (beside_all xs)) h us l (networks_of (map plain_network (drop place xs))) left rest
-  pub from : (i : Sig) (vs : List Tree) (last : List PlainLinear) (k : PlainLinear) → JoinedWith w h us l (networks_of (map plain_network (drop place xs))) left i vs last k → ComposedFrom w g ts (beside_all xs) queue i vs last k
+  pub can : (o : Origin) (rest : List PlainLinear) → CanBeComposed o (around_sign b) g ts whole queue rest → CanBeJoined o b (network_in o whole) h us l ns left rest
+  pub from : (i : Sig) (vs : List Tree) (last : List PlainLinear) (k : PlainLinear) → JoinedWith b h us l ns left i vs last k → ComposedFrom (around_sign b) g ts whole queue i vs last k
 
-pub joins_first : (w : PlainScope) (g h : Sig) (ts us : List Tree) (xs : List Network) (x : Network) (queue left : List PlainLinear) (l : PlainLinear) → IsSignature g → 0 < length xs → x ≡ get_or xs 0 x → GrowsByNames g h → Extends ts us
-    → Composes (inside w (plain_network x)) g ts (plain_network x) queue h us left l → ComposedFrom (inside w (plain_network x)) g ts (plain_network x) queue h us left l → IsJoining w g ts xs queue 1 h us left l
-joins_first w g h ts us xs x queue left l s some e by kept f made =
-    let is = first_is xs x some e in
-    let ns = networks_of (map plain_network (drop 1 xs)) in
-    record {
-      grown = by;
-      kept = kept;
-      can = λ o rest k.
-          subst (λ zs. CanBeJoined o w (network_in o (beside_all zs)) h us l ns left rest) (sym is) (first_joined o w g h ts us (plain_network x) ns queue left rest l s (subst (λ zs. CanBeComposed o w g ts (beside_all zs) queue rest) is k) by kept f);
-      from = λ i vs last k j. subst (λ zs. ComposedFrom w g ts (beside_all zs) queue i vs last k) (sym is) (side_by_side_with made j);
-    }
-
--- with the one at the place in front
-at_place : (xs : List Network) (place : ℕ) (x : Network) → place < length xs → x ≡ get_or xs place x → drop place xs ≡ x ∷ drop (place + 1) xs
-at_place xs place x there e = drop_more xs place x there ∙ ap (λ z. z ∷ drop (place + 1) xs) (sym e)
-
-joining_next : (o : Origin) (w : PlainScope) (whole : Process) (h : Sig) (us : List Tree) (xs : List Network) (place : ℕ) (x : Network) (left rest : List PlainLinear) (l : PlainLinear) → place < length xs → x ≡ get_or xs place x
-    → CanBeJoined o w whole h us l (networks_of (map plain_network (drop place xs))) left rest → CanBeJoined o w whole h us l (networks_of (map plain_network (x ∷ drop (place + 1) xs))) left rest
-joining_next o w whole h us xs place x left rest l there e k = subst (λ zs. CanBeJoined o w whole h us l (networks_of (map plain_network zs)) left rest) (at_place xs place x there e) k
-
-pub next_has : (w : PlainScope) (g : Sig) (ts : List Tree) (xs : List Network) (queue : List PlainLinear) (place : ℕ) (h : Sig) (us : List Tree) (left : List PlainLinear) (l : PlainLinear) (x : Network) → place < length xs → x ≡ get_or xs place x
-    → HasItsParts w g ts (beside_all xs) queue → IsJoining w g ts xs queue place h us left l → HasItsParts (inside w (plain_network x)) h us (plain_network x) left
-next_has w g ts xs queue place h us left l x there e k j =
-    let m = joining_next k.0 w (network_in k.0 (beside_all xs)) h us xs place x left k.1 l there e (j.can k.0 k.1 k.2) in
-    let f = next_can k.0 w (network_in k.0 (beside_all xs)) h us l (plain_network x) (networks_of (map plain_network (drop (place + 1) xs))) left k.1 m in
-    (k.0, f.0, f.1)
-
-pub joined_fits : (w : PlainScope) (g : Sig) (ts : List Tree) (xs : List Network) (queue : List PlainLinear) (place : ℕ) (h i : Sig) (us vs : List Tree) (left : List PlainLinear) (l : PlainLinear) → HasItsParts w g ts (beside_all xs) queue → IsJoining w g ts xs queue place h us left l
-    → GrowsByNames h i → Extends us vs → Fits i vs l
-joined_fits w g ts xs queue place h i us vs left l k j by kept =
-    so_far_fits k.0 w (network_in k.0 (beside_all xs)) h i us vs l (networks_of (map plain_network (drop place xs))) left k.1 j.grown.stands (j.can k.0 k.1 k.2) by kept
-
--- the labels that matter are told by names of the signature
-pub scope_fits_then : (w : PlainScope) (g : Sig) (ts : List Tree) (xs : List Network) (queue : List PlainLinear) (h : Sig) → HasItsParts w g ts (beside_all xs) queue → GrowsByNames g h → ScopeFits h w
-scope_fits_then w g ts xs queue h k by = scope_fits_now k.0 h w (since_then k.0 g h by k.2.since) k.2.scope
-
-pub next_one_fits : (w : PlainScope) (g : Sig) (ts : List Tree) (xs : List Network) (queue : List PlainLinear) (place : ℕ) (h i : Sig) (us vs : List Tree) (left left' : List PlainLinear) (l r : PlainLinear) (x : Network) → place < length xs → x ≡ get_or xs place x
-    → HasItsParts w g ts (beside_all xs) queue → IsJoining w g ts xs queue place h us left l → Composes (inside w (plain_network x)) h us (plain_network x) left i vs left' r → Fits i vs r
-next_one_fits w g ts xs queue place h i us vs left left' l r x there e k j f =
-    let m = next_has w g ts xs queue place h us left l x there e k j in
-    part_fits (inside w (plain_network x)) h i us vs (plain_network x) left left' r m f
-
-pub joins_next : (w : PlainScope) (g : Sig) (ts : List Tree) (xs : List Network) (queue : List PlainLinear) (place : ℕ) (h i a : Sig) (us vs ws : List Tree) (left left' : List PlainLinear) (l r k : PlainLinear) (x : Network) → place < length xs → x ≡ get_or xs place x
-    → IsJoining w g ts xs queue place h us left l → GrowsByNames h i → Extends us vs → Composes (inside w (plain_network x)) h us (plain_network x) left i vs left' r → ComposedFrom (inside w (plain_network x)) h us (plain_network x) left i vs left' r
-    → GrowsByNames i a → Extends vs ws → Fits a ws k → IsJoint w i a ws l r k → LeadsBeside (scope_meant (entries_of a ws) w) a ws l r k → IsJoining w g ts xs queue (place + 1) a ws left' k
-joins_next w g ts xs queue place h i a us vs ws left left' l r k x there e j by kept f made by' kept' fits joint leads = record {
-  grown = names_then g h a j.grown (names_then h i a by by');
-  kept = extends_on ts us ws j.kept (extends_on us vs ws kept kept');
-  can = λ o rest c.
-      next_joined o w (network_in o (beside_all xs)) h i a us vs ws l r k (plain_network x) (networks_of (map plain_network (drop (place + 1) xs))) left left' rest j.grown.stands
-      (joining_next o w (network_in o (beside_all xs)) h us xs place x left rest l there e (j.can o rest c)) by kept f by' kept' fits joint leads;
-  from = λ b ys last z more.
-      j.from b ys last z (subst (λ zs. JoinedWith w h us l (networks_of (map plain_network zs)) left b ys last z) (sym (at_place xs place x there e)) (with_one_more made by' kept' fits joint more));
+pub joins_first : (b : PlainSign) (g h : Sig) (ts us : List Tree) (n whole : PlainNetwork) (ns : PlainNetworks) (queue left : List PlainLinear) (l : PlainLinear) → IsFirstOf b n ns whole → IsSignature g → GrowsByNames g h → Extends ts us
+    → Composes (beside_sign b n) g ts n queue h us left l → ComposedFrom (beside_sign b n) g ts n queue h us left l → IsJoining b g ts whole queue ns h us left l
+joins_first b g h ts us n whole ns queue left l first s by kept f made = record {
+  grown = by;
+  kept = kept;
+  can = λ o rest k. first_joined o b g h ts us n whole ns queue left rest l first s k by kept f;
+  from = λ i vs last k j. whole_composed first made j;
 }
 
-pub joins_all : (w : PlainScope) (g : Sig) (ts : List Tree) (xs : List Network) (queue : List PlainLinear) (place : ℕ) (h : Sig) (us : List Tree) (left : List PlainLinear) (l : PlainLinear) → length xs ≤ place → IsJoining w g ts xs queue place h us left l
-    → Composes w g ts (beside_all xs) queue h us left l
-joins_all w g ts xs queue place h us left l done j o rest can =
-    all_joined o w (network_in o (beside_all xs)) h us l left rest (subst (λ zs. CanBeJoined o w (network_in o (beside_all xs)) h us l (networks_of (map plain_network zs)) left rest) (drop_all place xs done) (j.can o rest can))
+pub next_has : (b : PlainSign) (g : Sig) (ts : List Tree) (whole : PlainNetwork) (queue : List PlainLinear) (n : PlainNetwork) (ns : PlainNetworks) (h : Sig) (us : List Tree) (left : List PlainLinear) (l : PlainLinear) → HasItsParts (around_sign b) g ts whole queue
+    → IsJoining b g ts whole queue (more_networks n ns) h us left l → HasItsParts (beside_sign b n) h us n left
+next_has b g ts whole queue n ns h us left l k j = let f = next_can k.0 b (network_in k.0 whole) h us l n ns left k.1 (j.can k.0 k.1 k.2) in (k.0, f.0, f.1)
 
-pub joined_from_all : (w : PlainScope) (g : Sig) (ts : List Tree) (xs : List Network) (queue : List PlainLinear) (place : ℕ) (h : Sig) (us : List Tree) (left : List PlainLinear) (l : PlainLinear) → length xs ≤ place → IsJoining w g ts xs queue place h us left l
-    → ComposedFrom w g ts (beside_all xs) queue h us left l
-joined_from_all w g ts xs queue place h us left l done j = j.from h us left l (subst (λ zs. JoinedWith w h us l (networks_of (map plain_network zs)) left h us left l) (sym (drop_all place xs done)) with_none)
+pub joined_fits : (b : PlainSign) (g : Sig) (ts : List Tree) (whole : PlainNetwork) (queue : List PlainLinear) (ns : PlainNetworks) (h i : Sig) (us vs : List Tree) (left : List PlainLinear) (l : PlainLinear) → HasItsParts (around_sign b) g ts whole queue → IsJoining b g ts whole queue ns h us left l
+    → GrowsByNames h i → Extends us vs → Fits i vs l
+joined_fits b g ts whole queue ns h i us vs left l k j by kept = so_far_fits k.0 b (network_in k.0 whole) h i us vs l ns left k.1 j.grown.stands (j.can k.0 k.1 k.2) by kept
+
+-- the labels that matter are told by names of the signature
+pub scope_fits_then : (b : PlainSign) (g : Sig) (ts : List Tree) (whole : PlainNetwork) (queue : List PlainLinear) (h : Sig) → HasItsParts (around_sign b) g ts whole queue → GrowsByNames g h → ScopeFits h (around_sign b)
+scope_fits_then b g ts whole queue h k by = scope_fits_now k.0 h (around_sign b) (since_then k.0 g h by k.2.since) k.2.scope
+
+pub next_one_fits : (b : PlainSign) (g : Sig) (ts : List Tree) (whole : PlainNetwork) (queue : List PlainLinear) (n : PlainNetwork) (ns : PlainNetworks) (h i : Sig) (us vs : List Tree) (left left' : List PlainLinear) (l r : PlainLinear) → HasItsParts (around_sign b) g ts whole queue
+    → IsJoining b g ts whole queue (more_networks n ns) h us left l → Composes (beside_sign b n) h us n left i vs left' r → Fits i vs r
+next_one_fits b g ts whole queue n ns h i us vs left left' l r k j f = part_fits (beside_sign b n) h i us vs n left left' r (next_has b g ts whole queue n ns h us left l k j) f
+
+pub joins_next : (b : PlainSign) (g : Sig) (ts : List Tree) (whole : PlainNetwork) (queue : List PlainLinear) (n : PlainNetwork) (ns : PlainNetworks) (h i a : Sig) (us vs ws : List Tree) (left left' : List PlainLinear) (l r k : PlainLinear) → IsJoining b g ts whole queue (more_networks n ns) h us left l
+    → GrowsByNames h i → Extends us vs → Composes (beside_sign b n) h us n left i vs left' r → ComposedFrom (beside_sign b n) h us n left i vs left' r → GrowsByNames i a → Extends vs ws → Fits a ws k → IsJoint b i a ws l r k → LeadsBeside b a ws l r k → IsJoining b g ts whole queue ns a ws left' k
+joins_next b g ts whole queue n ns h i a us vs ws left left' l r k j by kept f made by' kept' fits joint leads = record {
+  grown = names_then g h a j.grown (names_then h i a by by');
+  kept = extends_on ts us ws j.kept (extends_on us vs ws kept kept');
+  can = λ o rest c. next_joined o b (network_in o whole) h i a us vs ws l r k n ns left left' rest j.grown.stands (j.can o rest c) by kept f by' kept' fits joint leads;
+  from = λ z ys last x more. j.from z ys last x (with_one_more made by' kept' fits joint more);
+}
+
+pub joins_all : (b : PlainSign) (g : Sig) (ts : List Tree) (whole : PlainNetwork) (queue : List PlainLinear) (h : Sig) (us : List Tree) (left : List PlainLinear) (l : PlainLinear) → IsJoining b g ts whole queue no_networks h us left l → Composes (around_sign b) g ts whole queue h us left l
+joins_all b g ts whole queue h us left l j o rest can = all_joined o b (network_in o whole) h us l left rest (j.can o rest can)
+
+pub joined_from_all : (b : PlainSign) (g : Sig) (ts : List Tree) (whole : PlainNetwork) (queue : List PlainLinear) (h : Sig) (us : List Tree) (left : List PlainLinear) (l : PlainLinear) → IsJoining b g ts whole queue no_networks h us left l → ComposedFrom (around_sign b) g ts whole queue h us left l
+joined_from_all b g ts whole queue h us left l j = j.from h us left l with_none
+
+-- with the one at a place in front, and behind all places
+pub joining_at : (b : PlainSign) (g : Sig) (ts : List Tree) (whole : PlainNetwork) (queue : List PlainLinear) (xs : List Network) (place : ℕ) (x : Network) (h : Sig) (us : List Tree) (left : List PlainLinear) (l : PlainLinear) → place < length xs → x ≡ get_or xs place x
+    → IsJoining b g ts whole queue (from_place xs place) h us left l → IsJoining b g ts whole queue (more_networks (plain_network x) (from_place xs (place + 1))) h us left l
+joining_at b g ts whole queue xs place x h us left l there e j = subst (λ ns. IsJoining b g ts whole queue ns h us left l) (at_place xs place x there e) j
+
+pub joining_done : (b : PlainSign) (g : Sig) (ts : List Tree) (whole : PlainNetwork) (queue : List PlainLinear) (xs : List Network) (place : ℕ) (h : Sig) (us : List Tree) (left : List PlainLinear) (l : PlainLinear) → length xs ≤ place
+    → IsJoining b g ts whole queue (from_place xs place) h us left l → IsJoining b g ts whole queue no_networks h us left l
+joining_done b g ts whole queue xs place h us left l done j = subst (λ ns. IsJoining b g ts whole queue ns h us left l) (none_from xs place done) j
+
+-- ---- a left merge
+pub first_of_two : (m n : PlainNetwork) → IsFirstOf (beginning written.left_merge) m (more_networks n no_networks) (left_merge m n)
+first_of_two m n = of_a_left_merge
+
+pub left_joining : (g h : Sig) (ts us : List Tree) (m n : PlainNetwork) (queue left : List PlainLinear) (l : PlainLinear) → IsSignature g → GrowsByNames g h → Extends ts us → Composes everything g ts m queue h us left l → ComposedFrom everything g ts m queue h us left l
+    → IsJoining (beginning written.left_merge) g ts (left_merge m n) queue (more_networks n no_networks) h us left l
+left_joining g h ts us m n queue left l s by kept f made = joins_first (beginning written.left_merge) g h ts us m (left_merge m n) (more_networks n no_networks) queue left l (first_of_two m n) s by kept f made
+
+pub left_joined : (g h i j : Sig) (ts us vs ws : List Tree) (m n : PlainNetwork) (queue between left : List PlainLinear) (l r k : PlainLinear) → IsSignature g → GrowsByNames g h → Extends ts us → Composes everything g ts m queue h us between l → ComposedFrom everything g ts m queue h us between l
+    → GrowsByNames h i → Extends us vs → Composes everything h us n between i vs left r → ComposedFrom everything h us n between i vs left r → GrowsByNames i j → Extends vs ws → Fits j ws k → IsProductFrom written.left_merge i j ws l r k → IsGoodProductFrom written.left_merge j ws l r k
+    → IsJoining (beginning written.left_merge) g ts (left_merge m n) queue no_networks j ws left k
+left_joined g h i j ts us vs ws m n queue between left l r k s by kept f made by' kept' f' made' by'' kept'' fits is good =
+    joins_next (beginning written.left_merge) g ts (left_merge m n) queue n no_networks h i j us vs ws between left l r k (left_joining g h ts us m n queue between l s by kept f made) by' kept' f' made' by'' kept'' fits is (start_leads written.left_merge j ws l r k good)
 
 -- ---- what calls answer
 pub if_ok_all : {T E : Type 0} (r : Result T E) (P Q R S : T → Type 0) → ((x : T) → P x → Q x → R x → S x) → IfOk r P → IfOk r Q → IfOk r R → IfOk r S
@@ -278,6 +317,10 @@ beside_nodes : (ns : PlainNetworks) → nodes (side_by_side ns) ≡ 1 + all_node
 unfolding nodes
 beside_nodes ns = refl
 
+left_merge_nodes : (m n : PlainNetwork) → nodes (left_merge m n) ≡ 1 + (nodes m + nodes n)
+unfolding nodes
+left_merge_nodes m n = refl
+
 sync_nodes : (ns : PlainNetworks) → nodes (sync ns) ≡ 1 + all_nodes ns
 unfolding nodes
 sync_nodes ns = refl
@@ -301,6 +344,11 @@ synced_smaller n ns items is e =
     let whole : nodes_of n ≡ 1 + nodes_of_all ns.items = ap nodes (ap plain_network is ∙ synced_step ns) ∙ sync_nodes (networks_of (map plain_network ns.items)) in
     let same : nodes_of_all items ≡ nodes_of_all ns.items = ap nodes_of_all e in
     omega (arith, whole, same)
+
+pub left_merged_smaller : (n : Network) (a b : Box Network) (first second : Network) → n ≡ nets.LeftMerge a b → first ≡ a.value → second ≡ b.value → nodes_of first + nodes_of second < nodes_of n
+left_merged_smaller n a b first second is e f =
+    let whole : nodes_of n ≡ 1 + (nodes_of first + nodes_of second) = ap nodes (left_merged_is n a b first second is e f) ∙ left_merge_nodes (plain_network first) (plain_network second) in
+    omega (arith, whole)
 
 pub inner_smaller : (n : Network) (a : NetOp) (b : Box Network) (m : Network) → n ≡ nets.Op a b → m ≡ b.value → nodes_of m < nodes_of n
 inner_smaller n a b m is e =

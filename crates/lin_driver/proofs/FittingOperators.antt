@@ -15,8 +15,7 @@ use Rattle.data_theory.specs.IdTerms.{sort_under}
 use Rattle.data_theory.specs.IdTrees.{Tree}
 use Rattle.data_theory.specs.WholeSignatures.{IsSignature}
 use Rattle.term_pool.specs.Pools.{PoolContents}
-use Rattle.process_terms.specs.Processes as written
-use Rattle.process_terms.specs.Processes.{Renaming, Bound, Body, written_delta, written_act, written_choice, written_seq, written_cond, written_sum, written_call, written_merge, written_starting, written_around, synced_with, sums_around}
+use Rattle.process_terms.specs.Processes.{Renaming, Bound, Body, written_delta, written_act, written_choice, written_seq, written_cond, written_sum, written_call, written_merge, written_starting, written_around, sums_around}
 use Rattle.process_terms.specs.PlainProcesses.{PlainRule, PlainAround, allow, block, hide, rename, comm, PlainProcess, PlainProcesses, delta, act, call, choice, seq, cond as either, sum, merge, left_merge, sync, around, no_processes, more_processes, PlainDefinition, PlainModel}
 use Rattle.process_terms.specs.Meanings.{Entries, name_at, bound_at, rule_of, renaming_of, around_of, body_of, bodies_of, HasRenaming, HasAround, HasProcess, HasProcesses, HasDefinition}
 use Rattle.process_terms.specs.SignatureEntries.{entries_of}
@@ -29,7 +28,7 @@ use Rattle.sort_table.specs.SignatureVocabularies.{text_under, action_under, voc
 use Rattle.sort_table.specs.Vocabularies.{Vocabulary, EachPair}
 use Rattle.mcrl2_syntax.specs.Declarations.{PlainSpec}
 use Rattle.data_typing.specs.Meanings.{Scope}
-use Rattle.sort_checker.specs.Elaborations.{Fits, Elaborates, nothing, label, call_in_order, call_by_name, only_these, none_of_these, unseen, renamed, joined, in_sequence, one_of, side_by_side, for_each, where_true, by_truth, AllElaborate, all_done, one_and_more}
+use Rattle.sort_checker.specs.Elaborations.{Fits, Elaborates, nothing, label, call_in_order, one_by_one, call_by_name, only_these, none_of_these, unseen, renamed, joined, in_sequence, one_of, at_once, left_first, side_by_side, for_each, where_true, by_truth, AllElaborate, all_done, one_and_more}
 use Rattle.sort_checker.specs.Faults.{is_action, are_renamings_typed}
 use Rattle.sort_checker.specs.FullVocabularies.{FullVocabulary, Written, processes_in}
 use Rattle.sort_checker.specs.Operators.{names_of, stands_in, has_action, renaming_fits, first_again, are_apart, rule_fits_at, rule_fits, has_comm_fault}
@@ -40,12 +39,12 @@ use Rattle.sort_checker.proofs.SoundElaborations.{both_true, not_false}
 use Rattle.lps_core.proofs.Members.{all_from, map_contains, contains_map}
 use Rattle.action_filters.specs.Filters.{IsNameIn, RenamesOnce, HaveTargets}
 use Rattle.communication.specs.PlaceConditions.{RuleNamesIn, HaveResults}
-use Rattle.lin_driver.proofs.BodyLists.{chain_holds, chain_parts, merge_holds, merge_parts}
+use Rattle.lin_driver.proofs.BodyLists.{chain_holds, chain_parts, merge_holds, merge_parts, sync_holds, sync_parts}
 use Rattle.lin_driver.specs.ElaboratedModels.{IsDefinitionOf, IsElaborated}
 use Rattle.lin_driver.specs.FittingOperators.{OperatorFits, HasFittingOperators, HaveFittingOperators, OperatorsFit}
 
 -- ---- body by body
--- the vocabulary fits each operator of it, and none is `||_` or `|`
+-- the vocabulary fits each operator of it
 abbrev FitsIn : FullVocabulary → Body → Type 0
 FitsIn v written_delta = Unit {0}
 FitsIn v (written_act m) = Unit {0}
@@ -55,7 +54,7 @@ FitsIn v (written_cond c p q) = FitsIn v p × FitsIn v q
 FitsIn v (written_sum x p) = FitsIn v p
 FitsIn v (written_call k ts) = Unit {0}
 FitsIn v (written_merge p q) = FitsIn v p × FitsIn v q
-FitsIn v (written_starting o p q) = ⊥
+FitsIn v (written_starting o p q) = FitsIn v p × FitsIn v q
 FitsIn v (written_around o p) = Fits v o × FitsIn v p
 
 module _ (v : FullVocabulary) where
@@ -67,16 +66,13 @@ module _ (v : FullVocabulary) where
   inside_sums [] b h = h
   inside_sums (x ∷ xs) b h = inside_sums xs b h
 
-  no_sync : (b c : Body) (bs : List Body) → FitsIn v (synced_with (written_starting written.sync b c) bs) → ⊥
-  no_sync b c [] h = h
-  no_sync b c (d ∷ bs) h = no_sync (written_starting written.sync b c) d bs h
-
   -- what elaborates is such
   mutual
     fits_in : {scope : Scope} {p : bare.Process} {b : Body} → Elaborates v scope p b → FitsIn v b
     fits_in nothing = tt
     fits_in (label e) = tt
     fits_in (call_in_order e f) = tt
+    fits_in (one_by_one {bs = bs} n ds) = sync_holds (FitsIn v) tt (λ p q h k. (h, k)) bs (each_fits_in ds)
     fits_in (call_by_name e a f) = tt
     fits_in (only_these f d) = (f, fits_in d)
     fits_in (none_of_these f d) = (f, fits_in d)
@@ -85,6 +81,8 @@ module _ (v : FullVocabulary) where
     fits_in (joined f d) = (f, fits_in d)
     fits_in (in_sequence {bs = bs} ds) = chain_holds (FitsIn v) written_seq tt (λ p q h k. (h, k)) bs (each_fits_in ds)
     fits_in (one_of {bs = bs} ds) = chain_holds (FitsIn v) written_choice tt (λ p q h k. (h, k)) bs (each_fits_in ds)
+    fits_in (at_once {bs = bs} ds) = sync_holds (FitsIn v) tt (λ p q h k. (h, k)) bs (each_fits_in ds)
+    fits_in (left_first d k) = (fits_in d, fits_in k)
     fits_in (side_by_side {bs = bs} ds) = merge_holds (FitsIn v) tt (λ p q h k. (h, k)) bs (each_fits_in ds)
     fits_in (for_each {bounds = bounds} {b = b} s d) = around_sums bounds b (fits_in d)
     fits_in (where_true f d) = (fits_in d, tt)
@@ -205,10 +203,8 @@ module _ (g : Sig) (sg : IsSignature g) where
         process_fits (either c p q) there h = (process_fits p there.1 h.0, process_fits q there.2 h.1)
         process_fits (sum xs p) there h = process_fits p there.1 (inside_sums v (map (bound_at e) xs) (body_of e p) h)
         process_fits (merge ps) there h = processes_fit ps there (merge_parts (FitsIn v) (λ p q k. k) (bodies_of e ps) h)
-        process_fits (left_merge p q) there h = absurd h
-        process_fits (sync no_processes) there h = tt
-        process_fits (sync (more_processes p no_processes)) there h = process_fits p there.0 h
-        process_fits (sync (more_processes p (more_processes q ps))) there h = absurd (no_sync v (body_of e p) (body_of e q) (bodies_of e ps) h)
+        process_fits (left_merge p q) there h = (process_fits p there.0 h.0, process_fits q there.1 h.1)
+        process_fits (sync ps) there h = processes_fit ps there (sync_parts (FitsIn v) (λ p q k. k) (bodies_of e ps) h)
         process_fits (around o p) there h = (operator_fits o there.0 (over_declared o h.0), process_fits p there.1 h.1)
 
         processes_fit : (ps : PlainProcesses) → HasProcesses e ps → AllByRecursion (FitsIn v) (bodies_of e ps) → HaveFittingOperators g ps

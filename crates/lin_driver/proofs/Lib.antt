@@ -23,6 +23,7 @@ mod SortedTerms
 mod FittingOperators
 mod OpenedOperators
 mod ProductNames
+mod StartedNames
 mod NetworkScopes
 mod JointLinears
 mod TakenColumns
@@ -45,6 +46,7 @@ mod SameSorts
 mod AlikeParts
 mod AlikeFaults
 mod ApartNames
+mod OperandLabels
 mod SameShapes
 mod UpToRecursion
 pub mod AcceptedTexts
@@ -65,6 +67,7 @@ mod PlainFilters
 mod PlainCommunications
 mod PlainProducts
 mod PlainBeside
+mod PlainStarts
 mod PlainSums
 mod TidyConditions
 mod PlainLeaves

@@ -11,6 +11,7 @@ use Rattle.process_terms.specs.Communication.{Rule}
 use Rattle.process_terms.specs.Meanings.{name_at, rule_of}
 use Rattle.process_terms.specs.Names.{Name}
 use Rattle.process_terms.specs.PlainProcesses.{PlainRule, PlainAround, allow, comm}
+use Rattle.process_terms.specs.Processes as written
 use Rattle.process_terms.specs.SignatureEntries.{entries_of, BothGrow}
 use Rattle.bisim_laws.specs.Scopes as theory
 use Rattle.lps_core.specs.Fitting.{Fits}
@@ -37,8 +38,8 @@ use Rattle.greibach.proofs.GrownFits.{both_by_names, pool_alone}
 use Rattle.proc_unfold.specs.Networks.{PlainNetwork, PlainNetworks, leaf, side_by_side, left_merge, sync, under, no_networks, more_networks}
 use Rattle.lin_driver.specs.FittingOperators.{OperatorFits}
 use Rattle.lin_driver.specs.NetworkLaws.{IsOfPart, FollowsNetwork, as_one_process, as_delta, as_merges, FollowsParts, no_more_parts, one_more_part, WhatIsKeptIsOfWholeProducts}
-use Rattle.lin_driver.specs.NetworkProducts.{ComposedFrom, that_of_the_leaf, that_of_none, side_by_side_with, as_side_by_side, under_an_operator, JoinedWith, with_none, with_one_more}
-use Rattle.lin_driver.specs.NetworkScopes.{PlainScope, everything, completable, is_side_by_side, inside}
+use Rattle.lin_driver.specs.NetworkProducts.{ComposedFrom, that_of_the_leaf, that_of_none, that_of_no_sync, side_by_side_with, left_merged_with, synced_with, under_an_operator, JoinedWith, with_none, with_one_more}
+use Rattle.lin_driver.specs.NetworkScopes.{PlainScope, everything, completable, is_side_by_side, inside, PlainSign, merging, beginning, beside_sign}
 
 -- ---- growth on the way
 record HasCome (g h : Sig) (ts us : List Tree) (left : List PlainLinear) (l : PlainLinear) : Type 0 where
@@ -70,12 +71,24 @@ come_by g h i ts us vs left l k r by kept fits = record {
   left_fit = all_on h i us vs r.grown.stands by.stands (both_by_names h i us vs by kept) left r.left_fit;
 }
 
+come_last : (b : PlainSign) (g h i : Sig) (ts us vs : List Tree) (left last : List PlainLinear) (l k : PlainLinear) → JoinedWith b h us l no_networks left i vs last k → HasCome g h ts us left l → HasCome g i ts vs last k
+come_last b g h i ts us vs left last l k with_none r = r
+
+-- the right side of a left merge
+come_second : (n : PlainNetwork) (g h : Sig) (ts us : List Tree) (l : PlainLinear) (queue left : List PlainLinear) (k : PlainLinear)
+    → ((i j : Sig) (vs xs : List Tree) (ls rest : List PlainLinear) (m : PlainLinear) → ComposedFrom everything i vs n ls j xs rest m → IsSignature i → All (Fits i vs) ls → HasCome i j vs xs rest m)
+    → JoinedWith (beginning written.left_merge) g ts l (more_networks n no_networks) queue h us left k → IsSignature g → All (Fits g ts) queue → HasCome g h ts us left k
+come_second n g h ts us l queue left k comes (with_one_more {h = i} {i = j} {us = vs} {vs = xs} {between = between} {r = r} {m = m} c by kept fits joint more) s f =
+    come_last (beginning written.left_merge) g j h ts xs us between left m k more (come_by g i j ts vs xs between r m (comes g i ts vs queue between r c s f) by kept fits)
+
 mutual
   come : (n : PlainNetwork) (w : PlainScope) (g h : Sig) (ts us : List Tree) (queue left : List PlainLinear) (l : PlainLinear) → ComposedFrom w g ts n queue h us left l → IsSignature g → All (Fits g ts) queue → HasCome g h ts us left l
   come (leaf c) w g h ts us queue left l that_of_the_leaf s f = come_first g ts l left s f
   come (side_by_side ns) w g h ts us queue left l d s f = come_beside ns w g h ts us queue left l d s f
-  come (left_merge m n) w g h ts us queue left l d s f = elim d [ ]
-  come (sync ns) w g h ts us queue left l (as_side_by_side d) s f = come_beside ns everything g h ts us queue left l d s f
+  come (left_merge m n) w g h ts us queue left l (left_merged_with {h = i} {us = vs} {between = between} {l = k} c j) s f =
+      let r = come m everything g i ts vs queue between k c s f in
+      come_on g i h ts vs us between left k l r (come_second n i h vs us k between left l (come n everything) j r.grown.stands r.left_fit)
+  come (sync ns) w g h ts us queue left l d s f = come_synced ns w g h ts us queue left l d s f
   come (under a n) w g h ts us queue left l (under_an_operator {us = vs} {l = m} d kept fits made) s f =
       let r = come n _ g h ts vs queue left m d s f in
       come_by g h h ts vs us left m l r (names_none h r.grown.stands) kept fits
@@ -84,14 +97,20 @@ mutual
   come_beside no_networks w g h ts us queue left l that_of_none s f = come_first g ts l left s f
   come_beside (more_networks n ns) w g h ts us queue left l (side_by_side_with {h = i} {us = vs} {between = between} {l = m} c j) s f =
       let r = come n (inside w n) g i ts vs queue between m c s f in
-      come_on g i h ts vs us between left m l r (come_joined ns w i h vs us m between left l j r.grown.stands r.fits r.left_fit)
+      come_on g i h ts vs us between left m l r (come_joined ns (merging w) i h vs us m between left l j r.grown.stands r.fits r.left_fit)
 
-  come_joined : (ns : PlainNetworks) (w : PlainScope) (g h : Sig) (ts us : List Tree) (l : PlainLinear) (queue left : List PlainLinear) (k : PlainLinear) → JoinedWith w g ts l ns queue h us left k → IsSignature g → Fits g ts l → All (Fits g ts) queue → HasCome g h ts us left k
-  come_joined no_networks w g h ts us l queue left k with_none s fl f = record { grown = names_none g s; kept = extends_itself ts; fits = fl; left_fit = f }
-  come_joined (more_networks n ns) w g h ts us l queue left k (with_one_more {h = i} {i = j} {us = vs} {vs = xs} {between = between} {r = r} {m = m} c by kept fits joint more) s fl f =
-      let first = come n (inside w n) g i ts vs queue between r c s f in
+  come_synced : (ns : PlainNetworks) (w : PlainScope) (g h : Sig) (ts us : List Tree) (queue left : List PlainLinear) (l : PlainLinear) → ComposedFrom w g ts (sync ns) queue h us left l → IsSignature g → All (Fits g ts) queue → HasCome g h ts us left l
+  come_synced no_networks w g h ts us queue left l that_of_no_sync s f = come_first g ts l left s f
+  come_synced (more_networks n ns) w g h ts us queue left l (synced_with {h = i} {us = vs} {between = between} {l = m} c j) s f =
+      let r = come n everything g i ts vs queue between m c s f in
+      come_on g i h ts vs us between left m l r (come_joined ns (beginning written.sync) i h vs us m between left l j r.grown.stands r.fits r.left_fit)
+
+  come_joined : (ns : PlainNetworks) (b : PlainSign) (g h : Sig) (ts us : List Tree) (l : PlainLinear) (queue left : List PlainLinear) (k : PlainLinear) → JoinedWith b g ts l ns queue h us left k → IsSignature g → Fits g ts l → All (Fits g ts) queue → HasCome g h ts us left k
+  come_joined no_networks b g h ts us l queue left k with_none s fl f = record { grown = names_none g s; kept = extends_itself ts; fits = fl; left_fit = f }
+  come_joined (more_networks n ns) b g h ts us l queue left k (with_one_more {h = i} {i = j} {us = vs} {vs = xs} {between = between} {r = r} {m = m} c by kept fits joint more) s fl f =
+      let first = come n (beside_sign b n) g i ts vs queue between r c s f in
       let next = come_by g i j ts vs xs between r m first by kept fits in
-      come_on g j h ts xs us between left m k next (come_joined ns w j h xs us m between left k more by.stands fits next.left_fit)
+      come_on g j h ts xs us between left m k next (come_joined ns b j h xs us m between left k more by.stands fits next.left_fit)
 
 -- ---- the merges
 module _ (a : PlainAllowed) (rules : List Rule) (sets : List (List Name)) where
@@ -142,7 +161,7 @@ module _ (a : PlainAllowed) (rules : List Rule) (sets : List (List Name)) where
         let all = joined_merge ns i h vs us m first.tree between left l j r.grown.stands r.fits r.left_fit (allowed_on g i ts vs (both g i ts vs between m r) k) first.merged in
         record { tree = all.tree; follows = as_merges first.follows all.follows; merged = all.merged }
 
-    joined_merge : (ns : PlainNetworks) (g h : Sig) (ts us : List Tree) (l : PlainLinear) (t : MergeTree) (queue left : List PlainLinear) (k : PlainLinear) → JoinedWith (completable a) g ts l ns queue h us left k → IsSignature g → Fits g ts l → All (Fits g ts) queue → IsAllowed g ts
+    joined_merge : (ns : PlainNetworks) (g h : Sig) (ts us : List Tree) (l : PlainLinear) (t : MergeTree) (queue left : List PlainLinear) (k : PlainLinear) → JoinedWith (merging (completable a)) g ts l ns queue h us left k → IsSignature g → Fits g ts l → All (Fits g ts) queue → IsAllowed g ts
         → Merged g ts t l → AreMerges t ns h us k
     joined_merge no_networks g h ts us l t queue left k with_none s fl f is mt = record { tree = t; follows = no_more_parts; merged = mt }
     joined_merge (more_networks n ns) g h ts us l t queue left k (with_one_more {h = i} {i = j} {us = vs} {vs = xs} {between = between} {r = r} {m = m} c by kept fits joint more) s fl f is mt =

@@ -1,7 +1,8 @@
 -- Which labels matter of the parts of a network: what fits, what stays so as names are added, and what goes through operators.
 use Rattle.std.proofs.Common.{◌≡◌, ◌==◌, Bool, true, false, List, [], ◌∷◌, ◌++◌, map, refl, sym, ap, ◌∙◌, subst, inl, inr, append_assoc, length, arith}
-use Rattle.std.specs.Prelude.{Contains, IfOk, Result, Ok, Err}
+use Rattle.std.specs.Prelude.{Contains, IfOk, Result, Ok, Err, Vec}
 use Rattle.std.specs.List.{All}
+use Rattle.std.specs.Global.{Global, Box}
 use Rattle.std.proofs.lemmas.Bool.Decides.{Decides-eqb}
 use Rattle.std.proofs.lemmas.List.Elements.{All-nil}
 use Rattle.data_theory.specs.declared.ids.NameId.{NameId}
@@ -14,6 +15,7 @@ use Rattle.process_terms.specs.Labels.{Label, names, Permuted, nothing_left, one
 use Rattle.process_terms.specs.Meanings.{Entries, name_at, rule_of, around_of}
 use Rattle.process_terms.specs.Names.{Name}
 use Rattle.process_terms.specs.declared.comm_rules.CommRule.{CommRule}
+use Rattle.process_terms.specs.declared.components.Component.{Component}
 use Rattle.process_terms.specs.PlainProcesses.{plain_rule, PlainRule, PlainAround, allow, block, hide, rename, comm}
 use Rattle.process_terms.specs.Processes as written
 use Rattle.process_terms.specs.Steps.{Passes}
@@ -33,10 +35,14 @@ use Rattle.communication.specs.PlaceConditions.{RuleNamesIn}
 use Rattle.summand_expander.specs.PlainAllowed.{PlainAllowed}
 use Rattle.summand_expander.specs.WithinProducts.{AllowedFits, scope_of}
 use Rattle.summand_expander.proofs.AllowedStays.{scopes_stay, allowed_fits_still}
-use Rattle.proc_unfold.specs.Networks.{PlainNetwork, leaf, side_by_side, left_merge, sync, under}
+use Rattle.proc_unfold.specs.declared.networks.NetOp.{NetOp}
+use Rattle.proc_unfold.specs.declared.networks.Network.{Network}
+use Rattle.proc_unfold.specs.declared.networks.Network.TheVariants as nets
+use Rattle.proc_unfold.specs.Networks.{PlainNetwork, leaf, side_by_side, left_merge, sync, under, plain_network}
+use Rattle.proc_unfold.proofs.ProcessSteps.{leaf_step, side_step, left_merged_step, synced_step, under_step}
 use Rattle.lin_driver.specs.FittingOperators.{OperatorFits}
 use Rattle.lin_driver.specs.declared.scopes.Scope.{Scope}
-use Rattle.lin_driver.specs.NetworkScopes.{PlainScope, everything, completable, plain_scope, scope_meant, ScopeFits, within_sets, within_rules, below_comm, below, is_side_by_side, inside}
+use Rattle.lin_driver.specs.NetworkScopes.{PlainScope, everything, completable, plain_scope, scope_meant, ScopeFits, within_sets, within_rules, below_comm, below, inside, PlainSign, merging, beginning, around_sign, beside_sign}
 
 -- ---- the names are those of the signature
 rules_fit : (g : Sig) (rules others : List PlainRule) (sets : List (List NameId)) → OperatorFits g (comm rules) → All (All (IsNameIn g)) sets → ScopeFits g (within_rules rules others sets)
@@ -51,12 +57,16 @@ below_fits g (block names) w k l = tt
 below_fits g (hide names) w k l = tt
 below_fits g (rename pairs) w k l = tt
 
-pub inside_fits : (g : Sig) (w : PlainScope) (n : PlainNetwork) → ScopeFits g w → ScopeFits g (inside w n)
+inside_fits : (g : Sig) (w : PlainScope) (n : PlainNetwork) → ScopeFits g w → ScopeFits g (inside w n)
 inside_fits g w (leaf c) k = tt
 inside_fits g w (side_by_side ns) k = k
 inside_fits g w (left_merge m n) k = tt
 inside_fits g w (sync ns) k = tt
 inside_fits g w (under a n) k = tt
+
+pub beside_fits : (g : Sig) (b : PlainSign) (n : PlainNetwork) → ScopeFits g (around_sign b) → ScopeFits g (beside_sign b n)
+beside_fits g (merging w) n k = inside_fits g w n k
+beside_fits g (beginning o) n k = tt
 
 -- ---- as signature and pool grow
 pub scope_stays : (g h : Sig) (ts us : List Tree) (w : PlainScope) → IsSignature g → BothGrow g h ts us → ScopeFits g w → scope_meant (entries_of h us) w ≡ scope_meant (entries_of g ts) w
@@ -123,20 +133,26 @@ matters_below th e (block names) w m n p k = tt
 matters_below th e (hide names) w m n p k = tt
 matters_below th e (rename pairs) w m n p k = tt
 
--- ---- a part that is a `||`, and one that is none
-pub inside_one : (w : PlainScope) (n : PlainNetwork) → is_side_by_side n ≡ true → inside w n ≡ w
-inside_one w (leaf c) e = cc
-inside_one w (side_by_side ns) e = refl
-inside_one w (left_merge m n) e = cc
-inside_one w (sync ns) e = cc
-inside_one w (under a n) e = cc
+-- ---- which labels matter of a network in code, beside others
+pub beside_a_merge : (b : PlainSign) (n : Network) (ns : Vec Network Global) → n ≡ nets.Merge ns → beside_sign b (plain_network n) ≡ around_sign b
+beside_a_merge (merging w) n ns is = subst (λ m. beside_sign (merging w) m ≡ w) (sym (ap plain_network is ∙ side_step ns)) refl
+beside_a_merge (beginning o) n ns is = refl
 
-pub inside_another : (w : PlainScope) (n : PlainNetwork) → is_side_by_side n ≡ false → inside w n ≡ everything
-inside_another w (leaf c) e = refl
-inside_another w (side_by_side ns) e = cc
-inside_another w (left_merge m n) e = refl
-inside_another w (sync ns) e = refl
-inside_another w (under a n) e = refl
+pub beside_a_leaf : (b : PlainSign) (n : Network) (c : Component) → n ≡ nets.Leaf c → beside_sign b (plain_network n) ≡ everything
+beside_a_leaf (merging w) n c is = subst (λ m. beside_sign (merging w) m ≡ everything) (sym (ap plain_network is ∙ leaf_step c)) refl
+beside_a_leaf (beginning o) n c is = refl
+
+pub beside_a_left_merge : (b : PlainSign) (n : Network) (x y : Box Network) → n ≡ nets.LeftMerge x y → beside_sign b (plain_network n) ≡ everything
+beside_a_left_merge (merging w) n x y is = subst (λ m. beside_sign (merging w) m ≡ everything) (sym (ap plain_network is ∙ left_merged_step x y)) refl
+beside_a_left_merge (beginning o) n x y is = refl
+
+pub beside_a_sync : (b : PlainSign) (n : Network) (ns : Vec Network Global) → n ≡ nets.Sync ns → beside_sign b (plain_network n) ≡ everything
+beside_a_sync (merging w) n ns is = subst (λ m. beside_sign (merging w) m ≡ everything) (sym (ap plain_network is ∙ synced_step ns)) refl
+beside_a_sync (beginning o) n ns is = refl
+
+pub beside_an_operator : (b : PlainSign) (n : Network) (a : NetOp) (x : Box Network) → n ≡ nets.Op a x → beside_sign b (plain_network n) ≡ everything
+beside_an_operator (merging w) n a x is = subst (λ m. beside_sign (merging w) m ≡ everything) (sym (ap plain_network is ∙ under_step a x)) refl
+beside_an_operator (beginning o) n a x is = refl
 
 -- ---- what calls answer
 pub scope_is : {E : Type 0} (r : Result Scope E) (v w : PlainScope) → v ≡ w → IfOk r (λ scope. plain_scope scope ≡ v) → IfOk r (λ scope. plain_scope scope ≡ w)

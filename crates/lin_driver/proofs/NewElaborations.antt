@@ -11,7 +11,7 @@ use Rattle.data_theory.proofs.EnvironmentLemmas.{put-apply, contains_first, cont
 use Rattle.process_terms.specs.Labels as written
 use Rattle.process_terms.specs.Labels.{Label, put_action, put_label}
 use Rattle.process_terms.specs.Processes as processes
-use Rattle.process_terms.specs.Processes.{Body, Definition, Table, written_delta, written_act, written_choice, written_seq, written_cond, written_sum, written_call, written_merge, written_around, choice_of, seq_of, merge_of, merged_with, sums_around, close}
+use Rattle.process_terms.specs.Processes.{Body, Definition, Table, written_delta, written_act, written_choice, written_seq, written_cond, written_sum, written_call, written_merge, written_starting, written_around, choice_of, seq_of, merge_of, merged_with, sync_of, synced_with, sums_around, close}
 use Rattle.sort_table.specs.Expressions.{Name, Expression}
 use Rattle.sort_table.specs.NamedLists.{all_named, first_named}
 use Rattle.sort_table.specs.BareSorts.{SortExpression, truth_values, positives, naturals, integers, lists_of, a_name}
@@ -24,7 +24,7 @@ use Rattle.sort_checker.specs.FullVocabularies.{Parameters, FullVocabulary, proc
 use Rattle.sort_checker.specs.Scopes.{numbers_of, Binds, binds_none, binds_more}
 use Rattle.sort_checker.specs.PartTypings.{action_at, action_of, label_in, arguments_in, variable_at, assigned_or, assigned_in}
 use Rattle.sort_checker.specs.Operators.{renaming_of, rule_of}
-use Rattle.sort_checker.specs.Elaborations.{Elaborates, nothing, label, call_in_order, call_by_name, only_these, none_of_these, unseen, renamed, joined, in_sequence, one_of, side_by_side, for_each, where_true, by_truth, AllElaborate, all_done, one_and_more, ElaboratesDefinition}
+use Rattle.sort_checker.specs.Elaborations.{Elaborates, nothing, label, call_in_order, one_by_one, call_by_name, only_these, none_of_these, unseen, renamed, joined, in_sequence, one_of, at_once, left_first, side_by_side, for_each, where_true, by_truth, AllElaborate, all_done, one_and_more, ElaboratesDefinition}
 use Rattle.sort_checker.specs.ClosingLaws.{NamesApart}
 use Rattle.sort_checker.specs.ScopeLaws.{Both, neither, both}
 use Rattle.sort_checker.proofs.RelatedTypings.{AllRelated, related_none, related_more, map_both, then_both, or_both}
@@ -32,6 +32,7 @@ use Rattle.lin_driver.specs.Renumberings.{Renumbering, new_sort, new_symbol, new
 use Rattle.lin_driver.specs.SameProcesses.{SameDefinition, SameDefinitions}
 use Rattle.lin_driver.proofs.NewTerms.{new_apply}
 use Rattle.lin_driver.proofs.AlikeTypings.{EachWith, each_none, each_more, first_along, test_both}
+use Rattle.lin_driver.proofs.OperandLabels.{no_labels}
 use Rattle.lin_driver.proofs.SameSorts.{met}
 use Rattle.lin_driver.proofs.NewTypings.{IsNew, KeepsNew, NewTypings, KeptNew, exactly_new, checked_new, all_new, equal_new, each_new, NewScopes, scopes_none, scopes_more, NewBounds, found_new, typed_new, all_typed_new}
 
@@ -149,6 +150,14 @@ module _ (r : Renumbering) where
   merges each_none = λ d. refl
   merges (each_more {x = b} {y = c} h hs) = merged b c h hs
 
+  synced : {e k : Environment} (p q : Body) {bs cs : List Body} → AlikeBodies e k p q → EachWith (AlikeBodies e k) bs cs → AlikeBodies e k (synced_with p bs) (synced_with q cs)
+  synced p q h each_none = h
+  synced p q h (each_more {x = b} {y = c} g hs) = synced (written_starting processes.sync p b) (written_starting processes.sync q c) (λ d. ap₂ (processes.starting processes.sync) (h d) (g d)) hs
+
+  syncs : {e k : Environment} {bs cs : List Body} → EachWith (AlikeBodies e k) bs cs → AlikeBodies e k (sync_of bs) (sync_of cs)
+  syncs each_none = λ d. refl
+  syncs (each_more {x = b} {y = c} h hs) = synced b c h hs
+
   module _ (v w : FullVocabulary) (takes : TakesFullVocabulary r v w) (first_apart : NamesApart v) (second_apart : NamesApart w) where
     -- ---- parts
     module _ (e k : Environment) (one other : Scope) (scopes : NewScopes r (Alike e k) one other) where
@@ -261,6 +270,9 @@ module _ (r : Renumbering) where
       same_new {one = one} {other = other} (call_in_order {x = x} {es = es} {k = i} {ps = ps} {ts = ts} f g) (call_in_order {k = j} {ps = qs} {ts = us} f' g') e k h =
           let same = entry_new x (i, ps) (j, qs) f f' in
           called e k i j ts us (ap (λ (z : ℕ × Parameters). z.0) same) (met (arguments_new e k one other h ps es) g (subst (λ (z : Parameters). arguments_in w.declared other z es ≡ Some us) (sym (ap (λ (z : ℕ × Parameters). z.1) same)) g'))
+      same_new {one = one} (label {m = m} f) (one_by_one {a = x} {b = y} {as_ = as_} n ys) e k h = absurd (no_labels v.declared w (λ z q g. no_action_first z (second_apart z q g)) one (x ∷ y ∷ as_) m n f)
+      same_new {other = other} (one_by_one {a = x} {b = y} {as_ = as_} n ys) (label {m = m} f) e k h = absurd (no_labels w.declared v (λ z q g. no_action_second z (first_apart z q g)) other (x ∷ y ∷ as_) m n f)
+      same_new (one_by_one n xs) (one_by_one m ys) e k h = syncs (all_same_new xs ys e k h)
       same_new {one = one} {other = other} (call_by_name {x = x} {ds = ds} {k = i} {ps = ps} {ts = ts} f y g) (call_by_name {k = j} {ps = qs} {ts = us} f' y' g') e k h =
           let same = entry_new x (i, ps) (j, qs) f f' in
           called e k i j ts us (ap (λ (z : ℕ × Parameters). z.0) same) (met (all_assigned e k one other h ps ds) g (subst (λ (z : Parameters). assigned_in w.declared other z ds ≡ Some us) (sym (ap (λ (z : ℕ × Parameters). z.1) same)) g'))
@@ -271,6 +283,11 @@ module _ (r : Renumbering) where
       same_new (joined {cs = cs} f x) (joined g y) e k h = λ d. ap (processes.around (processes.comm (map rule_of cs))) (same_new x y e k h d)
       same_new (in_sequence xs) (in_sequence ys) e k h = sequences (all_same_new xs ys e k h)
       same_new (one_of xs) (one_of ys) e k h = choices (all_same_new xs ys e k h)
+      same_new (at_once xs) (at_once ys) e k h = syncs (all_same_new xs ys e k h)
+      same_new (left_first x y) (left_first x' y') e k h =
+          let p = same_new x x' e k h in
+          let q = same_new y y' e k h in
+          λ d. ap₂ (processes.starting processes.left_merge) (p d) (q d)
       same_new (side_by_side xs) (side_by_side ys) e k h = merges (all_same_new xs ys e k h)
       same_new (for_each {b = p} bs x) (for_each {b = q} cs y) e k h = sums p q bs cs (λ e' k' h'. same_new x y e' k' h') e k h
       same_new {one = one} {other = other} (where_true {e = c} f x) (where_true g y) e k h =

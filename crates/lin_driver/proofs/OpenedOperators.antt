@@ -29,10 +29,8 @@ module _ (g : Sig) (m : PlainModel) (fit : OperatorsFit g m) (marks : List Bool)
     opened_fits (beside o) h = all_opened_fit o h
     opened_fits (one_choice one o) h = all_opened_fit o h
     opened_fits (one_step one o) h = all_opened_fit o h
-    opened_fits (left_merged o k) h = absurd h
-    opened_fits (synced none_open) h = tt
-    opened_fits (synced (more_open o none_open)) h = opened_fits o h
-    opened_fits (synced (more_open o (more_open k os))) h = absurd h
+    opened_fits (left_merged o k) h = (opened_fits o h.0, opened_fits k h.1)
+    opened_fits (synced o) h = all_opened_fit o h
     opened_fits (no_sum o) h = opened_fits o h
     opened_fits (within o) h = (h.0, opened_fits o h.1)
 
@@ -85,10 +83,8 @@ module _ (g h : Sig) (grow : IsGrown g h) (same : h.actions ≡ g.actions) where
     pub network_fits_still : (n : PlainNetwork) → NetworkFits g n → NetworkFits h n
     network_fits_still (leaf c) k = tt
     network_fits_still (side_by_side ns) k = networks_fit_still ns k
-    network_fits_still (left_merge m n) k = k
-    network_fits_still (sync no_networks) k = tt
-    network_fits_still (sync (more_networks n no_networks)) k = network_fits_still n k
-    network_fits_still (sync (more_networks m (more_networks n ns))) k = k
+    network_fits_still (left_merge m n) k = (network_fits_still m k.0, network_fits_still n k.1)
+    network_fits_still (sync ns) k = networks_fit_still ns k
     network_fits_still (under o n) k = (operator_fits_still o k.0, network_fits_still n k.1)
 
     pub networks_fit_still : (ns : PlainNetworks) → NetworksFit g ns → NetworksFit h ns

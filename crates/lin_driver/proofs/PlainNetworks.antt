@@ -6,6 +6,7 @@ use Rattle.std.specs.Prelude.{IfOk, Result, Ok, Err, Vec}
 use Rattle.std.proofs.lemmas.List.Elements.{All-head, All-tail, All-weaker}
 use Rattle.data_theory.specs.Signature.{Sig}
 use Rattle.data_theory.specs.WholeSignatures.{IsSignature}
+use Rattle.data_theory.specs.IdTerms.{IsGrown}
 use Rattle.data_theory.specs.IdTrees.{Tree}
 use Rattle.data_theory.proofs.IdGrowthLemmas.{growth_after_growth_is_growth}
 use Rattle.term_pool.specs.Pools.{PoolContents, Extends}
@@ -23,18 +24,21 @@ use Rattle.communication.specs.Communicated.{communicating}
 use Rattle.proc_unfold.specs.declared.networks.NetOp.{NetOp}
 use Rattle.proc_unfold.specs.declared.networks.Network.{Network}
 use Rattle.proc_unfold.specs.declared.networks.Network.TheVariants as nets
-use Rattle.proc_unfold.specs.Networks.{PlainNetwork, networks_of, plain_network, plain_operator}
-use Rattle.proc_unfold.proofs.ProcessSteps.{side_step, synced_step, under_step}
+use Rattle.proc_unfold.specs.Networks.{PlainNetwork, side_by_side, left_merge, networks_of, plain_network, plain_operator}
+use Rattle.proc_unfold.proofs.ProcessSteps.{side_step, under_step}
 use Rattle.greibach.proofs.GrownFits.{both_by_names, pool_alone}
 use Rattle.lin_driver.specs.NetworkProducts.{IsJoint}
-use Rattle.lin_driver.specs.NetworkScopes.{PlainScope}
+use Rattle.lin_driver.specs.declared.scopes.Sign.{Sign}
+use Rattle.lin_driver.specs.declared.scopes.Sign.TheVariants as signs
+use Rattle.lin_driver.specs.NetworkScopes.{PlainSign, merging, beginning}
 use Rattle.lin_driver.specs.PlainlyMade.{IsPlainFor, IsCommWritten, AreCommsWritten, AreCommsWrittenBeside, StaysPlainAround, ComposesPlainly}
-use Rattle.lin_driver.proofs.ComposedNetworks.{beside_all}
+use Rattle.lin_driver.proofs.ComposedNetworks.{all_with}
 use Rattle.lin_driver.proofs.JointLinears.{joint_made}
 use Rattle.lin_driver.proofs.PlainBeside.{product_is_plain}
 use Rattle.lin_driver.proofs.PlainCommunications.{communication_is_plain}
 use Rattle.lin_driver.proofs.PlainFilters.{KeepsArguments, filter_is_plain}
 use Rattle.lin_driver.proofs.PlainGrowing.{plain_on}
+use Rattle.lin_driver.proofs.PlainStarts.{start_is_plain}
 
 -- ---- an operator
 pub filtered_around : {E : Type 0} (r : Result Linear E) (g : Sig) (q : PoolContents) (a : PlainAround) (l : PlainLinear) (f : List PlainAction → Option (List PlainAction)) → KeepsArguments (entries_of g q.trees) f → Fits g q.trees l
@@ -66,35 +70,51 @@ taken_plainly g p n queue left l is s w since comms all =
     (All-head (IsPlainFor s g p w) l left own, All-tail (IsPlainFor s g p w) l left own)
 
 -- ---- side by side
-pub beside_plainly : (g h : Sig) (p q : PoolContents) (n : Network) (ns : Vec Network Global) (items : List Network) (queue left : List PlainLinear) (l : PlainLinear) → n ≡ nets.Merge ns → items ≡ ns.items → ComposesPlainly g p (beside_all items) queue h q left l
+pub beside_plainly : (g h : Sig) (p q : PoolContents) (n : Network) (ns : Vec Network Global) (items : List Network) (queue left : List PlainLinear) (l : PlainLinear) → n ≡ nets.Merge ns → items ≡ ns.items → ComposesPlainly g p (side_by_side (networks_of (map plain_network items))) queue h q left l
     → ComposesPlainly g p (plain_network n) queue h q left l
 beside_plainly g h p q n ns items queue left l is e f s w since comms all =
-    f s w since (subst (λ zs. AreCommsWritten w (beside_all zs)) (sym e) (subst (AreCommsWritten w) (ap plain_network is ∙ side_step ns) comms)) all
+    f s w since (subst (λ zs. AreCommsWritten w (side_by_side (networks_of (map plain_network zs)))) (sym e) (subst (AreCommsWritten w) (ap plain_network is ∙ side_step ns) comms)) all
 
--- a `|` of at most one is a `||`
-pub synced_plainly : (g h : Sig) (p q : PoolContents) (n : Network) (ns : Vec Network Global) (items : List Network) (queue left : List PlainLinear) (l : PlainLinear) → n ≡ nets.Sync ns → items ≡ ns.items → ComposesPlainly g p (beside_all items) queue h q left l
-    → ComposesPlainly g p (plain_network n) queue h q left l
-synced_plainly g h p q n ns items queue left l is e f s w since comms all =
-    f s w since (subst (λ zs. AreCommsWritten w (beside_all zs)) (sym e) (subst (AreCommsWritten w) (ap plain_network is ∙ synced_step ns) comms)) all
+-- a left merge, or networks with `|` between them
+pub whole_plainly : (g h : Sig) (p q : PoolContents) (n m : PlainNetwork) (queue left : List PlainLinear) (l : PlainLinear) → n ≡ m → ComposesPlainly g p m queue h q left l → ComposesPlainly g p n queue h q left l
+whole_plainly g h p q n m queue left l is f = subst (λ z. ComposesPlainly g p z queue h q left l) (sym is) f
+
+-- ---- which `comm` are written
+-- where they are for a whole, they are for one of its parts
+abbrev pub CommsGoTo : PlainNetwork → PlainNetwork → Type 0
+CommsGoTo whole n = (w : Written) → AreCommsWritten w whole → AreCommsWritten w n
 
 comms_at : (w : Written) (xs : List Network) (i : ℕ) (x : Network) → i < length xs → x ≡ get_or xs i x → AreCommsWrittenBeside w (networks_of (map plain_network xs)) → AreCommsWritten w (plain_network x)
 comms_at w [] i x l is h = absurd (omega (arith, l))
 comms_at w (y ∷ xs) zero x l is h = subst (λ z. AreCommsWritten w (plain_network z)) (sym is) h.0
 comms_at w (y ∷ xs) (suc i) x l is h = comms_at w xs i x (omega (arith, l)) is h.1
 
-pub first_plainly : (g h : Sig) (p q : PoolContents) (xs : List Network) (x : Network) (queue left : List PlainLinear) (l : PlainLinear) → 0 < length xs → x ≡ get_or xs 0 x → ComposesPlainly g p (plain_network x) queue h q left l → ComposesPlainly g p (beside_all xs) queue h q left l
-first_plainly g h p q xs x queue left l some is f s w since comms all = f s w since (comms_at w xs 0 x some is comms) all
+pub comms_go : (sign : Sign) (xs : List Network) (i : ℕ) (x : Network) → i < length xs → x ≡ get_or xs i x → CommsGoTo (all_with sign xs) (plain_network x)
+comms_go (signs.Merge within) xs i x l is w h = comms_at w xs i x l is h
+comms_go signs.Sync xs i x l is w h = comms_at w xs i x l is h
 
-pub next_plainly : (v : PlainScope) (g h i j : Sig) (p q r t : PoolContents) (xs : List Network) (place : ℕ) (x : Network) (queue left rest : List PlainLinear) (l m k : PlainLinear) → place < length xs → x ≡ get_or xs place x → GrowsByNames g h
-    → ComposesPlainly g p (beside_all xs) queue h q left l → GrowsByNames h i → Extends q.trees r.trees → ComposesPlainly h q (plain_network x) left i r rest m → GrowsByNames i j → Extends r.trees t.trees → Fits j t.trees k → IsJoint v i j t.trees l m k
-    → ComposesPlainly g p (beside_all xs) queue j t rest k
-next_plainly v g h i j p q r t xs place x queue left rest l m k low is gh so_far hi kept next ij kept' fits joint s w since comms all =
+pub comms_go_first : (m n : PlainNetwork) → CommsGoTo (left_merge m n) m
+comms_go_first m n w h = h.0
+
+pub comms_go_second : (m n : PlainNetwork) → CommsGoTo (left_merge m n) n
+comms_go_second m n w h = h.1
+
+-- ---- one behind the other
+joint_is_plain : (b : PlainSign) (s g h : Sig) (p q : PoolContents) (w : Written) (l r k : PlainLinear) → IsSignature g → IsGrown s g → GrowsByNames g h → Extends p.trees q.trees → Fits h q.trees k → IsJoint b g h q.trees l r k → IsPlainFor s g p w l → IsPlainFor s g p w r → IsPlainFor s h q w k
+joint_is_plain (merging v) s g h p q w l r k old since by kept fits j before before' = let m = joint_made v g h q.trees l r k j in product_is_plain m.how m.part s g h p q w l r k old since by kept fits m.made before before'
+joint_is_plain (beginning o) s g h p q w l r k old since by kept fits j before before' = start_is_plain o s g h p q w l r k old since by kept fits j before before'
+
+pub first_plainly : (g h : Sig) (p q : PoolContents) (n whole : PlainNetwork) (queue left : List PlainLinear) (l : PlainLinear) → CommsGoTo whole n → ComposesPlainly g p n queue h q left l → ComposesPlainly g p whole queue h q left l
+first_plainly g h p q n whole queue left l go f s w since comms all = f s w since (go w comms) all
+
+pub next_plainly : (b : PlainSign) (g h i j : Sig) (p q r t : PoolContents) (n whole : PlainNetwork) (queue left rest : List PlainLinear) (l m k : PlainLinear) → CommsGoTo whole n → GrowsByNames g h → ComposesPlainly g p whole queue h q left l → GrowsByNames h i → Extends q.trees r.trees
+    → ComposesPlainly h q n left i r rest m → GrowsByNames i j → Extends r.trees t.trees → Fits j t.trees k → IsJoint b i j t.trees l m k → ComposesPlainly g p whole queue j t rest k
+next_plainly b g h i j p q r t n whole queue left rest l m k go gh so_far hi kept next ij kept' fits joint s w since comms all =
     let before = so_far s w since comms all in
     let sh = growth_after_growth_is_growth s g h since gh.grown in
     let si = growth_after_growth_is_growth s h i sh hi.grown in
-    let one = next s w sh (comms_at w xs place x low is comms) before.1 in
-    let joined = plain_on s h i q r w l gh.stands hi.stands (both_by_names h i q.trees r.trees hi kept) before.0 in
-    let made = joint_made v i j t.trees l m k joint in (
-      product_is_plain made.how made.part s i j r t w l m k hi.stands si ij kept' fits made.made joined one.0,
-      All-weaker (IsPlainFor s i r w) (IsPlainFor s j t w) (λ y n. plain_on s i j r t w y hi.stands ij.stands (both_by_names i j r.trees t.trees ij kept') n) rest one.1,
+    let one = next s w sh (go w comms) before.1 in
+    let joined = plain_on s h i q r w l gh.stands hi.stands (both_by_names h i q.trees r.trees hi kept) before.0 in (
+      joint_is_plain b s i j r t w l m k hi.stands si ij kept' fits joint joined one.0,
+      All-weaker (IsPlainFor s i r w) (IsPlainFor s j t w) (λ y z. plain_on s i j r t w y hi.stands ij.stands (both_by_names i j r.trees t.trees ij kept') z) rest one.1,
     )

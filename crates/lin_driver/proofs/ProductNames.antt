@@ -63,6 +63,9 @@ pub record IsPartOfProduct (f : Side → Side → Linear) : Type 0 where
   pub params : (a b : Side) → (f a b).params ≡ (product a b).params
   pub among : (a b : Side) (s : Summand) → Contains (f a b).summands s → Contains (product a b).summands s
 
+pub whole_product : IsPartOfProduct product
+whole_product = record { params = λ a b. refl; among = λ a b s i. i }
+
 module _ (f : Side → Side → Linear) (part : IsPartOfProduct f) (g h : Sig) (us : List Tree) (l r k : PlainLinear) (made : IsMadeOfSides f g h us l r k) where
   abbrev e : Entries
   e = entries_of h us
@@ -122,7 +125,7 @@ module _ (f : Side → Side → Linear) (part : IsPartOfProduct f) (g h : Sig) (
   pub to2 : GrowsByNames g g2
   to2 = names_then g g1 g2 one.on given.new.on
 
-  to_h : GrowsByNames g h
+  pub to_h : GrowsByNames g h
   to_h = names_then g g2 h to2 two.on
 
   function_before : (n : NameId) → Contains (function_names h) n → Contains (function_names g) n

@@ -7,7 +7,7 @@ use Rattle.graphs.specs.Graphs.{IsPath}
 use Rattle.process_terms.specs.Labels as written
 use Rattle.process_terms.specs.Labels.{Label}
 use Rattle.process_terms.specs.Processes as processes
-use Rattle.process_terms.specs.Processes.{Around, Bound, Body, written_delta, written_act, written_choice, written_seq, written_cond, written_sum, written_call, written_merge, written_around, Definition, Table, choice_of, seq_of, merged_with, merge_of, sums_around}
+use Rattle.process_terms.specs.Processes.{Around, Start, Bound, Body, written_delta, written_act, written_choice, written_seq, written_cond, written_sum, written_call, written_merge, written_starting, written_around, Definition, Table, choice_of, seq_of, merged_with, merge_of, synced_with, sync_of, sums_around}
 use Rattle.guard_check.specs.declared.calls.Extent.{Extent}
 use Rattle.guard_check.specs.declared.calls.Extent.TheVariants.{Everywhere, BeforeActions}
 use Rattle.guard_check.specs.Calls.{behind, calls, Calls, Leads, By, Reaches}
@@ -21,8 +21,9 @@ use Rattle.data_typing.specs.Meanings.{Scope, typing_in}
 use Rattle.sort_checker.specs.FullVocabularies.{Parameters, FullVocabulary, process_named}
 use Rattle.sort_checker.specs.Scopes.{Binds, binds_none, binds_more}
 use Rattle.sort_checker.specs.PartTypings.{action_of, label_in}
-use Rattle.sort_checker.specs.Elaborations.{Elaborates, nothing, label, call_in_order, call_by_name, only_these, none_of_these, unseen, renamed, joined, in_sequence, one_of, side_by_side, for_each, where_true, by_truth, AllElaborate, all_done, one_and_more}
+use Rattle.sort_checker.specs.Elaborations.{Elaborates, nothing, label, call_in_order, one_by_one, call_by_name, only_these, none_of_these, unseen, renamed, joined, in_sequence, one_of, at_once, left_first, side_by_side, for_each, where_true, by_truth, AllElaborate, all_done, one_and_more}
 use Rattle.lin_driver.proofs.AlikeTypings.{EachWith, each_none, each_more}
+use Rattle.lin_driver.proofs.OperandLabels.{no_labels}
 
 -- ---- process terms that are the same but for their data
 pub data SameShape : Body → Body → Type 0 where
@@ -34,6 +35,7 @@ pub data SameShape : Body → Body → Type 0 where
   shape_sum : {x y : Bound} {a b : Body} → SameShape a b → SameShape (written_sum x a) (written_sum y b)
   shape_call : {x : ℕ} {ts us : List Term} → SameShape (written_call x ts) (written_call x us)
   shape_merge : {a b c d : Body} → SameShape a c → SameShape b d → SameShape (written_merge a b) (written_merge c d)
+  shape_starting : {o : Start} {a b c d : Body} → SameShape a c → SameShape b d → SameShape (written_starting o a b) (written_starting o c d)
   shape_around : {o q : Around} {a b : Body} → SameShape a b → SameShape (written_around o a) (written_around q b)
 
 pub shape_back : {a b : Body} → SameShape a b → SameShape b a
@@ -45,6 +47,7 @@ shape_back (shape_cond h k) = shape_cond (shape_back h) (shape_back k)
 shape_back (shape_sum h) = shape_sum (shape_back h)
 shape_back shape_call = shape_call
 shape_back (shape_merge h k) = shape_merge (shape_back h) (shape_back k)
+shape_back (shape_starting h k) = shape_starting (shape_back h) (shape_back k)
 shape_back (shape_around h) = shape_around (shape_back h)
 
 calls_same : (n : Extent) {a b : Body} → SameShape a b → calls n a ≡ calls n b
@@ -56,6 +59,7 @@ calls_same n (shape_cond h k) = ap₂ (λ (xs ys : List ℕ). xs ++ ys) (calls_s
 calls_same n (shape_sum h) = calls_same n h
 calls_same n shape_call = refl
 calls_same n (shape_merge h k) = ap₂ (λ (xs ys : List ℕ). xs ++ ys) (calls_same n h) (calls_same n k)
+calls_same n (shape_starting h k) = ap₂ (λ (xs ys : List ℕ). xs ++ ys) (calls_same n h) (calls_same n k)
 calls_same n (shape_around h) = calls_same n h
 
 either_on : {A B C D : Type 0} → (A → C) → (B → D) → A ⊎ B → C ⊎ D
@@ -71,6 +75,7 @@ parallel_on (shape_cond h k) p = either_on (parallel_on h) (parallel_on k) p
 parallel_on (shape_sum h) p = parallel_on h p
 parallel_on shape_call p = p
 parallel_on (shape_merge h k) p = tt
+parallel_on (shape_starting h k) p = tt
 parallel_on (shape_around h) p = tt
 
 called_on : (n : Extent) {a b : Body} (x : ℕ) → SameShape a b → Contains (calls n a) x → Contains (calls n b) x
@@ -89,6 +94,7 @@ module _ (P Q : ℕ → Type 0) (back : (x : ℕ) → Q x → P x) where
   outside_on (shape_sum {x = x} {y = y} h) is = sequential_on (shape_sum {x = x} {y = y} h) is
   outside_on shape_call is = tt
   outside_on (shape_merge h k) is = (outside_on h is.0, outside_on k is.1)
+  outside_on (shape_starting h k) is = (outside_on h is.0, outside_on k is.1)
   outside_on (shape_around h) is = outside_on h is
 
 -- ---- definitions
@@ -159,6 +165,14 @@ merges : {bs cs : List Body} → EachWith SameShape bs cs → SameShape (merge_o
 merges each_none = shape_delta
 merges (each_more h hs) = merged h hs
 
+synced : {p q : Body} {bs cs : List Body} → SameShape p q → EachWith SameShape bs cs → SameShape (synced_with p bs) (synced_with q cs)
+synced h each_none = h
+synced h (each_more k hs) = synced (shape_starting h k) hs
+
+syncs : {bs cs : List Body} → EachWith SameShape bs cs → SameShape (sync_of bs) (sync_of cs)
+syncs each_none = shape_delta
+syncs (each_more h hs) = synced h hs
+
 some_same : {A : Type 0} {o : Option A} {x y : A} → o ≡ Some x → o ≡ Some y → x ≡ y
 some_same f g = cc
 
@@ -188,6 +202,9 @@ module _ (v w : FullVocabulary) (same : SameProcesses v w) where
     same_shape {one = one} (label {m = m} f) (call_in_order {x = x} {es = es} {k = k} {ps = ps} g q) = absurd (no_label v one x es m (same.second_apart x (k, ps) g) f)
     same_shape {other = other} (call_in_order {x = x} {es = es} {k = k} {ps = ps} g q) (label {m = m} f) = absurd (no_label w other x es m (same.first_apart x (k, ps) g) f)
     same_shape (call_in_order {x = x} {k = k} {ps = ps} f g) (call_in_order {k = j} {ps = qs} f' g') = call_same (same.places x (k, ps) (j, qs) f f')
+    same_shape {one = one} (label {m = m} f) (one_by_one {a = x} {b = y} {as_ = as_} n ys) = absurd (no_labels v.declared w same.second_apart one (x ∷ y ∷ as_) m n f)
+    same_shape {other = other} (one_by_one {a = x} {b = y} {as_ = as_} n ys) (label {m = m} f) = absurd (no_labels w.declared v same.first_apart other (x ∷ y ∷ as_) m n f)
+    same_shape (one_by_one n xs) (one_by_one m ys) = syncs (same_shapes xs ys)
     same_shape (call_by_name {x = x} {k = k} {ps = ps} f y g) (call_by_name {k = j} {ps = qs} f' y' g') = call_same (same.places x (k, ps) (j, qs) f f')
     same_shape (only_these f x) (only_these g y) = shape_around (same_shape x y)
     same_shape (none_of_these f x) (none_of_these g y) = shape_around (same_shape x y)
@@ -196,6 +213,8 @@ module _ (v w : FullVocabulary) (same : SameProcesses v w) where
     same_shape (joined f x) (joined g y) = shape_around (same_shape x y)
     same_shape (in_sequence xs) (in_sequence ys) = sequences (same_shapes xs ys)
     same_shape (one_of xs) (one_of ys) = choices (same_shapes xs ys)
+    same_shape (at_once xs) (at_once ys) = syncs (same_shapes xs ys)
+    same_shape (left_first x y) (left_first x' y') = shape_starting (same_shape x x') (same_shape y y')
     same_shape (side_by_side xs) (side_by_side ys) = merges (same_shapes xs ys)
     same_shape (for_each bs x) (for_each cs y) = sums bs cs (same_shape x y)
     same_shape (where_true f x) (where_true g y) = shape_cond (same_shape x y) shape_delta

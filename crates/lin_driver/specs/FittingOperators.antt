@@ -1,5 +1,4 @@
--- What an operator around a process asks of the actions, so that it can be put around a linear process. No left merge and no synchronisation of two
--- can be made linear.
+-- What an operator around a process asks of the actions, so that it can be put around a linear process.
 use Rattle.std.specs.Prelude.{List}
 use Rattle.std.specs.List.{All}
 use Rattle.data_theory.specs.declared.ids.NameId.{NameId}
@@ -28,7 +27,7 @@ OperatorFits g (hide ns) = All (IsNameIn g) ns
 OperatorFits g (rename rs) = RenamingFits g rs
 OperatorFits g (comm cs) = RulesFit g cs
 
--- each operator of a process term does, and none is `||_` or a `|` of two
+-- each operator of a process term does
 abbrev mutual
   pub HasFittingOperators : Sig → PlainProcess → Type 0
   HasFittingOperators g delta = Unit {0}
@@ -39,10 +38,8 @@ abbrev mutual
   HasFittingOperators g (cond c p q) = HasFittingOperators g p × HasFittingOperators g q
   HasFittingOperators g (sum xs p) = HasFittingOperators g p
   HasFittingOperators g (merge ps) = HaveFittingOperators g ps
-  HasFittingOperators g (left_merge p q) = ⊥
-  HasFittingOperators g (sync no_processes) = Unit {0}
-  HasFittingOperators g (sync (more_processes p no_processes)) = HasFittingOperators g p
-  HasFittingOperators g (sync (more_processes p (more_processes q ps))) = ⊥
+  HasFittingOperators g (left_merge p q) = HasFittingOperators g p × HasFittingOperators g q
+  HasFittingOperators g (sync ps) = HaveFittingOperators g ps
   HasFittingOperators g (around o p) = OperatorFits g o × HasFittingOperators g p
 
   pub HaveFittingOperators : Sig → PlainProcesses → Type 0
@@ -59,10 +56,8 @@ abbrev mutual
   pub NetworkFits : Sig → PlainNetwork → Type 0
   NetworkFits g (leaf c) = Unit {0}
   NetworkFits g (side_by_side ns) = NetworksFit g ns
-  NetworkFits g (networks.left_merge m n) = ⊥
-  NetworkFits g (networks.sync no_networks) = Unit {0}
-  NetworkFits g (networks.sync (more_networks n no_networks)) = NetworkFits g n
-  NetworkFits g (networks.sync (more_networks m (more_networks n ns))) = ⊥
+  NetworkFits g (networks.left_merge m n) = NetworkFits g m × NetworkFits g n
+  NetworkFits g (networks.sync ns) = NetworksFit g ns
   NetworkFits g (under o n) = OperatorFits g o × NetworkFits g n
 
   pub NetworksFit : Sig → PlainNetworks → Type 0

@@ -6,7 +6,7 @@ use Rattle.data_theory.specs.WholeSignatures.{IsSignature}
 use Rattle.data_theory.specs.IdTrees.{Tree}
 use Rattle.data_theory.specs.IdTerms.{IsGrown}
 use Rattle.process_terms.specs.PlainProcesses.{PlainModel, PlainComponent}
-use Rattle.process_terms.specs.Processes.{Body, Process, merge, close}
+use Rattle.process_terms.specs.Processes.{Body, Process, close}
 use Rattle.process_terms.specs.Meanings.{Entries, table_of, component_body}
 use Rattle.process_terms.specs.SignatureEntries.{entries_of}
 use Rattle.bisim_laws.specs.Links.{Link}
@@ -18,7 +18,7 @@ use Rattle.lps_core.specs.Naming.{ParamsHaveOwnNames}
 use Rattle.proc_unfold.specs.Networks.{PlainNetwork, network_body}
 use Rattle.lin_driver.specs.FittingOperators.{NetworkFits}
 use Rattle.lin_driver.specs.Leaves.{leaves}
-use Rattle.lin_driver.specs.NetworkScopes.{PlainScope, scope_meant, ScopeFits}
+use Rattle.lin_driver.specs.NetworkScopes.{PlainScope, scope_meant, ScopeFits, PlainSign, between, around_sign}
 use Rattle.lin_driver.specs.TakenNames.{HaveIdentifiers}
 
 -- It fits, its parameters have names of their own, and from the process a link leads to it, over every theory that goes on.
@@ -90,9 +90,13 @@ HasItsParts w g ts n queue = (o : Origin) × (rest : List PlainLinear) × CanBeC
 abbrev pub Composes : PlainScope → Sig → List Tree → PlainNetwork → List PlainLinear → Sig → List Tree → List PlainLinear → PlainLinear → Type 0
 Composes w g ts n queue h us left l = (o : Origin) (rest : List PlainLinear) → CanBeComposed o w g ts n queue rest → IsComposed (scope_meant (entries_in o) w) (network_in o n) h us left rest l
 
--- ---- two side by side
--- whatever links lead to the two for the labels that matter, one leads to the joint one
-abbrev pub LeadsBeside : Scope → Sig → List Tree → PlainLinear → PlainLinear → PlainLinear → Type 0
-LeadsBeside w h us l r k =
+-- ---- two with a sign between them
+-- whatever links lead to the two for these labels, one leads to the joint one
+abbrev pub LeadsWithin : Scope → PlainSign → Sig → List Tree → PlainLinear → PlainLinear → PlainLinear → Type 0
+LeadsWithin w b h us l r k =
     (i j : Link) (p q : Process) → IsGoodOverWithin h w i p (linear_state (entries_of h us) l) → IsGoodOverWithin h w j q (linear_state (entries_of h us) r)
-    → (link : Link) × IsGoodOverWithin h w link (merge p q) (linear_state (entries_of h us) k)
+    → (link : Link) × IsGoodOverWithin h w link (between b p q) (linear_state (entries_of h us) k)
+
+-- so for the labels that matter around the sign
+abbrev pub LeadsBeside : PlainSign → Sig → List Tree → PlainLinear → PlainLinear → PlainLinear → Type 0
+LeadsBeside b h us l r k = LeadsWithin (scope_meant (entries_of h us) (around_sign b)) b h us l r k

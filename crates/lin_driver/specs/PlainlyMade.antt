@@ -22,13 +22,15 @@ use Rattle.greibach.specs.PlainTerms.{FormIsPlain}
 use Rattle.regular_encoder.specs.FormColumns.{IsControl}
 use Rattle.stack_encoder.specs.AddedStacks.{IsAddedStack}
 use Rattle.summand_expander.specs.Renewals.{IsFlag, GivesWay, renewed_variable}
+use Rattle.summand_expander.specs.StartedProducts.{IsFirst}
 
 -- ---- what was added
--- A parameter that was added between two signatures: the number of an equation, and whether a side of a product has ended, each under a
--- fresh name; or the parameter that stands for such a one where it gave way in a product.
+-- A parameter that was added between two signatures: the number of an equation, whether a side of a product has ended, and whether the first step of
+-- a product is still to come, each under a fresh name; or the parameter that stands for such a one where it gave way in a product.
 pub data IsAddedParameter (g h : Sig) : VarId → Type 0 where
   a_control_number : {before after : Sig} {equations : ℕ} {x : VarId} → IsGrown g before → IsControl before equations after (Some x) → IsGrown after h → IsAddedParameter g h x
   an_ended_flag : {before after : Sig} {x : VarId} → IsGrown g before → IsFlag before true after (Some x) → IsGrown after h → IsAddedParameter g h x
+  a_first_flag : {before after : Sig} {x : VarId} → IsGrown g before → IsFirst before after x → IsGrown after h → IsAddedParameter g h x
   in_its_place : {before after : Sig} {l r : PlainLinear} {olds news : List VarId} {x : VarId} → IsAddedParameter g h x → GivesWay before l r after olds news → IsGrown after h → IsAddedParameter g h (renewed_variable olds news x)
 
 -- It fits. Between the signatures stacks were added, and some of its parameters, and with these it is plainly conditioned for what is

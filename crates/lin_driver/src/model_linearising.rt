@@ -144,7 +144,8 @@ fn linear_of_network(
 ///
 /// The process gets its name first. Then the components are made linear from the left, then come the products and the operators from the
 /// inside, and the sums get their names. A product directly under `allow`, or under `comm` directly under that, and each product directly inside
-/// such a one is the product within what can be completed to an allowed set. Last the needless parts `true` of conditions go. The result is plainly conditioned for what the
+/// such a one is the product within what can be completed to an allowed set. A `||_` or `|` is the product whose first step is one of the left side alone, or one of both.
+/// Last the needless parts `true` of conditions go. The result is plainly conditioned for what the
 /// specification writes, none of its conditions of two or more parts has the part `true`, and no sort is added where no component needs a
 /// stack. Of a linear text it keeps the parameters, the initial terms and the summands, unless the method is `Stack`.
 ///

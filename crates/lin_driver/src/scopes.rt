@@ -2,12 +2,12 @@
 
 ghost use Rattle.std.specs.Prelude.{◌≡◌, IfOk};
 ghost use Rattle.process_terms.specs.PlainProcesses.{items_of_each, plain_rules};
-ghost use Rattle.proc_unfold.specs.Networks.{plain_operator};
+ghost use Rattle.proc_unfold.specs.Networks.{plain_network, plain_operator};
 ghost use Rattle.summand_expander.specs.PlainAllowed.{plain_allowed};
-ghost use Rattle.lin_driver.specs.NetworkScopes.{below, below_comm, plain_scope, within_rules, within_sets};
+ghost use Rattle.lin_driver.specs.NetworkScopes.{around_sign, below, below_comm, beside_sign, plain_scope, plain_sign, those_or_all, within_rules, within_sets};
 
 use data_theory::{NameId, NoMemory};
-use proc_unfold::NetOp;
+use proc_unfold::{NetOp, Network};
 use process_terms::CommSet;
 use std::alloc::Global;
 use summand_expander::Allowed;
@@ -81,5 +81,39 @@ pub(crate) fn below(alloc: Global, operator: &NetOp, within: &Scope) -> Result<S
         NetOp::Block(_) => Ok(Scope::Everything),
         NetOp::Hide(_) => Ok(Scope::Everything),
         NetOp::Rename(_) => Ok(Scope::Everything),
+    }
+}
+
+/// What stands between networks one after another.
+#[derive(Clone, Copy, Debug, Drop)]
+pub(crate) enum Sign<'a> {
+    /// `||`, around which these labels matter.
+    Merge(&'a Scope),
+    /// `|`
+    Sync,
+}
+
+impl<'a> Sign<'a> {
+    /// Which labels matter of a `||` that is one of the networks. Where none are given, all do.
+    fn of_a_merge(self) -> Option<&'a Scope>
+        ensures { those_or_all result ≡ around_sign (plain_sign self) }
+    {
+        match self {
+            Sign::Merge(within) => Some(within),
+            Sign::Sync => None,
+        }
+    }
+}
+
+/// Which labels matter of one of the networks that have this between them. Where none are given, all do.
+pub(crate) fn beside<'a>(network: &Network, sign: Sign<'a>) -> Option<&'a Scope>
+    ensures { those_or_all result ≡ beside_sign (plain_sign sign) (plain_network network.now) }
+{
+    match network {
+        Network::Merge(_) => sign.of_a_merge(),
+        Network::Leaf(_) => None,
+        Network::LeftMerge(..) => None,
+        Network::Sync(_) => None,
+        Network::Op(..) => None,
     }
 }
