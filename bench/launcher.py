@@ -1068,7 +1068,7 @@ def no_answer(place):
         ran = place.run("break", "it")
         why = "mcrl2lin: without a proof there is no answer (==1==ERROR: a fault); ./mcrl2lin --prove makes the proved program"
         same((ran.returncode, ran.stdout, ran.stderr.splitlines()[1:], place.rooms()), (70, "", [why], []))
-    (place.kit / "program").write_text("#!/bin/sh\ncat $2\nexit 1\n")
+    (place.kit / "program").write_text('#!/bin/sh\ncat "$2"\nexit 1\n')
     place.write("crates/low/src/lib.rt", "changed\n")
     ran = place.example()
     same((ran.returncode, ran.stdout, place.unproved(), place.rooms()), (70, "", [place.unproved()[0]], []))
