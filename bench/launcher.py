@@ -225,6 +225,11 @@ class Place:
         """What is kept of the builds without a proof."""
         return [*self.top.glob("out/unproved-*")]
 
+    def processes(self):
+        """What still runs of the repository and its toolchain."""
+        found = subprocess.run(["pgrep", "-af", str(self.folder)], capture_output=True, text=True, check=False).stdout
+        return found.splitlines()
+
     def rooms(self):
         """What is left among the temporary files."""
         return [*(self.folder / "temporary files").iterdir()]
@@ -1063,7 +1068,7 @@ def no_answer(place):
         lines = ran.stderr.splitlines()
         same((len(lines), lines[0]), (2, BUILT))
         assert lines[1].startswith("mcrl2lin: without a proof there is no answer") and why in lines[1], lines
-        same(place.unproved(), [])
+        same((place.unproved(), place.processes()), ([], []))
     for _ in range(2):
         ran = place.run("break", "it")
         why = "mcrl2lin: without a proof there is no answer (==1==ERROR: a fault); ./mcrl2lin --prove makes the proved program"
