@@ -230,6 +230,13 @@ class Place:
         found = subprocess.run(["pgrep", "-af", str(self.folder)], capture_output=True, text=True, check=False).stdout
         return found.splitlines()
 
+    def await_end(self):
+        """Waits until nothing runs of the repository and its toolchain."""
+        until = time.monotonic() + 20
+        while self.processes():
+            assert time.monotonic() < until, self.processes()
+            time.sleep(0.1)
+
     def rooms(self):
         """What is left among the temporary files."""
         return [*(self.folder / "temporary files").iterdir()]
@@ -303,6 +310,7 @@ def build_at_once(place):
     ran = place.example()
     same((ran.returncode, ran.stdout, ran.stderr, place.calls()), (0, "act a;\n", f"{BUILT}\n", TRIED * 2))
     (place.kit / "go").touch()
+    place.await_end()
 
 
 def pipeline(place):
