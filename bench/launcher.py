@@ -28,6 +28,7 @@ CRATES = ["low", "high", "mcrl2lin"]
 LISTED = "# The crates.\nmcrl2lin: high, itoa\nhigh staticlib: low # and no more\nlow:\napart: low"
 PROGRAM = """#!/bin/bash
 case "$1 ${2-}" in
+'check '*) cat < "$2" ;;
 'linearise '*) cat 2> /dev/null < "$2" || { echo 'read fault' >&2; exit 3; } ;;
 'replay '*) cat -- "$2" "${4:-${3#*=}}" 2> /dev/null || { echo 'read fault' >&2; exit 3; } ;;
 'stack '*) ulimit -S -s; ulimit -H -s ;;
@@ -37,6 +38,7 @@ case "$1 ${2-}" in
 'write '*) echo "$2" 2> /dev/null || { echo 'write fault' >&2; exit 4; } ;;
 'long '*) yes | head -n 100000 ;;
 'wait '*) echo "$$"; exec sleep 60 ;;
+'break '*) echo half; echo '==1==ERROR: a fault' >&2; kill -ABRT $$ ;;
 '--fuel 3') shift 2; exec "$0" "$@" ;;
 '--fuel=3 '* | '-- '*) shift; exec "$0" "$@" ;;
 *) printf '%s\\n' usage "$#" "$@" >&2; exit 2 ;;
@@ -118,15 +120,14 @@ try() {
     pause
     case ${RT_TRY-} in
     refused) printf '%s\\n' "src/main.rt:1:1: error[no-such-name]: no name" "run=none proved=no" >&2; exit 1 ;;
-    long) echo half; printf '%s\\n' "checked: no-answer: past its limit" "run=no-answer proved=no" >&2; exit 6 ;;
-    killed) echo half; kill -9 $$ ;;
+    long) printf '%s\\n' "checked: no-answer: past its limit" "run=no-answer proved=no" >&2; exit 6 ;;
+    killed) kill -9 $$ ;;
     esac
     room=$(mktemp -d)
-    while [[ $1 != -- ]]; do
-        [[ $1 != --data ]] || cp -- "${2#*=}" "$room/${2%%=*}"
-        shift 2
-    done
-    (cd "$room" && exec env -i "$kit/program" "${@:2}") < /dev/null
+    mkdir "$room/run"
+    install -m 700 "$kit/program" "$room/run/program"
+    [[ $* == '--steps 1 -- check '* ]] || exit 2
+    (cd "$room/run" && exec env -i ./program "${@:4}") < /dev/null
     status=$?
     rm -r -- "$room"
     printf '%s\\n' "interpreter: no-answer: no" "checked: ended status=$status" "run=ended status=$status runners=1 proved=no" >&2
@@ -220,6 +221,22 @@ class Place:
     def is_proved(self):
         return any(self.top.glob("out/mcrl2lin-*"))
 
+    def unproved(self):
+        """What is kept of the builds without a proof."""
+        return [*self.top.glob("out/unproved-*")]
+
+    def processes(self):
+        """What still runs of the repository and its toolchain."""
+        found = subprocess.run(["pgrep", "-af", str(self.folder)], capture_output=True, text=True, check=False).stdout
+        return found.splitlines()
+
+    def await_end(self):
+        """Waits until nothing runs of the repository and its toolchain."""
+        until = time.monotonic() + 20
+        while self.processes():
+            assert time.monotonic() < until, self.processes()
+            time.sleep(0.1)
+
     def rooms(self):
         """What is left among the temporary files."""
         return [*(self.folder / "temporary files").iterdir()]
@@ -238,7 +255,8 @@ class Place:
 PROVED = [f"ci {it}" for it in CRATES]
 CHECKED = [f"check {it}" for it in CRATES]
 TRIED = ["try mcrl2lin"]
-UNPROVED = "mcrl2lin: this answer comes from the same sources without a proof, in two or three minutes; ./mcrl2lin --prove makes the proved program"
+UNPROVED = "mcrl2lin: this answer comes from the same sources without a proof; ./mcrl2lin --prove makes the proved program"
+BUILT = UNPROVED.replace(";", ", in two or three minutes;")
 
 
 def same(found, wanted):
@@ -246,12 +264,62 @@ def same(found, wanted):
 
 
 def first_start(place):
-    """Without a proved program the answer comes from the unproved build, each time, and nothing is written to the repository."""
+    """Without a proved program the answer comes from the unproved build, which is kept until a source changes or the program is proved."""
     for _ in range(2):
-        ran = place.example()
-        same((ran.returncode, ran.stdout, ran.stderr), (0, "act a;\n", f"{UNPROVED}\n"))
-        same(place.calls(), TRIED)
-    same(((place.top / "out").exists(), place.rooms()), (False, []))
+        for first, calls in ((BUILT, TRIED), (UNPROVED, []), (UNPROVED, [])):
+            ran = place.example()
+            same((ran.returncode, ran.stdout, ran.stderr), (0, "act a;\n", f"{first}\n"))
+            same((place.calls(), place.rooms(), len(place.unproved())), (calls, [], 1))
+        same(sorted(it.name for it in (place.top / "out").iterdir()), ["turn", place.unproved()[0].name])
+        place.write("crates/low/src/lib.rt", "changed\n")
+    place.prove()
+    same((place.example().stderr, place.unproved()), ("", []))
+
+
+def build_meanwhile(place):
+    """A source that changes while it is built: what was built serves for this answer and isn't kept."""
+    child = place.start("linearise", str(place.top / "examples/two_steps.mcrl2"), env={"RT_HOLD": "1"})
+    place.await_call(*TRIED)
+    place.write("crates/low/src/lib.rt", "changed\n")
+    (place.kit / "go").touch()
+    same((child.communicate(timeout=60), child.returncode), (("act a;\n", f"{BUILT}\n"), 0))
+    same((place.unproved(), place.rooms(), place.calls()), ([], [], TRIED))
+
+
+def build_at_once(place):
+    """Of starts that would build one does, and the others wait for it; but for none that was killed."""
+    words = ["linearise", str(place.top / "examples/two_steps.mcrl2")]
+    one = place.start(*words, env={"RT_HOLD": "1"})
+    place.await_call(*TRIED)
+    others = [place.start(*words) for _ in range(4)]
+    for other in others:
+        same([other.stderr.readline(), other.stderr.readline()], [f"{BUILT}\n", "mcrl2lin: waiting for another start, which is building\n"])
+    others[0].terminate()
+    others[0].communicate(timeout=2)
+    same(others[0].returncode, -signal.SIGTERM)
+    (place.kit / "go").touch()
+    for it in (one, *others[1:]):
+        same((it.communicate(timeout=60)[0], it.returncode), ("act a;\n", 0))
+    same((place.calls(), place.rooms(), len(place.unproved())), (TRIED, [], 1))
+    place.write("crates/low/src/lib.rt", "changed\n")
+    (place.kit / "go").unlink()
+    one = place.start(*words, env={"RT_HOLD": "1"})
+    place.await_call(*TRIED)
+    one.kill()
+    one.communicate()
+    ran = place.example()
+    same((ran.returncode, ran.stdout, ran.stderr, place.calls()), (0, "act a;\n", f"{BUILT}\n", TRIED * 2))
+    (place.kit / "go").touch()
+    place.await_end()
+
+
+def pipeline(place):
+    """Starts that read what others write, where nothing is built yet."""
+    both = '"$1" linearise <("$1" linearise <("$1" linearise "$2"))'
+    ran = subprocess.run(
+        ["bash", "-c", both, "", place.launcher, str(place.top / "examples/two_steps.mcrl2")], env=place.env, capture_output=True, text=True, timeout=60
+    )
+    same((ran.returncode, ran.stdout, place.calls(), place.rooms()), (0, "act a;\n", TRIED, []))
 
 
 def prove(place):
@@ -322,7 +390,7 @@ def answer_on_terminal(place):
     text.write_text("refused 1 BadByte 4\n $")
     said = on_terminal(place, 60, "refuse", str(text), env={"RT_SLOW": "4"}, status=1)
     first, rows = said.split("\r\n", 1)
-    same(first, UNPROVED)
+    same(first, BUILT)
     shown, last = rows.rsplit("\r\x1b[K", 1)
     assert sum("building without a proof (0 min" in it for it in shown.split("\r\x1b[K")) >= 2, shown
     same(last, f"refused 1 BadByte 4\r\nmcrl2lin: line 1, column 5; see 1 in {place.top / 'docs/REFUSALS.md'}\r\n")
@@ -393,7 +461,7 @@ def links(place):
     env = {"PATH": f"{away}:{place.env['PATH']}", "CDPATH": str(place.folder)}
     ran = subprocess.run(["straight", "linearise", "file"], env={**place.env, **env}, cwd=away, capture_output=True, text=True)
     same((ran.returncode, ran.stdout), (0, "act b;\n"))
-    same(place.calls(), TRIED * 4)
+    same(place.calls(), TRIED)
 
 
 def sources(place):
@@ -689,6 +757,9 @@ def no_toolchain(place):
     same((ran.returncode, ran.stdout, ran.stderr), (0, "act a;\n", ""))
     place.write("crates/low/src/lib.rt", "changed\n")
     same(place.example(env=env).returncode, 70)
+    place.example()
+    ran = place.example(env=env)
+    same((ran.returncode, ran.stdout, ran.stderr), (0, "act a;\n", f"{UNPROVED}\n"))
 
 
 def no_path(place):
@@ -767,7 +838,7 @@ def lost_reader(place):
     child.stdout.read()
     same(child.wait(timeout=30), -signal.SIGPIPE)
     assert not place.is_proved()
-    child = place.start("linearise", "/dev/zero", env={"RT_SLOW": "1"})
+    child = place.start("long", env={"RT_SLOW": "1"})
     child.stdout.close()
     child.stderr.read()
     same((child.wait(timeout=30), place.rooms()), (-signal.SIGPIPE, []))
@@ -820,7 +891,7 @@ def two_at_once(place):
     same(other.stderr.readline(), "mcrl2lin: waiting for another start, which is proving the program\n")
     ran = place.example()
     same((ran.returncode, ran.stdout), (0, "act a;\n"))
-    same(ran.stderr, UNPROVED.replace("this", "a proof is under way; this") + "\n")
+    same(ran.stderr, BUILT.replace("this", "a proof is under way; this") + "\n")
     (place.kit / "go").touch()
     said = [it.communicate(timeout=60) for it in (one, other)]
     same([(it.returncode, out) for it, (out, _) in zip((one, other), said)], [(0, "")] * 2)
@@ -867,6 +938,7 @@ def gate(place):
         place.calls()
         same((place.example().returncode, place.calls()), (0, TRIED))
     place.forget()
+    shutil.rmtree(place.top / "out")
     child = subprocess.Popen(["rt", "ci"], cwd=place.top, env={**place.env, "RT_SLOW": "1"}, stdout=subprocess.DEVNULL)
     place.await_call("ci high")
     changes[0]()
@@ -911,6 +983,7 @@ def unreadable(place):
         path.chmod(mode)
     (place.kit / "calls").touch(0o666)
     (place.kit / "calls").chmod(0o666)
+    place.example()
     unreadable_files(place, [UNPROVED])
     second_readers(place, [UNPROVED])
     traces(place, [UNPROVED])
@@ -1001,8 +1074,18 @@ def no_answer(place):
         ran = place.example(env={"RT_TRY": how})
         same((how, ran.returncode, ran.stdout, place.rooms()), (how, 70, "", []))
         lines = ran.stderr.splitlines()
-        same((len(lines), lines[0]), (2, UNPROVED))
+        same((len(lines), lines[0]), (2, BUILT))
         assert lines[1].startswith("mcrl2lin: without a proof there is no answer") and why in lines[1], lines
+        same((place.unproved(), place.processes()), ([], []))
+    for _ in range(2):
+        ran = place.run("break", "it")
+        why = "mcrl2lin: without a proof there is no answer (==1==ERROR: a fault); ./mcrl2lin --prove makes the proved program"
+        same((ran.returncode, ran.stdout, ran.stderr.splitlines()[1:], place.rooms()), (70, "", [why], []))
+    (place.kit / "program").write_text('#!/bin/sh\ncat "$2"\nexit 1\n')
+    place.write("crates/low/src/lib.rt", "changed\n")
+    ran = place.example()
+    same((ran.returncode, ran.stdout, place.unproved(), place.rooms()), (70, "", [place.unproved()[0]], []))
+    assert "doesn't do the example" in ran.stderr, ran.stderr
 
 
 def dying_tools(place):
@@ -1051,6 +1134,7 @@ def lost_output(place):
         if is_proved:
             place.prove()
         first = [] if is_proved else [UNPROVED]
+        place.example()
         with open("/dev/full", "w", encoding="utf-8") as full:
             for how in ({"preexec_fn": close, "stdout": None}, {"stdout": full}):
                 ran = place.run("write", "x", **{"capture_output": False, "stderr": subprocess.PIPE, **how})
@@ -1076,6 +1160,9 @@ def apart(place):
 
 TRIES = [
     first_start,
+    build_meanwhile,
+    build_at_once,
+    pipeline,
     prove,
     progress,
     terminal,

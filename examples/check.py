@@ -3,8 +3,8 @@
 
 Run it anywhere: examples/check.py [PROGRAM WORD..]. The program is ./mcrl2lin if none is given.
     examples/check.py --quick [WORD..]
-compares what the toolchain builds of the sources without a proof, once for all runs: for whoever changes the code. It runs the files here, or
-those and the cases of cases/ whose names have one of the words. Each run takes it a second or two, so it runs no cases unless it is asked.
+compares what ./mcrl2lin would start: what the toolchain builds of the sources without a proof, where they aren't proved. That is for whoever
+changes the code. It runs the files here, or those and the cases of cases/ whose names have one of the words.
 
 A specification NAME.mcrl2 has its linear process in NAME.lps, where there is one, which is given again when it is read itself. It can be
 linearised, which the task `check` is to say.
@@ -67,7 +67,7 @@ def compare(words):
 def main():
     words = sys.argv[1:]
     if words[:1] == ["--quick"]:
-        compared, differ = cases.tell(unproved.answers(chosen(words[1:])))
+        compared, differ = cases.compare(unproved.program(), chosen(words[1:]))
     else:
         compared, differ = compare(words)
     print(f"{compared} compared, {differ} differ")
