@@ -95,8 +95,8 @@ fn join(
     ensures kept { Extends pool.old.trees pool.new.trees }
     ensures constants { pool.new.constants ≡ pool.old.constants }
     ensures fits { IfOk result (λ made. Fits sig.new pool.new.trees (plain_linear made)) }
-    ensures joint { IfOk result (λ made. IsJoint (plain_sign sign) sig.old sig.new pool.new.trees (plain_linear left.now) (plain_linear right.now) (plain_linear made)) }
-    ensures bisimilar { IfOk result (λ made. LeadsBeside (plain_sign sign) sig.new pool.new.trees (plain_linear left.now) (plain_linear right.now) (plain_linear made)) }
+    ensures joint { IfOk result (λ made. IsJoint (plain_sign sign.entry) sig.old sig.new pool.new.trees (plain_linear left.now) (plain_linear right.now) (plain_linear made)) }
+    ensures bisimilar { IfOk result (λ made. LeadsBeside (plain_sign sign.entry) sig.new pool.new.trees (plain_linear left.now) (plain_linear right.now) (plain_linear made)) }
 {
     match sign {
         Sign::Merge(within) => merged(alloc, left, right, within, sig, pool),
@@ -195,8 +195,8 @@ fn compose_one(
     ensures grown { GrowsByNames sig.old sig.new }
     ensures kept { Extends pool.old.trees pool.new.trees }
     ensures constants { pool.new.constants ≡ pool.old.constants }
-    ensures composed { IfOk result (λ made. Composes (beside_sign (plain_sign sign) (plain_network network.now)) sig.old pool.old.trees (plain_network network.now) (map plain_linear parts.old.items) sig.new pool.new.trees (map plain_linear parts.new.items) (plain_linear made)) }
-    ensures from { IfOk result (λ made. ComposedFrom (beside_sign (plain_sign sign) (plain_network network.now)) sig.old pool.old.trees (plain_network network.now) (map plain_linear parts.old.items) sig.new pool.new.trees (map plain_linear parts.new.items) (plain_linear made)) }
+    ensures composed { IfOk result (λ made. Composes (beside_sign (plain_sign sign.entry) (plain_network network.now)) sig.old pool.old.trees (plain_network network.now) (map plain_linear parts.old.items) sig.new pool.new.trees (map plain_linear parts.new.items) (plain_linear made)) }
+    ensures from { IfOk result (λ made. ComposedFrom (beside_sign (plain_sign sign.entry) (plain_network network.now)) sig.old pool.old.trees (plain_network network.now) (map plain_linear parts.old.items) sig.new pool.new.trees (map plain_linear parts.new.items) (plain_linear made)) }
     ensures plain { IfOk result (λ made. ComposesPlainly sig.old pool.old (plain_network network.now) (map plain_linear parts.old.items) sig.new pool.new (map plain_linear parts.new.items) (plain_linear made)) }
 {
     match beside(network, sign) {
@@ -219,9 +219,9 @@ fn compose_beside(
     ensures grown { GrowsByNames sig.old sig.new }
     ensures kept { Extends pool.old.trees pool.new.trees }
     ensures constants { pool.new.constants ≡ pool.old.constants }
-    ensures composed { IfOk result (λ made. Composes (around_sign (plain_sign sign)) sig.old pool.old.trees (networks_with sign (networks_of (map plain_network networks.now))) (map plain_linear parts.old.items) sig.new pool.new.trees (map plain_linear parts.new.items) (plain_linear made)) }
-    ensures from { IfOk result (λ made. ComposedFrom (around_sign (plain_sign sign)) sig.old pool.old.trees (networks_with sign (networks_of (map plain_network networks.now))) (map plain_linear parts.old.items) sig.new pool.new.trees (map plain_linear parts.new.items) (plain_linear made)) }
-    ensures plain { IfOk result (λ made. ComposesPlainly sig.old pool.old (networks_with sign (networks_of (map plain_network networks.now))) (map plain_linear parts.old.items) sig.new pool.new (map plain_linear parts.new.items) (plain_linear made)) }
+    ensures composed { IfOk result (λ made. Composes (around_sign (plain_sign sign.entry)) sig.old pool.old.trees (networks_with sign.entry (networks_of (map plain_network networks.now))) (map plain_linear parts.old.items) sig.new pool.new.trees (map plain_linear parts.new.items) (plain_linear made)) }
+    ensures from { IfOk result (λ made. ComposedFrom (around_sign (plain_sign sign.entry)) sig.old pool.old.trees (networks_with sign.entry (networks_of (map plain_network networks.now))) (map plain_linear parts.old.items) sig.new pool.new.trees (map plain_linear parts.new.items) (plain_linear made)) }
+    ensures plain { IfOk result (λ made. ComposesPlainly sig.old pool.old (networks_with sign.entry (networks_of (map plain_network networks.now))) (map plain_linear parts.old.items) sig.new pool.new (map plain_linear parts.new.items) (plain_linear made)) }
 {
     signature_stands(sig);
     if networks.is_empty() {

@@ -96,7 +96,7 @@ pub(crate) enum Sign<'a> {
 impl<'a> Sign<'a> {
     /// Which labels matter of a `||` that is one of the networks. Where none are given, all do.
     fn of_a_merge(self) -> Option<&'a Scope>
-        ensures { those_or_all result ≡ around_sign (plain_sign self) }
+        ensures { those_or_all result ≡ around_sign (plain_sign self.entry) }
     {
         match self {
             Sign::Merge(within) => Some(within),
@@ -107,7 +107,7 @@ impl<'a> Sign<'a> {
 
 /// Which labels matter of one of the networks that have this between them. Where none are given, all do.
 pub(crate) fn beside<'a>(network: &Network, sign: Sign<'a>) -> Option<&'a Scope>
-    ensures { those_or_all result ≡ beside_sign (plain_sign sign) (plain_network network.now) }
+    ensures { those_or_all result ≡ beside_sign (plain_sign sign.entry) (plain_network network.now) }
 {
     match network {
         Network::Merge(_) => sign.of_a_merge(),
