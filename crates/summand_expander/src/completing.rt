@@ -34,7 +34,11 @@ fn take_all(names: &mut Vec<NameId>, piece: &[NameId])
 }
 
 /// The rules that have a name on their left side.
-fn rules_with(alloc: Global, rules: &[CommRule], name: NameId) -> Result<Vec<CommRule>, NoMemory>
+pub(crate) fn rules_with(
+    alloc: Global,
+    rules: &[CommRule],
+    name: NameId,
+) -> Result<Vec<CommRule>, NoMemory>
     ensures { IfOk result (λ found. joinings (map plain_rule found.items) ≡ rules_with same_name name (joinings (map plain_rule rules.now))) }
 {
     let mut found = Vec::new(alloc);

@@ -6,7 +6,7 @@ use Rattle.summand_expander.specs.Drafts.{PlainMove, both_moves, plain_move, pla
 use Rattle.summand_expander.specs.KeptDrafts.{draft_stays, is_last}
 use Rattle.summand_expander.specs.PlainAllowed.{plain_allowed}
 use Rattle.summand_expander.proofs.KeptDrafts.{keeps_pair, keeps_one_more}
-use Rattle.summand_expander.proofs.kept_drafts.add_pairs_of_within.Goals as goal
+use Rattle.summand_expander.proofs.kept_drafts.add_asked_pairs.Goals as goal
 
 pub both_stay-requires-clause-second : goal.both_stay-requires-clause-second
 both_stay-requires-clause-second c =
