@@ -222,7 +222,8 @@ fn add_pairs_of_within(
         first,
         spare,
         drafts,
-    )
+    )?;
+    Ok(())
 }
 
 /// Adds the drafts of all pairs, the left summand outer, without those whose names can't be completed.

@@ -25,6 +25,18 @@ pub(crate) struct Nearby {
     pub names: IndexSet<NameId>,
 }
 
+/// Whether one of the rules has a result in a set.
+fn some_result(set: &[NameId], rules: &[CommRule]) -> bool
+    ensures { result ≡ list_any (λ c. is_among same_name set.now c.result) (joinings (map plain_rule rules.now)) }
+{
+    for rule in rules {
+        if is_among(set, rule.result) {
+            return true;
+        }
+    }
+    false
+}
+
 /// Whether a name is in a set, or one of the rules with it has a result in the set.
 fn is_home(candidates: &[CommRule], name: NameId, set: &[NameId]) -> bool
     ensures { result ≡ is_home same_name (joinings (map plain_rule candidates.now)) name set.now }
@@ -32,7 +44,7 @@ fn is_home(candidates: &[CommRule], name: NameId, set: &[NameId]) -> bool
     if is_among(set, name) {
         return true;
     }
-    candidates.iter().any(|rule| is_among(set, rule.result))
+    some_result(set, candidates)
 }
 
 /// The sets in which a name can stand.
