@@ -35,7 +35,7 @@ pub mod CompletableAlong
 pub mod FirstNames
 pub mod TakenOut
 pub mod CompletedSets
-pub mod Nearby
+pub mod NearNames
 pub mod NamesAdded
 pub mod NearLabels
 pub mod AllowedStays

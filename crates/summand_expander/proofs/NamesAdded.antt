@@ -8,7 +8,7 @@ use Rattle.action_filters.specs.NameTests.{is_among}
 use Rattle.action_filters.specs.Filters.{same_name}
 use Rattle.action_filters.proofs.NamesTold.{Told, yes, no}
 use Rattle.summand_expander.proofs.CompletedSets.{same_name_told}
-use Rattle.summand_expander.proofs.Nearby.{any_alike}
+use Rattle.summand_expander.proofs.NearNames.{any_alike}
 
 pub or_none : (b : Bool) → b ≡ (b || false)
 or_none true = refl

@@ -211,5 +211,6 @@ pub(crate) fn stay_near(
     let others = names_of(alloc, sig, label)?;
     let mut all = names.to_vec(alloc)?;
     all.extend_from_slice(others.as_slice())?;
-    is_completable(alloc, &near.allowed, all.as_slice())
+    let can = is_completable(alloc, &near.allowed, all.as_slice())?;
+    Ok(can)
 }

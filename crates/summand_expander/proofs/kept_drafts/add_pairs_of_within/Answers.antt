@@ -1,7 +1,7 @@
 use Rattle.std.proofs.Common.{sym, subst, ◌∙◌}
 use Rattle.summand_expander.specs.Nearby.{AreNear}
 use Rattle.summand_expander.specs.PlainAllowed.{plain_allowed}
-use Rattle.summand_expander.proofs.Nearby.{near_first}
+use Rattle.summand_expander.proofs.NearNames.{near_first}
 use Rattle.summand_expander.proofs.kept_drafts.add_pairs_of_within.Goals as goal
 
 pub add_near_pairs-requires-clause-names : goal.add_near_pairs-requires-clause-names

@@ -5,7 +5,7 @@ use Rattle.action_filters.specs.Filters.{same_name}
 use Rattle.summand_expander.specs.ByFirst.{rules_with}
 use Rattle.summand_expander.specs.Nearby.{is_home, near_rules, stands_in}
 use Rattle.summand_expander.specs.PlainAllowed.{joinings, plain_allowed}
-use Rattle.summand_expander.proofs.Nearby.{all_near}
+use Rattle.summand_expander.proofs.NearNames.{all_near}
 use Rattle.summand_expander.proofs.nearby.near_to.Goals as goal
 
 pub returns : goal.returns
