@@ -205,24 +205,15 @@ fn add_pairs_of_within(
     ensures kept { OnOk result (AreAnswers (plain_allowed allowed.now) answers.new) }
     ensures added { OnOk result (Keeps (draft_stays sig.now (plain_allowed allowed.now)) is_last (map (both_moves (plain_side left.now) (plain_side right.now) (plain_move first.now)) (map plain_move right.now.moves.items)) spare.old spare.new (map plain_draft drafts.old.items) (map plain_draft drafts.new.items)) }
 {
-    let names = names_of(alloc, sig, &first.label)?;
+    let own = names_of(alloc, sig, &first.label)?;
+    let names = own.as_slice();
     if names.is_empty() {
         return add_asked_pairs(
             alloc, allowed, answers, sig, left, right, first, spare, drafts,
         );
     }
     let near = near_to(alloc, allowed, names[0])?;
-    add_near_pairs(
-        alloc,
-        &near,
-        names.as_slice(),
-        sig,
-        left,
-        right,
-        first,
-        spare,
-        drafts,
-    )?;
+    add_near_pairs(alloc, &near, names, sig, left, right, first, spare, drafts)?;
     Ok(())
 }
 
