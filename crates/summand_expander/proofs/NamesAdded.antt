@@ -52,7 +52,7 @@ found_more g f xs i a old mid new l e h k =
     ∙ ap (λ b. old || b)
     (sym (ap (λ z. list_any f (map g z)) (take_more xs i a l ∙ ap (λ z. take i xs ++ z ∷ []) (sym e)) ∙ ap (list_any f) (map-append g (take i xs) (a ∷ [])) ∙ list_any-append f (map g (take i xs)) (g a ∷ [])))
 
-pub found_one_more : {A : Type 0} (f : A → Bool) (xs : List A) (i : ℕ) (a : A) (old mid new : Bool) → i < length xs → a ≡ get_or xs i a → mid ≡ (old || list_any f (take i xs)) → new ≡ (mid || f a) → new ≡ (old || list_any f (take (i + 1) xs))
-found_one_more f xs i a old mid new l e h k =
-    k ∙ ap (λ b. b || f a) h ∙ step_of old (list_any f (take i xs)) (f a)
-    ∙ ap (λ b. old || b) (sym (ap (list_any f) (take_more xs i a l ∙ ap (λ z. take i xs ++ z ∷ []) (sym e)) ∙ list_any-append f (take i xs) (a ∷ [])))
+pub found_at : {A : Type 0} (f : A → Bool) (xs : List A) (i : ℕ) (d : A) (old mid new : Bool) → i < length xs → mid ≡ (old || list_any f (take i xs)) → new ≡ (mid || f (get_or xs i d)) → new ≡ (old || list_any f (take (i + 1) xs))
+found_at f xs i d old mid new l h k =
+    k ∙ ap (λ b. b || f (get_or xs i d)) h ∙ step_of old (list_any f (take i xs)) (f (get_or xs i d))
+    ∙ ap (λ b. old || b) (sym (ap (list_any f) (take_more xs i d l) ∙ list_any-append f (take i xs) (get_or xs i d ∷ [])))

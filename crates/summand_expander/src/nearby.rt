@@ -7,6 +7,7 @@ ghost use Rattle.data_theory.specs.declared.ids.NameId.{NameId};
 ghost use Rattle.process_terms.specs.PlainProcesses.{items_of_each, plain_action, plain_label, plain_rule};
 ghost use Rattle.action_filters.specs.Filters.{naming, same_name, AreActionsIn, IsActionIn};
 ghost use Rattle.action_filters.specs.NameTests.{is_among};
+ghost use Rattle.communication.specs.Places.{joining_of};
 ghost use Rattle.summand_expander.specs.Nearby.{has_result, is_home, near_rules, stands_in, AreNear};
 ghost use Rattle.summand_expander.specs.PlainAllowed.{can_complete_ids, joinings, plain_allowed, PlainAllowed};
 
@@ -67,7 +68,7 @@ fn homes(
 
 /// Whether one of the sets has the result of a rule.
 fn has_result(sets: &[Vec<NameId>], rule: &CommRule) -> bool
-    ensures { result ≡ list_any (λ v. is_among same_name v rule.now.result) (items_of_each sets.now) }
+    ensures { result ≡ has_result same_name (items_of_each sets.now) (joining_of (plain_rule rule.now)) }
 {
     for set in sets {
         if is_among(set.as_slice(), rule.result) {

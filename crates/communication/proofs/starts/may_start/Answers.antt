@@ -1,6 +1,7 @@
-use Rattle.std.proofs.Common.{sym, ap, subst, ◌∙◌, true≢false}
+use Rattle.std.proofs.Common.{get_or, sym, ap, subst, ◌∙◌, true≢false}
 use Rattle.std.specs.Prelude.{Contains}
 use Rattle.std.proofs.lemmas.List.Elements.{Contains-get_or}
+use Rattle.data_theory.specs.declared.ids.NameId.{NameId}
 use Rattle.action_filters.specs.Filters.{same_name}
 use Rattle.action_filters.specs.NameTests.{is_among}
 use Rattle.process_terms.specs.PlainProcesses.{plain_rule}
@@ -14,8 +15,9 @@ returns-then-not-is_among c e =
 
 pub returns-then-not-is_met : goal.returns-then-not-is_met
 returns-then-not-is_met c e =
-    name_missing (joining_of (plain_rule c.args.rule.now)) c.args.first c.args.later.now c.name-item.result
-    (subst (λ ns. Contains ns c.name-item.result) c.deref-name-items.ensures.value (subst (λ x. Contains c.deref-name-items.result.now x) (sym c.name-item.is) (Contains-get_or c.deref-name-items.result.now c.loop-name.name-index c.name-item.result c.loop-name-test.true)))
+    let name : NameId = get_or c.deref-name-items.result.now c.loop-name.name-index (record { 0 = 0 }) in
+    name_missing (joining_of (plain_rule c.args.rule.now)) c.args.first c.args.later.now name
+    (subst (λ ns. Contains ns name) c.deref-name-items.ensures.value (Contains-get_or c.deref-name-items.result.now c.loop-name.name-index (record { 0 = 0 }) c.loop-name-test.true))
     (sym c.is_met.ensures ∙ c.if-not-is_met.true)
 
 pub returns : goal.returns
