@@ -13,13 +13,12 @@ name_of-requires c =
     (subst (λ z. All (IsActionIn c.args.sig.now) (map plain_action z)) (sym c.deref-action-items.ensures.value) c.requires)
 
 pub returns-then-not-is_in : goal.returns-then-not-is_in
-returns-then-not-is_in c e = (
-  c.name_of.result,
-  subst (λ xs. Contains (map (naming c.args.sig.now).name (map plain_action xs)) c.name_of.result) c.deref-action-items.ensures.value
-      (subst (λ x. Contains (map (naming c.args.sig.now).name (map plain_action c.deref-action-items.result.now)) x) (sym c.name_of.ensures)
-      (action_name_in (naming c.args.sig.now).name c.deref-action-items.result.now c.loop-action.action-index c.action-item.result c.action-item.result c.loop-action-test.true c.action-item.is)),
-  sym c.is_in.ensures ∙ c.if-not-is_in.true,
-)
+returns-then-not-is_in c e =
+    let name = (naming c.args.sig.now).name in
+    let among = subst (λ xs. Contains (map name (map plain_action xs)) c.name_of.result) c.deref-action-items.ensures.value
+    (subst (λ x. Contains (map name (map plain_action c.deref-action-items.result.now)) x) (sym c.name_of.ensures)
+    (action_name_in name c.deref-action-items.result.now c.loop-action.action-index c.action-item.result c.action-item.result c.loop-action-test.true c.action-item.is)) in
+    (c.name_of.result, (among, sym c.is_in.ensures ∙ c.if-not-is_in.true))
 
 pub returns : goal.returns
 returns c e = absurd (true≢false e)
