@@ -49,15 +49,15 @@ none_started c a m f =
 
 -- where the left side hasn't the first name
 pub first_missing : (c : Joining NameId) (a : Place) (m : List Place) → is_among same_name c.left a.name ≡ false → starts_by placed a m c ≡ []
-first_missing c a m e = none_started c a m (λ others w. by (is_permuted same_name (a.name ∷ map (λ (p : Place). p.name) others) c.left) refl)
+first_missing c a m e = none_started c a m (λ others w. by others (is_permuted same_name (a.name ∷ map (λ (p : Place). p.name) others) c.left) refl)
   where
     there_is : {b : Bool} → Told (Contains c.left a.name) b → Contains c.left a.name → b ≡ true
     there_is (yes i) j = refl
     there_is (no n) j = absurd (n j)
 
-    by : {others : List Place} (b : Bool) → is_permuted same_name (a.name ∷ map (λ (p : Place). p.name) others) c.left ≡ b → b ≡ false
-    by {others} true q = absurd (true≢false (sym (there_is (among_told same_name (λ x y. told (same_name x y) (same_name_decides x y)) c.left a.name) (in_contains (first_among a.name (map (λ (p : Place). p.name) others) c.left q))) ∙ e))
-    by false q = refl
+    by : (others : List Place) (b : Bool) → is_permuted same_name (a.name ∷ map (λ (p : Place). p.name) others) c.left ≡ b → b ≡ false
+    by others true q = absurd (true≢false (sym (there_is (among_told same_name (λ x y. told (same_name x y) (same_name_decides x y)) c.left a.name) (in_contains (first_among a.name (map (λ (p : Place). p.name) others) c.left q))) ∙ e))
+    by others false q = refl
 
 -- where no action has one of its names
 pub name_missing : (c : Joining NameId) (a : Place) (m : List Place) (x : NameId) → Contains c.left x → list_any (λ (p : Place). same_name p.name x) (a ∷ m) ≡ false → starts_by placed a m c ≡ []
