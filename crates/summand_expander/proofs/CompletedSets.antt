@@ -41,7 +41,7 @@ in_inserted (here {xs = xs}) = (xs, at_front)
 in_inserted (there {y = y} i) = let r = in_inserted i in (y ∷ r.0, further r.1)
 
 none_results : (rules : List (Joining NameId)) (n : NameId) → list_any (λ c. same_name c.result n) rules ≡ false → (c : Joining NameId) → In c rules → c.result ≡ n → ⊥
-none_results rules n e c i q = by (list_any (λ c. same_name c.result n) rules) (some_told (λ c. c.result ≡ n) (λ c. same_name c.result n) (λ c. same_name_told c.result n) rules) e
+none_results rules n e c i q = by (list_any (λ c. same_name c.result n) rules) (some_told (λ (c : Joining NameId). c.result ≡ n) (λ (c : Joining NameId). same_name c.result n) (λ (c : Joining NameId). same_name_told c.result n) rules) e
   where
     by : (b : Bool) → Told ((d : Joining NameId) × (Contains rules d × (d.result ≡ n))) b → b ≡ false → ⊥
     by true t e = true≢false e
