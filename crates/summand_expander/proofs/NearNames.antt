@@ -1,17 +1,16 @@
 -- What is near a name completes what is allowed completes, and nothing else stands behind it.
-use Rattle.std.proofs.Common.{◌≡◌, ◌==◌, Bool, true, false, ◌||◌, cond, List, [], ◌∷◌, ◌++◌, map, length, refl, sym, ap, ap₂, ◌∙◌, subst, ◌⊎◌, inl, inr, ⊎_elim, true≢false}
+use Rattle.std.proofs.Common.{◌≡◌, ◌==◌, Bool, true, false, ◌||◌, cond, List, [], ◌∷◌, ◌++◌, map, length, refl, sym, ap, ap₂, ◌∙◌, ◌⊎◌, inl, inr, ⊎_elim, true≢false}
 use Rattle.std.specs.Prelude.{Contains, filter, flat_map, slice_index_or}
 use Rattle.std.specs.List.{list_any}
 use Rattle.data_theory.specs.declared.ids.NameId.{NameId}
 use Rattle.process_terms.specs.Labels.{Inserted, at_front, further, Permuted, nothing_left, one_placed}
 use Rattle.lps_core.proofs.Members.{In, here, there, in_append, append_front, in_contains, contains_in}
-use Rattle.action_filters.specs.NameTests.{is_among, where_some, without_one}
+use Rattle.action_filters.specs.NameTests.{is_among, where_some}
 use Rattle.action_filters.specs.Filters.{same_name}
 use Rattle.action_filters.proofs.NamesTold.{Told, yes, no, among_told}
 use Rattle.communication.specs.Ways.{Joining}
-use Rattle.communication.proofs.Listed.{in_filter}
-use Rattle.summand_expander.specs.CompletableTests.{is_contained, openings, all_opened, completes, is_completable}
-use Rattle.summand_expander.specs.ByFirst.{without_all, alone, gives, rules_with, completes_first}
+use Rattle.summand_expander.specs.CompletableTests.{is_contained, all_opened, completes, is_completable}
+use Rattle.summand_expander.specs.ByFirst.{without_all, alone, gives, rules_with}
 use Rattle.summand_expander.specs.Nearby.{is_home, homes, has_result, near_rules, stands_in, AreNear}
 use Rattle.summand_expander.specs.PlainAllowed.{PlainAllowed, joinings, can_complete_ids}
 use Rattle.summand_expander.proofs.CompletedSets.{same_name_told}

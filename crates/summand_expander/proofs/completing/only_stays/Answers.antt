@@ -1,4 +1,4 @@
-use Rattle.std.proofs.Common.{sym, ◌∙◌, true≢false}
+use Rattle.std.proofs.Common.{sym, ◌∙◌}
 use Rattle.summand_expander.proofs.completing.only_stays.Goals as goal
 
 pub returns-clause-there : goal.returns-clause-there

@@ -1,4 +1,4 @@
-use Rattle.std.proofs.Common.{◌≡◌, ◌||◌, Bool, [], map, sym, ap, ◌∙◌, rules}
+use Rattle.std.proofs.Common.{◌≡◌, ◌||◌, Bool, [], map, ap, ◌∙◌, rules}
 use Rattle.std.specs.List.{list_any}
 use Rattle.process_terms.specs.PlainProcesses.{items_of_each, plain_rule}
 use Rattle.action_filters.specs.NameTests.{is_among}
