@@ -40,6 +40,12 @@ def alone(count):
     return case(["a", "b", "c"], [["a"] * count], ["a|b -> c"])
 
 
+def apart(count):
+    """A label of so many actions with a name of their own each, whose rules want another one."""
+    names = [f"a{k}" for k in range(count)]
+    return case(names + [f"b{k}" for k in range(count)] + [f"c{k}" for k in range(count)], [names], [f"a{k}|b{k} -> c{k}" for k in range(count)])
+
+
 def summands(count):
     """So many summands of two actions that may join."""
     return case(["a", "b", "c"], [["a", "b"]] * count, ["a|b -> c"])
@@ -63,6 +69,7 @@ def main():
     repeats = int(sys.argv[1]) if len(sys.argv) > 1 else 3
     table("actions in pairs", pairs, (8, 10, 12, 14, 16), repeats)
     table("actions alone", alone, (50, 100, 200, 400), repeats)
+    table("actions of different names, alone", apart, (50, 100, 200, 400), repeats)
     table("summands", summands, (250, 500, 1000, 2000, 4000), repeats)
 
 

@@ -64,6 +64,19 @@ def buffers(count):
     return "\n".join(["sort D = struct d1 | d2;", *acts, "proc", *definitions, start, ""])
 
 
+def filtered(around):
+    """So many actions, of which each is done by itself, under an operator: {names} are all of them, {pairs} each with a new name."""
+
+    def text(count):
+        names = [f"a{i}" for i in range(count)]
+        pairs = ", ".join(f"{name} -> b{i}" for i, name in enumerate(names))
+        acts = ", ".join([*names, *(f"b{i}" for i in range(count)), "c"])
+        under = around.format(names=", ".join(names), pairs=pairs)
+        return f"act {acts};\nproc X = {' + '.join(f'{name} . X' for name in names)} + c . X;\ninit {under};\n"
+
+    return text
+
+
 def example(name):
     """An example of the repository, whatever the number."""
     return lambda _: (TOP / "examples" / f"{name}.mcrl2").read_text()
@@ -75,7 +88,11 @@ KINDS = [
     ("summands", summands, (1_000, 10_000, 30_000)),
     ("actions in sequence", long_sequences, (500, 1_000, 2_000)),
     ("declarations", declarations, (1_000, 4_000, 16_000)),
-    ("buffers in a line", buffers, (2, 4, 6, 8)),
+    ("buffers in a line", buffers, (5, 10, 20, 40)),
+    ("actions allowed", filtered("allow({{{names}}}, X)"), (500, 1_000, 2_000, 4_000)),
+    ("actions blocked", filtered("block({{{names}}}, X)"), (500, 1_000, 2_000, 4_000)),
+    ("actions hidden", filtered("hide({{{names}}}, X)"), (500, 1_000, 2_000, 4_000)),
+    ("actions renamed", filtered("rename({{{pairs}}}, X)"), (500, 1_000, 2_000, 4_000)),
     ("alternating bit", example("alternating_bit"), (1,)),
     ("bakery", example("bakery"), (1,)),
     ("sliding window", example("sliding_window"), (1,)),

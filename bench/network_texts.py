@@ -1,4 +1,4 @@
-"""Texts of networks for benchmarks: buffers with room for one item, philosophers at a table, and caches.
+"""Texts of networks for benchmarks: buffers with room for one item, philosophers at a table, partners, and caches.
 
 Each kind makes a text of a number, and says how many components the network has and how many summands its linear process.
 """
@@ -83,6 +83,17 @@ init allow({{load, ask, drop}}, comm({{asks|asked -> ask, drops|dropped -> drop}
 """
 
 
+def partners(count):
+    """Two components, of which each can do so many actions, each with a partner in the other one."""
+    of_one, of_other, joined = ([f"{name}{k}" for k in range(count)] for name in "abc")
+    rules = ", ".join(f"a{k}|b{k} -> c{k}" for k in range(count))
+    return f"""act {', '.join([*of_one, *of_other, *joined])};
+proc A = {' + '.join(f'{name} . A' for name in of_one)};
+  B = {' + '.join(f'{name} . B' for name in of_other)};
+init allow({{{', '.join(joined)}}}, comm({{{rules}}}, A || B));
+"""
+
+
 def apart(count):
     """How many sets there are of so many things in a row of which no two stand beside each other."""
     last, this = 1, 1
@@ -106,5 +117,7 @@ KINDS = {
     "ring, blocked": (lambda n: ring(n, BLOCKED), lambda n: n, lambda n: apart(n - 3) + apart(n - 1) - 1, (5, 10, 20)),
     # (each philosopher's two takes and two puts are tried with each fork)
     "philosophers": (philosophers, lambda n: 2 * n, lambda n: 4 * n * n + n, (2, 4, 5, 8, 10)),
+    # (each of the one's actions is tried with those that are near it)
+    "partners": (partners, lambda n: 2, lambda n: n, (50, 100, 200, 400)),
     "caches": (caches, lambda n: n + 1, lambda n: 3 * n, (5, 10, 20, 40)),
 }

@@ -12,6 +12,7 @@ pub mod PartTerms
 pub mod MeantPlaces
 pub mod MeantWays
 pub mod MadeGroups
+pub mod NoStarts
 pub mod MeantPlans
 pub mod GrowingSummands
 pub mod WholeCommunication

@@ -1,13 +1,16 @@
 //! The groups that an action of a label begins.
 
-ghost use Rattle.std.specs.Prelude.{◌≡◌, ◌++◌, map, flat_map, IfOk, OnOk};
+ghost use Rattle.std.specs.Prelude.{◌≡◌, ◌++◌, ◌∷◌, [], false, map, flat_map, IfOk, OnOk};
+ghost use Rattle.std.specs.List.{list_any};
 ghost use Rattle.process_terms.specs.PlainProcesses.{plain_rule, plain_rules};
+ghost use Rattle.action_filters.specs.Filters.{same_name};
+ghost use Rattle.communication.specs.declared.places.Place.{Place};
 ghost use Rattle.communication.specs.Places.{joining_of, placed, plain_draft, plain_group, plain_start};
 ghost use Rattle.communication.specs.Rounds.{drafts, grown, grown_by, if_whole, passing, taking};
 ghost use Rattle.communication.specs.Ways.{starts, starts_by};
 
 use crate::places::{Draft, Group, Place, Start};
-use action_filters::take_one;
+use action_filters::{is_among, take_one};
 use data_theory::{NameId, NoMemory};
 use process_terms::{CommRule, CommSet};
 use std::alloc::Global;
@@ -126,6 +129,39 @@ fn add_start(
     Ok(())
 }
 
+/// Whether one of these actions has a name.
+fn has_name(places: &[Place], name: NameId) -> bool
+    ensures { result ≡ list_any (λ (p : Place). same_name p.name name) places.now }
+{
+    places.iter().any(|place| place.name.0 == name.0)
+}
+
+/// Whether the first action or a later one has a name.
+fn is_met(first: Place, later: &[Place], name: NameId) -> bool
+    ensures { result ≡ list_any (λ (p : Place). same_name p.name name) (first ∷ later.now) }
+{
+    if first.name.0 == name.0 {
+        return true;
+    }
+    has_name(later, name)
+}
+
+/// Whether the left side of a rule has the first action's name, and each of its names is that of the first action or a later one. Where
+/// not, no choice has to be made.
+fn may_start(rule: &CommRule, first: Place, later: &[Place]) -> bool
+    ensures { result ≡ false → starts_by placed first later.now (joining_of (plain_rule rule.now)) ≡ [] }
+{
+    if !is_among(rule.left.as_slice(), first.name) {
+        return false;
+    }
+    for name in &rule.left {
+        if !is_met(first, later, *name) {
+            return false;
+        }
+    }
+    true
+}
+
 /// Adds the groups of a rule that an action begins.
 fn add_starts_by(
     alloc: Global,
@@ -136,6 +172,9 @@ fn add_starts_by(
 ) -> Result<(), NoMemory>
     ensures { OnOk result (map plain_start found.new.items ≡ map plain_start found.old.items ++ starts_by placed first later.now (joining_of (plain_rule rule.now))) }
 {
+    if !may_start(rule, first, later) {
+        return Ok(());
+    }
     let drafts = drafts_of(alloc, rule.left.as_slice(), first, later)?;
     for draft in &drafts {
         add_start(alloc, rule.result, first, draft, found)?;

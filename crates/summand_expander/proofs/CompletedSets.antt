@@ -1,21 +1,24 @@
 -- Steps of the tests in code.
 use Rattle.std.proofs.Common.{◌≡◌, ◌<◌, ◌||◌, ◌==◌, ℕ, zero, suc, Bool, true, false, List, [], ◌∷◌, map, length, get_or, slice_index_or, refl, sym, ap, ap₂, ◌∙◌, subst, arith, true≢false, ⊎_elim}
-use Rattle.std.specs.List.{list_any}
+use Rattle.std.specs.List.{Contains, list_any}
 use Rattle.std.proofs.lemmas.Bool.Decides.{eqb_tells}
 use Rattle.data_theory.specs.declared.ids.NameId.{NameId}
 use Rattle.process_terms.specs.declared.comm_rules.CommRule.{CommRule}
 use Rattle.process_terms.specs.PlainProcesses.{plain_rule, items_of_each}
+use Rattle.process_terms.specs.Labels.{Inserted, at_front, further}
+use Rattle.lps_core.proofs.Members.{In, here, there, in_contains, contains_in}
 use Rattle.std.specs.Prelude.{Vec}
 use Rattle.std.specs.Global.{Global}
+use Rattle.action_filters.specs.NameTests.{is_among}
 use Rattle.action_filters.specs.Filters.{same_name}
-use Rattle.action_filters.proofs.NamesTold.{Told, yes, no}
+use Rattle.action_filters.proofs.NamesTold.{Told, yes, no, some_told, among_told}
 use Rattle.action_filters.proofs.Loops.{any_at, nothing_is_empty, or_true}
 use Rattle.communication.specs.Ways.{Joining}
 use Rattle.communication.specs.Places.{joining_of}
 use Rattle.summand_expander.specs.CompletableTests.{completes, is_completable}
 use Rattle.summand_expander.specs.ByFirst.{alone, gives, gives_first, rules_with}
 use Rattle.summand_expander.specs.PlainAllowed.{joinings}
-use Rattle.summand_expander.proofs.FirstNames.{first_tells, nothing_completed}
+use Rattle.summand_expander.proofs.FirstNames.{alone_tells, first_tells, nothing_completed}
 
 pub same_name_told : (x y : NameId) → Told (x ≡ y) (same_name x y)
 same_name_told x y = ⊎_elim
@@ -31,6 +34,27 @@ pub first_completed : (rules cs : List (Joining NameId)) (ns v : List NameId) (d
     → (gives same_name rules ns v (alone (slice_index_or ns 0 d)) || list_any (gives same_name rules ns v) cs) ≡ completes same_name rules ns v
 first_completed rules cs [] v d e q = absurd (true≢false e)
 first_completed rules cs (n ∷ ns) v d e q = ap (λ l. gives same_name rules (n ∷ ns) v (alone n) || list_any (gives same_name rules (n ∷ ns) v) l) q ∙ sym (first_tells same_name same_name_told rules n ns v)
+
+-- where the first name is in the set, and no rule's result
+in_inserted : {A : Type 0} {x : A} {xs : List A} → In x xs → (ws : List A) × Inserted x ws xs
+in_inserted (here {xs = xs}) = (xs, at_front)
+in_inserted (there {y = y} i) = let r = in_inserted i in (y ∷ r.0, further r.1)
+
+none_results : (rules : List (Joining NameId)) (n : NameId) → list_any (λ c. same_name c.result n) rules ≡ false → (c : Joining NameId) → In c rules → c.result ≡ n → ⊥
+none_results rules n e c i q = by (list_any (λ c. same_name c.result n) rules) (some_told (λ (c : Joining NameId). c.result ≡ n) (λ (c : Joining NameId). same_name c.result n) (λ (c : Joining NameId). same_name_told c.result n) rules) e
+  where
+    by : (b : Bool) → Told ((d : Joining NameId) × (Contains rules d × (d.result ≡ n))) b → b ≡ false → ⊥
+    by true t e = true≢false e
+    by false (no f) e = f (c, (in_contains i, q))
+
+pub first_stays : (rules : List (Joining NameId)) (ns v : List NameId) (d : NameId) → (length ns == 0) ≡ false → is_among same_name v (slice_index_or ns 0 d) ≡ true → list_any (λ c. same_name c.result (slice_index_or ns 0 d)) rules ≡ false
+    → gives same_name rules ns v (alone (slice_index_or ns 0 d)) ≡ completes same_name rules ns v
+first_stays rules [] v d e q r = absurd (true≢false e)
+first_stays rules (n ∷ ns) v d e q r = by (is_among same_name v n) (among_told same_name same_name_told v n) q
+  where
+    by : (b : Bool) → Told (Contains v n) b → b ≡ true → gives same_name rules (n ∷ ns) v (alone n) ≡ completes same_name rules (n ∷ ns) v
+    by true (yes i) q = let k = in_inserted (contains_in v i) in alone_tells same_name same_name_told rules n ns v (none_results rules n r) k.0 k.1
+    by false t q = absurd (true≢false (sym q))
 
 pub some_gives : (f : Joining NameId → Bool) (rs : List CommRule) (i : ℕ) (r d : CommRule) (left : List NameId) → i < length rs → r ≡ get_or rs i d → left ≡ r.left.items → f (record { left = left; result = r.result }) ≡ true → list_any f (joinings (map plain_rule rs)) ≡ true
 some_gives f [] i r d left l e q h = absurd (omega (arith, l))

@@ -35,6 +35,9 @@ pub mod CompletableAlong
 pub mod FirstNames
 pub mod TakenOut
 pub mod CompletedSets
+pub mod NearNames
+pub mod NamesAdded
+pub mod NearLabels
 pub mod AllowedStays
 pub mod KeptAnswers
 pub mod KeptDrafts

@@ -12,6 +12,7 @@ pub mod PrunedLaws
 pub mod CompletableTests
 pub mod ByFirst
 pub mod PlainAllowed
+pub mod Nearby
 pub mod Answers
 pub mod KeptDrafts
 pub mod WithinProducts

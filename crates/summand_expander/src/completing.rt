@@ -1,10 +1,10 @@
 //! Whether names can be completed.
 
-ghost use Rattle.std.specs.Prelude.{◌≡◌, map, IfOk};
+ghost use Rattle.std.specs.Prelude.{◌≡◌, true, false, map, IfOk};
 ghost use Rattle.std.specs.List.{list_any};
 ghost use Rattle.process_terms.specs.PlainProcesses.{items_of_each, plain_rule};
 ghost use Rattle.action_filters.specs.Filters.{same_name};
-ghost use Rattle.action_filters.specs.NameTests.{without_one};
+ghost use Rattle.action_filters.specs.NameTests.{is_among, without_one};
 ghost use Rattle.summand_expander.specs.CompletableTests.{completes};
 ghost use Rattle.summand_expander.specs.ByFirst.{gives, gives_first, or_else, rules_with, without_all};
 ghost use Rattle.summand_expander.specs.PlainAllowed.{can_complete_ids, joinings, plain_allowed};
@@ -34,7 +34,11 @@ fn take_all(names: &mut Vec<NameId>, piece: &[NameId])
 }
 
 /// The rules that have a name on their left side.
-fn rules_with(alloc: Global, rules: &[CommRule], name: NameId) -> Result<Vec<CommRule>, NoMemory>
+pub(crate) fn rules_with(
+    alloc: Global,
+    rules: &[CommRule],
+    name: NameId,
+) -> Result<Vec<CommRule>, NoMemory>
     ensures { IfOk result (λ found. joinings (map plain_rule found.items) ≡ rules_with same_name name (joinings (map plain_rule rules.now))) }
 {
     let mut found = Vec::new(alloc);
@@ -47,6 +51,29 @@ fn rules_with(alloc: Global, rules: &[CommRule], name: NameId) -> Result<Vec<Com
         }
     }
     Ok(found)
+}
+
+/// Whether a name is the result of a rule.
+fn is_result(rules: &[CommRule], name: NameId) -> bool
+    ensures { result ≡ list_any (λ c. same_name c.result name) (joinings (map plain_rule rules.now)) }
+{
+    for rule in rules {
+        if rule.result.0 == name.0 {
+            return true;
+        }
+    }
+    false
+}
+
+/// Whether a name is in a set in which it only stays, since it is no rule's result.
+fn only_stays(rules: &[CommRule], set: &[NameId], name: NameId) -> bool
+    ensures there { result ≡ true → is_among same_name set.now name ≡ true }
+    ensures closed { result ≡ true → list_any (λ c. same_name c.result name) (joinings (map plain_rule rules.now)) ≡ false }
+{
+    if is_result(rules, name) {
+        return false;
+    }
+    is_among(set, name)
 }
 
 /// Whether a member of the set gives this left side, and the other members complete the names that are left then.
@@ -73,7 +100,8 @@ fn gives(
     completes(alloc, rules, left.as_slice(), others.as_slice())
 }
 
-/// Whether these names are among what a set may have come from.
+/// Whether these names are among what a set may have come from. A first name that only stays in the set stays there. So there are two ways to
+/// go on only where a name is in the set, on a left side, and a rule's result.
 #[cycle(completes)]
 fn completes(
     alloc: Global,
@@ -87,6 +115,9 @@ fn completes(
         return Ok(true);
     }
     let first = wanted[0];
+    if only_stays(rules, set, first) {
+        return gives(alloc, rules, wanted, set, &[first], first);
+    }
     let candidates = rules_with(alloc, rules, first)?;
     completes_first(alloc, rules, candidates.as_slice(), first, wanted, set)
 }
@@ -137,7 +168,7 @@ fn some_completes(
 /// come from, each of whose members stays or gives the left side of a rule with this result.
 ///
 /// The first name says which members of a set come into question, so that a test takes time by the rules and the sets, and by the
-/// length of the label where no name is both in a set and on a left side.
+/// length of the label where no name is in a set, on a left side, and a rule's result.
 ///
 /// # Errors
 ///

@@ -3,20 +3,22 @@
 ghost use Rattle.std.specs.Prelude.{◌≡◌, ◌&&◌, ◌++◌, ◌∷◌, [], map, flat_map, IfOk, OnOk};
 ghost use Rattle.std.specs.List.{list_any};
 ghost use Rattle.process_terms.specs.PlainProcesses.{plain_label};
-ghost use Rattle.action_filters.specs.Filters.{AreActionsIn};
+ghost use Rattle.action_filters.specs.Filters.{naming, AreActionsIn};
 ghost use Rattle.summand_expander.specs.Answers.{AreAnswers};
 ghost use Rattle.summand_expander.specs.Drafts.{all_drafts, both_moves, lone_drafts, plain_draft, plain_move, plain_side};
 ghost use Rattle.summand_expander.specs.KeptDrafts.{can_stop, draft_ends, draft_stays, is_last, step_ends, HasMovesIn, Keeps};
-ghost use Rattle.summand_expander.specs.PlainAllowed.{plain_allowed};
+ghost use Rattle.summand_expander.specs.Nearby.{AreNear};
+ghost use Rattle.summand_expander.specs.PlainAllowed.{plain_allowed, PlainAllowed};
 ghost use Rattle.summand_expander.specs.Pruned.{kept, pruned};
 ghost use Rattle.summand_expander.specs.WithinProducts.{label_stays};
 
 use crate::allowing::Allowed;
 use crate::answers::asked;
 use crate::drafts::{add_alone, add_last, pair};
+use crate::nearby::{Nearby, near_to, stay_near};
 use crate::sides::{Draft, Move, Side};
 use action_filters::names_of;
-use data_theory::{NoMemory, Signature};
+use data_theory::{NameId, NoMemory, Signature};
 use process_terms::Label;
 use std::alloc::Global;
 use std::collections::BTreeMap;
@@ -136,8 +138,8 @@ fn add_pair_within(
     Ok(())
 }
 
-/// Adds the drafts of one left summand with each right one, without those whose names can't be completed.
-fn add_pairs_of_within(
+/// Adds the drafts of one left summand with each right one, without those whose names can't be completed. The answers are kept.
+fn add_asked_pairs(
     alloc: Global,
     allowed: &Allowed,
     answers: &mut BTreeMap<Vec<usize>, bool>,
@@ -158,6 +160,60 @@ fn add_pairs_of_within(
         let stays = both_stay(alloc, allowed, answers, sig, &first.label, &second.label)?;
         add_pair_within(alloc, left, right, first, second, stays, spare, drafts)?;
     }
+    Ok(())
+}
+
+/// Adds the drafts of one left summand with each right one, without those whose names can't be completed by what is near these names.
+fn add_near_pairs(
+    alloc: Global,
+    near: &Nearby,
+    names: &[NameId],
+    sig: &Signature,
+    left: &Side,
+    right: &Side,
+    first: &Move,
+    spare: &mut bool,
+    drafts: &mut Vec<Draft>,
+) -> Result<(), NoMemory>
+    requires names { names.now ≡ map (naming sig.now).name (plain_move first.now).label }
+    requires actions { HasMovesIn sig.now (plain_side right.now) }
+    ensures { OnOk result ((a : PlainAllowed) → AreNear a names.now (plain_allowed near.now.allowed) near.now.names.keys → Keeps (draft_stays sig.now a) is_last (map (both_moves (plain_side left.now) (plain_side right.now) (plain_move first.now)) (map plain_move right.now.moves.items)) spare.old spare.new (map plain_draft drafts.old.items) (map plain_draft drafts.new.items)) }
+{
+    for second in &right.moves {
+        let stays = stay_near(alloc, near, sig, names, &second.label)?;
+        add_pair_within(alloc, left, right, first, second, stays, spare, drafts)?;
+    }
+    Ok(())
+}
+
+/// Adds the drafts of one left summand with each right one, without those whose names can't be completed. Where it has a name,
+/// only what is allowed near that is asked.
+fn add_pairs_of_within(
+    alloc: Global,
+    allowed: &Allowed,
+    answers: &mut BTreeMap<Vec<usize>, bool>,
+    sig: &Signature,
+    left: &Side,
+    right: &Side,
+    first: &Move,
+    spare: &mut bool,
+    drafts: &mut Vec<Draft>,
+) -> Result<(), NoMemory>
+    requires first { AreActionsIn sig.now (plain_move first.now).label }
+    requires actions { HasMovesIn sig.now (plain_side right.now) }
+    requires answers { AreAnswers (plain_allowed allowed.now) answers.old }
+    ensures kept { OnOk result (AreAnswers (plain_allowed allowed.now) answers.new) }
+    ensures added { OnOk result (Keeps (draft_stays sig.now (plain_allowed allowed.now)) is_last (map (both_moves (plain_side left.now) (plain_side right.now) (plain_move first.now)) (map plain_move right.now.moves.items)) spare.old spare.new (map plain_draft drafts.old.items) (map plain_draft drafts.new.items)) }
+{
+    let own = names_of(alloc, sig, &first.label)?;
+    let names = own.as_slice();
+    if names.is_empty() {
+        return add_asked_pairs(
+            alloc, allowed, answers, sig, left, right, first, spare, drafts,
+        );
+    }
+    let near = near_to(alloc, allowed, names[0])?;
+    add_near_pairs(alloc, &near, names, sig, left, right, first, spare, drafts)?;
     Ok(())
 }
 

@@ -11,6 +11,7 @@ mod flag;
 mod frames;
 mod kept_drafts;
 pub mod laws;
+mod nearby;
 mod products;
 mod renewal;
 mod renewed;

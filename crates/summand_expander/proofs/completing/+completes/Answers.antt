@@ -6,7 +6,7 @@ use Rattle.action_filters.proofs.Loops.{if_ok}
 use Rattle.summand_expander.specs.CompletableTests.{completes}
 use Rattle.summand_expander.specs.ByFirst.{alone, gives}
 use Rattle.summand_expander.specs.PlainAllowed.{joinings}
-use Rattle.summand_expander.proofs.CompletedSets.{empty_completed, first_completed, some_gives, behind_true}
+use Rattle.summand_expander.proofs.CompletedSets.{empty_completed, first_completed, first_stays, some_gives, behind_true}
 use Rattle.action_filters.specs.NameTests.{where_some}
 use Rattle.summand_expander.specs.ByFirst.{without_all}
 use Rattle.summand_expander.proofs.TakenOut.{not_among, taken_shorter}
@@ -14,6 +14,12 @@ use Rattle.summand_expander.proofs.completing.+completes.Goals as goal
 
 pub completes-returns-then-is_empty : goal.completes-returns-then-is_empty
 completes-returns-then-is_empty t c = empty_completed (joinings (map plain_rule c.args.rules.now)) c.args.wanted.now c.args.set.now (sym c.is_empty.ensures ∙ c.if-is_empty.true)
+
+pub completes-returns-then-only_stays : goal.completes-returns-then-only_stays
+completes-returns-then-only_stays t c =
+    let rules = joinings (map plain_rule c.args.rules.now) in
+    let e = first_stays rules c.args.wanted.now c.args.set.now (record { 0 = 0 }) (sym c.is_empty.ensures ∙ c.if-is_empty.false) (c.only_stays.ensures.there c.if-only_stays.true) (c.only_stays.ensures.closed c.if-only_stays.true) in
+    if_ok c.gives.result _ (λ (can : Bool). can ≡ completes same_name rules c.args.wanted.now c.args.set.now) (λ can q. q ∙ e) c.gives.ensures
 
 pub completes-returns : goal.completes-returns
 completes-returns t c =

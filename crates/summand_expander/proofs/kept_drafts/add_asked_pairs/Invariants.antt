@@ -3,7 +3,7 @@ use Rattle.summand_expander.specs.Answers.{AreAnswers}
 use Rattle.summand_expander.specs.Drafts.{both_moves, plain_draft, plain_move, plain_side}
 use Rattle.summand_expander.specs.KeptDrafts.{draft_stays, is_last, Keeps}
 use Rattle.summand_expander.specs.PlainAllowed.{plain_allowed}
-use Rattle.summand_expander.proofs.kept_drafts.add_pairs_of_within.Given as goal
+use Rattle.summand_expander.proofs.kept_drafts.add_asked_pairs.Given as goal
 
 abbrev pub invariant-loop-second : goal.invariant-loop-second
 invariant-loop-second l = record {
