@@ -65,13 +65,6 @@ fn summed(alloc: Global) -> Result<Proc, NoMemory> {
     Ok(Proc::Sum(variables, inner))
 }
 
-// (a label | delta | a call) ||_ a label, as processes
-fn starting(alloc: Global) -> Result<Proc, NoMemory> {
-    let first = Box::new(alloc, Proc::Sync(operands(alloc)?))?;
-    let second = Box::new(alloc, Proc::Act(label(alloc)?))?;
-    Ok(Proc::LeftMerge(first, second))
-}
-
 fn communicating(alloc: Global) -> Result<Proc, NoMemory> {
     let inner = Box::new(alloc, Proc::Merge(operands(alloc)?))?;
     Ok(Proc::Comm(rules(alloc)?, inner))
@@ -129,7 +122,7 @@ fn is_copied(alloc: Global, term: &Proc) -> Result<bool, NoMemory> {
     look_alike(alloc, term, &copy)
 }
 
-// chains, a sum of a condition, a left merge, and each operator around another one
+// chains, a sum of a condition, and each operator around another one
 #[test]
 fn copies_of_process_terms_are_equal(rt: HostRuntime) -> Result<(), Fail> {
     let alloc = rt.alloc();
@@ -137,7 +130,6 @@ fn copies_of_process_terms_are_equal(rt: HostRuntime) -> Result<(), Fail> {
     assert!(rt; is_copied(alloc, &Proc::Seq(operands(alloc)?))?);
     assert!(rt; is_copied(alloc, &Proc::Choice(Vec::new(alloc)))?);
     assert!(rt; is_copied(alloc, &summed(alloc)?)?);
-    assert!(rt; is_copied(alloc, &starting(alloc)?)?);
     assert!(rt; is_copied(alloc, &allowing(alloc)?)?);
     Ok(())
 }
