@@ -5,6 +5,8 @@
   bench/definitions.py NAME..               what these definitions reach, one a line: the crate, the file, the line and the name
   bench/definitions.py --count NAME..       how many each of these reaches, in each crate
 
+A NAME that several crates define has its crate in front, as `lin_driver.StandsFor`.
+
 A definition is a name that a file of a crate's specs/ defines: by `record`, `data` or `abbrev`. It reaches what its text names, and what
 that reaches. Names are told apart by the `use` lines of the file, as the toolchain tells them. A name that the text itself binds, a field
 and a comment count for nothing. A type of the code (`specs.declared`) and the toolchain's own library are ends: they are counted beside.
@@ -106,6 +108,15 @@ class Sources:
             for name, made in file.definitions.items():
                 self.by_name[name].append(made)
 
+    def found(self, name):
+        """The definition of a name, which may have its crate in front."""
+        crate, _, plain = name.rpartition(".")
+        made = [it for it in self.by_name.get(plain, []) if crate in ("", it.crate)]
+        if len(made) != 1:
+            places = ", ".join(f"{it.crate}.{it.name} ({it.module}.antt)" for it in made) or "no file of specs/"
+            sys.exit(f"{name}: {places} has it")
+        return made[0]
+
     def at(self, where, name):
         """The definition of a name in a module, or of the type whose constructor it is; a text where it is an end."""
         crate, module = where
@@ -193,8 +204,7 @@ def main(words):
     if not names:
         return tell_run(sources)
     for name in names:
-        roots = sources.by_name.get(name) or sys.exit(f"no file of specs/ defines {name}")
-        made, ends = sources.reached(roots)
+        made, ends = sources.reached([sources.found(name)])
         if "--count" in words:
             print(f"{name}: {len(made)} ({by_crate(made)}), and {len(ends)} ends")
         else:
