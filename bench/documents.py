@@ -109,7 +109,7 @@ def headline():
     roots = dict(definitions.roots_of(sources, top))
     reached = {"run": [it for some in roots.values() for it in some], **roots,
                "StandsFor": [sources.found("lin_driver.StandsFor")], "IsGood": [sources.found("bisim_laws.IsGood")]}
-    numbers = re.search(r"`run` reach ([\d,]+) .*?`headline` alone ([\d,]+).*?`StandsFor` reaches ([\d,]+).*?`IsGood` ([\d,]+)", page, re.S)
+    numbers = re.search(r"`run` reach ([\d,]+\d) .*?`headline` alone ([\d,]+\d).*?`StandsFor` reaches ([\d,]+\d).*?`IsGood` ([\d,]+\d)", page, re.S)
     for called, told in zip(("run", "headline", "StandsFor", "IsGood"), numbers.groups() if numbers else ("0",) * 4):
         count = len(sources.reached(reached[called])[0])
         if abs(int(told.replace(",", "")) - count) * 20 > count:
