@@ -44,7 +44,8 @@ def all_runs():
 
 def written_by(program, run):
     """What a command writes where the words of the program start it."""
-    command = f'start() {{ {shlex.join(program)} "$@"; }}\n' + re.sub(r"\./mcrl2lin\b", "start", run.command)
+    first = str(pathlib.Path(program[0]).resolve()) if "/" in program[0] else program[0]
+    command = f'start() {{ {shlex.join([first, *program[1:]])} "$@"; }}\n' + re.sub(r"\./mcrl2lin\b", "start", run.command)
     done = subprocess.run(["bash", "-c", command], cwd=HERE.parent, stdin=subprocess.DEVNULL, stdout=subprocess.PIPE,
                           stderr=subprocess.STDOUT, check=False)
     return done.stdout
