@@ -27,11 +27,11 @@ pub mod Eliminations
 pub mod Eliminated
 pub mod PlainlyMade
 pub mod AddedSorts
-pub mod CanonicalNames
 pub mod NeededParts
 pub mod MadeFromLeaves
 pub mod SettledNetworks
 pub mod KeptTexts
+pub mod LinearOfTexts
 pub mod WrittenTexts
 pub mod BufferLines
 pub mod Renumberings
