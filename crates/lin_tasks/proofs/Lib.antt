@@ -9,3 +9,4 @@ mod FollowedTraces
 mod ReplayedTexts
 mod VerdictsOnFiles
 mod FirstMoves
+mod JudgedEquations
