@@ -9,4 +9,3 @@ mod FollowedTraces
 mod ReplayedTexts
 mod VerdictsOnFiles
 mod FirstMoves
-mod JudgedEquations

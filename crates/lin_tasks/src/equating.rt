@@ -1,21 +1,16 @@
 //! The task `equations`: whether the written equations of a text keep the rules under which they are consistent.
-ghost use Rattle.std.specs.Prelude.{◌≡◌, ◌≢◌, ◌++◌, ℕ, List, map, IfErr, IfOk, OnOk};
-ghost use Rattle.mcrl2_syntax.specs.Declarations.{spec_of};
-ghost use Rattle.process_terms.specs.PlainProcesses.{plain_equation};
-ghost use Rattle.lps_core.specs.PlainLinears.{plain_linear};
+ghost use Rattle.std.specs.Prelude.{◌≡◌, ◌≢◌, ◌++◌, IfErr, IfOk, OnOk};
 ghost use Rattle.lin_driver.specs.Accepted.{CanBeLinearised};
-ghost use Rattle.lin_driver.specs.Eliminations.{equations_at};
 ghost use Rattle.lin_driver.specs.Faults.{IsFaultBy};
-ghost use Rattle.lin_driver.specs.Linearised.{IsMadeOf};
 ghost use Rattle.lin_driver.specs.Refusals.{IsRefusedWith};
-ghost use Rattle.lin_tasks.specs.JudgedEquations.{broken_line, judged_line, reason_word, status_of_judged, AreJudgedEquations, ShowsJudged};
+ghost use Rattle.lin_tasks.specs.JudgedEquations.{broken_line, judged_line, reason_word, status_of_judged, AreJudgedEquations};
 
 use crate::decimals::push_number;
 use data_theory::{Names, NoMemory};
 use eqn_check as eqn;
-use eqn_check::{Reason, check};
+use eqn_check::Reason;
 use lin_answers::{Answer, Status};
-use lin_driver::{LinFault, Linearised, Method, linearise};
+use lin_driver::{LinFault, Method, judge_equations};
 use std::alloc::Global;
 
 /// Puts the word of a rule behind a line.
@@ -63,25 +58,12 @@ fn status_of_judged(answer: eqn::Answer) -> Status
     }
 }
 
-/// Whether the written equations keep the rules, as it is shown of what was made of a text.
-fn judged(alloc: Global, made: &Linearised) -> Result<Answer, NoMemory>
-    requires { (text : List ℕ) × IsMadeOf text (spec_of made.now.spec) made.now.sig made.now.pool.trees (map plain_equation made.now.theory.equations.items) made.now.name (plain_linear made.now.lin) }
-    ensures { IfOk result (λ answer. ShowsJudged made.now.sig (equations_at made.now.sig made.now.pool.trees (map plain_equation made.now.theory.equations.items)) answer.status answer.text.items) }
-{
-    let answer = check(alloc, &made.sig, &made.theory, &made.pool)?;
-    let text = judged_line(alloc, answer)?;
-    Ok(Answer {
-        text,
-        status: status_of_judged(answer),
-    })
-}
-
 /// Whether the written equations of a text keep four rules (shape, repeat, overlap, recursion) under which they are consistent; or the first one
-/// that breaks a rule, and the first rule that it breaks. The text is made linear first, by the method.
+/// that breaks a rule, and the first rule that it breaks. The text is made linear by the method, too.
 ///
 /// # Errors
 ///
-/// Those of [`linearise`] with that method.
+/// Those of [`judge_equations`].
 pub fn equations(
     alloc: Global,
     text: &[u8],
@@ -89,11 +71,14 @@ pub fn equations(
     method: Method,
 ) -> Result<Answer, LinFault>
     ensures accepted { OnOk result (CanBeLinearised text.now) }
-    ensures judged { IfOk result (λ answer. AreJudgedEquations method text.now answer.status answer.text.items) }
+    ensures judged { IfOk result (λ answer. AreJudgedEquations text.now answer.status answer.text.items) }
     ensures refused { IfErr result (λ fault. fault ≢ LinFault.NoMemory → IsRefusedWith text.now names.new fault) }
     ensures by { IfErr result (IsFaultBy method) }
 {
-    let made = linearise(alloc, text, names, method)?;
-    let answer = judged(alloc, &made)?;
-    Ok(answer)
+    let answer = judge_equations(alloc, text, names, method)?;
+    let line = judged_line(alloc, answer)?;
+    Ok(Answer {
+        text: line,
+        status: status_of_judged(answer),
+    })
 }

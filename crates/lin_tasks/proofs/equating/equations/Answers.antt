@@ -1,35 +1,21 @@
-use Rattle.std.proofs.Common.{◌≡◌, map}
-use Rattle.mcrl2_syntax.specs.Declarations.{spec_of}
-use Rattle.process_terms.specs.PlainProcesses.{plain_equation}
-use Rattle.lps_core.specs.PlainLinears.{plain_linear}
-use Rattle.lin_driver.specs.LinearOfTexts.{is_made}
+use Rattle.std.proofs.Common.{◌≡◌}
 use Rattle.lin_driver.specs.declared.fault.LinFault.TheVariants.{NoMemory}
 use Rattle.lin_driver.proofs.Refused.{is_told, no_fault_refused}
 use Rattle.lin_tasks.proofs.ShownTexts.{no_fault_by}
 use Rattle.lin_tasks.proofs.equating.equations.Goals as goal
 
-pub judged-requires : goal.judged-requires
-judged-requires c = (c.args.text.now, is_made c.in_ok-made.ensures.linear)
+pub returns-in_err-line-clause-refused : goal.returns-in_err-line-clause-refused
+returns-in_err-line-clause-refused c =
+    no_fault_refused c.from_residual-in_err-line.result c.args.text.now c.judge_equations.new.names (is_told c.from_residual-in_err-line.result (λ fault. fault ≡ NoMemory) c.from_residual-in_err-line.ensures.1)
 
-pub returns-in_err-answer-clause-refused : goal.returns-in_err-answer-clause-refused
-returns-in_err-answer-clause-refused c =
-    no_fault_refused c.from_residual-in_err-answer.result c.args.text.now c.linearise.new.names (is_told c.from_residual-in_err-answer.result (λ fault. fault ≡ NoMemory) c.from_residual-in_err-answer.ensures.1)
-
-pub returns-in_err-answer-clause-by : goal.returns-in_err-answer-clause-by
-returns-in_err-answer-clause-by c =
-    no_fault_by c.from_residual-in_err-answer.result c.args.method (is_told c.from_residual-in_err-answer.result (λ fault. fault ≡ NoMemory) c.from_residual-in_err-answer.ensures.1)
+pub returns-in_err-line-clause-by : goal.returns-in_err-line-clause-by
+returns-in_err-line-clause-by c =
+    no_fault_by c.from_residual-in_err-line.result c.args.method (is_told c.from_residual-in_err-line.result (λ fault. fault ≡ NoMemory) c.from_residual-in_err-line.ensures.1)
 
 pub returns-clause-judged : goal.returns-clause-judged
-returns-clause-judged c =
-    let made = c.in_ok-made.made in
-    record {
-      spec = spec_of made.spec;
-      signature = made.sig;
-      pool = made.pool;
-      equations = map plain_equation made.theory.equations.items;
-      name = made.name;
-      linear = plain_linear made.lin;
-      components = made.components;
-      is_linear = c.in_ok-made.ensures.linear;
-      judged = c.in_ok-answer.ensures;
-    }
+returns-clause-judged c = record {
+  answer = c.in_ok-answer.answer;
+  judged = c.in_ok-answer.ensures.judged;
+  shows = c.in_ok-line.ensures;
+  status_is = c.status_of_judged.ensures;
+}
