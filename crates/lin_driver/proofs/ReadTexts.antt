@@ -12,7 +12,7 @@ use Rattle.lps_core.specs.PlainLinears.{plain_linear}
 use Rattle.sort_table.specs.BareDeclarations.{bare_sections}
 use Rattle.sort_checker.specs.FullVocabularies.{FullVocabulary}
 use Rattle.lin_driver.specs.Accepted.{IsGuardedSystem, CanBeLinearised}
-use Rattle.lin_driver.specs.Linearised.{IsLinearised}
+use Rattle.lin_driver.specs.Linearised.{IsLinearised, IsMadeOf}
 use Rattle.lin_driver.specs.LinearOfTexts.{IsLinearOf, IsMadeBy, is_made}
 use Rattle.lin_driver.specs.Refusals.{IsParsedAs}
 use Rattle.lin_driver.specs.declared.fault.LinFault.{LinFault}
@@ -63,3 +63,7 @@ module _ (method : Method) where
   pub linearised_text : (r : Result Linearised LinFault) (text : List ℕ) → IfOk r (LinearOf text) → IfOk r (λ m. IsLinearised text (spec_of m.spec) m.sig m.pool.trees (plain_linear m.lin))
   linearised_text (Ok m) text is = made_stands_for text (spec_of m.spec) m.sig m.pool.trees (map plain_equation m.theory.equations.items) m.name (plain_linear m.lin) (is_made is)
   linearised_text (Err e) text is = tt
+
+  pub made_of_text : (r : Result Linearised LinFault) (text : List ℕ) → IfOk r (LinearOf text) → IfOk r (λ m. IsMadeOf text (spec_of m.spec) m.sig m.pool.trees (map plain_equation m.theory.equations.items) m.name (plain_linear m.lin))
+  made_of_text (Ok m) text is = is_made is
+  made_of_text (Err e) text is = tt

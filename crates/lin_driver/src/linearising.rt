@@ -12,7 +12,7 @@ ghost use Rattle.sort_checker.specs.FullVocabularies.{FullVocabulary};
 ghost use Rattle.sort_checker.specs.TextModels.{HasOneStart};
 ghost use Rattle.lin_driver.specs.Accepted.{CanBeLinearised, IsGuardedSystem};
 ghost use Rattle.lin_driver.specs.Faults.{IsFaultBy};
-ghost use Rattle.lin_driver.specs.Linearised.{IsLinearised};
+ghost use Rattle.lin_driver.specs.Linearised.{IsLinearised, IsMadeOf};
 ghost use Rattle.lin_driver.specs.LinearOfTexts.{IsLinearOf, IsMadeBy};
 ghost use Rattle.lin_driver.specs.Refusals.{IsRefusedWith, IsSpecFault};
 
@@ -162,6 +162,7 @@ pub fn linearise(
     method: Method,
 ) -> Result<Linearised, LinFault>
     ensures accepted { OnOk result (CanBeLinearised text.now) }
+    ensures made { IfOk result (λ made. IsMadeOf text.now (spec_of made.spec) made.sig made.pool.trees (map plain_equation made.theory.equations.items) made.name (plain_linear made.lin)) }
     ensures linear { IfOk result (λ made. IsLinearOf method text.now (spec_of made.spec) made.sig made.pool
         (map plain_equation made.theory.equations.items) made.name (plain_linear made.lin) made.components) }
     ensures linearised { IfOk result (λ made. IsLinearised text.now (spec_of made.spec) made.sig made.pool.trees (plain_linear made.lin)) }

@@ -1,6 +1,6 @@
 use Rattle.std.proofs.Common.{rules}
 use Rattle.mcrl2_syntax.specs.Declarations.{spec_of}
-use Rattle.lin_driver.proofs.ReadTexts.{accepted_text, linear_of_text, linearised_text}
+use Rattle.lin_driver.proofs.ReadTexts.{accepted_text, linear_of_text, linearised_text, made_of_text}
 use Rattle.lin_driver.proofs.Refused.{spec_refused}
 use Rattle.lin_driver.proofs.UpToRecursion.{by_each_method}
 use Rattle.lin_driver.proofs.linearising.linearise.Goals as goal
@@ -10,6 +10,11 @@ returns-clause-accepted c = accepted_text c.linear_of_built.result c.args.text.n
 
 pub returns-clause-linear : goal.returns-clause-linear
 returns-clause-linear c = linear_of_text c.args.method c.linear_of_built.result c.args.text.now (spec_of c.in_ok-spec.spec) c.in_ok-spec.ensures.parsed c.linear_of_built.ensures.spec c.linear_of_built.ensures.made
+
+pub returns-clause-made : goal.returns-clause-made
+returns-clause-made c =
+    made_of_text c.args.method c.linear_of_built.result c.args.text.now
+    (linear_of_text c.args.method c.linear_of_built.result c.args.text.now (spec_of c.in_ok-spec.spec) c.in_ok-spec.ensures.parsed c.linear_of_built.ensures.spec c.linear_of_built.ensures.made)
 
 pub returns-clause-linearised : goal.returns-clause-linearised
 returns-clause-linearised c =
