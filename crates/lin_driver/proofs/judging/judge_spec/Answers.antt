@@ -50,10 +50,10 @@ returns-in-Ok-clause-judged c =
       is_answer = c.in_ok-answer.ensures (equations_of_model g p m) (all_of g p.trees is.trees c.in_ok-model.model.theory.equations.items is.there.0);
     }
 
-pub returns-in-Err-clause-refused : goal.returns-in-Err-clause-refused
-returns-in-Err-clause-refused c =
+pub returns-clause-refused : goal.returns-clause-refused
+returns-clause-refused c =
     model_refused (spec_of c.args.spec.now) c.elaborate.new.sig c.elaborate.new.pool (plain_model c.in_ok-model.model) c.in_ok-model.ensures.means c.linear_of.new.sig.texts (c.linear_of.ensures.grown.new_texts, c.linear_of.ensures.grown.texts)
     c.in-Err.fault c.of_model.result c.in-Err.ensures.refused c.of_model.ensures
 
-pub returns-in-Err-clause-by : goal.returns-in-Err-clause-by
-returns-in-Err-clause-by c = model_fault_by c.args.method c.in-Err.fault c.of_model.result c.in-Err.ensures.by c.of_model.ensures
+pub returns-clause-by : goal.returns-clause-by
+returns-clause-by c = model_fault_by c.args.method c.in-Err.fault c.of_model.result c.in-Err.ensures.by c.of_model.ensures
