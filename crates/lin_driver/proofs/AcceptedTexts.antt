@@ -219,7 +219,7 @@ not_of_spec spec texts v can (Parse fault) of has = has
 not_of_spec spec texts v can (Sort fault) of has = not_of_sorts spec texts fault can.system.well_typed.sound has.0 has.1
 not_of_spec spec texts v can («Type» fault) of has = not_of_types spec has.0.signature fault v can.system.well_typed has.0.has_fault has.1
 not_of_spec spec texts v can (Net fault) of has = not_of_nets has.signature has.pool has.model fault (of_the_model spec v can has.signature has.pool has.model has.is_model) has.has_fault.0 has.has_fault.1
-not_of_spec spec texts v can (Guard fault) of has = not_of_guards has.signature has.pool has.model fault (of_the_model spec v can has.signature has.pool has.model has.is_model) has.has_fault.0 has.has_fault.1
+not_of_spec spec texts v can (Guard fault) of has = not_of_guards has.signature has.pool has.model fault (of_the_model spec v can has.signature has.pool has.model has.is_model) has.has_fault.1 has.has_fault.2
 not_of_spec spec texts v can _ of has = of
 
 of_the_spec : (text : List ℕ) (texts : List (List ℕ)) (fault : LinFault) → IsOfTheText fault → HasSpecFault text texts fault → CanBeLinearised text → ⊥

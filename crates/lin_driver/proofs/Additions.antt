@@ -2,7 +2,8 @@
 use Rattle.std.proofs.Common.{◌≡◌, ℕ, suc, List, [], ◌∷◌, ◌++◌, map, All, Option, Some, None, refl, sym, ap, ap₂, ◌∙◌, subst, append-nil}
 use Rattle.std.specs.Prelude.{option_to_list}
 use Rattle.std.specs.List.{AllByRecursion, Contains, flat_map}
-use Rattle.std.proofs.lemmas.List.Elements.{All-head, All-tail, Contains-append_right}
+use Rattle.std.proofs.lemmas.List.Elements.{All-contains, All-head, All-tail, Contains-append_right}
+use Rattle.data_theory.specs.FirstNames.{first_names}
 use Rattle.data_theory.specs.declared.ids.FunId.{FunId}
 use Rattle.data_theory.specs.declared.ids.NameId.{NameId}
 use Rattle.data_theory.specs.declared.ids.SortId.{SortId}
@@ -165,8 +166,8 @@ additions_may_be_added spec g h x empty_lists stands is taken w among =
     let equations = map (λ (f : FunId). empty_list_declared (name_at h f)) empty_lists in
     let names = flat_map names_of_addition structs ++ map (λ (c : Constant). text_under h c.0) (added_constants w) in
     let apart = names_apart g stands h x w (grown_itself h) in
-    let New = λ (t : Name). ¬ (Contains (copied_identifiers spec) t) in
-    let new : (ts : List Name) → AllByRecursion (λ (t : Name). ¬ (IsTaken g t)) ts → AllByRecursion New ts = all_weaker (λ (t : Name). ¬ (IsTaken g t)) New (λ t free there. free (taken t there)) in
+    let New = λ (t : Name). ¬ (Contains first_names t) × ¬ (Contains (copied_identifiers spec) t) in
+    let new : (ts : List Name) → AllByRecursion (λ (t : Name). ¬ (IsTaken g t)) ts → AllByRecursion New ts = all_weaker (λ (t : Name). ¬ (IsTaken g t)) New (λ t free. (λ there. free (All-contains (IsTaken g) first_names t stands.words_taken there), λ there. free (taken t there))) in
     let declared_ : declarations_in added ≡ structs ++ (mappings ++ equations) = adds.declarations x empty_lists in
     let data_is : data_in added ≡ structs ++ mappings
     = ap (flat_map data_by) declared_ ∙ flat_append data_by structs (mappings ++ equations)

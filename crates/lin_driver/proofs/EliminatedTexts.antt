@@ -28,7 +28,7 @@ use Rattle.lps_parelm.proofs.WholeElimination.{fits_on}
 use Rattle.lps_sumelm.specs.Simplified.{IsAnswer}
 use Rattle.lps_printer.specs.EmptyEquations.{empty_equations}
 use Rattle.lps_printer.specs.PrintedLinears.{IsPrinted}
-use Rattle.lin_driver.specs.Eliminated.{IsEliminated, IsPrintedLeft}
+use Rattle.lin_driver.specs.Eliminated.{IsPrintedLeft}
 use Rattle.lin_driver.specs.Eliminations.{HasEffect, equations_at, IsLeft}
 use Rattle.lin_driver.specs.Headline.{StandsFor}
 use Rattle.lin_driver.specs.Linearised.{IsMadeOf, IsLinearised}
@@ -36,7 +36,7 @@ use Rattle.lin_driver.specs.ReadingBack.{CanBePrinted}
 use Rattle.lin_driver.specs.declared.eliminations.Elimination.{Elimination}
 use Rattle.lin_driver.specs.declared.eliminations.Elimination.TheVariants.{Constants, Parameters, Sums}
 use Rattle.lin_driver.proofs.FewerVariables.{HasFewerVariables, unneeded_fewer, eliminated_fewer, solved_fewer, fewer_have_own_names, fewer_have_identifiers}
-use Rattle.lin_driver.proofs.LinearisedTexts.{made_stands_for, made_has_equations, led_on_stands_for}
+use Rattle.lin_driver.proofs.LinearisedTexts.{made_stands_for, led_on_stands_for}
 use Rattle.lin_driver.proofs.MadeTexts.{made_can_be_printed, printable_equations}
 use Rattle.lin_driver.proofs.ReadingBack.{printed_texts_read_back, printed_equations}
 use Rattle.lin_driver.proofs.RewritableEquations.{equations_are}
@@ -67,9 +67,6 @@ module _ (text printed : List ℕ) (spec : PlainSpec) (g : Sig) (ts us : List Tr
 
   abbrev before : CanBePrinted spec g ts x l
   before = made_can_be_printed text spec g ts equations x l made
-
-  own_are : from.theory.equations ≡ own
-  own_are = made_has_equations text spec g ts equations x l made ∙ sym (equations_are spec g ts equations x l made.made (specs_are_of_words text spec made.tokens made.cut made.spelled))
 
   own_printed : before.own.theory.equations ≡ own
   own_printed = printable_equations text spec g ts equations x l made ∙ sym (equations_are spec g ts equations x l made.made (specs_are_of_words text spec made.tokens made.cut made.spelled))
@@ -131,24 +128,6 @@ module _ (text printed : List ℕ) (spec : PlainSpec) (g : Sig) (ts us : List Tr
       led_on_stands_for text printed spec g us us l k linearised b left.fits (Then from.link on.link)
       (λ goes con. then_good b.theory from.link on.link from.process (linear_state (entries_of g us) l) (linear_state (entries_of g us) k) (linearised.bisimilar b.theory goes con) (on.good b.theory goes among con))
 
-  pub left_is_eliminated : IsEliminated e text printed
-  left_is_eliminated = record {
-    spec = spec;
-    signature = g;
-    trees = us;
-    linear = l;
-    linearised = linearised;
-    left = k;
-    effect = subst (λ (qs : List Equation). HasEffect e g qs us l k) (sym own_are) left.effect;
-    name = x;
-    printed_signature = h;
-    stands = after;
-    is_printed = is;
-  }
-
 -- and what was printed of it
 pub printed_left_stands_for : (text printed : List ℕ) (spec : PlainSpec) (g : Sig) (ts : List Tree) (equations : List PlainEquation) (x : NameId) (l : PlainLinear) (e : Elimination) → IsMadeOf text spec g ts equations x l → IsPrintedLeft e spec g ts equations x l printed → StandsFor text printed
 printed_left_stands_for text printed spec g ts equations x l e made p = left_stands_for text printed spec g ts p.trees equations x l p.left e made p.is_left p.signature p.stands p.is_printed
-
-pub printed_left_is_eliminated : (text printed : List ℕ) (spec : PlainSpec) (g : Sig) (ts : List Tree) (equations : List PlainEquation) (x : NameId) (l : PlainLinear) (e : Elimination) → IsMadeOf text spec g ts equations x l → IsPrintedLeft e spec g ts equations x l printed → IsEliminated e text printed
-printed_left_is_eliminated text printed spec g ts equations x l e made p = left_is_eliminated text printed spec g ts p.trees equations x l p.left e made p.is_left p.signature p.stands p.is_printed

@@ -38,6 +38,7 @@ mod ModelsOfTexts
 pub mod OneStart
 pub mod Refused
 mod MadeLinears
+mod JudgedTexts
 mod ReadingBack
 mod MadeNames
 pub mod MadeTexts

@@ -1,5 +1,5 @@
 -- What is made of a text can be printed, and then stands for the text.
-use Rattle.std.proofs.Common.{◌≡◌, ℕ, List, [], map, codes, refl, sym, ◌∙◌, subst}
+use Rattle.std.proofs.Common.{◌≡◌, ℕ, List, [], map, codes, inr, refl, sym, ◌∙◌, subst}
 use Rattle.std.proofs.lemmas.Option.{slice_get_within, get_or_from_slice_get}
 use Rattle.data_theory.specs.declared.ids.NameId.{NameId}
 use Rattle.data_theory.specs.IdData.{data_meant}
@@ -36,7 +36,7 @@ made_can_be_printed text spec h us equations x l made =
       own = record {
         placed = spelled_specs_are_placed text spec made.tokens made.spelled;
         stands = m.stands;
-        taken = m.taken;
+        taken = λ t i. (m.taken t).1 (inr i);
         vocabulary = is.vocabulary;
         declared = is.over.declared;
         theory = theory_of (data_meant m.signature) e m.model;

@@ -26,11 +26,12 @@ use Rattle.lps_core.proofs.NamedSums.{names_then}
 use Rattle.lps_core.proofs.PoolTrees.{extends_itself}
 use Rattle.proc_unfold.specs.FittingModels.{ModelFits}
 use Rattle.proc_unfold.specs.Networks.{PlainNetwork, network_process, AllComponents}
-use Rattle.proc_unfold.specs.Parallelism.{IsNetFaultOf}
+use Rattle.proc_unfold.specs.Parallelism.{IsNetFaultOf, StandsOutsideRecursion}
 use Rattle.proc_unfold.specs.Unfolded.{IsOpened, IsSameNetwork, IsComponentOf, HasItsComponents}
 use Rattle.proc_unfold.specs.declared.faults.NetFault.{NetFault}
 use Rattle.proc_unfold.specs.declared.faults.NetFault.TheVariants as net
 use Rattle.guard_check.specs.Faults.{IsGuardFaultOf}
+use Rattle.guard_check.specs.Guards.{IsGuardedModel}
 use Rattle.guard_check.specs.declared.checking.GuardFault.{GuardFault}
 use Rattle.guard_check.specs.declared.checking.GuardFault.TheVariants as guard
 use Rattle.greibach.specs.Scopes.{BindsAnew, HaveOwnVariables}
@@ -144,15 +145,15 @@ from_the_network g b h ts us m n l sg w grow fits same leads =
     }
 
 -- ---- why there is none
-leaves_are_of : (m : PlainModel) (ts : List Tree) (n : PlainNetwork) (fault : ModelFault) → IsOpened m ts n → IsLeavesFaultOf m (leaves n) fault → IsModelFaultOf m fault
-leaves_are_of m ts n (Net fault) opened has = absurd has
-leaves_are_of m ts n (Guard fault) opened has = absurd has
-leaves_are_of m ts n (NotTail number summand) opened has = record { trees = ts; network = n; opened = opened; leaf = has }
-leaves_are_of m ts n NoMemory opened has = tt
+leaves_are_of : (m : PlainModel) (ts : List Tree) (n : PlainNetwork) (fault : ModelFault) → StandsOutsideRecursion m → IsGuardedModel m → IsOpened m ts n → IsLeavesFaultOf m (leaves n) fault → IsModelFaultOf m fault
+leaves_are_of m ts n (Net fault) outside guarded opened has = absurd has
+leaves_are_of m ts n (Guard fault) outside guarded opened has = absurd has
+leaves_are_of m ts n (NotTail number summand) outside guarded opened has = (outside, guarded, record { trees = ts; network = n; opened = opened; leaf = has })
+leaves_are_of m ts n NoMemory outside guarded opened has = tt
 
-pub leaves_refused : {T : Type 0} (r : Result T ModelFault) (m : PlainModel) (ts : List Tree) (n : PlainNetwork) (fault : ModelFault) → IsOpened m ts n → IsLeavesFaultOf m (leaves n) fault → IsErrAnd r (λ given. given ≡ fault) → IfErr r (IsModelFaultOf m)
-leaves_refused (Ok x) m ts n fault opened has same = absurd same
-leaves_refused (Err given) m ts n fault opened has same = subst (IsModelFaultOf m) (sym same) (leaves_are_of m ts n fault opened has)
+pub leaves_refused : {T : Type 0} (r : Result T ModelFault) (m : PlainModel) (ts : List Tree) (n : PlainNetwork) (fault : ModelFault) → StandsOutsideRecursion m → IsGuardedModel m → IsOpened m ts n → IsLeavesFaultOf m (leaves n) fault → IsErrAnd r (λ given. given ≡ fault) → IfErr r (IsModelFaultOf m)
+leaves_refused (Ok x) m ts n fault outside guarded opened has same = absurd same
+leaves_refused (Err given) m ts n fault outside guarded opened has same = subst (IsModelFaultOf m) (sym same) (leaves_are_of m ts n fault outside guarded opened has)
 
 pub net_refused : {T : Type 0} (r : Result T ModelFault) (m : PlainModel) (fault : NetFault) → IsNetFaultOf m fault → IsErrAnd r (λ given. given ≡ fault_of_net fault) → IfErr r (IsModelFaultOf m)
 net_refused (Ok x) m fault has same = absurd same
@@ -160,7 +161,7 @@ net_refused (Err given) m net.NoMemory has same = subst (IsModelFaultOf m) (sym 
 net_refused (Err given) m (net.ParallelRecursion names) has same = subst (IsModelFaultOf m) (sym same) (has, λ e. cc)
 net_refused (Err given) m (net.ParallelUnderSequential number) has same = subst (IsModelFaultOf m) (sym same) (has, λ e. cc)
 
-pub guard_refused : {T : Type 0} (r : Result T ModelFault) (m : PlainModel) (fault : GuardFault) → IsGuardFaultOf m fault → IsErrAnd r (λ given. given ≡ fault_of_guard fault) → IfErr r (IsModelFaultOf m)
-guard_refused (Ok x) m fault has same = absurd same
-guard_refused (Err given) m guard.NoMemory has same = subst (IsModelFaultOf m) (sym same) tt
-guard_refused (Err given) m (guard.Unguarded names) has same = subst (IsModelFaultOf m) (sym same) (has, λ e. cc)
+pub guard_refused : {T : Type 0} (r : Result T ModelFault) (m : PlainModel) (fault : GuardFault) → StandsOutsideRecursion m → IsGuardFaultOf m fault → IsErrAnd r (λ given. given ≡ fault_of_guard fault) → IfErr r (IsModelFaultOf m)
+guard_refused (Ok x) m fault outside has same = absurd same
+guard_refused (Err given) m guard.NoMemory outside has same = subst (IsModelFaultOf m) (sym same) tt
+guard_refused (Err given) m (guard.Unguarded names) outside has same = subst (IsModelFaultOf m) (sym same) (outside, has, λ e. cc)

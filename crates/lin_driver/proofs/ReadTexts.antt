@@ -12,11 +12,12 @@ use Rattle.lps_core.specs.PlainLinears.{plain_linear}
 use Rattle.sort_table.specs.BareDeclarations.{bare_sections}
 use Rattle.sort_checker.specs.FullVocabularies.{FullVocabulary}
 use Rattle.lin_driver.specs.Accepted.{IsGuardedSystem, CanBeLinearised}
-use Rattle.lin_driver.specs.CanonicalNames.{HasCanonicalNames}
-use Rattle.lin_driver.specs.Linearised.{IsLinearised, IsMadeFor, IsMadeOf}
+use Rattle.lin_driver.specs.Linearised.{IsLinearised, IsMadeOf}
+use Rattle.lin_driver.specs.LinearOfTexts.{IsLinearOf, IsMadeBy, is_made}
 use Rattle.lin_driver.specs.Refusals.{IsParsedAs}
 use Rattle.lin_driver.specs.declared.fault.LinFault.{LinFault}
 use Rattle.lin_driver.specs.declared.linearising.Linearised.{Linearised}
+use Rattle.lin_driver.specs.declared.methods.Method.{Method}
 use Rattle.lin_driver.proofs.LinearisedTexts.{made_stands_for}
 
 -- the text of the tokens is the one that was given
@@ -43,33 +44,26 @@ on_ok_anyway (Ok x) P holds = holds
 on_ok_anyway (Err e) P holds = tt
 
 -- ---- what was made
-abbrev pub MadeFor : Linearised → Type 0
-MadeFor m = IsMadeFor (spec_of m.spec) m.sig m.pool.trees (map plain_equation m.theory.equations.items) m.name (plain_linear m.lin)
+module _ (method : Method) where
+  abbrev pub MadeBy : Linearised → Type 0
+  MadeBy m = IsMadeBy method (spec_of m.spec) m.sig m.pool (map plain_equation m.theory.equations.items) m.name (plain_linear m.lin) m.components
 
-abbrev pub MadeOf : List ℕ → Linearised → Type 0
-MadeOf text m = IsMadeOf text (spec_of m.spec) m.sig m.pool.trees (map plain_equation m.theory.equations.items) m.name (plain_linear m.lin)
+  abbrev pub LinearOf : List ℕ → Linearised → Type 0
+  LinearOf text m = IsLinearOf method text (spec_of m.spec) m.sig m.pool (map plain_equation m.theory.equations.items) m.name (plain_linear m.lin) m.components
 
-pub made_of_text : (r : Result Linearised LinFault) (text : List ℕ) (spec : PlainSpec) → IsParsedAs text spec → IfOk r (λ m. spec_of m.spec ≡ spec) → IfOk r MadeFor → IfOk r (MadeOf text)
-made_of_text (Ok m) text spec parsed same made = record {
-  tokens = parsed.tokens;
-  cut = parsed.has_tokens;
-  spelled = subst (λ (s : PlainSpec). SpellsSpec text s parsed.tokens) (sym same) parsed.spelled;
-  made = made;
-}
-made_of_text (Err e) text spec parsed same made = tt
+  pub linear_of_text : (r : Result Linearised LinFault) (text : List ℕ) (spec : PlainSpec) → IsParsedAs text spec → IfOk r (λ m. spec_of m.spec ≡ spec) → IfOk r MadeBy → IfOk r (LinearOf text)
+  linear_of_text (Ok m) text spec parsed same by = record {
+    tokens = parsed.tokens;
+    cut = parsed.has_tokens;
+    spelled = subst (λ (s : PlainSpec). SpellsSpec text s parsed.tokens) (sym same) parsed.spelled;
+    by = by;
+  }
+  linear_of_text (Err e) text spec parsed same by = tt
 
-pub linearised_text : (r : Result Linearised LinFault) (text : List ℕ) → IfOk r (MadeOf text) → IfOk r (λ m. IsLinearised text (spec_of m.spec) m.sig m.pool.trees (plain_linear m.lin))
-linearised_text (Ok m) text made = made_stands_for text (spec_of m.spec) m.sig m.pool.trees (map plain_equation m.theory.equations.items) m.name (plain_linear m.lin) made
-linearised_text (Err e) text made = tt
+  pub linearised_text : (r : Result Linearised LinFault) (text : List ℕ) → IfOk r (LinearOf text) → IfOk r (λ m. IsLinearised text (spec_of m.spec) m.sig m.pool.trees (plain_linear m.lin))
+  linearised_text (Ok m) text is = made_stands_for text (spec_of m.spec) m.sig m.pool.trees (map plain_equation m.theory.equations.items) m.name (plain_linear m.lin) (is_made is)
+  linearised_text (Err e) text is = tt
 
--- its names
-pub named_text : (r : Result Linearised LinFault) → IfOk r MadeFor → IfOk r (λ m. HasCanonicalNames (spec_of m.spec) m.sig m.name (plain_linear m.lin))
-named_text (Ok m) made = record {
-  signature = made.signature;
-  declares = made.declares;
-  taken = made.taken;
-  name = made.name;
-  parameters = made.leads.params;
-  sums = made.leads.names;
-}
-named_text (Err e) made = tt
+  pub made_of_text : (r : Result Linearised LinFault) (text : List ℕ) → IfOk r (LinearOf text) → IfOk r (λ m. IsMadeOf text (spec_of m.spec) m.sig m.pool.trees (map plain_equation m.theory.equations.items) m.name (plain_linear m.lin))
+  made_of_text (Ok m) text is = is_made is
+  made_of_text (Err e) text is = tt

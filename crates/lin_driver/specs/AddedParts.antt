@@ -1,6 +1,7 @@
 -- A printed specification adds only what is allowed, where its sections are those that are copied, some added ones, and the process and its start.
 use Rattle.std.specs.Prelude.{◌≡◌, ◌++◌, List, map}
 use Rattle.std.specs.List.{AllByRecursion, Contains, flat_map}
+use Rattle.data_theory.specs.FirstNames.{first_names}
 use Rattle.data_theory.specs.Terms.{Term}
 use Rattle.mcrl2_syntax.specs.Declarations.{PlainSpec}
 use Rattle.bisim_laws.specs.LinearProcesses.{Linear}
@@ -17,7 +18,7 @@ use Rattle.lin_driver.specs.Headline.{IsAddition, names_of_addition, IsOfAnEmpty
 -- what these sections declare may be added
 pub record MayBeAdded (own : PlainSpec) (added : List Section) : Type 0 where
   pub each_declaration : AllByRecursion IsAddition (data_in added)
-  pub new_names : AllByRecursion (λ x. ¬ (Contains (copied_identifiers own) x)) (flat_map names_of_addition (data_in added))
+  pub new_names : AllByRecursion (λ x. ¬ (Contains first_names x) × ¬ (Contains (copied_identifiers own) x)) (flat_map names_of_addition (data_in added))
   pub each_equation : AllByRecursion (IsOfAnEmptyList (flat_map names_of_addition (data_in added))) (equations_in added)
 
 abbrev pub WhatMayBeAddedAddsOnly : Type 0

@@ -1,12 +1,9 @@
 -- Where no sort is added: no component needs a stack.
-use Rattle.std.specs.Prelude.{◌≡◌, List}
+use Rattle.std.specs.Prelude.{List}
 use Rattle.std.specs.List.{All}
 use Rattle.data_theory.specs.Signature.{Sig}
 use Rattle.data_theory.specs.IdTrees.{Tree}
-use Rattle.mcrl2_syntax.specs.Declarations.{PlainSpec}
-use Rattle.term_pool.specs.Pools.{PoolContents}
 use Rattle.process_terms.specs.PlainProcesses.{PlainModel, PlainComponent}
-use Rattle.sort_checker.specs.TextModels.{IsSignatureOf, IsModelOf}
 use Rattle.proc_unfold.specs.Networks.{PlainNetwork}
 use Rattle.proc_unfold.specs.Unfolded.{IsOpened}
 use Rattle.greibach.specs.ComponentForms.{IsFormOf}
@@ -29,13 +26,3 @@ NeedsNoStack Stack m c = ⊥
 -- nor for any component of the specification
 abbrev pub IsWithoutStacks : Method → PlainModel → Type 0
 IsWithoutStacks method m = (ts : List Tree) (n : PlainNetwork) → IsOpened m ts n → All (NeedsNoStack method m) (leaves n)
-
--- A signature had what the specification declares, and over it the specification had a model. Where no component of that needs a stack, the
--- sorts are still these.
-pub record AddsNoSort (method : Method) (spec : PlainSpec) (h : Sig) : Type 0 where
-  pub signature : Sig
-  pub declares : IsSignatureOf spec signature
-  pub pool : PoolContents
-  pub model : PlainModel
-  pub is_model : IsModelOf spec signature pool model
-  pub sorts : IsWithoutStacks method model → h.sorts ≡ signature.sorts

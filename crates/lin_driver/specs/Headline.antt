@@ -1,6 +1,7 @@
 -- What is promised of the text that is printed for a text, in the order of reading.
 use Rattle.std.specs.Prelude.{◌≡◌, ◌++◌, ℕ, List, [], ◌∷◌, None, option_to_list}
 use Rattle.std.specs.List.{AllByRecursion, Contains, flat_map}
+use Rattle.data_theory.specs.FirstNames.{first_names}
 use Rattle.mcrl2_lexer.specs.declared.token.Token.{Token}
 use Rattle.mcrl2_lexer.specs.Lexing.{HasTokens}
 use Rattle.mcrl2_syntax.specs.Declarations.{PlainSpec}
@@ -52,14 +53,14 @@ pub record IsOfAnEmptyList (names : List Name) (e : WrittenEquation) : Type 0 wh
   pub right : e.right ≡ listed none
 
 -- The declarations and the equations of the first specification are copied. Behind them the second one has only structs, mappings
--- without arguments and equations `n = []` of these, under names that don't stand in what is copied.
+-- without arguments and equations `n = []` of these. Their names don't stand in what is copied, and are no words and no names of built-in functions.
 pub record AddsOnly (own printed : PlainSpec) : Type 0 where
   pub declarations : List Declaration
   pub equations : List WrittenEquation
   pub all_declarations : data_in (bare_sections printed) ≡ data_in (bare_sections own) ++ declarations
   pub all_equations : equations_in (bare_sections printed) ≡ equations_in (bare_sections own) ++ equations
   pub each_declaration : AllByRecursion IsAddition declarations
-  pub new_names : AllByRecursion (λ x. ¬ (Contains (copied_identifiers own) x)) (flat_map names_of_addition declarations)
+  pub new_names : AllByRecursion (λ x. ¬ (Contains first_names x) × ¬ (Contains (copied_identifiers own) x)) (flat_map names_of_addition declarations)
   pub each_equation : AllByRecursion (IsOfAnEmptyList (flat_map names_of_addition declarations)) equations
 
 -- What was there has the number that it had: so no two functions of the same sorts change places.

@@ -6,17 +6,11 @@ use Rattle.data_theory.specs.declared.ids.TermId.{TermId}
 use Rattle.data_theory.specs.Terms.{Term, variable, put}
 use Rattle.data_theory.specs.Environments.{Environment, term_in, bound}
 use Rattle.data_theory.specs.Equations.{trueᵗ}
-use Rattle.data_theory.specs.Signature.{Sig}
-use Rattle.data_theory.specs.WholeSignatures.{IsSignature}
-use Rattle.mcrl2_syntax.specs.Declarations.{PlainSpec}
-use Rattle.term_pool.specs.Pools.{PoolContents}
 use Rattle.process_terms.specs.Labels.{put_label}
 use Rattle.process_terms.specs.Meanings.{Entries, bound_at, term_at, body_of}
 use Rattle.process_terms.specs.PlainProcesses.{call, PlainDefinition, PlainModel, PlainComponent, call_of}
 use Rattle.process_terms.specs.Processes.{Bound}
-use Rattle.process_terms.specs.SignatureEntries.{entries_of, BothGrow}
 use Rattle.bisim_laws.specs.LinearProcesses.{Summand, Linear, variables, sorts, put_next}
-use Rattle.sort_checker.specs.TextModels.{IsSignatureOf, IsModelOf}
 use Rattle.lps_core.specs.PlainLinears.{PlainLinear, linear_of, initial_of}
 use Rattle.proc_unfold.specs.Networks.{PlainNetwork, leaf}
 use Rattle.greibach.specs.LinearShapes.{WrittenSummand, linear_body, with_sums}
@@ -79,16 +73,3 @@ KeepsNetwork method e m n l =
 -- a network that is a component has the first of the linear processes, and the others are left
 abbrev pub TakesTheFirst : PlainNetwork → List PlainLinear → List PlainLinear → PlainLinear → Type 0
 TakesTheFirst n queue left l = (c : PlainComponent) → n ≡ leaf c → queue ≡ l ∷ left
-
--- ---- the whole specification
--- A signature had what the specification declares, and over it the specification had a model. Signature and pool have grown since. Where that model is the
--- one of a linear text, the linear process keeps it.
-pub record KeepsItsText (method : Method) (spec : PlainSpec) (h : Sig) (q : PoolContents) (l : PlainLinear) : Type 0 where
-  pub signature : Sig
-  pub stands : IsSignature signature
-  pub declares : IsSignatureOf spec signature
-  pub pool : PoolContents
-  pub model : PlainModel
-  pub is_model : IsModelOf spec signature pool model
-  pub grow : BothGrow signature h pool.trees q.trees
-  pub keeps : KeepsModel method (entries_of h q.trees) model l

@@ -27,14 +27,15 @@ pub mod Eliminations
 pub mod Eliminated
 pub mod PlainlyMade
 pub mod AddedSorts
-pub mod CanonicalNames
 pub mod NeededParts
 pub mod MadeFromLeaves
 pub mod SettledNetworks
 pub mod KeptTexts
+pub mod LinearOfTexts
 pub mod WrittenTexts
 pub mod BufferLines
 pub mod Renumberings
 pub mod SameProcesses
 pub mod OneReading
 pub mod EachReading
+pub mod JudgedTexts

@@ -1,10 +1,11 @@
 -- A linear process in code that was made of a text and stands for it, what is printed for it, and that the printed text then stands for the
 -- text.
-use Rattle.std.specs.Prelude.{◌≡◌, ℕ, List}
+use Rattle.std.specs.Prelude.{◌≡◌, ◌↔◌, ◌⊎◌, ℕ, List}
 use Rattle.std.specs.List.{Contains}
 use Rattle.data_theory.specs.declared.ids.NameId.{NameId}
 use Rattle.data_theory.specs.Terms.{Sort, Term}
 use Rattle.data_theory.specs.Declarations.{NoSortIsEmpty}
+use Rattle.data_theory.specs.FirstNames.{first_names}
 use Rattle.data_theory.specs.Signature.{Sig, IsTaken}
 use Rattle.data_theory.specs.WholeSignatures.{IsSignature}
 use Rattle.data_theory.specs.IdData.{data_meant}
@@ -32,19 +33,18 @@ use Rattle.lps_core.specs.Fitting.{Fits}
 use Rattle.lps_core.specs.GoingOn.{IsGoodOver}
 use Rattle.lps_core.specs.PlainLinears.{PlainLinear, linear_of, initial_of, linear_state}
 use Rattle.proc_unfold.specs.FittingModels.{ModelFits}
-use Rattle.lin_driver.specs.Leaves.{HasLeaves}
 use Rattle.lin_driver.specs.ModelLinears.{IsProcessName, LeadsToLinear}
 use Rattle.lin_driver.specs.EqualLinears.{AreEqualLinears}
 use Rattle.lin_driver.specs.Headline.{Specifies, AddsOnly, StandsFor}
 
 -- ---- what it is made of
--- A signature had what the specification declares, and the specification's identifiers were taken. Over it the specification had a model, whose
--- equations these are. From there the linear process and the name of its process were made.
+-- A signature had what the specification declares. The names that were taken there are those that are taken from the start, and the identifiers that are copied
+-- of the specification. Over it the specification had a model, whose equations these are. From there the linear process and the name of its process were made.
 pub record IsMadeFor (spec : PlainSpec) (h : Sig) (us : List Tree) (equations : List PlainEquation) (x : NameId) (l : PlainLinear) : Type 0 where
   pub signature : Sig
   pub stands : IsSignature signature
   pub declares : IsSignatureOf spec signature
-  pub taken : (t : Name) → Contains (copied_identifiers spec) t → IsTaken signature t
+  pub taken : (t : Name) → IsTaken signature t ↔ (Contains first_names t ⊎ Contains (copied_identifiers spec) t)
   pub pool : PoolContents
   pub model : PlainModel
   pub is_model : IsModelOf spec signature pool model
@@ -60,14 +60,6 @@ pub record IsMadeOf (text : List ℕ) (spec : PlainSpec) (h : Sig) (us : List Tr
   pub cut : HasTokens text tokens
   pub spelled : SpellsSpec text spec tokens
   pub made : IsMadeFor spec h us equations x l
-
--- a model of the specification has a network with so many components
-pub record HasComponents (spec : PlainSpec) (count : ℕ) : Type 0 where
-  pub signature : Sig
-  pub pool : PoolContents
-  pub model : PlainModel
-  pub is_model : IsModelOf spec signature pool model
-  pub leaves : HasLeaves model count
 
 -- ---- what it is to the text
 -- The text has this specification. The signature has its vocabulary and more behind it, and a link leads from the text's process to

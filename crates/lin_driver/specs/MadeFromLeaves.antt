@@ -2,9 +2,7 @@
 use Rattle.std.specs.Prelude.{List, []}
 use Rattle.data_theory.specs.Signature.{Sig}
 use Rattle.data_theory.specs.IdTrees.{Tree}
-use Rattle.mcrl2_syntax.specs.Declarations.{PlainSpec}
 use Rattle.term_pool.specs.Pools.{PoolContents}
-use Rattle.sort_checker.specs.TextModels.{IsModelOf}
 use Rattle.process_terms.specs.PlainProcesses.{PlainModel}
 use Rattle.lps_core.specs.Naming.{SumsAreNamed}
 use Rattle.lps_core.specs.PlainLinears.{PlainLinear}
@@ -40,11 +38,3 @@ pub record IsMadeAlongNetwork (method : Method) (m : PlainModel) (h : Sig) (us :
   pub network : PlainNetwork
   pub opened : IsOpened m pool.trees network
   pub made : IsMadeFromLeaves method signature pool m network h us l
-
--- and from a model of the specification of a text
-pub record IsMadeAlongNetworkFor (method : Method) (spec : PlainSpec) (h : Sig) (us : List Tree) (l : PlainLinear) : Type 0 where
-  pub signature : Sig
-  pub pool : PoolContents
-  pub model : PlainModel
-  pub is_model : IsModelOf spec signature pool model
-  pub along : IsMadeAlongNetwork method model h us l

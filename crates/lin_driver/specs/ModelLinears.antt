@@ -16,13 +16,14 @@ use Rattle.process_terms.specs.Meanings.{Entries, table_of, body_of}
 use Rattle.process_terms.specs.SignatureEntries.{entries_of}
 use Rattle.bisim_laws.specs.Links.{Link}
 use Rattle.guard_check.specs.Faults.{IsGuardFaultOf}
+use Rattle.guard_check.specs.Guards.{IsGuardedModel}
 use Rattle.lps_core.specs.Fitting.{Fits}
 use Rattle.lps_core.specs.GoingOn.{IsGoodOver}
 use Rattle.lps_core.specs.Naming.{HaveOwnNames, ParamsHaveOwnNames}
 use Rattle.lps_core.specs.PlainLinears.{PlainLinear, linear_state}
 use Rattle.proc_unfold.specs.FittingModels.{ModelFits}
 use Rattle.proc_unfold.specs.Networks.{PlainNetwork}
-use Rattle.proc_unfold.specs.Parallelism.{IsNetFaultOf}
+use Rattle.proc_unfold.specs.Parallelism.{IsNetFaultOf, StandsOutsideRecursion}
 use Rattle.proc_unfold.specs.Unfolded.{IsOpened}
 use Rattle.greibach.specs.Scopes.{HaveOwnVariables}
 use Rattle.lps_printer.specs.GrowingByAdditions.{GrowsByAdditions}
@@ -80,9 +81,10 @@ pub record HasNoTailForm (m : PlainModel) (number summand : ℕ) : Type 0 where
   pub opened : IsOpened m trees network
   pub leaf : HasLeafWithTwoCalls m (leaves network) number summand
 
--- Why there is no linear process. Want of memory has no cause here.
+-- Why there is no linear process: the first of these that holds. Guardedness is looked at where parallelism stands outside recursion, and the form of a leaf where
+-- recursion is guarded, too. Want of memory has no cause here.
 abbrev pub IsModelFaultOf : PlainModel → ModelFault → Type 0
 IsModelFaultOf m (Net fault) = IsNetFaultOf m fault × (fault ≢ net.NoMemory)
-IsModelFaultOf m (Guard fault) = IsGuardFaultOf m fault × (fault ≢ guard.NoMemory)
-IsModelFaultOf m (NotTail component summand) = HasNoTailForm m component summand
+IsModelFaultOf m (Guard fault) = StandsOutsideRecursion m × IsGuardFaultOf m fault × (fault ≢ guard.NoMemory)
+IsModelFaultOf m (NotTail component summand) = StandsOutsideRecursion m × IsGuardedModel m × HasNoTailForm m component summand
 IsModelFaultOf m NoMemory = Unit {0}

@@ -5,10 +5,7 @@ use Rattle.data_theory.specs.declared.ids.VarId.{VarId}
 use Rattle.data_theory.specs.Signature.{Sig}
 use Rattle.data_theory.specs.IdData.{data_meant}
 use Rattle.data_theory.specs.IdTerms.{IsGrown}
-use Rattle.data_theory.specs.WholeSignatures.{IsSignature}
-use Rattle.mcrl2_syntax.specs.Declarations.{PlainSpec}
 use Rattle.term_pool.specs.Pools.{PoolContents}
-use Rattle.sort_checker.specs.TextModels.{IsSignatureOf, IsModelOf}
 use Rattle.process_terms.specs.PlainProcesses.{PlainAround, allow, block, hide, rename, comm, PlainModel, PlainComponent}
 use Rattle.process_terms.specs.Meanings.{Entries, bound_at, body_of, table_of}
 use Rattle.process_terms.specs.SignatureEntries.{entries_of}
@@ -85,14 +82,3 @@ ComposesPlainly g p n queue h q left l = (s : Sig) (w : Written) → IsGrown s g
 -- what its definitions and its `init` write
 abbrev pub written_in_model : Entries → PlainModel → Written
 written_in_model e m = written_by (table_of e m.definitions) (body_of e m.init)
-
--- A signature had what the specification declares, and over it the specification had a model. From there the linear process was made, and it
--- is plainly conditioned for what that model writes.
-pub record IsPlainlyMadeFor (spec : PlainSpec) (h : Sig) (q : PoolContents) (l : PlainLinear) : Type 0 where
-  pub signature : Sig
-  pub stands : IsSignature signature
-  pub declares : IsSignatureOf spec signature
-  pub pool : PoolContents
-  pub model : PlainModel
-  pub is_model : IsModelOf spec signature pool model
-  pub plain : IsPlainFor signature h q (written_in_model (entries_of h q.trees) model) l

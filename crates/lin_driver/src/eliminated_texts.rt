@@ -78,7 +78,7 @@ pub fn eliminated_text(
 ) -> Result<Vec<u8>, LinFault>
     ensures accepted { OnOk result (CanBeLinearised text.now) }
     ensures stands_for { IfOk result (λ printed. StandsFor text.now printed.items) }
-    ensures eliminated { IfOk result (λ printed. IsEliminated elimination text.now printed.items) }
+    ensures eliminated { IfOk result (λ printed. IsEliminated method elimination text.now printed.items) }
     ensures refused { IfErr result (λ fault. fault ≢ LinFault.NoMemory → IsRefusedWith text.now names.new fault) }
     ensures by { IfErr result (IsFaultBy method) }
 {

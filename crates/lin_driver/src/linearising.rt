@@ -5,20 +5,15 @@ ghost use Rattle.data_theory.specs.WholeSignatures.{IsSignature};
 ghost use Rattle.mcrl2_syntax.specs.Declarations.{spec_of};
 ghost use Rattle.mcrl2_syntax.specs.TreeWords.{IsSpecOfWords};
 ghost use Rattle.process_terms.specs.PlainProcesses.{plain_equation, plain_model};
-ghost use Rattle.lps_core.specs.CanonicalConditions.{HaveNoNeedlessTrue};
 ghost use Rattle.lps_core.specs.PlainLinears.{plain_linear};
 ghost use Rattle.sort_table.specs.BareDeclarations.{bare_sections};
 ghost use Rattle.sort_table.specs.Built.{IsBuilt};
 ghost use Rattle.sort_checker.specs.FullVocabularies.{FullVocabulary};
 ghost use Rattle.sort_checker.specs.TextModels.{HasOneStart};
 ghost use Rattle.lin_driver.specs.Accepted.{CanBeLinearised, IsGuardedSystem};
-ghost use Rattle.lin_driver.specs.AddedSorts.{AddsNoSort};
-ghost use Rattle.lin_driver.specs.CanonicalNames.{HasCanonicalNames};
 ghost use Rattle.lin_driver.specs.Faults.{IsFaultBy};
-ghost use Rattle.lin_driver.specs.KeptTexts.{KeepsItsText};
-ghost use Rattle.lin_driver.specs.Linearised.{HasComponents, IsLinearised, IsMadeFor, IsMadeOf};
-ghost use Rattle.lin_driver.specs.MadeFromLeaves.{IsMadeAlongNetworkFor};
-ghost use Rattle.lin_driver.specs.PlainlyMade.{IsPlainlyMadeFor};
+ghost use Rattle.lin_driver.specs.Linearised.{IsLinearised, IsMadeOf};
+ghost use Rattle.lin_driver.specs.LinearOfTexts.{IsLinearOf, IsMadeBy};
 ghost use Rattle.lin_driver.specs.Refusals.{IsRefusedWith, IsSpecFault};
 
 use crate::fault::LinFault;
@@ -85,13 +80,8 @@ fn linear_of_spec(
     requires no_terms { pool.old.trees ≡ [] }
     requires no_constants { pool.old.constants ≡ [] }
     ensures accepted { OnOk result ((v : FullVocabulary) × IsGuardedSystem (bare_sections (spec_of spec.now)) v) }
-    ensures made { IfOk result (λ made. IsMadeFor (spec_of spec.now) sig.new pool.new.trees (map plain_equation made.0.equations.items) made.1 (plain_linear made.2)) }
-    ensures plain { IfOk result (λ made. IsPlainlyMadeFor (spec_of spec.now) sig.new pool.new (plain_linear made.2)) }
-    ensures conditions { IfOk result (λ made. HaveNoNeedlessTrue sig.new pool.new.trees (plain_linear made.2)) }
-    ensures sorts { IfOk result (λ _. AddsNoSort method (spec_of spec.now) sig.new) }
-    ensures keeps { IfOk result (λ made. KeepsItsText method (spec_of spec.now) sig.new pool.new (plain_linear made.2)) }
-    ensures composed { IfOk result (λ made. IsMadeAlongNetworkFor method (spec_of spec.now) sig.new pool.new.trees (plain_linear made.2)) }
-    ensures components { IfOk result (λ made. HasComponents (spec_of spec.now) made.3) }
+    ensures made { IfOk result (λ made. IsMadeBy method (spec_of spec.now) sig.new pool.new
+        (map plain_equation made.0.equations.items) made.1 (plain_linear made.2) made.3) }
     ensures refused { IfErr result (λ fault. fault ≢ LinFault.NoMemory → IsSpecFault (spec_of spec.now) sig.new.texts fault) }
     ensures by { IfErr result (IsFaultBy method) }
 {
@@ -119,13 +109,8 @@ fn linear_of_built(
     requires built { IsBuilt (spec_of spec) sig }
     ensures accepted { OnOk result ((v : FullVocabulary) × IsGuardedSystem (bare_sections (spec_of spec)) v) }
     ensures spec { IfOk result (λ made. spec_of made.spec ≡ spec_of spec) }
-    ensures made { IfOk result (λ made. IsMadeFor (spec_of made.spec) made.sig made.pool.trees (map plain_equation made.theory.equations.items) made.name (plain_linear made.lin)) }
-    ensures plain { IfOk result (λ made. IsPlainlyMadeFor (spec_of made.spec) made.sig made.pool (plain_linear made.lin)) }
-    ensures conditions { IfOk result (λ made. HaveNoNeedlessTrue made.sig made.pool.trees (plain_linear made.lin)) }
-    ensures sorts { IfOk result (λ made. AddsNoSort method (spec_of made.spec) made.sig) }
-    ensures keeps { IfOk result (λ made. KeepsItsText method (spec_of made.spec) made.sig made.pool (plain_linear made.lin)) }
-    ensures composed { IfOk result (λ made. IsMadeAlongNetworkFor method (spec_of made.spec) made.sig made.pool.trees (plain_linear made.lin)) }
-    ensures components { IfOk result (λ made. HasComponents (spec_of made.spec) made.components) }
+    ensures made { IfOk result (λ made. IsMadeBy method (spec_of made.spec) made.sig made.pool
+        (map plain_equation made.theory.equations.items) made.name (plain_linear made.lin) made.components) }
     ensures refused { IfErr result (λ fault. fault ≢ LinFault.NoMemory → IsSpecFault (spec_of spec) names.new fault) }
     ensures by { IfErr result (IsFaultBy method) }
 {
@@ -178,14 +163,9 @@ pub fn linearise(
 ) -> Result<Linearised, LinFault>
     ensures accepted { OnOk result (CanBeLinearised text.now) }
     ensures made { IfOk result (λ made. IsMadeOf text.now (spec_of made.spec) made.sig made.pool.trees (map plain_equation made.theory.equations.items) made.name (plain_linear made.lin)) }
+    ensures linear { IfOk result (λ made. IsLinearOf method text.now (spec_of made.spec) made.sig made.pool
+        (map plain_equation made.theory.equations.items) made.name (plain_linear made.lin) made.components) }
     ensures linearised { IfOk result (λ made. IsLinearised text.now (spec_of made.spec) made.sig made.pool.trees (plain_linear made.lin)) }
-    ensures plain { IfOk result (λ made. IsPlainlyMadeFor (spec_of made.spec) made.sig made.pool (plain_linear made.lin)) }
-    ensures conditions { IfOk result (λ made. HaveNoNeedlessTrue made.sig made.pool.trees (plain_linear made.lin)) }
-    ensures sorts { IfOk result (λ made. AddsNoSort method (spec_of made.spec) made.sig) }
-    ensures names { IfOk result (λ made. HasCanonicalNames (spec_of made.spec) made.sig made.name (plain_linear made.lin)) }
-    ensures keeps { IfOk result (λ made. KeepsItsText method (spec_of made.spec) made.sig made.pool (plain_linear made.lin)) }
-    ensures composed { IfOk result (λ made. IsMadeAlongNetworkFor method (spec_of made.spec) made.sig made.pool.trees (plain_linear made.lin)) }
-    ensures components { IfOk result (λ made. HasComponents (spec_of made.spec) made.components) }
     ensures refused { IfErr result (λ fault. fault ≢ LinFault.NoMemory → IsRefusedWith text.now names.new fault) }
     ensures by { IfErr result (IsFaultBy method) }
 {

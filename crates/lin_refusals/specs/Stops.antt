@@ -4,6 +4,7 @@ use Rattle.mcrl2_text.specs.declared.loading.LoadFault.{LoadFault}
 use Rattle.mcrl2_text.specs.declared.loading.LoadFault.TheVariants as load
 use Rattle.lin_driver.specs.declared.fault.LinFault.{LinFault}
 use Rattle.lin_driver.specs.declared.fault.LinFault.TheVariants as lin
+use Rattle.lin_driver.specs.declared.methods.Method.{Method}
 use Rattle.lin_refusals.specs.BadTraces.{IsBadAsTold, IsLongAsTold}
 use Rattle.lin_refusals.specs.Lines.{bad_trace_line, refusal_line}
 use Rattle.lin_refusals.specs.declared.stop.Stop.{Stop}
@@ -31,9 +32,9 @@ IsStopFor texts fault (Refused line) = (fault ≢ lin.NoMemory) × (line.items �
 IsStopFor texts fault NoMemory = ⊤
 
 -- Why a trace has no verdict, after the text was made linear. Only a line that is no label refuses it.
-abbrev pub IsTraceStop : List ℕ → Option (List ℕ) → Stop → Type 0
-IsTraceStop text told Words = ⊥
-IsTraceStop text told ReadFault = ⊤
-IsTraceStop text told TooLong = IsLongAsTold told
-IsTraceStop text told (Refused line) = (number : ℕ) × (line.items ≡ bad_trace_line number) × IsBadAsTold text told number
-IsTraceStop text told NoMemory = ⊤
+abbrev pub IsTraceStop : Method → List ℕ → Option (List ℕ) → Stop → Type 0
+IsTraceStop method text told Words = ⊥
+IsTraceStop method text told ReadFault = ⊤
+IsTraceStop method text told TooLong = IsLongAsTold told
+IsTraceStop method text told (Refused line) = (number : ℕ) × (line.items ≡ bad_trace_line number) × IsBadAsTold method text told number
+IsTraceStop method text told NoMemory = ⊤

@@ -1,5 +1,6 @@
 //! Why the program writes no answer, and how it says so.
 ghost use Rattle.std.specs.Prelude.{◌≡◌, ◌≢◌, List, Option, ℕ};
+ghost use Rattle.lin_driver.specs.declared.methods.Method.{Method};
 ghost use Rattle.lin_refusals.specs.BadTraces.{IsBadAsTold};
 ghost use Rattle.lin_refusals.specs.Lines.{AreNamed, line_of, names_of_fault};
 ghost use Rattle.lin_refusals.specs.Stops.{IsStopFor, IsTraceStop, stop_of_load};
@@ -65,7 +66,8 @@ impl Stop {
 
     /// The stop for a trace with that fault.
     pub fn for_trace(alloc: Global, fault: ReplayFault) -> Stop
-        ensures cause { (text : List ℕ) (told : Option (List ℕ)) → ((number : ℕ) → fault ≡ BadTrace number → IsBadAsTold text told number) → IsTraceStop text told result }
+        ensures cause { (method : Method) (text : List ℕ) (told : Option (List ℕ))
+            → ((number : ℕ) → fault ≡ BadTrace number → IsBadAsTold method text told number) → IsTraceStop method text told result }
         ensures no_read_fault { result ≢ stop.ReadFault }
     {
         let ReplayFault::BadTrace(number) = fault else {

@@ -15,6 +15,7 @@ use Rattle.data_rewriter.specs.Simplifying.{AreWellFormed}
 use Rattle.mcrl2_syntax.specs.Declarations.{PlainSpec}
 use Rattle.process_terms.specs.Meanings.{bound_at}
 use Rattle.process_terms.specs.PlainProcesses.{PlainEquation}
+use Rattle.term_pool.specs.Pools.{PoolContents}
 use Rattle.process_terms.specs.Processes.{Process}
 use Rattle.process_terms.specs.SignatureEntries.{entries_of}
 use Rattle.process_terms.specs.Steps.{goes_on}
@@ -35,7 +36,9 @@ use Rattle.trace_replay.specs.Replays.{Entry, Replays}
 use Rattle.trace_replay.specs.Settings.{Setting, theory_in}
 use Rattle.trace_replay.proofs.VerdictLaws.{accepted_traces_are_runs, rejected_traces_are_no_runs, runs_without_sums_are_by_values}
 use Rattle.lin_driver.specs.Eliminations.{equations_at}
-use Rattle.lin_driver.specs.Linearised.{IsLinearised, IsMadeOf}
+use Rattle.lin_driver.specs.Linearised.{IsLinearised}
+use Rattle.lin_driver.specs.LinearOfTexts.{IsLinearOf, is_made}
+use Rattle.lin_driver.specs.declared.methods.Method.{Method}
 use Rattle.lin_driver.proofs.LinearisedTexts.{made_stands_for}
 use Rattle.lin_tasks.specs.FirstSteps.{HasNoSums, IsTheoryFor}
 use Rattle.lin_tasks.specs.ShownVerdicts.{CanFollow, HasNoRunUpTo, IsReplayed, ShowsVerdict}
@@ -94,29 +97,34 @@ module _ (g : Sig) (own : List Equation) (fuel bound : ℕ) (ts : List Tree) (l 
             r.2 (runs_without_sums_are_by_values s ts l r.0 front (no_sums none) (record { labels = f.labels; outcome = f.outcome; run = f.run; agree = f.agree }));
       }
 
--- ---- of what was made of a text
-module _ (text : List ℕ) (spec : PlainSpec) (g : Sig) (ts : List Tree) (equations : List PlainEquation) (x : NameId) (l : PlainLinear) (made : IsMadeOf text spec g ts equations x l) (fine : AreWellFormed g (equations_at g ts equations)) where
-  abbrev from : IsLinearised text spec g ts l
-  from = made_stands_for text spec g ts equations x l made
+-- ---- of the linear process of a text
+module _ (method : Method) (text : List ℕ) (spec : PlainSpec) (g : Sig) (q : PoolContents) (equations : List PlainEquation) (x : NameId) (l : PlainLinear) (components : ℕ) (is : IsLinearOf method text spec g q equations x l components)
+    (fine : AreWellFormed g (equations_at g q.trees equations)) where
+  abbrev from : IsLinearised text spec g q.trees l
+  from = made_stands_for text spec g q.trees equations x l (is_made is)
 
-  same : from.theory.equations ≡ equations_at g ts equations
-  same = own_are text spec g ts equations x l made
+  same : from.theory.equations ≡ equations_at g q.trees equations
+  same = own_are text spec g q.trees equations x l (is_made is)
 
-  pub made_replay : (fuel bound : ℕ) (trace : List ℕ) (status : Status) (shown : List ℕ) → ShowsVerdict g (equations_at g ts equations) fuel bound ts l trace status shown → IsReplayed fuel bound text trace status shown
+  pub made_replay : (fuel bound : ℕ) (trace : List ℕ) (status : Status) (shown : List ℕ) → ShowsVerdict g (equations_at g q.trees equations) fuel bound q.trees l trace status shown → IsReplayed method fuel bound text trace status shown
   made_replay fuel bound trace status shown v =
-      let answer : ShowsVerdict g from.theory.equations fuel bound ts l trace status shown = subst (λ (qs : List Equation). ShowsVerdict g qs fuel bound ts l trace status shown) (sym same) v in
+      let answer : ShowsVerdict g from.theory.equations fuel bound q.trees l trace status shown = subst (λ (qs : List Equation). ShowsVerdict g qs fuel bound q.trees l trace status shown) (sym same) v in
       let fine_here : AreWellFormed g from.theory.equations = subst (AreWellFormed g) (sym same) fine in
       let on = answer.on_trace in
       let s = setting g from.theory.equations fuel bound in
       record {
         spec = spec;
         signature = g;
-        trees = ts;
+        pool = q;
+        equations = equations;
+        name = x;
         linear = l;
+        components = components;
+        is_linear = is;
         linearised = from;
         answer = answer;
-        accepted = λ is. accepted_is_followed g from.theory.equations fuel bound ts l from.stands made.made.leads.inhabited fine_here from.fits from.link from.process from.bisimilar on.entries on.closed
-            (subst (λ (d : Verdict). Replays s (meant s ts l) (start s ts l ∷ []) false on.entries d) is on.replays);
-        rejected = λ number is. rejected_is_not_followed g from.theory.equations fuel bound ts l from.stands made.made.leads.inhabited fine_here from.fits from.link from.process from.bisimilar on.entries on.closed number
-            (subst (λ (d : Verdict). Replays s (meant s ts l) (start s ts l ∷ []) false on.entries d) is on.replays);
+        accepted = λ v. accepted_is_followed g from.theory.equations fuel bound q.trees l from.stands is.by.made.leads.inhabited fine_here from.fits from.link from.process from.bisimilar on.entries on.closed
+            (subst (λ (d : Verdict). Replays s (meant s q.trees l) (start s q.trees l ∷ []) false on.entries d) v on.replays);
+        rejected = λ number v. rejected_is_not_followed g from.theory.equations fuel bound q.trees l from.stands is.by.made.leads.inhabited fine_here from.fits from.link from.process from.bisimilar on.entries on.closed number
+            (subst (λ (d : Verdict). Replays s (meant s q.trees l) (start s q.trees l ∷ []) false on.entries d) v on.replays);
       }

@@ -7,11 +7,13 @@ use Rattle.data_theory.specs.Provable.{Equation}
 use Rattle.data_theory.specs.Signature.{Sig}
 use Rattle.mcrl2_syntax.specs.Declarations.{PlainSpec}
 use Rattle.mcrl2_syntax.proofs.WordsOfTokens.{specs_are_of_words}
+use Rattle.term_pool.specs.Pools.{PoolContents}
 use Rattle.process_terms.specs.PlainProcesses.{PlainEquation}
 use Rattle.lps_core.specs.PlainLinears.{PlainLinear}
 use Rattle.lin_driver.specs.Eliminations.{equations_at}
 use Rattle.lin_driver.specs.Faults.{IsFaultBy}
 use Rattle.lin_driver.specs.Linearised.{IsLinearised, IsMadeOf}
+use Rattle.lin_driver.specs.LinearOfTexts.{IsLinearOf, is_made}
 use Rattle.lin_driver.specs.declared.fault.LinFault.{LinFault}
 use Rattle.lin_driver.specs.declared.fault.LinFault.TheVariants.{NoMemory}
 use Rattle.lin_driver.specs.declared.methods.Method.{Method}
@@ -37,30 +39,45 @@ module _ (text : List ℕ) (spec : PlainSpec) (g : Sig) (ts : List Tree) (equati
   pub own_are : from.theory.equations ≡ equations_at g ts equations
   own_are = made_has_equations text spec g ts equations x l made ∙ sym (equations_are spec g ts equations x l made.made (specs_are_of_words text spec made.tokens made.cut made.spelled))
 
-  pub made_steps : (fuel bound : ℕ) (status : Status) (shown : List ℕ) → ShowsOptions g (equations_at g ts equations) fuel bound ts l status shown → AreShownSteps fuel bound text status shown
+module _ (method : Method) (text : List ℕ) (spec : PlainSpec) (g : Sig) (q : PoolContents) (equations : List PlainEquation) (x : NameId) (l : PlainLinear) (components : ℕ) (is : IsLinearOf method text spec g q equations x l components) where
+  abbrev its : IsLinearised text spec g q.trees l
+  its = made_stands_for text spec g q.trees equations x l (is_made is)
+
+  same : its.theory.equations ≡ equations_at g q.trees equations
+  same = own_are text spec g q.trees equations x l (is_made is)
+
+  pub made_steps : (fuel bound : ℕ) (status : Status) (shown : List ℕ) → ShowsOptions g (equations_at g q.trees equations) fuel bound q.trees l status shown → AreShownSteps method fuel bound text status shown
   made_steps fuel bound status shown o =
-      let options : ShowsOptions g from.theory.equations fuel bound ts l status shown = subst (λ (qs : List Equation). ShowsOptions g qs fuel bound ts l status shown) (sym own_are) o in
+      let options : ShowsOptions g its.theory.equations fuel bound q.trees l status shown = subst (λ (qs : List Equation). ShowsOptions g qs fuel bound q.trees l status shown) (sym same) o in
       record {
         spec = spec;
         signature = g;
-        trees = ts;
+        pool = q;
+        equations = equations;
+        name = x;
         linear = l;
-        linearised = from;
+        components = components;
+        is_linear = is;
+        linearised = its;
         options = options;
-        causes = shown_causes g from.theory.equations ts l from.link from.process from.bisimilar fuel bound status shown options;
-        steps = shown_steps g from.theory.equations ts l from.link from.process from.bisimilar fuel bound status shown options;
-        whole = shown_whole g from.theory.equations ts l from.link from.process from.bisimilar fuel bound status shown options;
+        causes = shown_causes g its.theory.equations q.trees l its.link its.process its.bisimilar fuel bound status shown options;
+        steps = shown_steps g its.theory.equations q.trees l its.link its.process its.bisimilar fuel bound status shown options;
+        whole = shown_whole g its.theory.equations q.trees l its.link its.process its.bisimilar fuel bound status shown options;
       }
 
-  pub made_walk : (plan : Plan) (status : Status) (shown : List ℕ) → ShowsWalk g (equations_at g ts equations) plan ts l status shown → IsShownWalk plan text status shown
+  pub made_walk : (plan : Plan) (status : Status) (shown : List ℕ) → ShowsWalk g (equations_at g q.trees equations) plan q.trees l status shown → IsShownWalk method plan text status shown
   made_walk plan status shown w =
-      let walk : ShowsWalk g from.theory.equations plan ts l status shown = subst (λ (qs : List Equation). ShowsWalk g qs plan ts l status shown) (sym own_are) w in
+      let walk : ShowsWalk g its.theory.equations plan q.trees l status shown = subst (λ (qs : List Equation). ShowsWalk g qs plan q.trees l status shown) (sym same) w in
       record {
         spec = spec;
         signature = g;
-        trees = ts;
+        pool = q;
+        equations = equations;
+        name = x;
         linear = l;
-        linearised = from;
+        components = components;
+        is_linear = is;
+        linearised = its;
         walk = walk;
-        run = shown_run g from.theory.equations ts l from.link from.process from.bisimilar plan status shown walk;
+        run = shown_run g its.theory.equations q.trees l its.link its.process its.bisimilar plan status shown walk;
       }

@@ -5,17 +5,18 @@ use Rattle.mcrl2_text.specs.declared.loading.LoadFault.{LoadFault}
 use Rattle.mcrl2_text.specs.declared.loading.LoadFault.TheVariants as load
 use Rattle.mcrl2_text.specs.declared.loading.TheConstants.{MAX_TEXT_LEN}
 use Rattle.data_theory.specs.declared.ids.NameId.{NameId}
-use Rattle.data_theory.specs.IdTrees.{Tree}
 use Rattle.data_theory.specs.Signature.{Sig}
 use Rattle.data_rewriter.specs.Simplifying.{AreWellFormed}
 use Rattle.mcrl2_syntax.specs.Declarations.{PlainSpec}
+use Rattle.term_pool.specs.Pools.{PoolContents}
 use Rattle.process_terms.specs.PlainProcesses.{PlainEquation}
 use Rattle.lps_core.specs.PlainLinears.{PlainLinear}
 use Rattle.trace_replay.specs.ReadingFaults.{IsTraceFault}
 use Rattle.trace_replay.specs.declared.replaying.ReplayFault.{ReplayFault}
 use Rattle.trace_replay.specs.declared.replaying.ReplayFault.TheVariants.{BadTrace}
 use Rattle.lin_driver.specs.Eliminations.{equations_at}
-use Rattle.lin_driver.specs.Linearised.{IsMadeOf}
+use Rattle.lin_driver.specs.LinearOfTexts.{IsLinearOf}
+use Rattle.lin_driver.specs.declared.methods.Method.{Method}
 use Rattle.lin_answers.specs.declared.status.Status.{Status}
 use Rattle.lin_refusals.specs.BadTraces.{IsBadAsTold}
 use Rattle.lin_refusals.specs.Stops.{IsTraceStop, stop_of_load}
@@ -25,32 +26,34 @@ use Rattle.lin_tasks.specs.ShownVerdicts.{IsReplayedAsTold, ShowsVerdict}
 use Rattle.lin_tasks.proofs.ReplayedTexts.{made_replay}
 
 -- ---- the trace that was read
-module _ (text : List ℕ) (spec : PlainSpec) (g : Sig) (ts : List Tree) (equations : List PlainEquation) (x : NameId) (l : PlainLinear) (made : IsMadeOf text spec g ts equations x l) where
-  pub replayed_as_told : AreWellFormed g (equations_at g ts equations) → (told : Option (List ℕ)) (trace : List ℕ) → IfSome told (λ t. trace ≡ t) → length trace ≤ MAX_TEXT_LEN → (fuel bound : ℕ) (status : Status) (shown : List ℕ)
-      → ShowsVerdict g (equations_at g ts equations) fuel bound ts l trace status shown → IsReplayedAsTold fuel bound text told status shown
-  replayed_as_told fine told trace is short fuel bound status shown v = record { trace = trace; is_told = is; short = short; replayed = made_replay text spec g ts equations x l made fine fuel bound trace status shown v }
+module _ (method : Method) (text : List ℕ) (spec : PlainSpec) (g : Sig) (q : PoolContents) (equations : List PlainEquation) (x : NameId) (l : PlainLinear) (components : ℕ) (is_linear : IsLinearOf method text spec g q equations x l components) where
+  pub replayed_as_told : AreWellFormed g (equations_at g q.trees equations) → (told : Option (List ℕ)) (trace : List ℕ) → IfSome told (λ t. trace ≡ t) → length trace ≤ MAX_TEXT_LEN → (fuel bound : ℕ) (status : Status) (shown : List ℕ)
+      → ShowsVerdict g (equations_at g q.trees equations) fuel bound q.trees l trace status shown → IsReplayedAsTold method fuel bound text told status shown
+  replayed_as_told fine told trace is short fuel bound status shown v =
+      record { trace = trace; is_told = is; short = short; replayed = made_replay method text spec g q equations x l components is_linear fine fuel bound trace status shown v }
 
-  pub bad_as_told : (told : Option (List ℕ)) (trace : List ℕ) → IfSome told (λ t. trace ≡ t) → length trace ≤ MAX_TEXT_LEN → (fault : ReplayFault) → IsTraceFault g trace fault → (number : ℕ) → fault ≡ BadTrace number → IsBadAsTold text told number
+  pub bad_as_told : (told : Option (List ℕ)) (trace : List ℕ) → IfSome told (λ t. trace ≡ t) → length trace ≤ MAX_TEXT_LEN → (fault : ReplayFault) → IsTraceFault g trace fault → (number : ℕ) → fault ≡ BadTrace number
+      → IsBadAsTold method text told number
   bad_as_told told trace is short fault bad number same = record {
     trace = trace;
     is_told = is;
     short = short;
-    bad = record { spec = spec; signature = g; trees = ts; equations = equations; name = x; linear = l; made = made; bad = subst (IsTraceFault g trace) same bad };
+    bad = record { spec = spec; signature = g; pool = q; equations = equations; name = x; linear = l; components = components; is_linear = is_linear; bad = subst (IsTraceFault g trace) same bad };
   }
 
 -- a stop for want of a trace
-stop_of_loading : (text : List ℕ) (told : Option (List ℕ)) (fault : LoadFault) → (fault ≡ load.TooLong → IfSome told (λ t. MAX_TEXT_LEN < length t)) → IsTraceStop text told (stop_of_load fault)
-stop_of_loading text told load.ReadFault long = tt
-stop_of_loading text told load.TooLong long = long refl
-stop_of_loading text told load.NoMemory long = tt
+stop_of_loading : (method : Method) (text : List ℕ) (told : Option (List ℕ)) (fault : LoadFault) → (fault ≡ load.TooLong → IfSome told (λ t. MAX_TEXT_LEN < length t)) → IsTraceStop method text told (stop_of_load fault)
+stop_of_loading method text told load.ReadFault long = tt
+stop_of_loading method text told load.TooLong long = long refl
+stop_of_loading method text told load.NoMemory long = tt
 
-loading_stops : (text : List ℕ) (told : Option (List ℕ)) (fault : LoadFault) (stop : Stop) → (fault ≡ load.TooLong → IfSome told (λ t. MAX_TEXT_LEN < length t)) → stop ≡ stop_of_load fault → IsTraceStop text told stop
-loading_stops text told fault stop long is = subst (IsTraceStop text told) (sym is) (stop_of_loading text told fault long)
+loading_stops : (method : Method) (text : List ℕ) (told : Option (List ℕ)) (fault : LoadFault) (stop : Stop) → (fault ≡ load.TooLong → IfSome told (λ t. MAX_TEXT_LEN < length t)) → stop ≡ stop_of_load fault → IsTraceStop method text told stop
+loading_stops method text told fault stop long is = subst (IsTraceStop method text told) (sym is) (stop_of_loading method text told fault long)
 
-pub not_loaded : {T : Type 0} (IsMade : List ℕ → Type 0) (told : Option (List ℕ)) (r : Result T Stop) (fault : LoadFault) → (fault ≡ load.TooLong → IfSome told (λ t. MAX_TEXT_LEN < length t)) → IsErrAnd r (λ given. given ≡ stop_of_load fault)
-    → IfErr r (λ stop. (text : List ℕ) → IsMade text → IsTraceStop text told stop)
+pub not_loaded : {T : Type 0} (IsMade : Method → List ℕ → Type 0) (told : Option (List ℕ)) (r : Result T Stop) (fault : LoadFault) → (fault ≡ load.TooLong → IfSome told (λ t. MAX_TEXT_LEN < length t)) → IsErrAnd r (λ given. given ≡ stop_of_load fault)
+    → IfErr r (λ stop. (method : Method) (text : List ℕ) → IsMade method text → IsTraceStop method text told stop)
 not_loaded IsMade told (Ok x) fault long is = absurd is
-not_loaded IsMade told (Err stop) fault long is = λ text made. loading_stops text told fault stop long is
+not_loaded IsMade told (Err stop) fault long is = λ method text made. loading_stops method text told fault stop long is
 
 -- it stops by a read fault where loading did
 read_fault_alone : (fault : LoadFault) → stop_of_load fault ≡ ReadFault → fault ≡ load.ReadFault

@@ -5,12 +5,14 @@ use Rattle.data_theory.specs.IdTrees.{Tree}
 use Rattle.data_theory.specs.Provable.{Equation}
 use Rattle.data_theory.specs.Signature.{Sig}
 use Rattle.mcrl2_syntax.specs.Declarations.{PlainSpec}
+use Rattle.term_pool.specs.Pools.{PoolContents}
 use Rattle.process_terms.specs.PlainProcesses.{PlainEquation}
 use Rattle.lps_core.specs.PlainLinears.{PlainLinear}
 use Rattle.lps_simulator.specs.OptionLaws.{HasOptions}
 use Rattle.lps_simulator.specs.OptionsInCode.{PlainOptions}
 use Rattle.lin_driver.specs.Eliminations.{equations_at}
-use Rattle.lin_driver.specs.Linearised.{HasComponents, IsMadeOf}
+use Rattle.lin_driver.specs.LinearOfTexts.{IsLinearOf}
+use Rattle.lin_driver.specs.declared.methods.Method.TheVariants.{Auto}
 
 -- In its initial state the linear process has so many moves, by 100,000 uses of equations for each term, and the first 16 values of each sum.
 pub record HasFirstMoves (g : Sig) (own : List Equation) (ts : List Tree) (l : PlainLinear) (count : ℕ) : Type 0 where
@@ -33,15 +35,14 @@ pub record ShowsCounts (g : Sig) (own : List Equation) (ts : List Tree) (l : Pla
   pub moves : HasFirstMoves g own ts l steps
   pub shows : shown ≡ counts_text components (length l.params) (length l.summands) steps
 
--- There is a linear process that is made of the text, and the bytes tell how large it is, over the text's equations.
+-- There is the linear process of the text by the method `Auto`, and the bytes tell how large it is, over the text's equations.
 pub record AreCounts (text shown : List ℕ) : Type 0 where
   pub spec : PlainSpec
   pub signature : Sig
-  pub trees : List Tree
+  pub pool : PoolContents
   pub equations : List PlainEquation
   pub name : NameId
   pub linear : PlainLinear
-  pub made : IsMadeOf text spec signature trees equations name linear
   pub components : ℕ
-  pub has_components : HasComponents spec components
-  pub counts : ShowsCounts signature (equations_at signature trees equations) trees linear components shown
+  pub is_linear : IsLinearOf Auto text spec signature pool equations name linear components
+  pub counts : ShowsCounts signature (equations_at signature pool.trees equations) pool.trees linear components shown

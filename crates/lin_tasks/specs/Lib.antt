@@ -4,3 +4,4 @@ pub mod Walks
 pub mod ShownTexts
 pub mod ShownVerdicts
 pub mod Counts
+pub mod JudgedEquations

@@ -1,11 +1,14 @@
 -- What the task `replay` shows of a text and a trace.
 use Rattle.std.specs.Prelude.{◌≡◌, ◌≤◌, ◌++◌, ℕ, List, Option, IfSome, codes, decimal, length}
+use Rattle.data_theory.specs.declared.ids.NameId.{NameId}
 use Rattle.data_theory.specs.IdTrees.{Tree}
 use Rattle.data_theory.specs.Provable.{Equation}
 use Rattle.data_theory.specs.Signature.{Sig}
 use Rattle.mcrl2_syntax.specs.Declarations.{PlainSpec}
 use Rattle.mcrl2_text.specs.declared.loading.TheConstants.{MAX_TEXT_LEN}
+use Rattle.term_pool.specs.Pools.{PoolContents}
 use Rattle.process_terms.specs.Labels.{Label}
+use Rattle.process_terms.specs.PlainProcesses.{PlainEquation}
 use Rattle.process_terms.specs.Processes.{Process}
 use Rattle.process_terms.specs.Steps.{Outcome, goes_on}
 use Rattle.process_terms.specs.Theories.{Theory, IsConsistent}
@@ -19,6 +22,8 @@ use Rattle.trace_replay.specs.Runs.{Run, AgreeWith, UpTo}
 use Rattle.trace_replay.specs.Settings.{Setting, theory_in}
 use Rattle.trace_replay.specs.Verdicts.{IsVerdictOn}
 use Rattle.lin_driver.specs.Linearised.{IsLinearised}
+use Rattle.lin_driver.specs.LinearOfTexts.{IsLinearOf}
+use Rattle.lin_driver.specs.declared.methods.Method.{Method}
 use Rattle.lin_tasks.specs.FirstSteps.{HasNoSums, IsTheoryFor}
 use Rattle.lin_answers.specs.declared.status.Status.{Status}
 use Rattle.lin_answers.specs.declared.status.Status.TheVariants as statuses
@@ -57,23 +62,27 @@ pub record HasNoRunUpTo (number : ℕ) (s : Setting) (ts : List Tree) (l : Plain
   pub without_sums : HasNoSums l → ¬ (CanFollow (theory_in s) p front)
 
 -- ---- of a text
--- There is a linear process that stands for the text, and the bytes show its verdict on the trace, over the text's equations.
+-- There is the linear process of the text by the method, which stands for the text. The bytes show its verdict on the trace, over the text's equations.
 -- Over consistent data the text's process has a run with the labels of a trace that is accepted. One that is rejected at a line has none up to there: the linear process none by
 -- constructor values, and where no summand has a sum the text's process none at all.
-pub record IsReplayed (fuel bound : ℕ) (text trace : List ℕ) (status : Status) (shown : List ℕ) : Type 0 where
+pub record IsReplayed (method : Method) (fuel bound : ℕ) (text trace : List ℕ) (status : Status) (shown : List ℕ) : Type 0 where
   pub spec : PlainSpec
   pub signature : Sig
-  pub trees : List Tree
+  pub pool : PoolContents
+  pub equations : List PlainEquation
+  pub name : NameId
   pub linear : PlainLinear
-  pub linearised : IsLinearised text spec signature trees linear
-  pub answer : ShowsVerdict signature linearised.theory.equations fuel bound trees linear trace status shown
+  pub components : ℕ
+  pub is_linear : IsLinearOf method text spec signature pool equations name linear components
+  pub linearised : IsLinearised text spec signature pool.trees linear
+  pub answer : ShowsVerdict signature linearised.theory.equations fuel bound pool.trees linear trace status shown
   pub accepted : answer.verdict ≡ Accepted → (th : Theory) → IsTheoryFor signature linearised.theory.equations th → CanFollow th linearised.process answer.on_trace.entries
   pub rejected : (number : ℕ) → answer.verdict ≡ Rejected number → IsConsistent (theory_in (setting signature linearised.theory.equations fuel bound))
-      → HasNoRunUpTo number (setting signature linearised.theory.equations fuel bound) trees linear linearised.process answer.on_trace.entries
+      → HasNoRunUpTo number (setting signature linearised.theory.equations fuel bound) pool.trees linear linearised.process answer.on_trace.entries
 
 -- The same of the trace that was read, which is the one that is told, where one is.
-pub record IsReplayedAsTold (fuel bound : ℕ) (text : List ℕ) (told : Option (List ℕ)) (status : Status) (shown : List ℕ) : Type 0 where
+pub record IsReplayedAsTold (method : Method) (fuel bound : ℕ) (text : List ℕ) (told : Option (List ℕ)) (status : Status) (shown : List ℕ) : Type 0 where
   pub trace : List ℕ
   pub is_told : IfSome told (λ t. trace ≡ t)
   pub short : length trace ≤ MAX_TEXT_LEN
-  pub replayed : IsReplayed fuel bound text trace status shown
+  pub replayed : IsReplayed method fuel bound text trace status shown

@@ -1,13 +1,16 @@
-//! The tasks that tell what a text's linear process can do: its first steps, a walk of it, its verdict on a trace, and how large it is.
+//! The tasks that tell what a text's linear process can do: its first steps, a walk of it, its verdict on a trace, and how large it is; and whether
+//! the text's equations are known to be consistent.
 #![tactic(auto)]
 
 mod decimals;
+mod equating;
 mod generating;
 mod option_texts;
 mod stepping;
 mod verdicts;
 mod walking;
 
+pub use equating::equations;
 pub use generating::counts;
 pub use stepping::steps;
 pub use verdicts::verdict_on_file;

@@ -83,7 +83,7 @@ pub fn steps(
     bound: u64,
 ) -> Result<Answer, LinFault>
     ensures accepted { OnOk result (CanBeLinearised text.now) }
-    ensures shown { IfOk result (λ answer. AreShownSteps fuel bound text.now answer.status answer.text.items) }
+    ensures shown { IfOk result (λ answer. AreShownSteps method fuel bound text.now answer.status answer.text.items) }
     ensures refused { IfErr result (λ fault. fault ≢ LinFault.NoMemory → IsRefusedWith text.now names.new fault) }
     ensures by { IfErr result (IsFaultBy method) }
 {

@@ -8,6 +8,8 @@ ghost use Rattle.lps_core.specs.PlainLinears.{plain_linear};
 ghost use Rattle.trace_replay.specs.ReadingFaults.{IsTraceFault};
 ghost use Rattle.lin_driver.specs.Eliminations.{equations_at, equations_in, CanRewrite};
 ghost use Rattle.lin_driver.specs.Linearised.{IsMadeOf};
+ghost use Rattle.lin_driver.specs.LinearOfTexts.{IsLinearOf};
+ghost use Rattle.lin_driver.specs.declared.methods.Method.{Method};
 ghost use Rattle.lin_refusals.specs.Stops.{IsTraceStop};
 ghost use Rattle.lin_tasks.specs.ShownVerdicts.{status_of_verdict, verdict_line, IsReplayedAsTold, ShowsVerdict};
 
@@ -107,10 +109,12 @@ pub fn verdict_on_file<H: Shelf>(
     bound: u64,
 ) -> Result<Answer, Stop>
     requires { (text : List ℕ) × IsMadeOf text (spec_of made.spec) made.sig made.pool.trees (map plain_equation made.theory.equations.items) made.name (plain_linear made.lin) }
-    ensures replayed { IfOk result (λ answer. (text : List ℕ) → IsMadeOf text (spec_of made.spec) made.sig made.pool.trees (map plain_equation made.theory.equations.items) made.name (plain_linear made.lin)
-        → IsReplayedAsTold fuel bound text (H.text_of shelf.old name.now) answer.status answer.text.items) }
-    ensures stopped { IfErr result (λ stop. (text : List ℕ) → IsMadeOf text (spec_of made.spec) made.sig made.pool.trees (map plain_equation made.theory.equations.items) made.name (plain_linear made.lin)
-        → IsTraceStop text (H.text_of shelf.old name.now) stop) }
+    ensures replayed { IfOk result (λ answer. (method : Method) (text : List ℕ)
+        → IsLinearOf method text (spec_of made.spec) made.sig made.pool (map plain_equation made.theory.equations.items) made.name (plain_linear made.lin) made.components
+        → IsReplayedAsTold method fuel bound text (H.text_of shelf.old name.now) answer.status answer.text.items) }
+    ensures stopped { IfErr result (λ stop. (method : Method) (text : List ℕ)
+        → IsLinearOf method text (spec_of made.spec) made.sig made.pool (map plain_equation made.theory.equations.items) made.name (plain_linear made.lin) made.components
+        → IsTraceStop method text (H.text_of shelf.old name.now) stop) }
     ensures read_fault { IsErrOf result Stop.ReadFault → Rose (H.faults shelf.old) (H.faults shelf.new) }
 {
     let trace = load(alloc, shelf, name)?;

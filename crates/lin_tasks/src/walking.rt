@@ -181,7 +181,7 @@ pub fn walk(
     plan: Plan,
 ) -> Result<Answer, LinFault>
     ensures accepted { OnOk result (CanBeLinearised text.now) }
-    ensures shown { IfOk result (λ answer. IsShownWalk plan text.now answer.status answer.text.items) }
+    ensures shown { IfOk result (λ answer. IsShownWalk method plan text.now answer.status answer.text.items) }
     ensures refused { IfErr result (λ fault. fault ≢ LinFault.NoMemory → IsRefusedWith text.now names.new fault) }
     ensures by { IfErr result (IsFaultBy method) }
 {

@@ -25,7 +25,7 @@ fn main(rt: HostRuntime) -> ExitCode {
         // A word that is no text: then the words give no command, which `run` says.
         Err(_) => run(alloc, &Vec::new(alloc), &mut shelf, &mut out, &mut err),
     };
-    ExitCode::from(status as u8)
+    ExitCode::from(status.number())
 }
 
 fn words(rt: &HostRuntime) -> io::Result<Vec<String>> {

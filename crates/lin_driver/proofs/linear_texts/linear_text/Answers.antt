@@ -9,6 +9,7 @@ use Rattle.lps_printer.specs.PrintedLinears.{IsPrinted}
 use Rattle.lps_printer.proofs.CanonicalTexts.{printed_texts_are_canonical}
 use Rattle.lin_driver.specs.Accepted.{CanBeLinearised}
 use Rattle.lin_driver.specs.Headline.{StandsFor}
+use Rattle.lin_driver.specs.LinearOfTexts.{is_made}
 use Rattle.lin_driver.specs.WrittenTexts.{IsWrittenFor}
 use Rattle.lin_driver.proofs.MadeTexts.{printed_for_stands_for}
 use Rattle.lin_driver.proofs.ReadTexts.{on_ok_anyway}
@@ -19,7 +20,7 @@ pub print_out-requires-clause-fits : goal.print_out-requires-clause-fits
 print_out-requires-clause-fits c = c.in_ok-made.ensures.linearised.fits
 
 pub print_out-requires-clause-name : goal.print_out-requires-clause-name
-print_out-requires-clause-name c = let n = c.in_ok-made.ensures.made.made.name in slice_get_within c.in_ok-made.made.sig.texts c.in_ok-made.made.name.0 n.text n.named
+print_out-requires-clause-name c = let n = c.in_ok-made.ensures.linear.by.made.name in slice_get_within c.in_ok-made.made.sig.texts c.in_ok-made.made.name.0 n.text n.named
 
 pub returns-clause-accepted : goal.returns-clause-accepted
 returns-clause-accepted c = on_ok_anyway c.print_out.result (CanBeLinearised c.args.text.now) c.in_ok-made.ensures.accepted
@@ -28,7 +29,7 @@ pub returns-clause-stands_for : goal.returns-clause-stands_for
 returns-clause-stands_for c =
     let made = c.in_ok-made.made in
     if_ok c.print_out.result (λ text. (h : Sig) × IsSignature h × IsPrinted (spec_of made.spec) made.sig h made.pool.trees made.name (plain_linear made.lin) text.items) (λ printed. StandsFor c.args.text.now printed.items)
-    (λ printed w. printed_for_stands_for c.args.text.now printed.items (spec_of made.spec) made.sig w.0 made.pool.trees (map plain_equation made.theory.equations.items) made.name (plain_linear made.lin) c.in_ok-made.ensures.made w.1 w.2)
+    (λ printed w. printed_for_stands_for c.args.text.now printed.items (spec_of made.spec) made.sig w.0 made.pool.trees (map plain_equation made.theory.equations.items) made.name (plain_linear made.lin) (is_made c.in_ok-made.ensures.linear) w.1 w.2)
     c.print_out.ensures.written
 
 pub returns-clause-refused : goal.returns-clause-refused
@@ -45,17 +46,13 @@ returns-clause-written c =
       equations = map plain_equation made.theory.equations.items;
       name = made.name;
       linear = plain_linear made.lin;
-      made = c.in_ok-made.ensures.made;
-      plain = c.in_ok-made.ensures.plain;
-      sorts = c.in_ok-made.ensures.sorts;
-      names = c.in_ok-made.ensures.names;
-      conditions = c.in_ok-made.ensures.conditions;
-      keeps = c.in_ok-made.ensures.keeps;
+      components = made.components;
+      is_linear = c.in_ok-made.ensures.linear;
       printed_signature = w.0;
       stands = w.1;
       is_printed = w.2;
       canonical = printed_texts_are_canonical (spec_of made.spec) made.sig w.0 made.pool.trees made.name (plain_linear made.lin) printed.items c.in_ok-made.ensures.linearised.stands w.1 c.in_ok-made.ensures.linearised.fits
-          c.in_ok-made.ensures.names.parameters c.in_ok-made.ensures.names.sums c.in_ok-made.ensures.conditions w.2;
+          c.in_ok-made.ensures.linear.by.parameters c.in_ok-made.ensures.linear.by.sums c.in_ok-made.ensures.linear.by.conditions w.2;
     })
     c.print_out.ensures.written
 

@@ -1,15 +1,13 @@
-use Rattle.std.proofs.Common.{sym, subst, inr}
+use Rattle.std.proofs.Common.{sym, subst}
 use Rattle.std.specs.List.{All}
 use Rattle.std.proofs.lemmas.List.Elements.{All-nil}
 use Rattle.data_theory.specs.IdTerms.{IsTreeWithin}
 use Rattle.mcrl2_syntax.specs.Declarations.{spec_of}
 use Rattle.process_terms.specs.PlainProcesses.{plain_model}
 use Rattle.sort_checker.specs.Additions.{nothing}
-use Rattle.sort_checker.proofs.Adding.{it_is_grown}
 use Rattle.sort_checker.proofs.WholeModels.{built_signatures_are_of_their_texts}
-use Rattle.lps_printer.proofs.GrowingByConstants.{still_taken}
 use Rattle.lin_driver.proofs.AcceptedTexts.{accepted_model}
-use Rattle.lin_driver.proofs.MadeLinears.{model_can_be_linear}
+use Rattle.lin_driver.proofs.MadeLinears.{model_can_be_linear, taken_in_the_model}
 use Rattle.lin_driver.proofs.Refused.{type_refused, model_refused, model_fault_by}
 use Rattle.lin_driver.proofs.linearising.linear_of_spec.Goals as goal
 
@@ -38,18 +36,28 @@ returns-in-Ok-clause-made c =
     let h = c.elaborate.new.sig in
     let can = model_can_be_linear spec g h c.args.pool.now c.elaborate.new.pool (plain_model c.in_ok-model.model) c.requires.words c.requires.stands c.requires.built c.requires.no_constants c.elaborate.ensures.kept c.in_ok-model.ensures.means in
     record {
-      signature = h;
-      stands = can.stands;
-      declares = built_signatures_are_of_their_texts spec g h c.requires.stands c.requires.built c.elaborate.ensures.kept.added;
-      taken = λ t i. still_taken g h t (it_is_grown g h c.requires.stands c.elaborate.ensures.kept.added) ((c.requires.built.declared.taken t).1 (inr i));
-      pool = c.elaborate.new.pool;
-      model = plain_model c.in_ok-model.model;
-      is_model = c.in_ok-model.ensures.means;
-      its_equations = sym c.equations_of.ensures;
-      fits = can.fits;
-      grow = record { signature = c.linear_of.ensures.grown; pool = c.linear_of.ensures.kept };
-      leads = c.in-Ok.ensures.linear;
-      name = c.in-Ok.ensures.name;
+      made = record {
+        signature = h;
+        stands = can.stands;
+        declares = built_signatures_are_of_their_texts spec g h c.requires.stands c.requires.built c.elaborate.ensures.kept.added;
+        taken = taken_in_the_model spec g h c.requires.built c.elaborate.ensures.kept.added;
+        pool = c.elaborate.new.pool;
+        model = plain_model c.in_ok-model.model;
+        is_model = c.in_ok-model.ensures.means;
+        its_equations = sym c.equations_of.ensures;
+        fits = can.fits;
+        grow = record { signature = c.linear_of.ensures.grown; pool = c.linear_of.ensures.kept };
+        leads = c.in-Ok.ensures.linear;
+        name = c.in-Ok.ensures.name;
+      };
+      plain = c.in-Ok.ensures.plain;
+      conditions = c.in-Ok.ensures.conditions;
+      parameters = c.in-Ok.ensures.linear.params;
+      sums = c.in-Ok.ensures.linear.names;
+      sorts = c.in-Ok.ensures.sorts;
+      keeps = c.in-Ok.ensures.keeps;
+      along = c.in-Ok.ensures.composed;
+      leaves = c.in-Ok.ensures.components;
     }
 
 pub returns-in-Err-clause-refused : goal.returns-in-Err-clause-refused
@@ -59,47 +67,3 @@ returns-in-Err-clause-refused c =
 
 pub returns-in-Err-clause-by : goal.returns-in-Err-clause-by
 returns-in-Err-clause-by c = model_fault_by c.args.method c.in-Err.fault c.of_model.result c.in-Err.ensures.by c.of_model.ensures
-
-pub returns-in-Ok-clause-components : goal.returns-in-Ok-clause-components
-returns-in-Ok-clause-components c = record { signature = c.elaborate.new.sig; pool = c.elaborate.new.pool; model = plain_model c.in_ok-model.model; is_model = c.in_ok-model.ensures.means; leaves = c.in-Ok.ensures.components }
-
-pub returns-in-Ok-clause-plain : goal.returns-in-Ok-clause-plain
-returns-in-Ok-clause-plain c =
-    let spec = spec_of c.args.spec.now in
-    let g = c.args.sig.now in
-    let h = c.elaborate.new.sig in
-    let can = model_can_be_linear spec g h c.args.pool.now c.elaborate.new.pool (plain_model c.in_ok-model.model) c.requires.words c.requires.stands c.requires.built c.requires.no_constants c.elaborate.ensures.kept c.in_ok-model.ensures.means in
-    record {
-      signature = h;
-      stands = can.stands;
-      declares = built_signatures_are_of_their_texts spec g h c.requires.stands c.requires.built c.elaborate.ensures.kept.added;
-      pool = c.elaborate.new.pool;
-      model = plain_model c.in_ok-model.model;
-      is_model = c.in_ok-model.ensures.means;
-      plain = c.in-Ok.ensures.plain;
-    }
-
-pub returns-in-Ok-clause-sorts : goal.returns-in-Ok-clause-sorts
-returns-in-Ok-clause-sorts c = record {
-  signature = c.elaborate.new.sig;
-  declares = built_signatures_are_of_their_texts (spec_of c.args.spec.now) c.args.sig.now c.elaborate.new.sig c.requires.stands c.requires.built c.elaborate.ensures.kept.added;
-  pool = c.elaborate.new.pool;
-  model = plain_model c.in_ok-model.model;
-  is_model = c.in_ok-model.ensures.means;
-  sorts = c.in-Ok.ensures.sorts;
-}
-
-pub returns-in-Ok-clause-keeps : goal.returns-in-Ok-clause-keeps
-returns-in-Ok-clause-keeps c = record {
-  signature = c.elaborate.new.sig;
-  stands = (model_can_be_linear (spec_of c.args.spec.now) c.args.sig.now c.elaborate.new.sig c.args.pool.now c.elaborate.new.pool (plain_model c.in_ok-model.model) c.requires.words c.requires.stands c.requires.built c.requires.no_constants c.elaborate.ensures.kept c.in_ok-model.ensures.means).stands;
-  declares = built_signatures_are_of_their_texts (spec_of c.args.spec.now) c.args.sig.now c.elaborate.new.sig c.requires.stands c.requires.built c.elaborate.ensures.kept.added;
-  pool = c.elaborate.new.pool;
-  model = plain_model c.in_ok-model.model;
-  is_model = c.in_ok-model.ensures.means;
-  grow = record { signature = c.linear_of.ensures.grown; pool = c.linear_of.ensures.kept };
-  keeps = c.in-Ok.ensures.keeps;
-}
-
-pub returns-in-Ok-clause-composed : goal.returns-in-Ok-clause-composed
-returns-in-Ok-clause-composed c = record { signature = c.elaborate.new.sig; pool = c.elaborate.new.pool; model = plain_model c.in_ok-model.model; is_model = c.in_ok-model.ensures.means; along = c.in-Ok.ensures.composed }

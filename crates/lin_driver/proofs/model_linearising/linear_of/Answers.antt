@@ -65,7 +65,7 @@ returns-clause-components c = record { trees = c.open_network.new.pool.trees; ne
 
 pub returns-in_err-linear-clause-refused : goal.returns-in_err-linear-clause-refused
 returns-in_err-linear-clause-refused c =
-    leaves_refused c.from_residual-in_err-linear.result (plain_model c.args.model.now) c.open_network.new.pool.trees (plain_network c.in_ok-network.network) c.in_err-linear.field-0.0 c.in_ok-network.ensures.opened
+    leaves_refused c.from_residual-in_err-linear.result (plain_model c.args.model.now) c.open_network.new.pool.trees (plain_network c.in_ok-network.network) c.in_err-linear.field-0.0 c.in_ok-network.ensures.outside c.in_ok-guarded.ensures.guarded c.in_ok-network.ensures.opened
     (subst (λ z. IsLeavesFaultOf (plain_model z) (leaves (plain_network c.in_ok-network.network)) c.in_err-linear.field-0.0) c.in_ok-guarded.ensures.model c.in_err-linear.ensures.refused) c.from_residual-in_err-linear.ensures.1
 
 pub returns-in_err-linear-clause-by : goal.returns-in_err-linear-clause-by

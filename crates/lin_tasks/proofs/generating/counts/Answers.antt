@@ -2,6 +2,7 @@ use Rattle.std.proofs.Common.{◌≡◌, map}
 use Rattle.mcrl2_syntax.specs.Declarations.{spec_of}
 use Rattle.process_terms.specs.PlainProcesses.{plain_equation}
 use Rattle.lps_core.specs.PlainLinears.{plain_linear}
+use Rattle.lin_driver.specs.LinearOfTexts.{is_made}
 use Rattle.lin_driver.specs.declared.fault.LinFault.TheVariants.{NoMemory}
 use Rattle.lin_driver.specs.declared.methods.Method.TheVariants.{Auto}
 use Rattle.lin_driver.proofs.Refused.{is_told, no_fault_refused}
@@ -9,7 +10,7 @@ use Rattle.lin_tasks.proofs.ShownTexts.{no_fault_by}
 use Rattle.lin_tasks.proofs.generating.counts.Goals as goal
 
 pub counts_of-requires : goal.counts_of-requires
-counts_of-requires c = (c.args.text.now, c.in_ok-made.ensures.made)
+counts_of-requires c = (c.args.text.now, is_made c.in_ok-made.ensures.linear)
 
 pub returns-in_err-shown-clause-refused : goal.returns-in_err-shown-clause-refused
 returns-in_err-shown-clause-refused c =
@@ -25,12 +26,11 @@ returns-clause-counted c =
     record {
       spec = spec_of made.spec;
       signature = made.sig;
-      trees = made.pool.trees;
+      pool = made.pool;
       equations = map plain_equation made.theory.equations.items;
       name = made.name;
       linear = plain_linear made.lin;
-      made = c.in_ok-made.ensures.made;
       components = made.components;
-      has_components = c.in_ok-made.ensures.components;
+      is_linear = c.in_ok-made.ensures.linear;
       counts = c.in_ok-shown.ensures;
     }

@@ -2,13 +2,14 @@ use Rattle.std.proofs.Common.{◌≡◌, map}
 use Rattle.mcrl2_syntax.specs.Declarations.{spec_of}
 use Rattle.process_terms.specs.PlainProcesses.{plain_equation}
 use Rattle.lps_core.specs.PlainLinears.{plain_linear}
+use Rattle.lin_driver.specs.LinearOfTexts.{is_made}
 use Rattle.lin_driver.specs.declared.fault.LinFault.TheVariants.{NoMemory}
 use Rattle.lin_driver.proofs.Refused.{is_told, no_fault_refused}
 use Rattle.lin_tasks.proofs.ShownTexts.{made_walk, no_fault_by}
 use Rattle.lin_tasks.proofs.walking.walk.Goals as goal
 
 pub walk_of-requires : goal.walk_of-requires
-walk_of-requires c = (c.args.text.now, c.in_ok-made.ensures.made)
+walk_of-requires c = (c.args.text.now, is_made c.in_ok-made.ensures.linear)
 
 pub returns-in_err-answer-clause-refused : goal.returns-in_err-answer-clause-refused
 returns-in_err-answer-clause-refused c =
@@ -21,5 +22,5 @@ returns-in_err-answer-clause-by c =
 pub returns-clause-shown : goal.returns-clause-shown
 returns-clause-shown c =
     let made = c.in_ok-made.made in
-    made_walk c.args.text.now (spec_of made.spec) made.sig made.pool.trees (map plain_equation made.theory.equations.items) made.name (plain_linear made.lin) c.in_ok-made.ensures.made c.args.plan c.in_ok-answer.answer.status c.in_ok-answer.answer.text.items
+    made_walk c.args.method c.args.text.now (spec_of made.spec) made.sig made.pool (map plain_equation made.theory.equations.items) made.name (plain_linear made.lin) made.components c.in_ok-made.ensures.linear c.args.plan c.in_ok-answer.answer.status c.in_ok-answer.answer.text.items
     c.in_ok-answer.ensures

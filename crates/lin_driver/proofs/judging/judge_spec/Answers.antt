@@ -1,0 +1,59 @@
+use Rattle.std.proofs.Common.{sym, subst}
+use Rattle.std.specs.List.{All}
+use Rattle.std.proofs.lemmas.List.Elements.{All-nil}
+use Rattle.data_theory.specs.IdTerms.{IsTreeWithin}
+use Rattle.mcrl2_syntax.specs.Declarations.{spec_of}
+use Rattle.process_terms.specs.PlainProcesses.{plain_model}
+use Rattle.sort_checker.specs.Additions.{nothing}
+use Rattle.sort_checker.proofs.WholeModels.{built_signatures_are_of_their_texts}
+use Rattle.lin_driver.specs.JudgedTexts.{equations_of_model}
+use Rattle.lin_driver.proofs.AcceptedTexts.{accepted_model}
+use Rattle.lin_driver.proofs.JudgedTexts.{all_of, all_over}
+use Rattle.lin_driver.proofs.MadeLinears.{model_can_be_linear}
+use Rattle.lin_driver.proofs.Refused.{type_refused, model_refused, model_fault_by}
+use Rattle.lin_driver.proofs.judging.judge_spec.Goals as goal
+
+pub elaborate-requires : goal.elaborate-requires
+elaborate-requires c = record {
+  words = c.requires.words;
+  start = c.requires.start;
+  built = built_signatures_are_of_their_texts (spec_of c.args.spec.now) c.args.sig.now c.args.sig.now c.requires.stands c.requires.built nothing;
+  trees = subst (All (IsTreeWithin c.args.sig.now)) (sym c.requires.no_terms) (All-nil (IsTreeWithin c.args.sig.now));
+}
+
+pub returns-in_err-model-clause-refused : goal.returns-in_err-model-clause-refused
+returns-in_err-model-clause-refused c = type_refused c.from_residual.result (spec_of c.args.spec.now) c.elaborate.new.sig c.in_err-model.field-0.0 c.in_err-model.ensures.refused c.from_residual.ensures.1
+
+pub check-requires : goal.check-requires
+check-requires c =
+    let is = c.in_ok-model.ensures.means in
+    all_over c.elaborate.new.sig c.elaborate.new.pool.trees is.trees c.in_ok-model.model.theory.equations.items is.there.0
+
+pub linear_of-requires : goal.linear_of-requires
+linear_of-requires c =
+    model_can_be_linear (spec_of c.args.spec.now) c.args.sig.now c.elaborate.new.sig c.args.pool.now c.elaborate.new.pool (plain_model c.in_ok-model.model) c.requires.words c.requires.stands c.requires.built c.requires.no_constants c.elaborate.ensures.kept c.in_ok-model.ensures.means
+
+pub returns-in-Ok-clause-accepted : goal.returns-in-Ok-clause-accepted
+returns-in-Ok-clause-accepted c = accepted_model (spec_of c.args.spec.now) c.elaborate.new.sig c.elaborate.new.pool (plain_model c.in_ok-model.model) c.in_ok-model.ensures.means c.in-Ok.ensures.outside c.in-Ok.ensures.guarded
+
+pub returns-in-Ok-clause-judged : goal.returns-in-Ok-clause-judged
+returns-in-Ok-clause-judged c =
+    let g = c.elaborate.new.sig in
+    let p = c.elaborate.new.pool in
+    let m = plain_model c.in_ok-model.model in
+    let is = c.in_ok-model.ensures.means in
+    record {
+      signature = g;
+      pool = p;
+      model = m;
+      is_model = is;
+      is_answer = c.in_ok-answer.ensures (equations_of_model g p m) (all_of g p.trees is.trees c.in_ok-model.model.theory.equations.items is.there.0);
+    }
+
+pub returns-clause-refused : goal.returns-clause-refused
+returns-clause-refused c =
+    model_refused (spec_of c.args.spec.now) c.elaborate.new.sig c.elaborate.new.pool (plain_model c.in_ok-model.model) c.in_ok-model.ensures.means c.linear_of.new.sig.texts (c.linear_of.ensures.grown.new_texts, c.linear_of.ensures.grown.texts)
+    c.in-Err.fault c.of_model.result c.in-Err.ensures.refused c.of_model.ensures
+
+pub returns-clause-by : goal.returns-clause-by
+returns-clause-by c = model_fault_by c.args.method c.in-Err.fault c.of_model.result c.in-Err.ensures.by c.of_model.ensures
