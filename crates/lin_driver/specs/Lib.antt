@@ -38,3 +38,4 @@ pub mod Renumberings
 pub mod SameProcesses
 pub mod OneReading
 pub mod EachReading
+pub mod ConsistentTexts
