@@ -146,8 +146,7 @@ module _ (r : Renumbering) (g h : Data) (takes : TakesData r g h) (sorts_beyond 
       ⊎_elim
       (λ l. (let low = (takes.all_functions k).0 l in ((λ m. omega (arith, low, b)), (λ m. omega (arith, l, a)))))
       (λ i. (
-      let e : r.functions k ≡ length h.functions + i.0 = ap r.functions i.1 ∙ functions_beyond i.0 in
-      (
+      let e : r.functions k ≡ length h.functions + i.0 = ap r.functions i.1 ∙ functions_beyond i.0 in (
         within_both (length g.functions) (length h.functions) (length fs) (length G.functions) (length H.functions) a b k (r.functions k) i.0 i.1 e,
         within_both (length h.functions) (length g.functions) (length fs) (length H.functions) (length G.functions) b a (r.functions k) k i.0 e i.1,
       )
