@@ -345,30 +345,30 @@ binds_back v w grows (binds_more {s = s} {e = e} h free rest) (binds_more {s = r
 
 module _ (v : FullVocabulary) (m : More) (over : IsOverData v.declared) where
   same_typing : (scope : Scope) (e : Expression) → HasNoneOf m.function_names e → typing_in (with_more v.declared m) scope e ≡ typing_in v.declared scope e
-  same_typing scope e none = other_names_change_nothing v.declared m scope e over none
+  same_typing scope e new = other_names_change_nothing v.declared m scope e over new
 
   same_condition : (scope : Scope) (c : Option Expression) → EachOption (HasNoneOf m.function_names) c → condition_at (with_more v.declared m) scope c ≡ condition_at v.declared scope c
-  same_condition scope None none = refl
-  same_condition scope (Some e) none = ap (λ (t : Typing). t.checks boolean) (same_typing scope e none)
+  same_condition scope None new = refl
+  same_condition scope (Some e) new = ap (λ (t : Typing). t.checks boolean) (same_typing scope e new)
 
   equation_back : (e : WrittenEquation) (q p : Equation) → EquationHasNoneOf m.function_names e → ElaboratesEquation (fuller v m) e q → ElaboratesEquation v e p → ElaboratesEquation v e q
-  equation_back e q p none h own = record {
+  equation_back e q p new h own = record {
     scope = h.scope;
     bounds = h.bounds;
     binds = binds_back v.declared (with_more v.declared m) (λ x s k. sort_behind v.declared.sort_names m.sort_names x s k) h.binds own.binds;
     sorts = h.sorts;
     sort = h.sort;
-    left = ap₂ left_side (sym (same_typing h.scope e.left none.1)) (sym (same_typing h.scope e.right none.2)) ∙ h.left;
-    right = ap (λ (t : Typing). t.checks h.sort) (sym (same_typing h.scope e.right none.2)) ∙ h.right;
-    condition = sym (same_condition h.scope e.condition none.0) ∙ h.condition;
+    left = ap₂ left_side (sym (same_typing h.scope e.left new.1)) (sym (same_typing h.scope e.right new.2)) ∙ h.left;
+    right = ap (λ (t : Typing). t.checks h.sort) (sym (same_typing h.scope e.right new.2)) ∙ h.right;
+    condition = sym (same_condition h.scope e.condition new.0) ∙ h.condition;
     no_variable = h.no_variable;
     no_other = h.no_other;
   }
 
 pub equations_back : (v w : FullVocabulary) (m : More) → w.declared ≡ with_more v.declared m → IsOverData v.declared → (es : List WrittenEquation) (qs ps : List Equation) → AllByRecursion (EquationHasNoneOf m.function_names) es
     → EachPair (ElaboratesEquation w) es qs → EachPair (ElaboratesEquation v) es ps → EachPair (ElaboratesEquation v) es qs
-equations_back v w m is over [] [] ps none h k = tt
-equations_back v w m is over [] (q ∷ qs) ps none h k = absurd h
-equations_back v w m is over (e ∷ es) [] ps none h k = absurd h
-equations_back v w m is over (e ∷ es) (q ∷ qs) [] none h k = absurd k
-equations_back v w m is over (e ∷ es) (q ∷ qs) (p ∷ ps) none h k = (equation_back v m over e q p none.0 (with_declared (fuller v m) w e q is h.0) k.0, equations_back v w m is over es qs ps none.1 h.1 k.1)
+equations_back v w m is over [] [] ps new h k = tt
+equations_back v w m is over [] (q ∷ qs) ps new h k = absurd h
+equations_back v w m is over (e ∷ es) [] ps new h k = absurd h
+equations_back v w m is over (e ∷ es) (q ∷ qs) [] new h k = absurd k
+equations_back v w m is over (e ∷ es) (q ∷ qs) (p ∷ ps) new h k = (equation_back v m over e q p new.0 (with_declared (fuller v m) w e q is h.0) k.0, equations_back v w m is over es qs ps new.1 h.1 k.1)

@@ -160,23 +160,32 @@ module _ (own printed : PlainSpec) (own_words : IsSpecOfWords own) (words : IsSp
     left : q.left ≡ application (function (length x.declared.tables.functions + place)) terms.none
     right : q.right ≡ emptyᵗ element
 
+  is_added_as : (q : Equation) (f : Name) (c : IsOfConstant w f q) (i : ℕ) → c.number ≡ length x.declared.tables.functions + i → i < length m.functions → IsAdded q
+  is_added_as q f c i same low = record {
+    place = i;
+    element = c.element;
+    arguments = ap (λ (d : Data). (function_at d (length x.declared.tables.functions + i)).arguments) (sym printed_data) ∙ ap (λ (n : ℕ). (function_at w.declared.tables n).arguments) (sym same) ∙ c.arguments;
+    result = ap (λ (d : Data). (function_at d (length x.declared.tables.functions + i)).result) (sym printed_data) ∙ ap (λ (n : ℕ). (function_at w.declared.tables n).result) (sym same) ∙ c.result;
+    within = low;
+    condition = c.condition;
+    left = c.left ∙ ap (λ (n : ℕ). application (function n) terms.none) same;
+    right = c.right;
+  }
+
+  abbrev names : List Name
+  names = flat_map names_of_addition adds.declarations
+
+  is_added_by : (q : Equation) (e : WrittenEquation) → ElaboratesEquation w e q → IsOfAnEmptyList names e → IsAdded q
+  is_added_by q e elaborates is =
+      let c = of_constant w e q names is elaborates in
+      let new : ¬ (Contains (copied_identifiers own) is.name) = all_among (λ (f : Name). ¬ (Contains (copied_identifiers own) f)) names adds.new_names (contains_among is.name names is.added) in
+      let k = added_number own printed adds placed words x.declared w.declared m numbers.1 ix iw is.name c.number new c.named_so in
+      is_added_as q is.name c k.0 k.1 k.2
+
   is_added : (q : Equation) → Among q split.behind → IsAdded q
   is_added q a =
       let e = pairs_back (ElaboratesEquation w) adds.equations split.behind split.second a in
-      let is : IsOfAnEmptyList (flat_map names_of_addition adds.declarations) e.0 = all_among (IsOfAnEmptyList (flat_map names_of_addition adds.declarations)) adds.equations adds.each_equation e.1 in
-      let c = of_constant w e.0 q (flat_map names_of_addition adds.declarations) is e.2 in
-      let new : ¬ (Contains (copied_identifiers own) is.name) = all_among (λ (f : Name). ¬ (Contains (copied_identifiers own) f)) (flat_map names_of_addition adds.declarations) adds.new_names (contains_among is.name (flat_map names_of_addition adds.declarations) is.added) in
-      let k = added_number own printed adds placed words x.declared w.declared m numbers.1 ix iw is.name c.number new c.named_so in
-      record {
-        place = k.0;
-        element = c.element;
-        arguments = ap (λ (d : Data). (function_at d (length x.declared.tables.functions + k.0)).arguments) (sym printed_data) ∙ ap (λ (n : ℕ). (function_at w.declared.tables n).arguments) (sym k.1) ∙ c.arguments;
-        result = ap (λ (d : Data). (function_at d (length x.declared.tables.functions + k.0)).result) (sym printed_data) ∙ ap (λ (n : ℕ). (function_at w.declared.tables n).result) (sym k.1) ∙ c.result;
-        within = k.2;
-        condition = c.condition;
-        left = c.left ∙ ap (λ (n : ℕ). application (function n) terms.none) k.1;
-        right = c.right;
-      }
+      is_added_by q e.0 e.2 (all_among (IsOfAnEmptyList names) adds.equations adds.each_equation e.1)
 
   new_there : (i : ℕ) → i < length m.functions → slice_get fs i ≡ Some (new_function r (function_at G (length x.declared.tables.functions + i)))
   new_there i l =
@@ -188,10 +197,8 @@ module _ (own printed : PlainSpec) (own_words : IsSpecOfWords own) (words : IsSp
   added_moved q e k =
       let n : ℕ = length x.declared.tables.functions + k.place in
       let i : ℕ = length g.functions + k.place in
-      let f : DeclaredFunction = function_at H i in
       let low : n < length G.functions = (let a = length-append x.declared.tables.functions m.functions in let b = k.within in omega (arith, a, b)) in
       let role : (function_at G n).role ≡ mapping = list_constant G (function_at G n) (function_at G n).role k.element (G_is_data.roles n low) k.arguments k.result in
-      let its : f ≡ new_function r (function_at G n) = ap (function_at H) (sym (functions_beyond k.place)) ∙ takes_data.functions n in
       let there : slice_get fs k.place ≡ Some (new_function r (function_at G n)) = new_there k.place k.within in
       let among : Among (empty_equation i (new_sort r k.element)) empties
       = constant_there (length g.functions) fs k.place (new_function r (function_at G n)) (new_sort r k.element) there (ap (map (new_sort r)) k.arguments) (ap (new_sort r) k.result) (ap (new_role r) role) in
