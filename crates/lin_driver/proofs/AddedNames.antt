@@ -7,7 +7,6 @@ use Rattle.std.proofs.lemmas.List.Elements.{Contains-append_left, Contains-appen
 use Rattle.std.proofs.lemmas.List.Folds.{find-append}
 use Rattle.std.proofs.lemmas.Option.{same_Some, slice_get-map, slice_get_within}
 use Rattle.std.proofs.lemmas.Slice.Eq.{bytes_eq-Decides}
-use Rattle.mcrl2_lexer.specs.declared.kind.Kind.{Kind}
 use Rattle.mcrl2_lexer.specs.declared.kind.Kind.TheVariants as kind_
 use Rattle.mcrl2_syntax.specs.declared.data_tree.PrefixSign.{PrefixSign}
 use Rattle.mcrl2_syntax.specs.declared.data_tree.PrefixSign.TheVariants as prefixes
@@ -26,7 +25,7 @@ use Rattle.process_terms.specs.Processes as processes
 use Rattle.sort_table.specs.Expressions.{Name, Expression, Expressions, numeral, listed, word, none, more}
 use Rattle.sort_table.specs.NamedLists.{all_named}
 use Rattle.sort_table.specs.BareData.{prefix_text, infix_text, bare_data}
-use Rattle.sort_table.specs.BareDeclarations.{Field, Constructor, Declaration, sorts, alias, struct, constructors, mappings, variables, equation, actions, process, initial, Section, bare_condition, bare_declaration, bare_section, bare_sections, declarations_in}
+use Rattle.sort_table.specs.BareDeclarations.{Field, Declaration, sorts, alias, struct, constructors, mappings, variables, equation, actions, process, initial, bare_condition, bare_declaration, bare_section, bare_sections, declarations_in}
 use Rattle.sort_table.specs.BareProcesses.{Variables}
 use Rattle.sort_table.specs.BareSorts.{SortExpression}
 use Rattle.sort_table.specs.Duplicates.{Item, function_item}

@@ -1,7 +1,7 @@
 -- The theory of a printed text is consistent where the text's equations are accepted.
-use Rattle.std.proofs.Common.{◌≡◌, ◌<◌, ◌+◌, ◌⊎◌, inl, inr, ⊎_elim, ℕ, zero, suc, List, [], ◌∷◌, ◌++◌, map, length, get_or, refl, sym, ap, ◌∙◌, subst, arith, length-append, get_or-append-add}
-use Rattle.std.specs.Prelude.{Option, Some, None, option_map, slice_get}
-use Rattle.std.specs.List.{AllByRecursion, Contains, flat_map}
+use Rattle.std.proofs.Common.{◌≡◌, ◌<◌, ◌+◌, ◌⊎◌, ⊎_elim, ℕ, List, [], ◌∷◌, ◌++◌, map, length, refl, sym, ap, ◌∙◌, subst, arith, length-append, get_or-append-add}
+use Rattle.std.specs.Prelude.{Some, option_map, slice_get}
+use Rattle.std.specs.List.{Contains, flat_map}
 use Rattle.std.proofs.lemmas.Option.{none-some, slice_get-map, slice_get-get_or}
 use Rattle.std.proofs.lemmas.List.Elements.{Contains-append_cases, Contains-append_left, Contains-append_right}
 use Rattle.mcrl2_lexer.specs.declared.token.Token.{Token}
@@ -12,10 +12,10 @@ use Rattle.mcrl2_syntax.specs.SpelledDeclarations.{SpellsSpec}
 use Rattle.mcrl2_syntax.specs.TreeWords.{IsSpecOfWords}
 use Rattle.mcrl2_syntax.proofs.SpecsOnce.{spec_once}
 use Rattle.mcrl2_syntax.proofs.WordsOfTokens.{specs_are_of_words}
-use Rattle.data_theory.specs.Declarations.{Role, constructor, projection, recogniser, mapping, Construction, Data, DeclaredFunction, function_at, FitsRole, IsData, HasSort, NoSortIsEmpty}
+use Rattle.data_theory.specs.Declarations.{Role, constructor, projection, recogniser, mapping, Data, DeclaredFunction, function_at, FitsRole, IsData, HasSort, NoSortIsEmpty}
 use Rattle.data_theory.specs.Equations.{trueᵗ, falseᵗ, emptyᵗ}
 use Rattle.data_theory.specs.IdData.{data_meant}
-use Rattle.data_theory.specs.Provable.{Equation, IsClosedInstance, ProvablyEqual, Consistent}
+use Rattle.data_theory.specs.Provable.{Equation, ProvablyEqual, Consistent}
 use Rattle.data_theory.specs.Terms.{Sort, list, named, function, Term, variable, application, put}
 use Rattle.data_theory.specs.Terms as terms
 use Rattle.data_theory.proofs.EnvironmentLemmas.{contains_nothing}
@@ -24,15 +24,13 @@ use Rattle.process_terms.specs.Processes.{Process}
 use Rattle.process_terms.specs.SignatureEntries.{entries_of}
 use Rattle.process_terms.specs.Theories.{Theory, IsConsistent}
 use Rattle.sort_table.specs.Expressions.{Name}
-use Rattle.sort_table.specs.NamedLists.{all_named}
-use Rattle.sort_table.specs.BareDeclarations.{Section, bare_sections, declarations_in}
-use Rattle.sort_table.specs.Growth.{More, with_more}
+use Rattle.sort_table.specs.BareDeclarations.{bare_sections, declarations_in}
+use Rattle.sort_table.specs.Growth.{More}
 use Rattle.sort_table.specs.Identifiers.{copied_identifiers}
 use Rattle.sort_table.specs.PlacedSections.{IsPlaced}
 use Rattle.sort_table.specs.SortMeanings.{UnderNames, under_names}
 use Rattle.sort_table.specs.TextFunctions.{functions_in}
 use Rattle.sort_table.specs.Vocabularies.{Vocabulary, EachPair, IsVocabularyOf}
-use Rattle.sort_table.proofs.Growing.{all_behind}
 use Rattle.sort_table.proofs.NothingTwice.{functions_differ}
 use Rattle.sort_table.proofs.SpelledPlaces.{spelled_specs_are_placed}
 use Rattle.sort_checker.specs.Elaborations.{WrittenEquation, ElaboratesEquation}
@@ -41,9 +39,9 @@ use Rattle.sort_checker.specs.Systems.{equations_in, IsSystem}
 use Rattle.eqn_check.specs.Rules.{AreAccepted}
 use Rattle.eqn_check.proofs.GrownLemmas.{consistent_in_grown_data}
 use Rattle.lps_printer.specs.FilledLinears.{empty_equation}
-use Rattle.lin_driver.specs.ConsistentTexts.{HasNoEquations, HasAcceptedEquations, HoldsOutright, TextsWithoutEquationsNeedNoPremise, AcceptedTextsNeedNoPremise, AcceptedModelsAreOfAcceptedTexts}
+use Rattle.lin_driver.specs.ConsistentTexts.{HasAcceptedEquations, TextsWithoutEquationsNeedNoPremise, AcceptedTextsNeedNoPremise, AcceptedModelsAreOfAcceptedTexts}
 use Rattle.lin_driver.specs.Headline.{Specifies, IsOfAnEmptyList, names_of_addition, AddsOnly, KeepsNumbers, StandsFor}
-use Rattle.lin_driver.specs.Renumberings.{Renumbering, back, new_sort, new_term, new_role, new_function, TakesData, TakesVocabulary, TakesTheory}
+use Rattle.lin_driver.specs.Renumberings.{Renumbering, back, new_sort, new_term, new_role, new_function, TakesData, TakesVocabulary}
 use Rattle.lin_driver.proofs.AddedNames.{added_number, equations_apart, equations_back}
 use Rattle.lin_driver.proofs.AmongLists.{among_contains, contains_among, all_among, pairs_back, AreSplit, pairs_split}
 use Rattle.lin_driver.proofs.EachReading.{consistent_under}

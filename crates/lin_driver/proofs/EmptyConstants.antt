@@ -1,10 +1,9 @@
 -- Equations `n = []`: what they elaborate to, and that of all new constants of lists there may be one each.
-use Rattle.std.proofs.Common.{◌≡◌, ◌≤◌, ◌<◌, ◌+◌, ◌⊎◌, inl, inr, ⊎_elim, ℕ, zero, suc, Bool, true, false, ◌&&◌, List, [], ◌∷◌, ◌++◌, map, length, get_or, refl, sym, ap, ◌∙◌, subst, arith, length-append, get_or-append-add}
+use Rattle.std.proofs.Common.{◌≡◌, ◌+◌, ◌⊎◌, inl, inr, ⊎_elim, ℕ, zero, suc, Bool, true, false, ◌&&◌, List, [], ◌∷◌, ◌++◌, map, length, get_or, refl, sym, ap, ◌∙◌, subst, arith, length-append, get_or-append-add}
 use Rattle.std.specs.Prelude.{Option, Some, None, option_map, option_and_then, slice_get}
 use Rattle.std.specs.Option.{option_or}
-use Rattle.std.specs.List.{AllByRecursion, Contains, filter, list_all}
+use Rattle.std.specs.List.{filter, list_all}
 use Rattle.std.proofs.lemmas.Option.{none-some, same_Some, slice_get_within, get_or_from_slice_get}
-use Rattle.data_theory.specs.declared.ids.SortId.{SortId}
 use Rattle.data_theory.specs.declared.rows.Row.{Row}
 use Rattle.data_theory.specs.declared.rows.Row.TheVariants.{Constant, ListConstant, One, Two, Three}
 use Rattle.data_theory.specs.Declarations.{Role, constructor, projection, recogniser, mapping, Data, DeclaredFunction, function_at}
@@ -17,9 +16,9 @@ use Rattle.data_theory.specs.Terms as terms
 use Rattle.sort_table.specs.Duplicates.{any_sort, lists_of_any}
 use Rattle.sort_table.specs.Expressions.{Name, Expression, word, listed, none}
 use Rattle.sort_table.specs.NamedLists.{all_named, first_named}
-use Rattle.data_typing.specs.BuiltIns.{place_numbered, row_places, is_settled, row_signature, named_rows, built_ins, scheme_named}
+use Rattle.data_typing.specs.BuiltIns.{place_numbered, is_settled, row_signature, named_rows, built_ins, scheme_named}
 use Rattle.data_typing.specs.Meanings.{Bound, Scope, bound_row, declared_signature, signatures_named, meaning_or, meaning, typing_in}
-use Rattle.data_typing.specs.Typings.{Inferred, Typing, Signature, Place, itself, elements, settled, over, Scheme, candidates, first_candidate, first_of, all_at, applied, first_exact, first_fitting, exactly, checked, call_infers, bound, functions, word_typing, typing}
+use Rattle.data_typing.specs.Typings.{Inferred, Typing, Signature, Place, itself, elements, settled, over, Scheme, candidates, first_candidate, first_of, all_at, applied, first_exact, first_fitting, exactly, checked, call_infers, functions, word_typing, typing}
 use Rattle.data_typing.specs.Typings as typings
 use Rattle.data_typing.proofs.Options.{one_or_other}
 use Rattle.sort_checker.specs.Elaborations.{WrittenEquation, ElaboratesEquation}
@@ -29,7 +28,7 @@ use Rattle.eqn_check.specs.AcceptedLaws.{IsNewEmptyList, AreNewEmptyLists}
 use Rattle.lps_printer.specs.FilledLinears.{empty_equation}
 use Rattle.lin_driver.specs.Headline.{IsOfAnEmptyList}
 use Rattle.lin_driver.proofs.AmongLists.{contains_among, among_front, among_back, among_either, among_map, among_filter, places_once}
-use Rattle.lin_driver.proofs.OneVocabulary.{Among, first_one, one_behind, among_none, at_place, place_of, Once}
+use Rattle.lin_driver.proofs.OneVocabulary.{Among, first_one, one_behind, among_none, Once}
 
 -- ---- built-in constants are truth values
 is_zero : ℕ → Bool

@@ -1,13 +1,11 @@
 -- The equations of a text are well formed over each vocabulary of it.
-use Rattle.std.proofs.Common.{◌≡◌, ℕ, Bool, true, false, cond, List, [], ◌∷◌, refl, sym, ap, ◌∙◌, subst}
-use Rattle.std.specs.Prelude.{Option, Some, None, option_map, bytes_eq}
-use Rattle.std.specs.List.{AllByRecursion, Contains}
-use Rattle.std.proofs.lemmas.Option.{same_Some}
+use Rattle.std.proofs.Common.{◌≡◌, Bool, true, false, cond, List, [], ◌∷◌, refl, sym, ap, ◌∙◌}
+use Rattle.std.specs.Prelude.{Some, option_map, bytes_eq}
+use Rattle.std.specs.List.{AllByRecursion}
 use Rattle.std.proofs.lemmas.Slice.Eq.{bytes_eq-Decides}
 use Rattle.data_theory.specs.Terms.{Sort, list}
 use Rattle.data_theory.specs.Declarations.{IsSort}
 use Rattle.data_theory.specs.Provable.{Equation}
-use Rattle.data_theory.specs.Rewriting.{IsWellFormed}
 use Rattle.mcrl2_syntax.specs.Declarations.{PlainSpec}
 use Rattle.mcrl2_syntax.specs.TreeWords.{IsSpecOfWords}
 use Rattle.process_terms.specs.Processes as processes
@@ -18,7 +16,7 @@ use Rattle.sort_table.specs.NamedLists.{first_named}
 use Rattle.sort_table.specs.BareDeclarations.{bare_sections}
 use Rattle.sort_table.specs.BareProcesses.{Variables}
 use Rattle.sort_table.specs.BareSorts.{SortExpression, truth_values, positives, naturals, integers, lists_of, a_name}
-use Rattle.sort_table.specs.Vocabularies.{Vocabulary, sort_in, EachPair}
+use Rattle.sort_table.specs.Vocabularies.{Vocabulary, sort_in}
 use Rattle.data_typing.specs.Meanings.{Scope}
 use Rattle.data_typing.specs.TypingLaws.{IsOverData}
 use Rattle.sort_checker.specs.Elaborations.{WrittenEquation, ElaboratesEquation}

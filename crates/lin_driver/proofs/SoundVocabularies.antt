@@ -1,7 +1,7 @@
 -- The tables of a vocabulary of sound declarations are data, and no sort of theirs is empty.
-use Rattle.std.proofs.Common.{◌≡◌, ◌<◌, ◌+◌, ◌⊎◌, inl, inr, ⊎_elim, ℕ, zero, suc, List, [], ◌∷◌, ◌++◌, map, length, get_or, refl, sym, ap, ◌∙◌, subst, arith}
+use Rattle.std.proofs.Common.{◌≡◌, ◌<◌, ◌+◌, ◌⊎◌, ⊎_elim, ℕ, zero, suc, List, [], ◌∷◌, ◌++◌, map, length, refl, sym, ap, ◌∙◌, subst, arith}
 use Rattle.std.specs.Prelude.{Option, Some, None, option_map, option_and_then, slice_get}
-use Rattle.std.specs.List.{All, AllByRecursion, Contains, flat_map}
+use Rattle.std.specs.List.{AllByRecursion, flat_map}
 use Rattle.std.proofs.lemmas.Option.{none-some, same_Some, slice_get-map, slice_get_within, get_or_from_slice_get}
 use Rattle.std.proofs.lemmas.List.Elements.{All-from_recursion}
 use Rattle.data_theory.specs.Terms.{Sort, boolean, named, Term, unknown}
@@ -13,17 +13,17 @@ use Rattle.sort_table.specs.BareSorts.{SortExpression, truth_values, a_name}
 use Rattle.sort_table.specs.BareDeclarations.{Field, Constructor, Declaration, sorts, alias, struct, constructors, mappings, variables, equation, actions, process, initial, Section, declarations_in}
 use Rattle.sort_table.specs.FunctionStates.{struct_name, structs_in}
 use Rattle.sort_table.specs.Refusals.{IsSoundlyDeclared}
-use Rattle.sort_table.specs.SortMeanings.{alone, a_struct, UnderNames, under_names, StandsFor}
+use Rattle.sort_table.specs.SortMeanings.{alone, a_struct, UnderNames, under_names}
 use Rattle.sort_table.specs.TextFunctions as text
 use Rattle.sort_table.specs.TextFunctions.{TextRole, TextFunction, Named, declared, where_named, fields_of, projections_from, functions_by, functions_in}
-use Rattle.sort_table.specs.Vocabularies.{Vocabulary, sort_in, sorts_in, IsConstruction, by_struct, by_cons, by_none, IsOwn, declared_alone, declared_as_struct, IsSortNamed, HasNumber, IsRole, of_struct, of_cons, of_no_cons, of_place, of_test, of_map, IsFunction, IsVocabularyOf}
+use Rattle.sort_table.specs.Vocabularies.{Vocabulary, sort_in, sorts_in, IsConstruction, by_struct, by_cons, by_none, declared_alone, declared_as_struct, HasNumber, IsRole, of_struct, of_cons, of_no_cons, of_place, of_test, of_map, IsFunction, IsVocabularyOf}
 use Rattle.sort_table.proofs.Growing.{near_or_far}
 use Rattle.sort_table.proofs.NothingTwice.{functions_differ, kinds_differ}
 use Rattle.sort_table.proofs.OneSort.{what_stands_for_a_sort_has_it}
 use Rattle.sort_table.proofs.SameEmptiness.{sorts_then}
 use Rattle.sort_table.proofs.SortKinds.{declared_struct}
 use Rattle.data_typing.specs.TypingLaws.{IsOverData}
-use Rattle.lin_driver.proofs.OneVocabulary.{Among, first_one, one_behind, among_none, at_place, among_mapped, among_rows, among_named, its_own, IsCalled, called_boolean, called_positive, called_natural, called_integer, called_list, called_by_name, is_called, numbers_meet}
+use Rattle.lin_driver.proofs.OneVocabulary.{Among, first_one, one_behind, among_none, among_mapped, among_rows, among_named, its_own, IsCalled, called_boolean, called_positive, called_natural, called_integer, called_list, called_by_name, is_called, numbers_meet}
 use Rattle.lin_driver.proofs.AmongLists.{among_contains, contains_among, among_front, among_either, among_map, among_flat, into_flat, each_among, pairs_there}
 
 -- ---- what declares a function
