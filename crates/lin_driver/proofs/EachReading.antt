@@ -199,7 +199,7 @@ module _ (r : Renumbering) (th ti : Theory) (takes : TakesTheory r th ti) where
     back = λ p q m o h s. answer_weaken (λ x y k. unflipped R k) (answers_under (Flipped R) is.back p q m o (flipped R h) s);
   }
 
-  consistent_under : IsConsistent ti → IsConsistent th
+  pub consistent_under : IsConsistent ti → IsConsistent th
   consistent_under c e = c ((takes.equal trueᵗ falseᵗ).0 e)
 
 -- ---- vocabularies

@@ -89,9 +89,16 @@ mod NewDerivations
 mod NewSteps
 mod MatchedNumbers
 mod OneVocabulary
+mod AmongLists
+mod SoundVocabularies
+mod GrownNumbers
 mod NewTypings
 mod NewElaborations
 mod NewEquations
 mod SameSteps
 pub mod OneReading
 pub mod EachReading
+mod SortedEquations
+mod AddedNames
+mod EmptyConstants
+pub mod ConsistentTexts

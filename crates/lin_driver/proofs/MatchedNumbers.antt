@@ -33,7 +33,7 @@ partner_back : (m n : ℕ) (R : ℕ → ℕ → Type 0) (d k : ℕ) → IsPartne
 partner_back m n R d k (matched r) = matched r
 partner_back m n R d k (beyond e f g) = beyond e g f
 
-below : (d m : ℕ) → (d < m) ⊎ ((e : ℕ) × (d ≡ m + e))
+pub below : (d m : ℕ) → (d < m) ⊎ ((e : ℕ) × (d ≡ m + e))
 below d zero = inr (d, omega arith)
 below zero (suc m) = inl (omega arith)
 below (suc d) (suc m) = step (below d m)
@@ -77,6 +77,10 @@ module _ (m n : ℕ) (R : ℕ → ℕ → Type 0) (is : IsMatching m n R) where
 
   pub back_forth : (k : ℕ) → forth (back_again k) ≡ k
   back_forth k = one_partner m n R is (back_again k) (forth (back_again k)) k (partner m n R is (back_again k)).1 (origin k)
+
+  -- the numbers above stay in their order
+  pub forth_beyond : (e : ℕ) → forth (m + e) ≡ n + e
+  forth_beyond e = one_partner m n R is (m + e) (forth (m + e)) (n + e) (partner m n R is (m + e)).1 (beyond e refl refl)
 
   pub forth_is : (d k : ℕ) → R d k → forth d ≡ k
   forth_is d k r = one_partner m n R is d (forth d) k (partner m n R is d).1 (matched r)

@@ -29,7 +29,7 @@ use Rattle.lin_driver.specs.NamedSignatures.{TextsDeclareIdentifiers}
 use Rattle.lin_driver.proofs.Identifiers.{identifier_named}
 
 -- ---- rows under names
-abbrev AreRows : {X : Type 0} → List (Name × X) → Type 0
+abbrev pub AreRows : {X : Type 0} → List (Name × X) → Type 0
 AreRows {X} rs = AllByRecursion (λ (r : Name × X). IsIdentifier r.0) rs
 
 rows_of : {X : Type 0} (x : Name → X) (ws : List PlainWord) → AreNames ws → AreRows (map (λ (n : Name). (n, x n)) (bare_names ws))
@@ -63,7 +63,7 @@ all_recognisers e (c ∷ cs) all =
     all_both (λ (r : Named). IsIdentifier r.0) (where_named e truth_values (recogniser c.name.bytes (fields_of (bare_constructor c))) (bare_word c.recogniser)) (flat_map (λ (c : Constructor). where_named e truth_values (recogniser c.name (fields_of c)) c.recogniser) (map bare_constructor cs))
     (where_rows e truth_values (recogniser c.name.bytes (fields_of (bare_constructor c))) c.recogniser all.0.2) (all_recognisers e cs all.1)
 
-functions_named : (d : PlainDecl) → IsDeclarationOfWords d → AreRows (functions_by (bare_declaration d))
+pub functions_named : (d : PlainDecl) → IsDeclarationOfWords d → AreRows (functions_by (bare_declaration d))
 functions_named (trees.sorts_decl span ns) is = tt
 functions_named (trees.alias_decl span n s) is = tt
 functions_named (trees.struct_decl span n cs) is =
@@ -111,7 +111,7 @@ module _ {X : Type 0} (by : Declaration → List (Name × X)) (each : (d : Plain
   of_declarations [] all = tt
   of_declarations (d ∷ ds) all = all_both (λ (r : Name × X). IsIdentifier r.0) (by (bare_declaration d)) (flat_map by (map bare_declaration ds)) (each d all.0) (of_declarations ds all.1)
 
-  of_sections : (ss : List PlainSection) → AllByRecursion IsSectionOfWords ss → AreRows (flat_map by (declarations_in (map bare_section ss)))
+  pub of_sections : (ss : List PlainSection) → AllByRecursion IsSectionOfWords ss → AreRows (flat_map by (declarations_in (map bare_section ss)))
   of_sections [] all = tt
   of_sections (s ∷ ss) all =
       subst (λ rs. AreRows rs) (sym (flat_map-append by (map bare_declaration s.declarations) (declarations_in (map bare_section ss))))
@@ -166,7 +166,7 @@ some_first {Y = Y} n y (r ∷ rs) i = ⊎_elim
     by_test k true = (r.1, refl)
     by_test k false = k
 
-paired_row : {X Y : Type 0} (Q : X → Y → Type 0) (rs : List (Name × X)) (vs : List (Name × Y)) → AreRows rs → ((n : Name) → EachPair Q (all_named n rs) (all_named n vs)) → (v : Name × Y) → Contains vs v → IsIdentifier v.0
+pub paired_row : {X Y : Type 0} (Q : X → Y → Type 0) (rs : List (Name × X)) (vs : List (Name × Y)) → AreRows rs → ((n : Name) → EachPair Q (all_named n rs) (all_named n vs)) → (v : Name × Y) → Contains vs v → IsIdentifier v.0
 paired_row Q rs vs all pairs v i =
     let s = some_named v.0 v.1 vs i in
     paired_name Q v.0 rs s.1 s.0 all (subst (λ ys. EachPair Q (all_named v.0 rs) ys) s.2 (pairs v.0))

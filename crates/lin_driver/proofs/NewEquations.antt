@@ -24,9 +24,9 @@ use Rattle.sort_checker.specs.Elaborations.{WrittenEquation, ElaboratesEquation}
 use Rattle.sort_checker.specs.ScopeLaws.{Both, both}
 use Rattle.sort_checker.proofs.RelatedTypings.{AllRelated, related_none, related_more, map_both, then_both, or_both}
 use Rattle.sort_checker.proofs.EquationNumbers.{of_applied}
-use Rattle.lin_driver.specs.Renumberings.{Renumbering, new_sort, new_symbol, new_term, new_terms, TakesFullVocabulary}
+use Rattle.lin_driver.specs.Renumberings.{Renumbering, new_sort, new_symbol, new_term, new_terms, TakesVocabulary}
 use Rattle.lin_driver.proofs.NewTerms.{new_apply, new_long}
-use Rattle.lin_driver.proofs.NewDerivations.{new_has_sort, IsMoved, AreMoved}
+use Rattle.lin_driver.proofs.NewDerivations.{IsMoved, AreMoved}
 use Rattle.lin_driver.proofs.SameSorts.{met}
 use Rattle.lin_driver.proofs.NewTypings.{KeepsNew, NewInferred, NewTypings, NewScopes, scopes_none, scopes_more, typed_new}
 use Rattle.lin_driver.proofs.NewElaborations.{bound_sort, vars_of, binds_apart, Reads, first_read, rest_read, bounds_long, reads_bound}
@@ -69,7 +69,7 @@ pub record GoWith (r : Renumbering) (q p : Equation) (d e : ℕ → Term) (n l :
   pub second : Contains (variables_of_equation p) l → Declares p.sorts l (new_sort r sort)
   pub term : new_term r (d n) ≡ e l
 
-module _ (r : Renumbering) (v w : FullVocabulary) (takes : TakesFullVocabulary r v w) (q p : Equation) (d : ℕ → Term) (k : Environment) where
+module _ (r : Renumbering) (v w : FullVocabulary) (takes : TakesVocabulary r v.declared w.declared) (q p : Equation) (d : ℕ → Term) (k : Environment) where
   abbrev e : ℕ → Term
   e = term_in k
 
@@ -83,7 +83,7 @@ module _ (r : Renumbering) (v w : FullVocabulary) (takes : TakesFullVocabulary r
       → AllByRecursion (IsSorted q) bs → AllByRecursion (IsSorted p) cs → Reads k (vars_of cs) (map (λ n. new_term r (d n)) (vars_of bs)) → NewScopes r Moved one other → NewScopes r Moved inner deeper
   variables_new binds_none binds_none a b reads h = h
   variables_new (binds_more {n = n} {s = s} {e = y} {bs = bs} se fr ds) (binds_more {n = l} {s = z} {bs = cs} te gr ds') a b reads h =
-      let sort : new_sort r s ≡ z = bound_sort r v.declared w.declared takes.declared y s z se te in
+      let sort : new_sort r s ≡ z = bound_sort r v.declared w.declared takes y s z se te in
       let term : e l ≡ new_term r (d n) = first_read (e l) (map (put e) (map variable (vars_of cs))) (map (λ m. new_term r (d m)) (vars_of bs)) (new_term r (d n)) reads in
       let with_it : GoWith r q p d e n l = record { sort = s; first = a.0; second = λ c. subst (λ (x : Sort). Declares p.sorts l x) (sym sort) (b.0 c); term = sym term } in
       variables_new ds ds' a.1 b.1 (rest_read (e l) (map (put e) (map variable (vars_of cs))) (map (λ m. new_term r (d m)) (vars_of bs)) (new_term r (d n)) reads)
@@ -117,9 +117,9 @@ module _ (r : Renumbering) (v w : FullVocabulary) (takes : TakesFullVocabulary r
         by_part (inl j) = let z = c.variables l j in closed_at z.0 l (Contains-append_left (variables_of q.condition) (variables_of q.left ++ variables_of q.right) z.0 z.1) i z.2
         by_part (inr j) = by_side (Contains-append_cases (variables_of p.left) (variables_of p.right) l j)
 
-module _ (r : Renumbering) (v w : FullVocabulary) (takes : TakesFullVocabulary r v w) where
-  equation_new : (x : WrittenEquation) (q p : Equation) → ElaboratesEquation v x q → ElaboratesEquation w x p → (others : List Equation) → Contains others p → (d : ℕ → Term) → IsClosedInstance v.declared.tables q d
-      → IsMoved r w.declared.tables others q d
+-- over data with the sorts and functions of both vocabularies, and maybe more, whose closed terms have their sorts under the new numbers
+module _ (r : Renumbering) (v w : FullVocabulary) (takes : TakesVocabulary r v.declared w.declared) (g h : Data) (into : (t : Term) (s : Sort) → HasSort g [] t s → HasSort h [] (new_term r t) (new_sort r s)) where
+  equation_new : (x : WrittenEquation) (q p : Equation) → ElaboratesEquation v x q → ElaboratesEquation w x p → (others : List Equation) → Contains others p → (d : ℕ → Term) → IsClosedInstance g q d → IsMoved r h others q d
   equation_new x q p a b others among d closed =
       let ts : List Term = map (λ n. new_term r (d n)) (vars_of a.bounds) in
       let k : Environment = bound (vars_of b.bounds) ts in
@@ -127,7 +127,7 @@ module _ (r : Renumbering) (v w : FullVocabulary) (takes : TakesFullVocabulary r
       let reads : Reads k (vars_of b.bounds) ts = reads_bound (vars_of b.bounds) ts (new_long (λ n. new_term r (d n)) (vars_of a.bounds) ∙ bounds_long a.binds b.binds) (binds_apart b.binds).0 in
       let scopes : NewScopes r (AreMovedTerms r d (term_in k) P) a.scope b.scope = variables_new r v w takes q p d k a.binds b.binds a.sorts b.sorts reads scopes_none in
       let typed : (y : Expression) → NewTypings r (AreMovedTerms r d (term_in k) P) (typing_in v.declared a.scope y) (typing_in w.declared b.scope y)
-      = typed_new r (AreMovedTerms r d (term_in k) P) (keeps r d (term_in k) P) v.declared w.declared takes.declared a.scope b.scope scopes in
+      = typed_new r (AreMovedTerms r d (term_in k) P) (keeps r d (term_in k) P) v.declared w.declared takes a.scope b.scope scopes in
       let left : NewInferred r (AreMovedTerms r d (term_in k) P) (record { term = q.left; sort = a.sort }) (record { term = p.left; sort = b.sort }) = met (left_new r v w takes q p d k (typed x.left) (typed x.right)) a.left b.left in
       let right : AreMovedTerms r d (term_in k) P q.right p.right = met ((typed x.right).checks a.sort b.sort left.sort) a.right b.right in
       let condition : AreMovedTerms r d (term_in k) P q.condition p.condition = met (condition_new r v w takes q p d k a.scope b.scope typed x.condition) a.condition b.condition in
@@ -135,7 +135,7 @@ module _ (r : Renumbering) (v w : FullVocabulary) (takes : TakesFullVocabulary r
         equation = p;
         terms = term_in k;
         among = among;
-        closed = closed_new r v w takes q p d k v.declared.tables w.declared.tables closed (λ n s i. new_has_sort r v.declared.tables w.declared.tables takes.declared.tables [] (d n) s i) condition left.term right;
+        closed = closed_new r v w takes q p d k g h closed (λ n s i. into (d n) s i) condition left.term right;
         condition = condition.put_in;
         left = left.term.put_in;
         right = right.put_in;
@@ -149,7 +149,7 @@ module _ (r : Renumbering) (v w : FullVocabulary) (takes : TakesFullVocabulary r
   equations_at (x ∷ xs) (y ∷ own) (z ∷ others) a b zero q at = (x, z, subst (ElaboratesEquation v x) (same_Some y q at) a.0, b.0, refl)
   equations_at (x ∷ xs) (y ∷ own) (z ∷ others) a b (suc i) q at = equations_at xs own others a.1 b.1 i q at
 
-  pub equations_moved : (xs : List WrittenEquation) (own others : List Equation) → EachPair (ElaboratesEquation v) xs own → EachPair (ElaboratesEquation w) xs others → AreMoved r v.declared.tables w.declared.tables own others
+  pub equations_moved : (xs : List WrittenEquation) (own others : List Equation) → EachPair (ElaboratesEquation v) xs own → EachPair (ElaboratesEquation w) xs others → AreMoved r g h own others
   equations_moved xs own others a b q d among closed =
       let i = read_contained own q among in
       let x = equations_at xs own others a b i.0 q i.1 in

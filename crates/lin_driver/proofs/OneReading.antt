@@ -32,7 +32,7 @@ use Rattle.lin_driver.specs.Renumberings.{Renumbering, back, new_sort, new_term,
 use Rattle.lin_driver.specs.OneReading.{AreSame, VocabulariesAreOne, SystemsAreOne, TextsHaveOneReading, TheSameHaveTheSameSteps}
 use Rattle.lin_driver.specs.SameProcesses.{SameProcess}
 use Rattle.lin_driver.proofs.NewTerms.{sort_back, sorts_back, term_back, data_back}
-use Rattle.lin_driver.proofs.NewDerivations.{new_equal}
+use Rattle.lin_driver.proofs.NewDerivations.{new_has_sort, new_equal}
 use Rattle.lin_driver.proofs.NewSteps.{new_close, label_back, process_back, outcome_back, new_step, theory_back}
 use Rattle.lin_driver.proofs.SameSteps.{closed_same, process_turned, lands_turned, same_step}
 use Rattle.lin_driver.proofs.SameSorts.{met}
@@ -110,7 +110,7 @@ module _ (r : Renumbering) (v w : FullVocabulary) (takes : TakesFullVocabulary r
   there : (t u : Term) → Equal th t u → Equal ti (new_term r t) (new_term r u)
   there t u h =
       subst (λ (g : Data). ProvablyEqual g ti.equations (new_term r t) (new_term r u)) (sym other.data_of)
-      (new_equal r v.declared.tables w.declared.tables takes.declared.tables th.equations ti.equations (equations_moved r v w takes (equations_in ss) th.equations ti.equations one.equations other.equations)
+      (new_equal r v.declared.tables w.declared.tables takes.declared.tables th.equations ti.equations (equations_moved r v w takes.declared v.declared.tables w.declared.tables (new_has_sort r v.declared.tables w.declared.tables takes.declared.tables []) (equations_in ss) th.equations ti.equations one.equations other.equations)
       (subst (λ (g : Data). ProvablyEqual g th.equations t u) one.data_of h))
 
   theory_new : ((t u : Term) → Equal ti t u → Equal th (new_term (back r) t) (new_term (back r) u)) → TakesTheory r th ti

@@ -26,27 +26,27 @@ use Rattle.lin_driver.proofs.AlikeParts.{actions_alike}
 use Rattle.lin_driver.proofs.MatchedNumbers.{IsMatching, IsPartner, matched, beyond, partner, both_below, forth_is, renumbering_by}
 
 -- ---- elements of lists
-data Among {A : Type 0} (x : A) : List A → Type 0 where
+pub data Among {A : Type 0} (x : A) : List A → Type 0 where
   first_one : {xs : List A} → Among x (x ∷ xs)
   one_behind : {y : A} {xs : List A} → Among x xs → Among x (y ∷ xs)
 
-among_none : {A : Type 0} {x : A} → Among x [] → ⊥
+pub among_none : {A : Type 0} {x : A} → Among x [] → ⊥
 among_none h = elim h [ ]
 
-place_of : {A : Type 0} {x : A} {xs : List A} → Among x xs → (i : ℕ) × (slice_get xs i ≡ Some x)
+pub place_of : {A : Type 0} {x : A} {xs : List A} → Among x xs → (i : ℕ) × (slice_get xs i ≡ Some x)
 place_of first_one = (0, refl)
 place_of (one_behind h) = let r = place_of h in (suc r.0, r.1)
 
-at_place : {A : Type 0} (x : A) (xs : List A) (i : ℕ) → slice_get xs i ≡ Some x → Among x xs
+pub at_place : {A : Type 0} (x : A) (xs : List A) (i : ℕ) → slice_get xs i ≡ Some x → Among x xs
 at_place x [] i e = absurd (none-some x e)
 at_place x (y ∷ xs) zero e = subst (λ z. Among x (z ∷ xs)) (sym (same_Some y x e)) first_one
 at_place x (y ∷ xs) (suc i) e = one_behind (at_place x xs i e)
 
-among_mapped : {A B : Type 0} (f : A → B) {x : A} {xs : List A} → Among x xs → Among (f x) (map f xs)
+pub among_mapped : {A B : Type 0} (f : A → B) {x : A} {xs : List A} → Among x xs → Among (f x) (map f xs)
 among_mapped f first_one = first_one
 among_mapped f (one_behind h) = one_behind (among_mapped f h)
 
-among_rows : {A : Type 0} (x : Name) (rs : List (Name × A)) (a : A) → Among a (all_named x rs) → Among (x, a) rs
+pub among_rows : {A : Type 0} (x : Name) (rs : List (Name × A)) (a : A) → Among a (all_named x rs) → Among (x, a) rs
 among_rows x [] a h = absurd (among_none h)
 among_rows {A = A} x (r ∷ rs) a h = by_test (among_rows x rs) (bytes_eq r.0 x) refl h
   where
@@ -58,7 +58,7 @@ among_rows {A = A} x (r ∷ rs) a h = by_test (among_rows x rs) (bytes_eq r.0 x)
     by_test rest true e k = here rest ((bytes_eq-Decides r.0 x).0 e) a k
     by_test rest false e k = one_behind (rest a k)
 
-among_named : {A : Type 0} (x : Name) (a : A) {rs : List (Name × A)} → Among (x, a) rs → Among a (all_named x rs)
+pub among_named : {A : Type 0} (x : Name) (a : A) {rs : List (Name × A)} → Among (x, a) rs → Among a (all_named x rs)
 among_named x a (first_one {xs = rs}) = subst (λ (b : Bool). Among a (cond b (a ∷ all_named x rs) (all_named x rs))) (sym ((bytes_eq-Decides x x).1 refl)) first_one
 among_named x a (one_behind {y = r} {xs = rs} h) = by_test (bytes_eq r.0 x) (among_named x a h)
   where
@@ -67,7 +67,7 @@ among_named x a (one_behind {y = r} {xs = rs} h) = by_test (bytes_eq r.0 x) (amo
     by_test false k = k
 
 -- ---- lists whose elements differ
-abbrev Once : {A : Type 0} → (A → A → Type 0) → List A → Type 0
+abbrev pub Once : {A : Type 0} → (A → A → Type 0) → List A → Type 0
 Once P [] = Unit {0}
 Once {A} P (x ∷ xs) = ((y : A) → Among y xs → P x y → ⊥) × Once P xs
 
@@ -117,7 +117,7 @@ beside_one i k j l _ _ o e (later h) here = absurd (o.0 j (beside_second h) (sym
 beside_one i k j l _ _ o e (later {is = is} {js = js} h) (later g) = beside_one i k j l is js o.1 e h g
 
 -- the thing of a number
-its_own : {A : Type 0} (P : A → ℕ → Type 0) (fs : List A) (is : List ℕ) → EachPair P fs is → (i : ℕ) → Among i is → (f : A) × Among f fs × P f i
+pub its_own : {A : Type 0} (P : A → ℕ → Type 0) (fs : List A) (is : List ℕ) → EachPair P fs is → (i : ℕ) → Among i is → (f : A) × Among f fs × P f i
 its_own P [] [] a i h = absurd (among_none h)
 its_own P [] (x ∷ is) a i h = absurd a
 its_own P (f ∷ fs) [] a i h = absurd a
@@ -178,7 +178,7 @@ same_tail x y xs ys e = cc
 
 module _ (u : UnderNames) (v : Vocabulary) (hv : HasSorts u v) where
   -- what a sort is called
-  data IsCalled : SortExpression → Sort → Type 0 where
+  pub data IsCalled : SortExpression → Sort → Type 0 where
     called_boolean : IsCalled truth_values boolean
     called_positive : IsCalled positives positive
     called_natural : IsCalled naturals natural
@@ -212,7 +212,7 @@ module _ (u : UnderNames) (v : Vocabulary) (hv : HasSorts u v) where
   stands (lists_of e) s h = let q = of_list (sort_in v.sort_names e) s h in let r = stands e q.0 q.1 in (lists_of r.0, for_lists e r.0 r.1)
   stands (a_name n) s h = (hv.named n).0 (s, h)
 
-  is_called : (e : SortExpression) (s : Sort) → sort_in v.sort_names e ≡ Some s → (f : SortExpression) × StandsFor u e f × IsCalled f s
+  pub is_called : (e : SortExpression) (s : Sort) → sort_in v.sort_names e ≡ Some s → (f : SortExpression) × StandsFor u e f × IsCalled f s
   is_called e s h =
       let r = stands e s h in
       let c = final_call r.1 in
@@ -375,7 +375,7 @@ module _ (u : UnderNames) (v w : Vocabulary) (iv : IsVocabularyOf u v) (iw : IsV
         (once_named (λ f g. (f.0 ≡ g.0) × SameArguments u f.1 g.1) (SameArguments u) c names (λ n a b e q. (e, q))
         (by_places (λ f g. (f.0 ≡ g.0) × SameArguments u f.1 g.1) names (λ i j f g a b p. differ.once i j f g a b p.0 p.1)))
 
-    numbers_meet : (c : Name) (es : List SortExpression) (k j : ℕ) → HasNumber v c es k → HasNumber w c es j → renumbering.functions k ≡ j
+    pub numbers_meet : (c : Name) (es : List SortExpression) (k j : ℕ) → HasNumber v c es k → HasNumber w c es j → renumbering.functions k ≡ j
     numbers_meet c es k j a b =
         function_is k j (record {
           name = c;

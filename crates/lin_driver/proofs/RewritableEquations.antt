@@ -45,7 +45,7 @@ use Rattle.sort_table.specs.Vocabularies.{Vocabulary, EachPair}
 use Rattle.data_typing.specs.TypingLaws.{HasSmallNumerals}
 use Rattle.data_typing.proofs.TreesWithin.{kept_over_growth}
 use Rattle.sort_checker.specs.Elaborations.{WrittenEquation, ElaboratesEquation}
-use Rattle.sort_checker.specs.FittingBodies.{EachOption}
+use Rattle.sort_checker.specs.FittingBodies.{EachOption, IsOverSorts}
 use Rattle.sort_checker.specs.FullVocabularies.{FullVocabulary}
 use Rattle.sort_checker.specs.Parts.{ScopedDeclaration, scoped_behind, variables_by}
 use Rattle.sort_checker.specs.Systems.{equation_under, equations_in}
@@ -66,10 +66,10 @@ small_condition : (s : PlainSection) (c : Option PlainData) → IsConditionOfWor
 small_condition s None h = tt
 small_condition s (Some d) h = small_datum s d h
 
-record IsSmall (e : WrittenEquation) : Type 0 where
-  condition : EachOption HasSmallNumerals e.condition
-  left : HasSmallNumerals e.left
-  right : HasSmallNumerals e.right
+pub record IsSmall (e : WrittenEquation) : Type 0 where
+  pub condition : EachOption HasSmallNumerals e.condition
+  pub left : HasSmallNumerals e.left
+  pub right : HasSmallNumerals e.right
 
 small_declaration : (s : PlainSection) (xs : Variables) (d : PlainDecl) → IsDeclarationOfWords d → AllByRecursion IsSmall (equation_under xs (bare_declaration d))
 small_declaration s xs (decls.sorts_decl span ns) h = tt
@@ -102,7 +102,7 @@ small_sections xs (s ∷ ss) h =
     let ys = flat_map variables_by (map bare_declaration s.declarations) in
     small_declarations s xs s.declarations (scoped_behind ys (map bare_section ss)) h.0 (small_sections ys ss h.1)
 
-small_equations : (spec : PlainSpec) → IsSpecOfWords spec → AllByRecursion IsSmall (equations_in (bare_sections spec))
+pub small_equations : (spec : PlainSpec) → IsSpecOfWords spec → AllByRecursion IsSmall (equations_in (bare_sections spec))
 small_equations spec h = small_sections [] spec.sections h
 
 -- ---- left sides
@@ -116,6 +116,22 @@ is_left : (g : Sig) (t : Tree) → IsNoVariable (term_under g t) → IsLeft t
 is_left g (trees.variable v) h = h
 is_left g (trees.numeral a z) h = tt
 is_left g (trees.function f ts) h = tt
+
+-- ---- an equation that elaborates is well formed
+pub elaborated_is_well_formed : (v : FullVocabulary) → IsOverSorts v → (e : WrittenEquation) (q : Equation) → IsSmall e → ElaboratesEquation v e q → IsWellFormed v.declared.tables q
+elaborated_is_well_formed v over e q small elaborates =
+    let fit = equations_fit v over e q small.condition small.left small.right elaborates in
+    record {
+      covered = record {
+        condition = over_its_own (variables_of q.left) q.condition (λ n i. elaborates.no_other n (Contains-append_left (variables_of q.condition) (variables_of q.right) n i));
+        right = over_its_own (variables_of q.left) q.right (λ n i. elaborates.no_other n (Contains-append_right (variables_of q.condition) (variables_of q.right) n i));
+      };
+      no_variable = no_variable_is q.left elaborates.no_variable;
+      sort = fit.0;
+      condition = fit.3;
+      left = fit.1;
+      right = fit.2;
+    }
 
 -- ---- what was made of a text
 module _ (spec : PlainSpec) (h : Sig) (us : List Tree) (equations : List PlainEquation) (x : NameId) (l : PlainLinear) (made : IsMadeFor spec h us equations x l) (words : IsSpecOfWords spec) where
@@ -153,18 +169,8 @@ module _ (spec : PlainSpec) (h : Sig) (us : List Tree) (equations : List PlainEq
 
   well_formed : (e : WrittenEquation) (q : Equation) → IsSmall e → ElaboratesEquation v e q → IsWellFormed (data_meant h) q
   well_formed e q small elaborates =
-      let fit = equations_fit v (over_sorts g made.stands (bare_sections spec) v made.is_model.over) e q small.condition small.left small.right elaborates in
-      record {
-        covered = record {
-          condition = over_its_own (variables_of q.left) q.condition (λ n i. elaborates.no_other n (Contains-append_left (variables_of q.condition) (variables_of q.right) n i));
-          right = over_its_own (variables_of q.left) q.right (λ n i. elaborates.no_other n (Contains-append_right (variables_of q.condition) (variables_of q.right) n i));
-        };
-        no_variable = no_variable_is q.left elaborates.no_variable;
-        sort = fit.0;
-        condition = sorted_later q q.condition boolean fit.3;
-        left = sorted_later q q.left fit.0 fit.1;
-        right = sorted_later q q.right fit.0 fit.2;
-      }
+      let well = elaborated_is_well_formed v (over_sorts g made.stands (bare_sections spec) v made.is_model.over) e q small elaborates in
+      record { covered = well.covered; no_variable = well.no_variable; sort = well.sort; condition = sorted_later q q.condition boolean well.condition; left = sorted_later q q.left well.sort well.left; right = sorted_later q q.right well.sort well.right }
 
   all_well_formed : (es : List WrittenEquation) (qs : List Equation) → AllByRecursion IsSmall es → EachPair (ElaboratesEquation v) es qs → All (IsWellFormed (data_meant h)) qs
   all_well_formed [] [] small pairs = All-nil (IsWellFormed (data_meant h))

@@ -39,3 +39,4 @@ pub mod SameProcesses
 pub mod OneReading
 pub mod EachReading
 pub mod JudgedTexts
+pub mod ConsistentTexts

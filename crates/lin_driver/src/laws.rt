@@ -128,3 +128,13 @@ pub fn what_stands_for_a_text_does_so_in_each_reading()
 pub fn products_within_lose_nothing()
     ensures { WhatIsKeptIsOfWholeProducts }
 {}
+
+ghost use Rattle.lin_driver.specs.ConsistentTexts.{AcceptedModelsAreOfAcceptedTexts, AcceptedTextsNeedNoPremise, TextsWithoutEquationsNeedNoPremise};
+
+/// Where a text has no written equations, or accepted ones, the theory of what is printed for it is consistent, in each reading, and the link is
+/// good without a premise. The equations of a text are accepted where those of its model are.
+pub fn consistent_texts_need_no_premise()
+    ensures without_equations { TextsWithoutEquationsNeedNoPremise }
+    ensures accepted { AcceptedTextsNeedNoPremise }
+    ensures of_models { AcceptedModelsAreOfAcceptedTexts }
+{}
