@@ -3,8 +3,8 @@ use Rattle.std.proofs.lemmas.List.{take_all}
 use Rattle.data_theory.specs.declared.ids.NameId.{NameId}
 use Rattle.action_filters.specs.NameTests.{is_among}
 use Rattle.action_filters.specs.Filters.{same_name}
-use Rattle.summand_expander.proofs.NamesAdded.{or_none, more_among, found_at}
-use Rattle.summand_expander.proofs.nearby.add_names.Goals as goal
+use Rattle.action_filters.proofs.AddedNames.{or_none, more_among, found_at}
+use Rattle.action_filters.proofs.indexes.add_names.Goals as goal
 
 pub loop-name-init : goal.loop-name-init
 loop-name-init c x = or_none (is_among same_name c.args.set.now.keys x)
