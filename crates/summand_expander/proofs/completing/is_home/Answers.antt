@@ -4,7 +4,7 @@ use Rattle.process_terms.specs.PlainProcesses.{plain_rule}
 use Rattle.action_filters.specs.NameTests.{is_among}
 use Rattle.action_filters.specs.Filters.{same_name}
 use Rattle.summand_expander.specs.PlainAllowed.{joinings}
-use Rattle.summand_expander.proofs.nearby.is_home.Goals as goal
+use Rattle.summand_expander.proofs.completing.is_home.Goals as goal
 
 pub returns-then-is_among : goal.returns-then-is_among
 returns-then-is_among c = ap (λ b. b || list_any (λ d. is_among same_name c.args.set.now d.result) (joinings (map plain_rule c.args.candidates.now))) (sym c.if-is_among.true ∙ c.is_among.ensures)

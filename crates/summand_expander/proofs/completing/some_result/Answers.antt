@@ -4,7 +4,7 @@ use Rattle.action_filters.specs.NameTests.{is_among}
 use Rattle.action_filters.specs.Filters.{same_name}
 use Rattle.communication.specs.Ways.{Joining}
 use Rattle.summand_expander.proofs.CompletedSets.{some_gives}
-use Rattle.summand_expander.proofs.nearby.some_result.Goals as goal
+use Rattle.summand_expander.proofs.completing.some_result.Goals as goal
 
 pub returns-then-is_among : goal.returns-then-is_among
 returns-then-is_among c =
