@@ -1,5 +1,9 @@
 pub mod Filtered
 pub mod NamesTold
+pub mod Ordered
+pub mod AddedNames
+pub mod FirstPairs
+pub mod SameOutcomes
 pub mod TheoryLabels
 pub mod SameFilters
 pub mod AllowedExactly

@@ -8,7 +8,7 @@ use Rattle.std.proofs.lemmas.Grind.{flat_map-append}
 use Rattle.std.proofs.lemmas.List.Elements.{All-head, All-tail}
 use Rattle.process_terms.specs.PlainProcesses.{PlainAction}
 use Rattle.lps_core.specs.PlainLinears.{PlainSummand}
-use Rattle.action_filters.specs.NameTests.{is_among, is_nothing, with_first, without_one, where_some, is_permuted}
+use Rattle.action_filters.specs.NameTests.{is_among, is_nothing, with_first, without_one}
 use Rattle.action_filters.specs.LabelFilters.{Naming, shown}
 use Rattle.action_filters.specs.Filters.{labelled, by_label}
 
@@ -70,21 +70,6 @@ never_nothing n = ⊎_elim (λ e. absurd (omega (arith, e.1))) (λ e. e.0) (eqb_
 pub nothing_is_empty : {A : Type 0} (xs : List A) → is_nothing xs ≡ (length xs == 0)
 nothing_is_empty [] = refl
 nothing_is_empty (x ∷ xs) = sym (never_nothing (length xs))
-
--- ---- permutations
-module _ {A : Type 0} (same : A → A → Bool) where
-  pub permuted_next : (xs ys zs : List A) (x : A) (us : List A) → xs ≡ x ∷ us → without_one same x ys ≡ Some zs → is_permuted same xs ys ≡ is_permuted same us zs
-  permuted_next xs ys zs x us e f = ap (λ l. is_permuted same l ys) e ∙ ap (λ o. where_some (λ l. is_permuted same us l) o) f
-
-  pub permuted_never : (xs ys : List A) (x : A) (us : List A) → xs ≡ x ∷ us → without_one same x ys ≡ None → is_permuted same xs ys ≡ false
-  permuted_never xs ys x us e f = ap (λ l. is_permuted same l ys) e ∙ ap (λ o. where_some (λ l. is_permuted same us l) o) f
-
-  pub permuted_ends : (xs ys : List A) → xs ≡ [] → is_permuted same xs ys ≡ (length ys == 0)
-  permuted_ends xs ys e = ap (λ l. is_permuted same l ys) e ∙ by ys
-    where
-      by : (ys : List A) → is_permuted same [] ys ≡ (length ys == 0)
-      by [] = refl
-      by (y ∷ ys) = sym (never_nothing (length ys))
 
 -- ---- labels
 pub shown_append : {A N : Type 0} (w : Naming A N) (hidden : List N) (xs ys : List A) → shown w hidden (xs ++ ys) ≡ shown w hidden xs ++ shown w hidden ys

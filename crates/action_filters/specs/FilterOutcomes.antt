@@ -4,18 +4,19 @@ use Rattle.data_theory.specs.Signature.{Sig}
 use Rattle.process_terms.specs.PlainProcesses.{PlainAction, items_of_each}
 use Rattle.action_filters.specs.declared.labels.Filter.{Filter}
 use Rattle.action_filters.specs.declared.labels.Filter.TheVariants.{Allow, Block, Hide, Rename}
+use Rattle.action_filters.specs.Indexes.{AreInOrder}
 use Rattle.action_filters.specs.LabelFilters.{allowed_label, unblocked_label, shown_label}
 use Rattle.action_filters.specs.Filters.{naming, renamed_label, HaveTargets}
 
 abbrev pub outcome : Sig → Filter → List PlainAction → Option (List PlainAction)
-outcome g (Allow sets) = allowed_label (naming g) (items_of_each sets.now)
-outcome g (Block names) = unblocked_label (naming g) names.now
-outcome g (Hide names) = shown_label (naming g) names.now
-outcome g (Rename pairs) = renamed_label g pairs.now
+outcome g (Allow sets) = allowed_label (naming g) (items_of_each sets.keys)
+outcome g (Block names) = unblocked_label (naming g) names.keys
+outcome g (Hide names) = shown_label (naming g) names.keys
+outcome g (Rename pairs) = renamed_label g pairs.entries
 
--- each new name has its actions
-abbrev pub HasTargets : Sig → Filter → Type 0
-HasTargets g (Allow sets) = Unit {0}
-HasTargets g (Block names) = Unit {0}
-HasTargets g (Hide names) = Unit {0}
-HasTargets g (Rename pairs) = HaveTargets g pairs.now
+-- what stands in a filter is as its labels are looked up: sets are in order, and each new name has its actions
+abbrev pub Serves : Sig → Filter → Type 0
+Serves g (Allow sets) = AreInOrder sets.keys
+Serves g (Block names) = Unit {0}
+Serves g (Hide names) = Unit {0}
+Serves g (Rename pairs) = HaveTargets g pairs.entries

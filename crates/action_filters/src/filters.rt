@@ -8,9 +8,10 @@ ghost use Rattle.process_terms.specs.PlainProcesses.{allow as allow_sets, block 
 ghost use Rattle.lps_core.specs.PlainLinears.{plain_linear, plain_summand};
 ghost use Rattle.lps_core.specs.Fitting.{Fits};
 ghost use Rattle.action_filters.specs.Filters.{allowed, hidden, labelled, renamed, unblocked, with_labels, HasActionsIn, HaveTargets, IsGoodAround, IsNameIn, RenamesOnce};
-ghost use Rattle.action_filters.specs.FilterOutcomes.{outcome, HasTargets};
+ghost use Rattle.action_filters.specs.FilterOutcomes.{outcome, Serves};
 ghost use Rattle.action_filters.specs.Means.{MeansAllowing, MeansBlocking, MeansHiding, MeansRenaming};
 
+use crate::indexes::{first_pairs, name_set, sets_in_order};
 use crate::labels::{Filter, filtered_label, signature_stands};
 use data_theory::{NameId, NoMemory, Signature};
 use lps_core::{Linear, Summand};
@@ -39,12 +40,12 @@ fn add_labelled(
 fn with_filter(
     alloc: Global,
     lin: &Linear,
-    filter: Filter,
+    filter: &Filter,
     sig: &Signature,
 ) -> Result<Linear, NoMemory>
     requires actions { All (HasActionsIn sig.now) (plain_linear lin.now).summands }
-    requires targets { HasTargets sig.now filter }
-    ensures { IfOk result (λ made. plain_linear made ≡ with_labels (outcome sig.now filter.entry) (plain_linear lin.now)) }
+    requires serves { Serves sig.now filter.now }
+    ensures { IfOk result (λ made. plain_linear made ≡ with_labels (outcome sig.now filter.now) (plain_linear lin.now)) }
 {
     let mut summands = Vec::new(alloc);
     for summand in &lin.summands {
@@ -78,7 +79,8 @@ pub fn allow(
     ensures bisimilar { IfOk result (λ made. (ts : List Tree) → Fits sig.now ts (plain_linear lin.now) → IsGoodAround sig.now ts (allow_sets (items_of_each sets.now)) (plain_linear lin.now) (plain_linear made)) }
 {
     signature_stands(sig);
-    with_filter(alloc, lin, Filter::Allow(sets), sig)
+    let index = sets_in_order(alloc, sets)?;
+    with_filter(alloc, lin, &Filter::Allow(index), sig)
 }
 
 /// `block(B, p)`: the summands without a name of the set (mCRL2 language reference, `block`).
@@ -100,7 +102,8 @@ pub fn block(
     ensures bisimilar { IfOk result (λ made. (ts : List Tree) → Fits sig.now ts (plain_linear lin.now) → IsGoodAround sig.now ts (block_names names.now) (plain_linear lin.now) (plain_linear made)) }
 {
     signature_stands(sig);
-    with_filter(alloc, lin, Filter::Block(names), sig)
+    let index = name_set(alloc, names)?;
+    with_filter(alloc, lin, &Filter::Block(index), sig)
 }
 
 /// `hide(I, p)`: each summand without its actions that have a name of the set (mCRL2 language reference, `hide`).
@@ -122,7 +125,8 @@ pub fn hide(
     ensures bisimilar { IfOk result (λ made. (ts : List Tree) → Fits sig.now ts (plain_linear lin.now) → IsGoodAround sig.now ts (hide_names names.now) (plain_linear lin.now) (plain_linear made)) }
 {
     signature_stands(sig);
-    with_filter(alloc, lin, Filter::Hide(names), sig)
+    let index = name_set(alloc, names)?;
+    with_filter(alloc, lin, &Filter::Hide(index), sig)
 }
 
 /// `rename(R, p)`: each summand with its names replaced, all at once and each of them once (mCRL2 language reference, `rename`).
@@ -146,5 +150,6 @@ pub fn rename(
     ensures bisimilar { IfOk result (λ made. (ts : List Tree) → Fits sig.now ts (plain_linear lin.now) → IsGoodAround sig.now ts (rename_pairs pairs.now) (plain_linear lin.now) (plain_linear made)) }
 {
     signature_stands(sig);
-    with_filter(alloc, lin, Filter::Rename(pairs), sig)
+    let index = first_pairs(alloc, pairs)?;
+    with_filter(alloc, lin, &Filter::Rename(index), sig)
 }

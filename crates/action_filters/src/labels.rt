@@ -1,28 +1,32 @@
 //! What comes out of a label.
 
 ghost use Rattle.std.specs.Prelude.{◌≡◌, ◌++◌, ◌∷◌, [], false, map, option_map, if◌then◌else◌, Some, None, IfOk, OnOk};
+ghost use Rattle.std.specs.List.{list_any};
 ghost use Rattle.data_theory.specs.WholeSignatures.{IsSignature};
 ghost use Rattle.process_terms.specs.PlainProcesses.{items_of_each, plain_action, plain_label};
 ghost use Rattle.action_filters.specs.NameTests.{is_among, is_permuted, without_one};
 ghost use Rattle.action_filters.specs.LabelFilters.{allowed_label, are_allowed, are_blocked, new_name, shown, shown_label, unblocked_label};
-ghost use Rattle.action_filters.specs.FilterOutcomes.{outcome, HasTargets};
+ghost use Rattle.action_filters.specs.FilterOutcomes.{outcome, Serves};
+ghost use Rattle.action_filters.specs.Indexes.{AreInOrder};
 ghost use Rattle.action_filters.specs.Filters.{key_of_action, naming, renamed_action, renamed_label, same_name, AreActionsIn, HaveTargets, IsActionIn};
 
+use crate::indexes::is_in;
 use data_theory::{ActId, NameId, NoMemory, Signature};
+use indexmap::{IndexMap, IndexSet};
 use process_terms::{Action, Label};
 use std::alloc::Global;
 
-/// What filters labels.
-#[derive(Clone, Copy)]
-pub(crate) enum Filter<'a> {
-    /// The names that are allowed together.
-    Allow(&'a [Vec<NameId>]),
+/// What filters labels: an index, in which each name of a label is looked up.
+#[derive(Drop)]
+pub(crate) enum Filter {
+    /// The names that are allowed together, each set in ascending order.
+    Allow(IndexSet<Vec<NameId>>),
     /// The names that are blocked.
-    Block(&'a [NameId]),
+    Block(IndexSet<NameId>),
     /// The names that are hidden.
-    Hide(&'a [NameId]),
+    Hide(IndexSet<NameId>),
     /// Names, and what they are replaced by.
-    Rename(&'a [(NameId, NameId)]),
+    Rename(IndexMap<NameId, NameId>),
 }
 
 /// Says what each signature keeps.
@@ -77,53 +81,47 @@ pub fn take_one(unmatched: &mut Vec<NameId>, name: NameId) -> bool
     false
 }
 
-/// Whether two lists have the same names, each as often.
-fn is_permuted(alloc: Global, names: &[NameId], set: &[NameId]) -> Result<bool, NoMemory>
-    ensures { IfOk result (λ same. same ≡ is_permuted same_name names.now set.now) }
+/// Whether these names are those of one of the sets.
+fn are_one_of(names: Vec<NameId>, sets: &IndexSet<Vec<NameId>>) -> bool
+    requires { AreInOrder sets.now.keys }
+    ensures { result ≡ list_any (is_permuted same_name names.items) (items_of_each sets.now.keys) }
 {
-    let mut unmatched = set.to_vec(alloc)?;
-    for name in names {
-        if !take_one(&mut unmatched, *name) {
-            return Ok(false);
-        }
-    }
-    Ok(unmatched.is_empty())
+    let mut sorted = names;
+    sorted.sort_unstable();
+    sets.contains(sorted.as_slice())
 }
 
 /// Whether there are no names, or those of one of the sets.
-fn are_allowed(alloc: Global, names: &[NameId], sets: &[Vec<NameId>]) -> Result<bool, NoMemory>
-    ensures { IfOk result (λ allowed. allowed ≡ are_allowed same_name (items_of_each sets.now) names.now) }
+fn are_allowed(names: Vec<NameId>, sets: &IndexSet<Vec<NameId>>) -> bool
+    requires { AreInOrder sets.now.keys }
+    ensures { result ≡ are_allowed same_name (items_of_each sets.now.keys) names.items }
 {
     if names.is_empty() {
-        return Ok(true);
+        return true;
     }
-    for set in sets {
-        if is_permuted(alloc, names, set.as_slice())? {
-            return Ok(true);
-        }
-    }
-    Ok(false)
+    are_one_of(names, sets)
 }
 
 /// Whether one of the names is blocked.
-fn are_blocked(names: &[NameId], blocked: &[NameId]) -> bool
-    ensures { result ≡ are_blocked same_name blocked.now names.now }
+fn are_blocked(names: &[NameId], blocked: &IndexSet<NameId>) -> bool
+    ensures { result ≡ are_blocked same_name blocked.now.keys names.now }
 {
-    names.iter().any(|name| is_among(blocked, *name))
+    names.iter().any(|name| is_in(blocked, *name))
 }
 
 /// The label, where its names are allowed.
 fn allowed_label(
     alloc: Global,
     sig: &Signature,
-    sets: &[Vec<NameId>],
+    sets: &IndexSet<Vec<NameId>>,
     label: &Label,
 ) -> Result<Option<Label>, NoMemory>
-    requires { AreActionsIn sig.now (plain_label label.now) }
-    ensures { IfOk result (λ made. option_map plain_label made ≡ allowed_label (naming sig.now) (items_of_each sets.now) (plain_label label.now)) }
+    requires actions { AreActionsIn sig.now (plain_label label.now) }
+    requires sets { AreInOrder sets.now.keys }
+    ensures { IfOk result (λ made. option_map plain_label made ≡ allowed_label (naming sig.now) (items_of_each sets.now.keys) (plain_label label.now)) }
 {
     let names = names_of(alloc, sig, label)?;
-    if !are_allowed(alloc, names.as_slice(), sets)? {
+    if !are_allowed(names, sets) {
         return Ok(None);
     }
     Ok(Some(label.copy(alloc)?))
@@ -133,11 +131,11 @@ fn allowed_label(
 fn unblocked_label(
     alloc: Global,
     sig: &Signature,
-    blocked: &[NameId],
+    blocked: &IndexSet<NameId>,
     label: &Label,
 ) -> Result<Option<Label>, NoMemory>
     requires { AreActionsIn sig.now (plain_label label.now) }
-    ensures { IfOk result (λ made. option_map plain_label made ≡ unblocked_label (naming sig.now) blocked.now (plain_label label.now)) }
+    ensures { IfOk result (λ made. option_map plain_label made ≡ unblocked_label (naming sig.now) blocked.now.keys (plain_label label.now)) }
 {
     let names = names_of(alloc, sig, label)?;
     if are_blocked(names.as_slice(), blocked) {
@@ -150,14 +148,14 @@ fn unblocked_label(
 fn add_shown(
     alloc: Global,
     sig: &Signature,
-    hidden: &[NameId],
+    hidden: &IndexSet<NameId>,
     action: &Action,
     found: &mut Vec<Action>,
 ) -> Result<(), NoMemory>
     requires { IsActionIn sig.now (plain_action action.now) }
-    ensures { OnOk result (map plain_action found.new.items ≡ map plain_action found.old.items ++ shown (naming sig.now) hidden.now (plain_action action.now ∷ [])) }
+    ensures { OnOk result (map plain_action found.new.items ≡ map plain_action found.old.items ++ shown (naming sig.now) hidden.now.keys (plain_action action.now ∷ [])) }
 {
-    if is_among(hidden, name_of(sig, action)) {
+    if is_in(hidden, name_of(sig, action)) {
         return Ok(());
     }
     found.push(action.copy(alloc)?)?;
@@ -168,11 +166,11 @@ fn add_shown(
 fn shown_label(
     alloc: Global,
     sig: &Signature,
-    hidden: &[NameId],
+    hidden: &IndexSet<NameId>,
     label: &Label,
 ) -> Result<Option<Label>, NoMemory>
     requires { AreActionsIn sig.now (plain_label label.now) }
-    ensures { IfOk result (λ made. option_map plain_label made ≡ shown_label (naming sig.now) hidden.now (plain_label label.now)) }
+    ensures { IfOk result (λ made. option_map plain_label made ≡ shown_label (naming sig.now) hidden.now.keys (plain_label label.now)) }
 {
     let mut actions = Vec::new(alloc);
     for action in &label.actions {
@@ -181,16 +179,14 @@ fn shown_label(
     Ok(Some(Label { actions }))
 }
 
-/// The name that stands for this one in the first pair that has it.
-fn new_name(pairs: &[(NameId, NameId)], name: NameId) -> NameId
-    ensures { result ≡ new_name same_name pairs.now name }
+/// The name that stands for this one.
+fn new_name(pairs: &IndexMap<NameId, NameId>, name: NameId) -> NameId
+    ensures { result ≡ new_name same_name pairs.now.entries name }
 {
-    for (from, to) in pairs {
-        if from.0 == name.0 {
-            return *to;
-        }
+    match pairs.get(&name) {
+        Some(new) => *new,
+        None => name,
     }
-    name
 }
 
 /// An action with the same arguments under another number.
@@ -207,12 +203,12 @@ fn with_number(alloc: Global, act: ActId, action: &Action) -> Result<Action, NoM
 fn renamed_action(
     alloc: Global,
     sig: &Signature,
-    pairs: &[(NameId, NameId)],
+    pairs: &IndexMap<NameId, NameId>,
     action: &Action,
 ) -> Result<Action, NoMemory>
     requires action { IsActionIn sig.now (plain_action action.now) }
-    requires targets { HaveTargets sig.now pairs.now }
-    ensures { IfOk result (λ made. plain_action made ≡ renamed_action sig.now pairs.now (plain_action action.now)) }
+    requires targets { HaveTargets sig.now pairs.now.entries }
+    ensures { IfOk result (λ made. plain_action made ≡ renamed_action sig.now pairs.now.entries (plain_action action.now)) }
 {
     signature_stands(sig);
     let entry = &sig.acts()[action.act.0];
@@ -227,12 +223,12 @@ fn renamed_action(
 fn renamed_label(
     alloc: Global,
     sig: &Signature,
-    pairs: &[(NameId, NameId)],
+    pairs: &IndexMap<NameId, NameId>,
     label: &Label,
 ) -> Result<Option<Label>, NoMemory>
     requires actions { AreActionsIn sig.now (plain_label label.now) }
-    requires targets { HaveTargets sig.now pairs.now }
-    ensures { IfOk result (λ made. option_map plain_label made ≡ renamed_label sig.now pairs.now (plain_label label.now)) }
+    requires targets { HaveTargets sig.now pairs.now.entries }
+    ensures { IfOk result (λ made. option_map plain_label made ≡ renamed_label sig.now pairs.now.entries (plain_label label.now)) }
 {
     let mut actions = Vec::new(alloc);
     for action in &label.actions {
@@ -245,12 +241,12 @@ fn renamed_label(
 pub(crate) fn filtered_label(
     alloc: Global,
     sig: &Signature,
-    filter: Filter,
+    filter: &Filter,
     label: &Label,
 ) -> Result<Option<Label>, NoMemory>
     requires actions { AreActionsIn sig.now (plain_label label.now) }
-    requires targets { HasTargets sig.now filter }
-    ensures { IfOk result (λ made. option_map plain_label made ≡ outcome sig.now filter.entry (plain_label label.now)) }
+    requires serves { Serves sig.now filter.now }
+    ensures { IfOk result (λ made. option_map plain_label made ≡ outcome sig.now filter.now (plain_label label.now)) }
 {
     match filter {
         Filter::Allow(sets) => allowed_label(alloc, sig, sets, label),

@@ -4,8 +4,10 @@
 #![tactic(auto)]
 
 mod filters;
+mod indexes;
 mod labels;
 pub mod laws;
 
 pub use filters::{allow, block, hide, rename};
+pub use indexes::{add_names, is_in};
 pub use labels::{is_among, names_of, take_one};

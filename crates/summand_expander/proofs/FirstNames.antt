@@ -30,10 +30,10 @@ pub record Covers {N : Type 0} (rules : List (Joining N)) (v ms : List N) : Type
   pub contains : Within ms opened
 
 -- ---- with a name put in, and in another order
-record OpensWith {N : Type 0} (rules : List (Joining N)) (piece os vs : List N) : Type 0 where
-  opened : List N
-  is_opened : OpenedAs rules vs opened
-  same : Permuted (piece ++ os) opened
+pub record OpensWith {N : Type 0} (rules : List (Joining N)) (piece os vs : List N) : Type 0 where
+  pub opened : List N
+  pub is_opened : OpenedAs rules vs opened
+  pub same : Permuted (piece ++ os) opened
 
 put_in : {N : Type 0} {rules : List (Joining N)} {n : N} {ns vs piece os : List N} → OpensAs rules n piece → Inserted n ns vs → OpenedAs rules ns os → OpensWith rules piece os vs
 put_in {piece = piece} {os = os} o at_front h = record { opened = piece ++ os; is_opened = one_opened o h; same = permuted_refl (piece ++ os) }
@@ -41,7 +41,7 @@ put_in {piece = piece} o (further i) (one_opened {piece = first} {os = os} p h) 
     let r = put_in o i h in
     record { opened = first ++ r.opened; is_opened = one_opened p r.is_opened; same = permuted_trans (middle_first piece first os) (permuted_append (permuted_refl first) r.same) }
 
-opened_along : {N : Type 0} {rules : List (Joining N)} {ns vs os : List N} → Permuted ns vs → OpenedAs rules ns os → OpensWith rules [] os vs
+pub opened_along : {N : Type 0} {rules : List (Joining N)} {ns vs os : List N} → Permuted ns vs → OpenedAs rules ns os → OpensWith rules [] os vs
 opened_along nothing_left nothing_opened = record { opened = []; is_opened = nothing_opened; same = nothing_left }
 opened_along (one_placed p i) (one_opened {piece = piece} {os = os} o h) =
     let r = opened_along p h in
@@ -96,23 +96,7 @@ find {N} {rules} {n = n} (one_opened {n = m} {ns = ns} {piece = piece} {os = os}
           same = permuted_trans (permuted_append (permuted_refl piece) r.same) (middle_first piece r.piece r.rest);
         }
 
--- ---- a member that no rule gives
-only_itself : {N : Type 0} {rules : List (Joining N)} {m : N} {piece : List N} → ((c : Joining N) → In c rules → c.result ≡ m → ⊥) → OpensAs rules m piece → piece ≡ m ∷ []
-only_itself f as_it_is = refl
-only_itself f (by_rule {c = c} i) = absurd (f c i refl)
-
-record Aside {N : Type 0} (rules : List (Joining N)) (n : N) (w os : List N) : Type 0 where
-  opened : List N
-  is_opened : OpenedAs rules w opened
-  same : Permuted os (n ∷ opened)
-
-set_aside : {N : Type 0} {rules : List (Joining N)} {n : N} {w v os : List N} → ((c : Joining N) → In c rules → c.result ≡ n → ⊥) → Inserted n w v → OpenedAs rules v os → Aside rules n w os
-set_aside {n = n} f at_front (one_opened {os = os} o h) = record { opened = os; is_opened = h; same = subst (λ z. Permuted (z ++ os) (n ∷ os)) (sym (only_itself f o)) (permuted_refl (n ∷ os)) }
-set_aside {n = n} f (further i) (one_opened {piece = piece} o h) =
-    let r = set_aside f i h in
-    record { opened = piece ++ r.opened; is_opened = one_opened o r.is_opened; same = permuted_trans (permuted_append (permuted_refl piece) r.same) (middle_first piece (n ∷ []) r.opened) }
-
-told_same : {P : Type 0} {b c : Bool} → Told P b → Told P c → b ≡ c
+pub told_same : {P : Type 0} {b c : Bool} → Told P b → Told P c → b ≡ c
 told_same (yes p) (yes q) = refl
 told_same (yes p) (no f) = absurd (f p)
 told_same (no f) (yes q) = absurd (f q)
@@ -162,11 +146,11 @@ module _ {N : Type 0} (same : N → N → Bool) (same_told : (x y : N) → Told 
       let k = in_filter (λ (c : Joining N). c.result ≡ n) (λ c. same c.result n) (rule_told n) rules r.1 in
       subst (λ z. OpensAs rules n z) (sym r.2) (subst (λ z. OpensAs rules z r.0.left) k.0 (by_rule k.1))
 
-  opened_in : (ns os : List N) → OpenedAs rules ns os → In os (all_opened same rules ns)
+  pub opened_in : (ns os : List N) → OpenedAs rules ns os → In os (all_opened same rules ns)
   opened_in [] _ nothing_opened = here
   opened_in (n ∷ ns) _ (one_opened {piece = piece} {os = os} o h) = each_in (λ piece. map (λ os. piece ++ os) (all_opened same rules ns)) (opening_in n piece o) (map_in (λ os. piece ++ os) (opened_in ns os h))
 
-  in_opened : (ns os : List N) → In os (all_opened same rules ns) → OpenedAs rules ns os
+  pub in_opened : (ns os : List N) → In os (all_opened same rules ns) → OpenedAs rules ns os
   in_opened [] os here = nothing_opened
   in_opened [] os (there i) = elim i [ ]
   in_opened (n ∷ ns) os i =
@@ -255,25 +239,3 @@ module _ {N : Type 0} (same : N → N → Bool) (same_told : (x y : N) → Told 
 
   pub first_tells : (n : N) (ns v : List N) → completes same rules (n ∷ ns) v ≡ completes_first same rules n ns v
   first_tells n ns v = told_same (completes_told (n ∷ ns) v) (first_told n ns v)
-
-  -- a first name that is in the set, and no rule's result, stays there
-  pub alone_tells : (n : N) (ns v : List N) → ((c : Joining N) → In c rules → c.result ≡ n → ⊥) → (w : List N) → Inserted n w v → gives same rules (n ∷ ns) v (alone n) ≡ completes same rules (n ∷ ns) v
-  alone_tells n ns v f w i = by (gives same rules (n ∷ ns) v (alone n)) (completes same rules (n ∷ ns) v) (gives_told (n ∷ ns) v (alone n)) (completes_told (n ∷ ns) v)
-    where
-      stays : Covers rules v (n ∷ ns) → Gives (n ∷ ns) v (alone n)
-      stays h =
-          let r = set_aside f i h.opens in
-          (w, (i, record { opened = r.opened; opens = r.is_opened; contains = piece_off same same_told (n ∷ []) (n ∷ ns) r.opened (within_more h.contains r.same) }))
-
-      by : (b c : Bool) → Told (Gives (n ∷ ns) v (alone n)) b → Told (Covers rules v (n ∷ ns)) c → b ≡ c
-      by true true t u = refl
-      by true false (yes g) (no m) = absurd (m (given (n ∷ ns) v (alone n) as_it_is g))
-      by false true (no m) (yes h) = absurd (m (stays h))
-      by false false t u = refl
-
-  pub nothing_completed : (v : List N) → completes same rules [] v ≡ true
-  nothing_completed v = told_same (completes_told [] v) (yes (record { opened = v; opens = all_stay v; contains = nothing_within v }))
-    where
-      all_stay : (v : List N) → OpenedAs rules v v
-      all_stay [] = nothing_opened
-      all_stay (n ∷ v) = one_opened as_it_is (all_stay v)

@@ -34,9 +34,9 @@ pub mod ToldCompletable
 pub mod CompletableAlong
 pub mod FirstNames
 pub mod TakenOut
-pub mod CompletedSets
 pub mod NearNames
-pub mod NamesAdded
+pub mod CompletedSets
+pub mod OpenedMembers
 pub mod NearLabels
 pub mod AllowedStays
 pub mod KeptAnswers

@@ -13,7 +13,7 @@ use Rattle.summand_expander.specs.CompletableTests.{is_contained, all_opened, co
 use Rattle.summand_expander.specs.ByFirst.{without_all, alone, gives, rules_with}
 use Rattle.summand_expander.specs.Nearby.{is_home, homes, has_result, near_rules, stands_in, AreNear}
 use Rattle.summand_expander.specs.PlainAllowed.{PlainAllowed, joinings, can_complete_ids}
-use Rattle.summand_expander.proofs.CompletedSets.{same_name_told}
+use Rattle.action_filters.proofs.Ordered.{same_name_told}
 use Rattle.summand_expander.proofs.FirstNames.{OpensAs, as_it_is, by_rule, OpenedAs, nothing_opened, one_opened, Covers, completes_told, first_tells}
 use Rattle.summand_expander.proofs.Multisets.{Within, with_others}
 use Rattle.summand_expander.proofs.TakenOut.{not_among}
@@ -65,7 +65,7 @@ module _ {N : Type 0} (same : N → N → Bool) (same_told : (x y : N) → Told 
   gives_nothing : (rules : List (Joining N)) (ns v : List N) (c : Joining N) → is_among same v c.result ≡ false → gives same rules ns v c ≡ false
   gives_nothing rules ns v c e = ap (λ o. where_some (λ w. completes same rules (without_all same ns c.left) w) o) (not_among same c.result v e)
 
-  away : (rules : List (Joining N)) (n : N) (ns v : List N) → is_home same (rules_with same n rules) n v ≡ false → completes same rules (n ∷ ns) v ≡ false
+  pub away : (rules : List (Joining N)) (n : N) (ns v : List N) → is_home same (rules_with same n rules) n v ≡ false → completes same rules (n ∷ ns) v ≡ false
   away rules n ns v e =
       let k = or_false (is_among same v n) (list_any (λ c. is_among same v c.result) (rules_with same n rules)) e in
       first_tells same same_told rules n ns v

@@ -27,8 +27,5 @@ abbrev pub rules_with : {N : Type 0} → (N → N → Bool) → N → List (Join
 rules_with same n rules = filter (λ c. is_among same c.left n) rules
 
 -- the first name stays in the set, or one of these left sides has it, and the rest is completed
-abbrev pub gives_first : {N : Type 0} → (N → N → Bool) → List (Joining N) → List (Joining N) → N → List N → List N → Bool
-gives_first same rules candidates n ns v = gives same rules ns v (alone n) || list_any (gives same rules ns v) candidates
-
 abbrev pub completes_first : {N : Type 0} → (N → N → Bool) → List (Joining N) → N → List N → List N → Bool
-completes_first same rules n ns v = gives_first same rules (rules_with same n rules) n (n ∷ ns) v
+completes_first same rules n ns v = gives same rules (n ∷ ns) v (alone n) || list_any (gives same rules (n ∷ ns) v) (rules_with same n rules)

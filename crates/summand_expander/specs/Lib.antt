@@ -11,6 +11,7 @@ pub mod LeavingOut
 pub mod PrunedLaws
 pub mod CompletableTests
 pub mod ByFirst
+pub mod Completions
 pub mod PlainAllowed
 pub mod Nearby
 pub mod Answers

@@ -1,4 +1,4 @@
-//! Answers whether names can be completed, so that the test is asked once for names in one order.
+//! Answers whether names can be completed, so that the test is asked once for the same names, whatever their order.
 
 ghost use Rattle.std.specs.Prelude.{◌≡◌, IfOk, OnOk};
 ghost use Rattle.summand_expander.specs.Answers.{answer_under, name_numbers, AreAnswers};
@@ -46,7 +46,8 @@ pub(crate) fn asked(
     ensures can { IfOk result (λ can. can ≡ can_complete_ids (plain_allowed allowed.now) names.now) }
     ensures kept { OnOk result (AreAnswers (plain_allowed allowed.now) answers.new) }
 {
-    let numbers = numbers_of(alloc, names)?;
+    let mut numbers = numbers_of(alloc, names)?;
+    numbers.sort_unstable();
     if let Some(can) = known(answers, numbers.as_slice()) {
         return Ok(can);
     }

@@ -1,37 +1,23 @@
 //! Whether names can be completed.
 
-ghost use Rattle.std.specs.Prelude.{◌≡◌, true, false, map, IfOk};
+ghost use Rattle.std.specs.Prelude.{◌≡◌, ◌<◌, ◌&&◌, ◌||◌, map, IfOk, MatchOption};
 ghost use Rattle.std.specs.List.{list_any};
+ghost use Rattle.communication.specs.Places.{joining_of};
 ghost use Rattle.process_terms.specs.PlainProcesses.{items_of_each, plain_rule};
 ghost use Rattle.action_filters.specs.Filters.{same_name};
-ghost use Rattle.action_filters.specs.NameTests.{is_among, without_one};
+ghost use Rattle.action_filters.specs.NameTests.{is_among};
+ghost use Rattle.summand_expander.specs.ByFirst.{rules_with};
 ghost use Rattle.summand_expander.specs.CompletableTests.{completes};
-ghost use Rattle.summand_expander.specs.ByFirst.{gives, gives_first, or_else, rules_with, without_all};
+ghost use Rattle.summand_expander.specs.Completions.{completes_behind, goes_on, opens_behind, plain_completion};
+ghost use Rattle.summand_expander.specs.Nearby.{is_home};
 ghost use Rattle.summand_expander.specs.PlainAllowed.{can_complete_ids, joinings, plain_allowed};
 
 use crate::allowing::Allowed;
-use action_filters::{is_among, take_one};
+use crate::completions::{Completion, begun, copied, next_missing, open};
+use action_filters::is_among;
 use data_theory::{NameId, NoMemory};
 use process_terms::CommRule;
 use std::alloc::Global;
-
-/// Takes the first one of a name out, where it is there.
-fn take_out(names: &mut Vec<NameId>, name: NameId)
-    ensures { names.new.items ≡ or_else names.old.items (without_one same_name name names.old.items) }
-{
-    if is_among(names.as_slice(), name) {
-        let _ = take_one(names, name);
-    }
-}
-
-/// Takes the names of a piece out, each as often as it is there.
-fn take_all(names: &mut Vec<NameId>, piece: &[NameId])
-    ensures { names.new.items ≡ without_all same_name names.old.items piece.now }
-{
-    for name in piece {
-        take_out(names, *name);
-    }
-}
 
 /// The rules that have a name on their left side.
 pub(crate) fn rules_with(
@@ -53,96 +39,118 @@ pub(crate) fn rules_with(
     Ok(found)
 }
 
-/// Whether a name is the result of a rule.
-fn is_result(rules: &[CommRule], name: NameId) -> bool
-    ensures { result ≡ list_any (λ c. same_name c.result name) (joinings (map plain_rule rules.now)) }
+/// Whether one of the rules has a result in a set.
+fn some_result(set: &[NameId], rules: &[CommRule]) -> bool
+    ensures { result ≡ list_any (λ c. is_among same_name set.now c.result) (joinings (map plain_rule rules.now)) }
 {
     for rule in rules {
-        if rule.result.0 == name.0 {
+        if is_among(set, rule.result) {
             return true;
         }
     }
     false
 }
 
-/// Whether a name is in a set in which it only stays, since it is no rule's result.
-fn only_stays(rules: &[CommRule], set: &[NameId], name: NameId) -> bool
-    ensures there { result ≡ true → is_among same_name set.now name ≡ true }
-    ensures closed { result ≡ true → list_any (λ c. same_name c.result name) (joinings (map plain_rule rules.now)) ≡ false }
+/// Whether a name is in a set, or one of the rules with it has a result in the set.
+pub(crate) fn is_home(candidates: &[CommRule], name: NameId, set: &[NameId]) -> bool
+    ensures { result ≡ is_home same_name (joinings (map plain_rule candidates.now)) name set.now }
 {
-    if is_result(rules, name) {
-        return false;
+    if is_among(set, name) {
+        return true;
     }
-    is_among(set, name)
+    some_result(set, candidates)
 }
 
-/// Whether a member of the set gives this left side, and the other members complete the names that are left then.
+/// Whether names are completed once a member is opened by this rule.
 #[cycle(completes)]
-fn gives(
+fn opens_behind(
     alloc: Global,
     rules: &[CommRule],
-    wanted: &[NameId],
-    set: &[NameId],
-    piece: &[NameId],
-    member: NameId,
+    state: &Completion,
+    rule: &CommRule,
 ) -> Result<bool, NoMemory>
-    ensures { IfOk result (λ can. can ≡ gives same_name (joinings (map plain_rule rules.now)) wanted.now set.now (record { left = piece.now; result = member })) }
+    ensures { IfOk result (λ can. can ≡ opens_behind (joinings (map plain_rule rules.now)) (plain_completion state.now) (joining_of (plain_rule rule.now))) }
 {
-    if !is_among(set, member) {
+    let mut next = copied(alloc, state)?;
+    if !open(&mut next, rule)? {
         return Ok(false);
     }
-    let mut others = set.to_vec(alloc)?;
-    if !take_one(&mut others, member) {
-        return Ok(false);
-    }
-    let mut left = wanted.to_vec(alloc)?;
-    take_all(&mut left, piece);
-    completes(alloc, rules, left.as_slice(), others.as_slice())
+    completes_behind(alloc, rules, next)
 }
 
-/// Whether these names are among what a set may have come from. A first name that only stays in the set stays there. So there are two ways to
-/// go on only where a name is in the set, on a left side, and a rule's result.
+/// Whether names are completed once a member is opened by one of these rules.
 #[cycle(completes)]
-fn completes(
+fn some_opens_behind(
     alloc: Global,
     rules: &[CommRule],
-    wanted: &[NameId],
-    set: &[NameId],
-) -> Result<bool, NoMemory>
-    ensures { IfOk result (λ can. can ≡ completes same_name (joinings (map plain_rule rules.now)) wanted.now set.now) }
-{
-    if wanted.is_empty() {
-        return Ok(true);
-    }
-    let first = wanted[0];
-    if only_stays(rules, set, first) {
-        return gives(alloc, rules, wanted, set, &[first], first);
-    }
-    let candidates = rules_with(alloc, rules, first)?;
-    completes_first(alloc, rules, candidates.as_slice(), first, wanted, set)
-}
-
-/// Whether the first of the names stays in the set and the rest is completed, or one of these rules gives the first one.
-#[cycle(completes)]
-fn completes_first(
-    alloc: Global,
-    rules: &[CommRule],
+    state: &Completion,
     candidates: &[CommRule],
-    first: NameId,
-    wanted: &[NameId],
-    set: &[NameId],
 ) -> Result<bool, NoMemory>
-    ensures { IfOk result (λ can. can ≡ gives_first same_name (joinings (map plain_rule rules.now)) (joinings (map plain_rule candidates.now)) first wanted.now set.now) }
+    ensures { IfOk result (λ can. can ≡ list_any (opens_behind (joinings (map plain_rule rules.now)) (plain_completion state.now)) (joinings (map plain_rule candidates.now))) }
 {
-    if gives(alloc, rules, wanted, set, &[first], first)? {
-        return Ok(true);
-    }
     for rule in candidates {
-        if gives(alloc, rules, wanted, set, rule.left.as_slice(), rule.result)? {
+        if opens_behind(alloc, rules, state, rule)? {
             return Ok(true);
         }
     }
     Ok(false)
+}
+
+/// Opens a member for the first name that is missing, or answers. Where left sides have no name in common, as in a text, one rule at most
+/// has the name. So nothing has to be tried: of those that have it, all but the last one are.
+#[cycle(completes)]
+fn next_opened(
+    alloc: Global,
+    rules: &[CommRule],
+    state: &mut Completion,
+) -> Result<Option<bool>, NoMemory>
+    ensures { IfOk result (goes_on (joinings (map plain_rule rules.now)) (plain_completion state.old) (plain_completion state.new)) }
+{
+    let Some(name) = next_missing(state)? else {
+        return Ok(Some(true));
+    };
+    let mut candidates = rules_with(alloc, rules, name)?;
+    let Some(last) = candidates.pop() else {
+        return Ok(Some(false));
+    };
+    if some_opens_behind(alloc, rules, state, candidates.as_slice())? {
+        return Ok(Some(true));
+    }
+    if open(state, &last)? {
+        return Ok(None);
+    }
+    Ok(Some(false))
+}
+
+/// Whether names are completed. A member is opened only where a name is missing, so as few are as can be.
+#[cycle(completes)]
+fn completes_behind(alloc: Global, rules: &[CommRule], state: Completion) -> Result<bool, NoMemory>
+    ensures { IfOk result (λ can. can ≡ completes_behind (joinings (map plain_rule rules.now)) (plain_completion state)) }
+{
+    let mut state = state;
+    loop {
+        if let Some(can) = next_opened(alloc, rules, &mut state)? {
+            return Ok(can);
+        }
+    }
+}
+
+/// Whether names, of which one with these rules is the first, are among what a set may have come from.
+fn completes(
+    alloc: Global,
+    rules: &[CommRule],
+    candidates: &[CommRule],
+    first: NameId,
+    names: &[NameId],
+    set: &[NameId],
+) -> Result<bool, NoMemory>
+    ensures { IfOk result (λ can. can ≡ (is_home same_name (joinings (map plain_rule candidates.now)) first set.now && completes same_name (joinings (map plain_rule rules.now)) names.now set.now)) }
+{
+    if !is_home(candidates, first, set) {
+        return Ok(false);
+    }
+    let state = begun(alloc, names, set)?;
+    completes_behind(alloc, rules, state)
 }
 
 /// Whether one of the sets completes the names, the first of which has these rules.
@@ -151,13 +159,13 @@ fn some_completes(
     rules: &[CommRule],
     candidates: &[CommRule],
     first: NameId,
-    wanted: &[NameId],
+    names: &[NameId],
     sets: &[Vec<NameId>],
 ) -> Result<bool, NoMemory>
-    ensures { IfOk result (λ can. can ≡ list_any (gives_first same_name (joinings (map plain_rule rules.now)) (joinings (map plain_rule candidates.now)) first wanted.now) (items_of_each sets.now)) }
+    ensures { IfOk result (λ can. can ≡ list_any (λ v. is_home same_name (joinings (map plain_rule candidates.now)) first v && completes same_name (joinings (map plain_rule rules.now)) names.now v) (items_of_each sets.now)) }
 {
     for set in sets {
-        if completes_first(alloc, rules, candidates, first, wanted, set.as_slice())? {
+        if completes(alloc, rules, candidates, first, names, set.as_slice())? {
             return Ok(true);
         }
     }
@@ -167,8 +175,8 @@ fn some_completes(
 /// Whether the names of a label can be completed to what is allowed: there are none, or they are among what one of the sets may have
 /// come from, each of whose members stays or gives the left side of a rule with this result.
 ///
-/// The first name says which members of a set come into question, so that a test takes time by the rules and the sets, and by the
-/// length of the label where no name is in a set, on a left side, and a rule's result.
+/// Only sets are asked in which the first name can stand. Of a set a member is opened only where a name is missing otherwise. So where left
+/// sides have no name in common, the least number of members is opened for each rule, one after another, and nothing is tried.
 ///
 /// # Errors
 ///

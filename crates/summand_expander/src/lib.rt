@@ -6,6 +6,7 @@
 mod allowing;
 mod answers;
 mod completing;
+mod completions;
 mod drafts;
 mod flag;
 mod frames;

@@ -12,8 +12,8 @@ ghost use Rattle.summand_expander.specs.Nearby.{has_result, is_home, near_rules,
 ghost use Rattle.summand_expander.specs.PlainAllowed.{can_complete_ids, joinings, plain_allowed, PlainAllowed};
 
 use crate::allowing::Allowed;
-use crate::completing::{is_completable, rules_with};
-use action_filters::{is_among, names_of};
+use crate::completing::{is_completable, is_home, rules_with};
+use action_filters::{add_names, is_among, is_in, names_of};
 use data_theory::{NameId, NoMemory, Signature};
 use indexmap::IndexSet;
 use process_terms::{Action, CommRule, CommSet, Label};
@@ -24,28 +24,6 @@ use std::alloc::Global;
 pub(crate) struct Nearby {
     pub allowed: Allowed,
     pub names: IndexSet<NameId>,
-}
-
-/// Whether one of the rules has a result in a set.
-fn some_result(set: &[NameId], rules: &[CommRule]) -> bool
-    ensures { result ≡ list_any (λ c. is_among same_name set.now c.result) (joinings (map plain_rule rules.now)) }
-{
-    for rule in rules {
-        if is_among(set, rule.result) {
-            return true;
-        }
-    }
-    false
-}
-
-/// Whether a name is in a set, or one of the rules with it has a result in the set.
-fn is_home(candidates: &[CommRule], name: NameId, set: &[NameId]) -> bool
-    ensures { result ≡ is_home same_name (joinings (map plain_rule candidates.now)) name set.now }
-{
-    if is_among(set, name) {
-        return true;
-    }
-    some_result(set, candidates)
 }
 
 /// The sets in which a name can stand.
@@ -96,16 +74,6 @@ fn near_rules(
         }
     }
     Ok(found)
-}
-
-/// Adds names to a set.
-fn add_names(names: &[NameId], set: &mut IndexSet<NameId>) -> Result<(), NoMemory>
-    ensures { OnOk result ((x : NameId) → is_among same_name set.new.keys x ≡ (is_among same_name set.old.keys x || is_among same_name names.now x)) }
-{
-    for name in names {
-        set.insert(*name)?;
-    }
-    Ok(())
 }
 
 /// Adds the names of sets.
@@ -182,13 +150,6 @@ fn are_near(near: &Nearby, sig: &Signature, label: &Label) -> bool
         }
     }
     true
-}
-
-/// Whether a name is in a set.
-fn is_in(set: &IndexSet<NameId>, name: NameId) -> bool
-    ensures { result ≡ is_among same_name set.now.keys name }
-{
-    set.contains(&name)
 }
 
 /// Whether names can be completed together with those of a label, by what is near them. Those of a label that has others can't.

@@ -13,7 +13,7 @@ filtered_label-requires-clause-actions c =
 
 pub loop-summand-preserved : goal.loop-summand-preserved
 loop-summand-preserved c =
-    labelled_append (outcome c.args.sig.now c.args.filter)
+    labelled_append (outcome c.args.sig.now c.args.filter.now)
     (map plain_summand (take c.loop-summand.summand-index c.deref-summand-items.result.now)) (map plain_summand (take (c.loop-summand.summand-index + 1) c.deref-summand-items.result.now))
     (plain_summand c.summand-item.result) (map plain_summand c.loop-summand.summands.items) (map plain_summand c.add_labelled.new.found.items)
     (mapped_more plain_summand c.deref-summand-items.result.now c.loop-summand.summand-index c.summand-item.result c.loop-summand-test.true c.summand-item.is)

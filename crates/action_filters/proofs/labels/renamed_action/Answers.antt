@@ -24,14 +24,14 @@ pub returns-in_default : goal.returns-in_default
 returns-in_default c =
     let g = c.args.sig.now in
     let a = plain_action c.args.action.now in
-    let q = looked_up g c.args.pairs.now a c.acts.result.now c.index-acts-action.result c.new_name-name.result c.as_slice.result.now c.acts.ensures c.requires.action c.index-acts-action.is c.new_name-name.ensures c.as_slice.ensures.value in
-    absurd (c.in_default.ensures (subst (λ k. Contains g.actions k) (sym q) (target_stands g c.args.pairs.now c.requires.targets (key_of_action g a) (key_within g a c.requires.action))))
+    let q = looked_up g c.args.pairs.now.entries a c.acts.result.now c.index-acts-action.result c.new_name-name.result c.as_slice.result.now c.acts.ensures c.requires.action c.index-acts-action.is c.new_name-name.ensures c.as_slice.ensures.value in
+    absurd (c.in_default.ensures (subst (λ k. Contains g.actions k) (sym q) (target_stands g c.args.pairs.now.entries c.requires.targets (key_of_action g a) (key_within g a c.requires.action))))
 
 pub returns : goal.returns
 returns c =
     let g = c.args.sig.now in
     let a = plain_action c.args.action.now in
-    let q = looked_up g c.args.pairs.now a c.acts.result.now c.index-acts-action.result c.new_name-name.result c.as_slice.result.now c.acts.ensures c.requires.action c.index-acts-action.is c.new_name-name.ensures c.as_slice.ensures.value in
-    let p = place_is g.actions (renamed_key c.args.pairs.now (key_of_action g a)) c.in-Some.act.0 c.signature_stands.ensures.actions_differ (c.in-Some.ensures ∙ ap (λ k. Some k) q) in
-    if_ok c.with_number.result (λ made. plain_action made ≡ record { act = c.in-Some.act; args = a.args }) (λ made. plain_action made ≡ renamed_action g c.args.pairs.now a)
+    let q = looked_up g c.args.pairs.now.entries a c.acts.result.now c.index-acts-action.result c.new_name-name.result c.as_slice.result.now c.acts.ensures c.requires.action c.index-acts-action.is c.new_name-name.ensures c.as_slice.ensures.value in
+    let p = place_is g.actions (renamed_key c.args.pairs.now.entries (key_of_action g a)) c.in-Some.act.0 c.signature_stands.ensures.actions_differ (c.in-Some.ensures ∙ ap (λ k. Some k) q) in
+    if_ok c.with_number.result (λ made. plain_action made ≡ record { act = c.in-Some.act; args = a.args }) (λ made. plain_action made ≡ renamed_action g c.args.pairs.now.entries a)
     (λ made e. e ∙ ap (λ (i : ℕ). record { act = record { 0 = i }; args = a.args }) p) c.with_number.ensures

@@ -14,6 +14,6 @@ add_shown-requires c =
 pub loop-action-preserved : goal.loop-action-preserved
 loop-action-preserved c =
     c.in_ok-add_shown.ensures
-    ∙ ap (λ l. l ++ shown (naming c.args.sig.now) c.args.hidden.now (plain_action c.action-item.result ∷ [])) c.loop-action.invariant
-    ∙ sym (shown_append (naming c.args.sig.now) c.args.hidden.now (map plain_action (take c.loop-action.action-index c.deref-action-items.result.now)) (plain_action c.action-item.result ∷ []))
-    ∙ ap (λ l. shown (naming c.args.sig.now) c.args.hidden.now l) (sym (mapped_more plain_action c.deref-action-items.result.now c.loop-action.action-index c.action-item.result c.loop-action-test.true c.action-item.is))
+    ∙ ap (λ l. l ++ shown (naming c.args.sig.now) c.args.hidden.now.keys (plain_action c.action-item.result ∷ [])) c.loop-action.invariant
+    ∙ sym (shown_append (naming c.args.sig.now) c.args.hidden.now.keys (map plain_action (take c.loop-action.action-index c.deref-action-items.result.now)) (plain_action c.action-item.result ∷ []))
+    ∙ ap (λ l. shown (naming c.args.sig.now) c.args.hidden.now.keys l) (sym (mapped_more plain_action c.deref-action-items.result.now c.loop-action.action-index c.action-item.result c.loop-action-test.true c.action-item.is))

@@ -5,4 +5,4 @@ use Rattle.action_filters.specs.Filters.{naming}
 use Rattle.action_filters.proofs.labels.shown_label.Given as goal
 
 abbrev pub invariant-loop-action : goal.invariant-loop-action
-invariant-loop-action l = map plain_action l.actions.items ≡ shown (naming l.sig) l.hidden (map plain_action (take l.action-index l.action-items))
+invariant-loop-action l = map plain_action l.actions.items ≡ shown (naming l.sig) l.hidden.keys (map plain_action (take l.action-index l.action-items))

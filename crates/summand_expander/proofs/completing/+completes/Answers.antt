@@ -1,48 +1,74 @@
-use Rattle.std.proofs.Common.{◌≡◌, Bool, map, sym, ap, ◌∙◌, arith, length}
+use Rattle.std.proofs.Common.{◌≡◌, ◌<◌, ◌||◌, true, false, Some, None, map, refl, sym, ap, subst, ◌∙◌, arith, if◌then◌else◌}
 use Rattle.std.specs.List.{list_any}
+use Rattle.communication.specs.Places.{joining_of}
 use Rattle.process_terms.specs.PlainProcesses.{plain_rule}
-use Rattle.action_filters.specs.Filters.{same_name}
-use Rattle.action_filters.proofs.Loops.{if_ok}
-use Rattle.summand_expander.specs.CompletableTests.{completes}
-use Rattle.summand_expander.specs.ByFirst.{alone, gives}
-use Rattle.summand_expander.specs.PlainAllowed.{joinings}
-use Rattle.summand_expander.proofs.CompletedSets.{empty_completed, first_completed, first_stays, some_gives, behind_true}
 use Rattle.action_filters.specs.NameTests.{where_some}
-use Rattle.summand_expander.specs.ByFirst.{without_all}
-use Rattle.summand_expander.proofs.TakenOut.{not_among, taken_shorter}
+use Rattle.summand_expander.specs.Completions.{completes_behind, members, missing_or_done, opened, opens_behind, plain_completion}
+use Rattle.summand_expander.specs.PlainAllowed.{joinings}
+use Rattle.summand_expander.proofs.CompletedSets.{some_gives}
+use Rattle.summand_expander.proofs.OpenedMembers.{nothing_wanted, one_member_less, tried_last, tried_none}
 use Rattle.summand_expander.proofs.completing.+completes.Goals as goal
 
-pub completes-returns-then-is_empty : goal.completes-returns-then-is_empty
-completes-returns-then-is_empty t c = empty_completed (joinings (map plain_rule c.args.rules.now)) c.args.wanted.now c.args.set.now (sym c.is_empty.ensures ∙ c.if-is_empty.true)
+pub next_opened-returns-in_default : goal.next_opened-returns-in_default
+next_opened-returns-in_default t c =
+    let rs = joinings (map plain_rule c.args.rules.now) in
+    let s = plain_completion c.next_missing.new.state in
+    nothing_wanted rs s (subst (missing_or_done s) c.in_default.is c.in_ok-name.ensures.missing) ∙ c.in_ok-name.ensures.same rs
 
-pub completes-returns-then-only_stays : goal.completes-returns-then-only_stays
-completes-returns-then-only_stays t c =
-    let rules = joinings (map plain_rule c.args.rules.now) in
-    let e = first_stays rules c.args.wanted.now c.args.set.now (record { 0 = 0 }) (sym c.is_empty.ensures ∙ c.if-is_empty.false) (c.only_stays.ensures.there c.if-only_stays.true) (c.only_stays.ensures.closed c.if-only_stays.true) in
-    if_ok c.gives.result _ (λ (can : Bool). can ≡ completes same_name rules c.args.wanted.now c.args.set.now) (λ can q. q ∙ e) c.gives.ensures
+pub next_opened-returns-in_default-pop : goal.next_opened-returns-in_default-pop
+next_opened-returns-in_default-pop t c =
+    let rs = joinings (map plain_rule c.args.rules.now) in
+    let s = plain_completion c.next_missing.new.state in
+    sym (tried_none rs s c.in-Some.name c.in_ok-candidates.candidates.items (subst (missing_or_done s) c.in-Some.is c.in_ok-name.ensures.missing) c.in_ok-candidates.ensures (sym c.in_ok-candidates.candidates.ok.0 ∙ c.in_default-pop.ensures.cases.0))
+    ∙ c.in_ok-name.ensures.same rs
 
-pub completes-returns : goal.completes-returns
-completes-returns t c =
-    let rules = joinings (map plain_rule c.args.rules.now) in
-    let e = first_completed rules (joinings (map plain_rule c.as_slice.result.now)) c.args.wanted.now c.args.set.now (record { 0 = 0 }) (sym c.is_empty.ensures ∙ c.if-is_empty.false)
-    (ap (λ rs. joinings (map plain_rule rs)) c.as_slice.ensures.value ∙ c.in_ok-candidates.ensures) in
-    if_ok c.completes_first.result _ (λ (can : Bool). can ≡ completes same_name rules c.args.wanted.now c.args.set.now) (λ can q. q ∙ e) c.completes_first.ensures
+pub next_opened-returns-then-branch : goal.next_opened-returns-then-branch
+next_opened-returns-then-branch t c =
+    let rs = joinings (map plain_rule c.args.rules.now) in
+    let s = plain_completion c.next_missing.new.state in
+    let last = joining_of (plain_rule c.in-Some-pop.last) in
+    let all = tried_last rs s c.in-Some.name c.in_ok-candidates.candidates.items c.pop.new.self.items c.in-Some-pop.last (subst (missing_or_done s) c.in-Some.is c.in_ok-name.ensures.missing) c.in_ok-candidates.ensures c.in-Some-pop.ensures.items in
+    let others : list_any (opens_behind rs s) (joinings (map plain_rule c.pop.new.self.items)) ≡ true =
+    ap (λ z. list_any (opens_behind rs s) (joinings (map plain_rule z))) (sym c.as_slice.ensures.value) ∙ sym c.in_ok-some_opens_behind.ensures ∙ c.if-branch.true in
+    sym (all ∙ ap (λ b. b || opens_behind rs s last) others) ∙ c.in_ok-name.ensures.same rs
 
-pub completes_first-returns-then-branch-2 : goal.completes_first-returns-then-branch-2
-completes_first-returns-then-branch-2 t c =
-    let test = gives same_name (joinings (map plain_rule c.args.rules.now)) c.args.wanted.now c.args.set.now in
-    behind_true (test (alone c.args.first)) (list_any test (joinings (map plain_rule c.args.candidates.now)))
-    (some_gives test c.args.candidates.now c.loop-rule.rule-index c.rule-item.result c.rule-item.result c.as_slice.result.now c.loop-rule-test.true c.rule-item.is c.as_slice.ensures.value (sym c.in_ok-gives-2.ensures ∙ c.if-branch-2.true))
+pub next_opened-returns-then-branch-2 : goal.next_opened-returns-then-branch-2
+next_opened-returns-then-branch-2 t c =
+    let rs = joinings (map plain_rule c.args.rules.now) in
+    let s = plain_completion c.next_missing.new.state in
+    let next = plain_completion c.open.new.state in
+    let last = joining_of (plain_rule c.in-Some-pop.last) in
+    let all = tried_last rs s c.in-Some.name c.in_ok-candidates.candidates.items c.pop.new.self.items c.in-Some-pop.last (subst (missing_or_done s) c.in-Some.is c.in_ok-name.ensures.missing) c.in_ok-candidates.ensures c.in-Some-pop.ensures.items in
+    let others : list_any (opens_behind rs s) (joinings (map plain_rule c.pop.new.self.items)) ≡ false =
+    ap (λ z. list_any (opens_behind rs s) (joinings (map plain_rule z))) (sym c.as_slice.ensures.value) ∙ sym c.in_ok-some_opens_behind.ensures ∙ c.if-branch.false in
+    let opens : opened last s ≡ Some next = c.in_ok-open.ensures ∙ ap (λ b. if b then Some next else None) c.if-branch-2.true in (
+      sym (c.in_ok-name.ensures.same rs) ∙ all ∙ ap (λ b. b || opens_behind rs s last) others ∙ ap (where_some (completes_behind rs)) opens,
+      subst (λ m. members next < m) c.in_ok-name.ensures.members (one_member_less s next last opens),
+    )
 
-pub gives-completes-requires : goal.gives-completes-requires
-gives-completes-requires t c =
-    let s = taken_shorter same_name c.args.member c.in_ok-others.others.items c.take_one.new.unmatched.items c.take_one.result c.if-not-take_one.false c.take_one.ensures.taken in
-    let v : length c.as_slice-2.result.now ≡ length c.take_one.new.unmatched.items = ap length c.as_slice-2.ensures.value in
-    let l = c.in_ok-others.ensures.len in
+pub next_opened-returns : goal.next_opened-returns
+next_opened-returns t c =
+    let rs = joinings (map plain_rule c.args.rules.now) in
+    let s = plain_completion c.next_missing.new.state in
+    let next = plain_completion c.open.new.state in
+    let last = joining_of (plain_rule c.in-Some-pop.last) in
+    let all = tried_last rs s c.in-Some.name c.in_ok-candidates.candidates.items c.pop.new.self.items c.in-Some-pop.last (subst (missing_or_done s) c.in-Some.is c.in_ok-name.ensures.missing) c.in_ok-candidates.ensures c.in-Some-pop.ensures.items in
+    let others : list_any (opens_behind rs s) (joinings (map plain_rule c.pop.new.self.items)) ≡ false =
+    ap (λ z. list_any (opens_behind rs s) (joinings (map plain_rule z))) (sym c.as_slice.ensures.value) ∙ sym c.in_ok-some_opens_behind.ensures ∙ c.if-branch.false in
+    let opens : opened last s ≡ None = c.in_ok-open.ensures ∙ ap (λ b. if b then Some next else None) c.if-branch-2.false in
+    sym (all ∙ ap (λ b. b || opens_behind rs s last) others ∙ ap (where_some (completes_behind rs)) opens) ∙ c.in_ok-name.ensures.same rs
+
+pub opens_behind-completes_behind-requires : goal.opens_behind-completes_behind-requires
+opens_behind-completes_behind-requires t c =
+    let next = plain_completion c.open.new.state in
+    let rule = joining_of (plain_rule c.args.rule.now) in
+    let opens : opened rule (plain_completion c.in_ok-next.next) ≡ Some next = c.in_ok-open.ensures ∙ ap (λ b. if b then Some next else None) c.if-not-branch.false in
+    let l = one_member_less (plain_completion c.in_ok-next.next) next rule opens in
+    let k = ap members c.in_ok-next.ensures in
     let d = c.decreases in
-    (omega (arith, s, v, l, d), tt)
+    (omega (arith, l, k, d), tt)
 
-pub gives-returns-then-not-is_among : goal.gives-returns-then-not-is_among
-gives-returns-then-not-is_among t c =
-    sym (ap (λ o. where_some (λ w. completes same_name (joinings (map plain_rule c.args.rules.now)) (without_all same_name c.args.wanted.now c.args.piece.now) w) o)
-    (not_among same_name c.args.member c.args.set.now (sym c.is_among.ensures ∙ c.if-not-is_among.true)))
+pub some_opens_behind-returns-then-branch : goal.some_opens_behind-returns-then-branch
+some_opens_behind-returns-then-branch t c =
+    sym (some_gives (opens_behind (joinings (map plain_rule c.args.rules.now)) (plain_completion c.args.state.now)) c.args.candidates.now c.loop-rule.rule-index c.rule-item.result c.rule-item.result c.rule-item.result.left.items c.loop-rule-test.true c.rule-item.is refl
+    (sym c.in_ok-opens_behind.ensures ∙ c.if-branch.true))

@@ -7,7 +7,7 @@ use Rattle.process_terms.specs.PlainProcesses.{plain_rule}
 use Rattle.action_filters.specs.NameTests.{is_among}
 use Rattle.action_filters.specs.Filters.{same_name}
 use Rattle.summand_expander.specs.PlainAllowed.{joinings}
-use Rattle.summand_expander.proofs.NamesAdded.{or_none, found_more}
+use Rattle.action_filters.proofs.AddedNames.{or_none, found_more}
 use Rattle.summand_expander.proofs.nearby.add_left_sides.Goals as goal
 
 -- the left sides of rules in memory

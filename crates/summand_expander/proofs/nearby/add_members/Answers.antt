@@ -7,7 +7,7 @@ use Rattle.data_theory.specs.declared.ids.NameId.{NameId}
 use Rattle.process_terms.specs.PlainProcesses.{items_of_each}
 use Rattle.action_filters.specs.NameTests.{is_among}
 use Rattle.action_filters.specs.Filters.{same_name}
-use Rattle.summand_expander.proofs.NamesAdded.{or_none, found_more}
+use Rattle.action_filters.proofs.AddedNames.{or_none, found_more}
 use Rattle.summand_expander.proofs.nearby.add_members.Goals as goal
 
 pub loop-names-init : goal.loop-names-init

@@ -1,9 +1,0 @@
-use Rattle.std.proofs.Common.{◌≡◌, take, false}
-use Rattle.std.specs.List.{list_any}
-use Rattle.process_terms.specs.PlainProcesses.{items_of_each}
-use Rattle.action_filters.specs.NameTests.{is_permuted}
-use Rattle.action_filters.specs.Filters.{same_name}
-use Rattle.action_filters.proofs.labels.are_allowed.Given as goal
-
-abbrev pub invariant-loop-set : goal.invariant-loop-set
-invariant-loop-set l = list_any (λ v. is_permuted same_name l.names v) (items_of_each (take l.set-index l.sets)) ≡ false
