@@ -1,5 +1,5 @@
 -- Moves that are taken as they are chosen.
-use Rattle.std.proofs.Common.{◌≡◌, ◌<◌, ◌-◌, ℕ, zero, suc, List, [], ◌∷◌, ◌++◌, map, take, drop, length, Option, Some, None, Result, Ok, Err, refl, sym, ap, ◌∙◌, subst, arith, append-nil}
+use Rattle.std.proofs.Common.{◌≡◌, ◌<◌, ◌+◌, ℕ, suc, List, [], ◌∷◌, ◌++◌, take, drop, length, Option, Some, None, Result, Ok, Err, sym, ap, ◌∙◌, subst, add-one, append-nil}
 use Rattle.std.specs.Prelude.{get_or, slice_get, IfSome, IfErr, IsErrAnd}
 use Rattle.std.proofs.Math.Seq.{drop-cons, take-suc}
 use Rattle.std.proofs.lemmas.List.{map-append, take-append-drop}
@@ -20,7 +20,7 @@ use Rattle.chosen_moves.specs.declared.following.ChoiceFault.{ChoiceFault}
 use Rattle.chosen_moves.specs.declared.following.ChoiceFault.TheVariants.{BadChoice, NoMemory}
 use Rattle.chosen_moves.specs.Choices.{HaveChoices}
 use Rattle.chosen_moves.specs.TakenMoves.{Pick, TakesMoves, none_taken, one_taken, HasOptionsIn}
-use Rattle.chosen_moves.specs.ChosenMoves.{pick_of, picks_of, place_of, StopsAt, IsBadChoice, no_number, no_move, IsOneFault, IsStopAmong, IsMoveFault, IsChoiceFault, FollowsText}
+use Rattle.chosen_moves.specs.ChosenMoves.{pick_of, picks_of, StopsAt, IsBadChoice, no_number, no_move, IsOneFault, IsMoveFault, IsChoiceFault, FollowsText}
 use Rattle.chosen_moves.proofs.TakenMoves.{takes_both}
 
 -- ---- one move
@@ -30,7 +30,7 @@ module _ (g : Sig) (own : List Equation) (fuel bound : ℕ) (ts us : List Tree) 
   options_in None found is options = options
   options_in (Some ids) found is options = record { signature = stands; fine = fine; fits = fits; stands = is; options = options }
 
-  pub AreTaken : List Pick → Option (List TermId) → Option (List TermId) → Type 0
+  abbrev pub AreTaken : List Pick → Option (List TermId) → Option (List TermId) → Type 0
   AreTaken picks state next = (labels : List Label) × TakesMoves g own fuel bound l picks ts state us next labels
 
   -- a move with the number that is chosen is taken
@@ -58,12 +58,15 @@ module _ (g : Sig) (own : List Equation) (fuel bound : ℕ) (l : PlainLinear) (t
   pub none_yet : (choices : List Choice) → Taken (picks_of (take 0 choices)) ts first
   none_yet choices = ([], none_taken)
 
-  one_more : (choices : List Choice) (i : ℕ) (c : Choice) → i < length choices → get_or choices i c ≡ c → picks_of (take (suc i) choices) ≡ picks_of (take i choices) ++ pick_of c ∷ []
-  one_more choices i c inside is = ap picks_of (take-suc choices i c inside ∙ ap (λ (x : Choice). take i choices ++ x ∷ []) is) ∙ map-append pick_of (take i choices) (c ∷ [])
+  one_more : (choices : List Choice) (i : ℕ) (d : Choice) → i < length choices → picks_of (take (suc i) choices) ≡ picks_of (take i choices) ++ pick_of (get_or choices i d) ∷ []
+  one_more choices i d inside = ap picks_of (take-suc choices i d inside) ∙ map-append pick_of (take i choices) (get_or choices i d ∷ [])
 
-  pub one_further : (choices : List Choice) (i : ℕ) (c : Choice) (us vs : List Tree) (state next : Option (List TermId)) → i < length choices → get_or choices i c ≡ c → Taken (picks_of (take i choices)) us state
-      → (labels : List Label) × TakesMoves g own fuel bound l (pick_of c ∷ []) us state vs next labels → Taken (picks_of (take (suc i) choices)) vs next
-  one_further choices i c us vs state next inside is far one = (far.0 ++ one.0, subst (λ (ps : List Pick). TakesMoves g own fuel bound l ps ts first vs next (far.0 ++ one.0)) (sym (one_more choices i c inside is)) (takes_both far.1 one.1))
+  pub one_further : (choices : List Choice) (i : ℕ) (d : Choice) (us vs : List Tree) (state next : Option (List TermId)) → i < length choices → Taken (picks_of (take i choices)) us state
+      → (labels : List Label) × TakesMoves g own fuel bound l (pick_of (get_or choices i d) ∷ []) us state vs next labels → Taken (picks_of (take (i + 1) choices)) vs next
+  one_further choices i d us vs state next inside far one = (
+    far.0 ++ one.0,
+    subst (λ (ps : List Pick). TakesMoves g own fuel bound l ps ts first vs next (far.0 ++ one.0)) (sym (one_more choices i d inside) ∙ ap (λ n. picks_of (take n choices)) (sym (add-one i))) (takes_both far.1 one.1),
+  )
 
   stops_behind : (front : List Choice) (c : Choice) (us : List Tree) (state : Option (List TermId)) → Taken (picks_of front) us state → StopsAt g own fuel bound l us state [] c → StopsAt g own fuel bound l ts first front c
   stops_behind front c us state far s = record {
@@ -78,23 +81,23 @@ module _ (g : Sig) (own : List Equation) (fuel bound : ℕ) (l : PlainLinear) (t
   }
 
   -- a choice that is no move stops all
-  pub one_stops : (choices : List Choice) (i : ℕ) (c : Choice) (us : List Tree) (state : Option (List TermId)) → i < length choices → get_or choices i c ≡ c → Taken (picks_of (take i choices)) us state → (fault : ChoiceFault)
-      → IsOneFault g own fuel bound l us state c fault → IsMoveFault g own fuel bound l ts first choices fault
-  one_stops choices i c us state inside is far (BadChoice number) bad = record {
+  pub one_stops : (choices : List Choice) (i : ℕ) (d : Choice) (us : List Tree) (state : Option (List TermId)) → i < length choices → Taken (picks_of (take i choices)) us state → (fault : ChoiceFault)
+      → IsOneFault g own fuel bound l us state (get_or choices i d) fault → IsMoveFault g own fuel bound l ts first choices fault
+  one_stops choices i d us state inside far (BadChoice number) bad = record {
     front = take i choices;
-    choice = c;
+    choice = get_or choices i d;
     behind = drop (suc i) choices;
-    split = sym (take-append-drop i choices) ∙ ap (λ (xs : List Choice). take i choices ++ xs) (drop-cons choices i c inside ∙ ap (λ (x : Choice). x ∷ drop (suc i) choices) is);
-    stops = stops_behind (take i choices) c us state far bad.1;
+    split = sym (take-append-drop i choices) ∙ ap (λ (xs : List Choice). take i choices ++ xs) (drop-cons choices i d inside);
+    stops = stops_behind (take i choices) (get_or choices i d) us state far bad.1;
     line = bad.0;
   }
-  one_stops choices i c us state inside is far NoMemory bad = tt
+  one_stops choices i d us state inside far NoMemory bad = tt
 
   -- ---- of a text
   module _ (text : List ℕ) (choices : List Choice) (bad : Option ℕ) (chosen : HaveChoices 1 (lines_of text) choices bad) where
     pub a_move_stops : (fault : ChoiceFault) → IsMoveFault g own fuel bound l ts first choices fault → IsChoiceFault g own fuel bound l text ts first fault
     a_move_stops (BadChoice number) stop =
-        no_move {behind = stop.behind} {bad = bad} stop.choice (subst (λ (cs : List Choice). HaveChoices 1 (lines_of text) cs bad) stop.split chosen) stop.stops stop.line
+        no_move stop.choice stop.behind (subst (λ (cs : List Choice). HaveChoices 1 (lines_of text) cs bad) stop.split chosen) stop.stops stop.line
     a_move_stops NoMemory stop = tt
 
     pub a_line_stops : (us : List Tree) (last : Option (List TermId)) (number : ℕ) → bad ≡ Some number → Taken (picks_of choices) us last → IsBadChoice g own fuel bound l text ts first number

@@ -1,5 +1,5 @@
 -- Reading choices line by line.
-use Rattle.std.proofs.Common.{◌≡◌, ◌+◌, ℕ, suc, Bool, true, false, List, [], ◌∷◌, ◌++◌, length, Option, Some, None, refl, sym, subst, ◌∙◌, append_assoc, append-nil, add-one}
+use Rattle.std.proofs.Common.{◌≡◌, ◌+◌, ℕ, suc, Bool, true, false, List, [], ◌∷◌, ◌++◌, length, Option, Some, None, sym, subst, ◌∙◌, append_assoc, append-nil, add-one}
 use Rattle.std.proofs.lemmas.List.{nil_from_length}
 use Rattle.trace_replay.specs.Lines.{lines_of}
 use Rattle.chosen_moves.specs.declared.choices.Choice.{Choice}
@@ -21,18 +21,18 @@ module _ (all : List (List ℕ)) (k : ℕ) (here : List (List ℕ)) (line : List
   line_read read fine = rw (add-one k) (by_line read)
     where
       by_line : IsReadLine line k old new good → ReadsTo all (suc k) lines new
-      by_line (nothing_chosen blank same yes) = λ cs bad h. subst (λ (xs : List Choice). HaveChoices 1 all (xs ++ cs) bad) (sym same) (at_the_line cs bad (blank_line blank h))
-      by_line (one_chosen number is_number same yes) = λ cs bad h.
+      by_line (nothing_chosen blank same fine_too) = λ cs bad h. subst (λ (xs : List Choice). HaveChoices 1 all (xs ++ cs) bad) (sym same) (at_the_line cs bad (blank_line blank h))
+      by_line (one_chosen number is_number same fine_too) = λ cs bad h.
           subst (λ (xs : List Choice). HaveChoices 1 all (xs ++ cs) bad) (sym same)
           (subst (λ (xs : List Choice). HaveChoices 1 all xs bad) (sym (append_assoc old (record { line = k; number = number } ∷ []) cs))
           (at_the_line (record { line = k; number = number } ∷ cs) bad (number_line is_number h)))
-      by_line (other_there other same no) = let never : true ≡ false = sym fine ∙ no in absurd cc
+      by_line (other_there other same bad_line) = let never : true ≡ false = sym fine ∙ bad_line in absurd cc
 
   -- another line ends the reading
   pub other_read : IsReadLine line k old new good → good ≡ false → HaveChoices 1 all new (Some k)
-  other_read (nothing_chosen blank same yes) not = let never : true ≡ false = sym yes ∙ not in absurd cc
-  other_read (one_chosen number is_number same yes) not = let never : true ≡ false = sym yes ∙ not in absurd cc
-  other_read (other_there other same no) not =
+  other_read (nothing_chosen blank same fine_too) bad_line = let never : true ≡ false = sym fine_too ∙ bad_line in absurd cc
+  other_read (one_chosen number is_number same fine_too) bad_line = let never : true ≡ false = sym fine_too ∙ bad_line in absurd cc
+  other_read (other_there other same is_bad) bad_line =
       subst (λ (xs : List Choice). HaveChoices 1 all xs (Some k)) (sym same)
       (subst (λ (xs : List Choice). HaveChoices 1 all xs (Some k)) (append-nil old) (at_the_line [] (Some k) (other_line other)))
 

@@ -47,7 +47,7 @@ pub record StopsAt (g : Sig) (own : List Equation) (fuel bound : ℕ) (l : Plain
 pub data IsBadChoice (g : Sig) (own : List Equation) (fuel bound : ℕ) (l : PlainLinear) (text : List ℕ) (ts : List Tree) (state : Option (List TermId)) (number : ℕ) : Type 0 where
   no_number : {choices : List Choice} {us : List Tree} {last : Option (List TermId)} {labels : List Label} → HaveChoices 1 (lines_of text) choices (Some number) → TakesMoves g own fuel bound l (picks_of choices) ts state us last labels
       → IsBadChoice g own fuel bound l text ts state number
-  no_move : {front behind : List Choice} {bad : Option ℕ} (c : Choice) → HaveChoices 1 (lines_of text) (front ++ c ∷ behind) bad → StopsAt g own fuel bound l ts state front c → number ≡ c.line → IsBadChoice g own fuel bound l text ts state number
+  no_move : {front : List Choice} {bad : Option ℕ} (c : Choice) (behind : List Choice) → HaveChoices 1 (lines_of text) (front ++ c ∷ behind) bad → StopsAt g own fuel bound l ts state front c → number ≡ c.line → IsBadChoice g own fuel bound l text ts state number
 
 -- ---- in code
 -- the choice is no move of the state; want of memory says nothing

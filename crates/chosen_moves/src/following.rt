@@ -53,10 +53,7 @@ fn place_of(number: u128, count: usize) -> Option<usize>
 }
 
 /// A copy of the terms of a state.
-fn copy_of(
-    alloc: Global,
-    state: &Option<Vec<TermId>>,
-) -> Result<Option<Vec<TermId>>, NoMemory>
+fn copy_of(alloc: Global, state: &Option<Vec<TermId>>) -> Result<Option<Vec<TermId>>, NoMemory>
     ensures { IfOk result (λ copy. plain_next copy ≡ plain_next state.now) }
 {
     match state {

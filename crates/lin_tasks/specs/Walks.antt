@@ -1,5 +1,5 @@
 -- Walks of a linear process.
-use Rattle.std.specs.Prelude.{◌≡◌, ◌==◌, ◌<◌, ◌+◌, ◌^◌, ◌/◌, ◌%◌, ◌++◌, ℕ, suc, List, [], ◌∷◌, Option, Some, None, cond, length, slice_get}
+use Rattle.std.specs.Prelude.{◌≡◌, ◌==◌, ◌<◌, ◌+◌, ◌^◌, ◌/◌, ◌%◌, ◌++◌, ℕ, zero, suc, List, [], ◌∷◌, Option, Some, None, cond, length, slice_get}
 use Rattle.std.specs.List.{flat_map}
 use Rattle.data_theory.specs.declared.ids.TermId.{TermId}
 use Rattle.data_theory.specs.IdTrees.{Tree}
@@ -28,13 +28,13 @@ place_picked word n = cond (n == 0) None (Some (picked word n))
 
 -- as many picks, each by the next one of the words behind a word
 abbrev pub picks_by_words : ℕ → ℕ → List Pick
-picks_by_words 0 word = []
+picks_by_words zero word = []
 picks_by_words (suc n) word = place_picked (next_word word) ∷ picks_by_words n (next_word word)
 
 -- Where a walk stops that could take so many moves more: where it can take none more, at the end, or at a state without a move; then the summands that are undecided there are the
 -- walk's. The pool grows from the first trees to the second ones.
 pub data StopsThere (g : Sig) (own : List Equation) (fuel bound : ℕ) (l : PlainLinear) : ℕ → List Tree → Option (List TermId) → List Tree → List Open → Type 0 where
-  most_taken : {ts : List Tree} {state : Option (List TermId)} → StopsThere g own fuel bound l 0 ts state ts []
+  most_taken : {ts : List Tree} {state : Option (List TermId)} → StopsThere g own fuel bound l zero ts state ts []
   at_the_end : {left : ℕ} {ts us : List Tree} → StopsThere g own fuel bound l left ts None us []
   no_move : {left : ℕ} {ts us : List Tree} {state : List TermId} (found : PlainOptions) → HasOptions g own fuel bound ts us l state found → found.moves ≡ []
       → StopsThere g own fuel bound l (suc left) ts (Some state) us found.undecided
