@@ -18,7 +18,7 @@ use data_theory::{NoMemory, Num, Signature, TermId};
 use lps_core::signature_stands;
 use lps_simulator::Session;
 use number_rules::NumOp;
-use std::alloc::Global;
+use std::alloc::{AllocError, Global};
 use term_pool::Pool;
 
 /// Why the moves that a text chooses aren't taken.
@@ -28,6 +28,17 @@ pub enum ChoiceFault {
     BadChoice(usize),
     /// No memory was left.
     NoMemory,
+}
+
+impl From<AllocError> for ChoiceFault {
+    ghost use Rattle.std.specs.Prelude.{◌≡◌};
+    ghost use Rattle.chosen_moves.specs.declared.following.ChoiceFault.TheVariants as faults;
+
+    ghost from_gives = { λ _ fault. fault ≡ faults.NoMemory };
+
+    fn from(_: AllocError) -> Self {
+        ChoiceFault::NoMemory
+    }
 }
 
 impl From<NoMemory> for ChoiceFault {

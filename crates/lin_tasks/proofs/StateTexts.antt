@@ -1,9 +1,9 @@
 -- A state is written as the start of its process, by an action with the name of the process.
-use Rattle.std.proofs.Common.{◌≡◌, ◌≢◌, ◌<◌, ◌==◌, ◌&&◌, ℕ, zero, suc, Bool, true, false, cond, List, [], ◌∷◌, ◌++◌, map, length, get_or, Option, Some, None, refl, sym, ap, ◌∙◌, subst, append-nil}
+use Rattle.std.proofs.Common.{◌≡◌, ◌≢◌, ◌<◌, ◌==◌, ◌&&◌, ℕ, zero, suc, Bool, true, false, cond, List, [], ◌∷◌, ◌++◌, map, length, get_or, Option, Some, None, refl, sym, ap, ◌∙◌, subst, eq-eqb, eqb-true}
 use Rattle.std.specs.Prelude.{codes, slice_get}
 use Rattle.std.specs.List.{All, filter}
 use Rattle.std.proofs.lemmas.List.{append_assoc}
-use Rattle.std.proofs.lemmas.List.Elements.{All-cons, All-head, All-nil, All-tail}
+use Rattle.std.proofs.lemmas.List.Elements.{All-cons, All-contains, All-head, All-nil, All-tail}
 use Rattle.std.proofs.lemmas.Option.{get_or_from_slice_get}
 use Rattle.data_theory.specs.declared.ids.ActId.{ActId}
 use Rattle.data_theory.specs.declared.ids.FunId.{FunId}
@@ -16,6 +16,7 @@ use Rattle.data_theory.specs.Functions.{Function}
 use Rattle.data_theory.specs.IdTrees.{Tree}
 use Rattle.data_theory.specs.Keys.{Key, key}
 use Rattle.data_theory.specs.Names.{place_in, with_text}
+use Rattle.data_theory.specs.IdTerms.{sort_under}
 use Rattle.data_theory.specs.Signature.{IsAct, Sig, with_action}
 use Rattle.data_theory.specs.Terms.{Term}
 use Rattle.data_theory.specs.WholeSignatures.{IsSignature}
@@ -23,7 +24,7 @@ use Rattle.data_theory.proofs.IdGrowthLemmas.{with_an_action_it_is_grown}
 use Rattle.data_theory.proofs.NameLemmas.{among_texts, place_is}
 use Rattle.data_theory.proofs.PlaceLemmas.{contains_read}
 use Rattle.process_terms.specs.Labels.{Action}
-use Rattle.process_terms.specs.Meanings.{action_of, label_of, term_at}
+use Rattle.process_terms.specs.Meanings.{ActionEntry, action_of, label_of, term_at}
 use Rattle.process_terms.specs.PlainProcesses.{PlainAction}
 use Rattle.process_terms.specs.SignatureEntries.{action_entry, entries_of, BothGrow}
 use Rattle.bisim_laws.proofs.Firing.{contains_none}

@@ -16,6 +16,14 @@ use process_terms::{Action, Label};
 use std::alloc::Global;
 use term_pool::Pool;
 
+/// The sort of a variable.
+fn sort_of(sig: &Signature, variable: VarId) -> SortId
+    requires { IsVariable sig.now variable }
+    ensures { result ≡ sort_of_variable sig.now variable }
+{
+    sig.var_sort(variable)
+}
+
 /// The sorts of variables.
 pub(crate) fn sorts_of(
     alloc: Global,
@@ -27,7 +35,7 @@ pub(crate) fn sorts_of(
 {
     let mut sorts = Vec::new(alloc);
     for variable in variables {
-        sorts.push(sig.var_sort(*variable))?;
+        sorts.push(sort_of(sig, *variable))?;
     }
     Ok(sorts)
 }

@@ -28,7 +28,7 @@ use data_theory::{NameId, NoMemory, Num, Signature, TermId};
 use lin_answers::Answer;
 use lin_driver::Linearised;
 use lin_refusals::Stop;
-use lps_core::Linear;
+use lps_core::{Linear, signature_stands};
 use lps_simulator::Session;
 use mcrl2_text::{Shelf, load};
 use number_rules::operations::exact;
@@ -58,6 +58,7 @@ fn shown_behind<F: Fn(NumOp, Num, Num) -> Option<Num>>(
     ensures fault { IfErr result (λ fault. (own : List Equation) → FitsPool rewriter.old sig.now own pool.old.trees → AreWellFormed sig.now own
         → IsChoiceFault sig.now own fuel bound (session_linear session.old) choices.now pool.old.trees (session_state session.old) fault) }
 {
+    signature_stands(sig);
     let last = follow(
         alloc, sig, pool, rewriter, session, first, choices, fuel, bound,
     )?;
@@ -125,6 +126,7 @@ fn shown_after(
     ensures shown { IfOk result (λ answer. ShowsStepsAfter sig.old (equations_in sig.old pool.old.trees theory.now) fuel bound pool.old.trees name (plain_linear lin) choices.now answer.status answer.text.items) }
     ensures fault { IfErr result (IsChoiceFault sig.old (equations_in sig.old pool.old.trees theory.now) fuel bound (plain_linear lin) choices.now pool.old.trees (Some (plain_linear lin).init)) }
 {
+    signature_stands(sig);
     let sorts = sorts_of(alloc, sig, lin.params())?;
     let (shown, last) = options_after(alloc, sig, pool, theory, lin, choices, fuel, bound)?;
     let mut text = state_line(alloc, sig, pool, name, sorts, last)?;
