@@ -1,5 +1,5 @@
 -- The name of the linear process of a text is a new one.
-use Rattle.std.proofs.Common.{◌≡◌, ◌≢◌, ◌<◌, ◌==◌, ℕ, zero, suc, Bool, true, false, cond, List, [], ◌∷◌, ◌++◌, map, length, Option, Some, refl, sym, ap, ◌∙◌, subst}
+use Rattle.std.proofs.Common.{◌≡◌, ◌≢◌, ◌<◌, ◌==◌, ℕ, zero, suc, Bool, true, false, cond, List, [], ◌∷◌, ◌++◌, map, length, Option, Some, inl, inr, refl, sym, ap, ◌∙◌, subst}
 use Rattle.std.specs.Prelude.{Contains, bytes_eq, codes, decimal, slice_get}
 use Rattle.std.specs.List.{All, AllByRecursion, flat_map}
 use Rattle.std.proofs.lemmas.List.Elements.{All-contains}
@@ -13,6 +13,7 @@ use Rattle.data_theory.specs.Complete.{IsActionWithin}
 use Rattle.data_theory.specs.Fresh.{candidate, IsFresh}
 use Rattle.data_theory.specs.Signature.{Sig, IsTaken}
 use Rattle.data_theory.specs.WholeSignatures.{IsSignature}
+use Rattle.data_theory.specs.Table.{comparison_rows, extreme_rows, first_rows, language_table, list_rows, quotient_rows, sort_rows, step_rows, sum_rows, truth_rows}
 use Rattle.data_theory.specs.Terms.{Sort}
 use Rattle.data_theory.specs.IdTerms.{IsGrown, sort_under}
 use Rattle.term_pool.proofs.DeclaredConstants.{still_read}
@@ -63,14 +64,14 @@ module _ {A : Type 0} where
   -- the list has one of these under the name
   named_back : (n : Name) (rs : List (Name × A)) (y : A) (ys : List A) → all_named n rs ≡ y ∷ ys → Contains rs (n, y)
   named_back n [] y ys is = let never : [] ≡ y ∷ ys = is in absurd cc
-  named_back n (r ∷ rs) y ys is = by_test (bytes_eq r.0 n) refl is
+  named_back n (r ∷ rs) y ys is = by_test (λ there. named_back n rs y ys there) (bytes_eq r.0 n) refl is
     where
-      by_test : (b : Bool) → bytes_eq r.0 n ≡ b → cond b (r.1 ∷ all_named n rs) (all_named n rs) ≡ y ∷ ys → Contains (r ∷ rs) (n, y)
-      by_test true same is =
+      by_test : (all_named n rs ≡ y ∷ ys → Contains rs (n, y)) → (b : Bool) → bytes_eq r.0 n ≡ b → cond b (r.1 ∷ all_named n rs) (all_named n rs) ≡ y ∷ ys → Contains (r ∷ rs) (n, y)
+      by_test further true same is =
           let name : r.0 ≡ n = (bytes_eq-Decides r.0 n).0 same in
           let value : r.1 ≡ y = cc in
           subst (λ (q : Name × A). Contains (r ∷ rs) q) (λ i. (name i, value i)) (contains_first r rs)
-      by_test false same is = contains_later r (n, y) rs (named_back n rs y ys is)
+      by_test further false same is = contains_later r (n, y) rs (further is)
 
 -- two lists that go together have both an element, or none
 first_of_both : {A B : Type 0} (Q : A → B → Type 0) (xs : List A) (ys : List B) (y : B) → EachPair Q xs ys → Contains ys y → (x : A) × (zs : List A) × (xs ≡ x ∷ zs)
@@ -126,6 +127,7 @@ same_actions (then_struct before by stands) = ap (λ (k : Sig). k.actions) by.is
 -- ---- fresh names
 -- none of these is the name of a built-in function
 candidates_are_free : (n : ℕ) → is_free (candidate (codes "P") n) ≡ true
+unfolding language_table truth_rows sort_rows comparison_rows sum_rows first_rows quotient_rows extreme_rows step_rows list_rows
 candidates_are_free zero = refl
 candidates_are_free (suc n) = refl
 

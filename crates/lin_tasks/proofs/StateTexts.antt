@@ -102,11 +102,11 @@ named_alone x sorts (a ∷ as_) all =
     ap (λ (b : Bool). cond b (a ∷ filter (has_name x) (as_ ++ key x sorts ∷ [])) (filter (has_name x) (as_ ++ key x sorts ∷ []))) other ∙ named_alone x sorts as_ (All-tail (λ (a : Key). a.name ≢ x) a as_ all)
   where
     differ : (n m : NameId) → n ≢ m → (n.0 == m.0) ≡ false
-    differ n m no = by_test (n.0 == m.0) refl
+    differ n m other = by_test (n.0 == m.0) refl
       where
         by_test : (b : Bool) → (n.0 == m.0) ≡ b → b ≡ false
         by_test false e = refl
-        by_test true e = absurd (no (ap (λ (k : ℕ). record { 0 = k }) (eqb-true n.0 m.0 e)))
+        by_test true e = absurd (other (ap (λ (k : ℕ). record { 0 = k }) (eqb-true n.0 m.0 e)))
 
 module _ (g : Sig) (x : NameId) (t : List ℕ) (sorts : List SortId) (stands : IsSignature g) (new : IsNewProcess g x) (named : slice_get g.texts x.0 ≡ Some t) where
   abbrev k : Sig
