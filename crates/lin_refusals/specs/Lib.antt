@@ -1,3 +1,4 @@
 pub mod Lines
 pub mod BadTraces
+pub mod BadChoices
 pub mod Stops

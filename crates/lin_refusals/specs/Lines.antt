@@ -98,6 +98,10 @@ refusal_line texts lin.NoMemory = no_memory_line
 abbrev pub bad_trace_line : ℕ → List ℕ
 bad_trace_line number = numbered (codes "refused 22 BadTrace ") number
 
+-- the line that refuses a text of choices whose line with this number is no move
+abbrev pub bad_choice_line : ℕ → List ℕ
+bad_choice_line number = numbered (codes "refused 28 BadChoice ") number
+
 -- these names have a text
 abbrev pub AreNamed : List (List ℕ) → List NameId → Type 0
 AreNamed texts = AllByRecursion (λ (n : NameId). n.0 < length texts)
@@ -131,7 +135,7 @@ names_of_fault (lin.Guard fault) = names_of_guard_fault fault
 names_of_fault _ = []
 
 abbrev pub line_of : Stop → List ℕ
-line_of Words = codes "usage: mcrl2lin TASK FILE [--trace FILE] [--method M] [--fuel N] [--bound N] [--seed N] [--depth N]\n"
+line_of Words = codes "usage: mcrl2lin TASK FILE [--trace FILE] [--method M] [--fuel N] [--bound N] [--seed N] [--depth N] [--after FILE]\n"
 line_of ReadFault = codes "read fault\n"
 line_of TooLong = codes "refused 0 TooLong\n"
 line_of (Refused line) = line.items

@@ -5,8 +5,9 @@ use Rattle.mcrl2_text.specs.declared.loading.LoadFault.TheVariants as load
 use Rattle.lin_driver.specs.declared.fault.LinFault.{LinFault}
 use Rattle.lin_driver.specs.declared.fault.LinFault.TheVariants as lin
 use Rattle.lin_driver.specs.declared.methods.Method.{Method}
+use Rattle.lin_refusals.specs.BadChoices.{IsBadChoiceAsTold}
 use Rattle.lin_refusals.specs.BadTraces.{IsBadAsTold, IsLongAsTold}
-use Rattle.lin_refusals.specs.Lines.{bad_trace_line, refusal_line}
+use Rattle.lin_refusals.specs.Lines.{bad_choice_line, bad_trace_line, refusal_line}
 use Rattle.lin_refusals.specs.declared.stop.Stop.{Stop}
 use Rattle.lin_refusals.specs.declared.stop.Stop.TheVariants.{Words, ReadFault, TooLong, Refused, NoMemory}
 
@@ -38,3 +39,11 @@ IsTraceStop method text told ReadFault = ⊤
 IsTraceStop method text told TooLong = IsLongAsTold told
 IsTraceStop method text told (Refused line) = (number : ℕ) × (line.items ≡ bad_trace_line number) × IsBadAsTold method text told number
 IsTraceStop method text told NoMemory = ⊤
+
+-- Why there is no answer behind chosen moves, after the text was made linear. Only a line that is no move refuses them.
+abbrev pub IsChoiceStop : Method → (fuel bound : ℕ) → List ℕ → Option (List ℕ) → Stop → Type 0
+IsChoiceStop method fuel bound text told Words = ⊥
+IsChoiceStop method fuel bound text told ReadFault = ⊤
+IsChoiceStop method fuel bound text told TooLong = IsLongAsTold told
+IsChoiceStop method fuel bound text told (Refused line) = (number : ℕ) × (line.items ≡ bad_choice_line number) × IsBadChoiceAsTold method fuel bound text told number
+IsChoiceStop method fuel bound text told NoMemory = ⊤

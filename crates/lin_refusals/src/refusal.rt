@@ -2,7 +2,7 @@
 ghost use Rattle.std.specs.Prelude.{◌≡◌, ◌<◌, ◌++◌, codes, decimal, IfOk, OnOk, length, string_bytes};
 ghost use Rattle.std.specs.List.{flat_map};
 ghost use Rattle.data_theory.specs.declared.ids.NameId.{NameId};
-ghost use Rattle.lin_refusals.specs.Lines.{AreNamed, bad_trace_line, guard_line, lex_line, listed, named, names_of_fault, names_of_guard_fault, names_of_net_fault, names_of_sort_fault, names_of_type_fault, net_line, parse_line, refusal_line, sort_line, spaced, text_of, type_line};
+ghost use Rattle.lin_refusals.specs.Lines.{AreNamed, bad_choice_line, bad_trace_line, guard_line, lex_line, listed, named, names_of_fault, names_of_guard_fault, names_of_net_fault, names_of_sort_fault, names_of_type_fault, net_line, parse_line, refusal_line, sort_line, spaced, text_of, type_line};
 
 use data_theory::{NameId, Names};
 use guard_check::GuardFault;
@@ -180,6 +180,13 @@ pub fn bad_trace(alloc: Global, number: usize) -> Result<Vec<u8>, AllocError>
     ensures { IfOk result (λ line. line.items ≡ bad_trace_line number) }
 {
     numbered(alloc, b"refused 22 BadTrace ", number)
+}
+
+/// The line that refuses a text of choices whose line with this number is no move.
+pub fn bad_choice(alloc: Global, number: usize) -> Result<Vec<u8>, AllocError>
+    ensures { IfOk result (λ line. line.items ≡ bad_choice_line number) }
+{
+    numbered(alloc, b"refused 28 BadChoice ", number)
 }
 
 /// A line with a number at its end.

@@ -2,12 +2,16 @@
 ghost use Rattle.std.specs.Prelude.{◌≡◌, ◌≢◌, List, Option, ℕ};
 ghost use Rattle.lin_driver.specs.declared.methods.Method.{Method};
 ghost use Rattle.lin_refusals.specs.BadTraces.{IsBadAsTold};
+ghost use Rattle.lin_refusals.specs.BadChoices.{IsBadChoiceAsTold};
 ghost use Rattle.lin_refusals.specs.Lines.{AreNamed, line_of, names_of_fault};
-ghost use Rattle.lin_refusals.specs.Stops.{IsStopFor, IsTraceStop, stop_of_load};
+ghost use Rattle.lin_refusals.specs.Stops.{IsChoiceStop, IsStopFor, IsTraceStop, stop_of_load};
 ghost use Rattle.trace_replay.specs.declared.replaying.ReplayFault.TheVariants.{BadTrace};
+ghost use Rattle.chosen_moves.specs.declared.following.ChoiceFault.TheVariants.{BadChoice};
+ghost use Rattle.lin_driver.specs.declared.methods.Method.{Method};
 ghost use Rattle.lin_refusals.specs.declared.stop.Stop.TheVariants as stop;
 
-use crate::refusal::{bad_trace, refusal};
+use crate::refusal::{bad_choice, bad_trace, refusal};
+use chosen_moves::ChoiceFault;
 use data_theory::{Names, NoMemory};
 use lin_driver::LinFault;
 use mcrl2_text::LoadFault;
@@ -21,9 +25,9 @@ pub enum Stop {
     Words,
     /// The shelf failed.
     ReadFault,
-    /// The text is too long, or the trace.
+    /// The text is too long, or the further file.
     TooLong,
-    /// The text is refused, or the trace, with this line.
+    /// The text is refused, or the further file, with this line.
     Refused(Vec<u8>),
     /// No memory was left.
     NoMemory,
@@ -79,13 +83,27 @@ impl Stop {
         }
     }
 
+    /// The stop for a text of choices with that fault.
+    pub fn for_choice(alloc: Global, fault: ChoiceFault) -> Stop
+        ensures cause { (method : Method) (fuel bound : ℕ) (text : List ℕ) (told : Option (List ℕ)) → ((number : ℕ) → fault ≡ BadChoice number → IsBadChoiceAsTold method fuel bound text told number) → IsChoiceStop method fuel bound text told result }
+        ensures no_read_fault { result ≢ stop.ReadFault }
+    {
+        let ChoiceFault::BadChoice(number) = fault else {
+            return Stop::NoMemory;
+        };
+        match bad_choice(alloc, number) {
+            Ok(line) => Stop::Refused(line),
+            Err(_) => Stop::NoMemory,
+        }
+    }
+
     /// The line that says it.
     pub fn line(&self) -> &[u8]
         ensures { result.now ≡ line_of self.now }
     {
         match self {
             Stop::Words =>
-                b"usage: mcrl2lin TASK FILE [--trace FILE] [--method M] [--fuel N] [--bound N] [--seed N] [--depth N]\n",
+                b"usage: mcrl2lin TASK FILE [--trace FILE] [--method M] [--fuel N] [--bound N] [--seed N] [--depth N] [--after FILE]\n",
             Stop::ReadFault => b"read fault\n",
             Stop::TooLong => b"refused 0 TooLong\n",
             Stop::Refused(line) => line,

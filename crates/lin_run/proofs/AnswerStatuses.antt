@@ -4,12 +4,12 @@ use Rattle.mcrl2_text.specs.declared.loading.TheConstants.{MAX_TEXT_LEN}
 use Rattle.lps_simulator.specs.declared.options.Open.{Open}
 use Rattle.trace_replay.specs.declared.replaying.Verdict.{Verdict}
 use Rattle.trace_replay.specs.declared.replaying.Verdict.TheVariants as verdict
-use Rattle.lin_words.specs.Commands.{Asked, asked_by, NeedsTrace, question, text_asked, trace_asked}
+use Rattle.lin_words.specs.Commands.{Asked, asked_by, further_asked, NeedsFurther, question, text_asked}
 use Rattle.lin_run.specs.Ends.{IsAnswer, IsAnswered, MayStayOpen, MaySayNo}
 use Rattle.lin_answers.specs.Statuses.{status_with}
 use Rattle.lin_tasks.specs.ShownVerdicts.{status_of_verdict}
 use Rattle.lin_words.specs.declared.command.Task.{Task}
-use Rattle.lin_words.specs.declared.command.Task.TheVariants.{Check, Linearise, Constelm, Parelm, Sumelm, Steps, Walk, Generate, Replay}
+use Rattle.lin_words.specs.declared.command.Task.TheVariants.{Check, Linearise, Constelm, Parelm, Sumelm, Steps, StepsAfter, Walk, Generate, Replay}
 use Rattle.lin_answers.specs.declared.status.Status.{Status}
 use Rattle.lin_answers.specs.declared.status.Status.TheVariants.{Done, Undecided, No}
 use Rattle.lin_run.proofs.Told.{of_loaded}
@@ -38,21 +38,22 @@ when_replayed task v may says s e = subst (HasItsStatus task) (sym e) (by_verdic
     by_verdict (verdict.Rejected number) = record { answered = tt; says_no = λ n. says; stays_open = λ u. may }
     by_verdict (verdict.Undecided number) = record { answered = tt; says_no = λ n. says; stays_open = λ u. may }
 
-pub has_its_status : (task : Task) (text : List ℕ) (trace : Option (List ℕ)) (s : Status) (x : List ℕ) → IsAnswer task text trace s x → HasItsStatus task s
-has_its_status Check text trace s x is = when_done Check s is.1
-has_its_status (Linearise method) text trace s x is = when_done (Linearise method) s is.1
-has_its_status (Constelm method fuel) text trace s x is = when_done (Constelm method fuel) s is.1
-has_its_status (Parelm method) text trace s x is = when_done (Parelm method) s is.1
-has_its_status (Sumelm method fuel) text trace s x is = when_done (Sumelm method fuel) s is.1
-has_its_status (Steps method fuel bound) text trace s x is = when_left (Steps method fuel bound) is.1.options.found.undecided tt s is.1.options.status_is
-has_its_status (Walk method plan) text trace s x is = when_left (Walk method plan) is.1.walk.undecided tt s is.1.walk.status_is
-has_its_status (Generate size) text trace s x is = when_done (Generate size) s is.1
-has_its_status (Replay method fuel bound) text trace s x is = when_replayed (Replay method fuel bound) is.1.replayed.answer.verdict tt tt s is.1.replayed.answer.status_is
+pub has_its_status : (task : Task) (text : List ℕ) (further : Option (List ℕ)) (s : Status) (x : List ℕ) → IsAnswer task text further s x → HasItsStatus task s
+has_its_status Check text further s x is = when_done Check s is.1
+has_its_status (Linearise method) text further s x is = when_done (Linearise method) s is.1
+has_its_status (Constelm method fuel) text further s x is = when_done (Constelm method fuel) s is.1
+has_its_status (Parelm method) text further s x is = when_done (Parelm method) s is.1
+has_its_status (Sumelm method fuel) text further s x is = when_done (Sumelm method fuel) s is.1
+has_its_status (Steps method fuel bound) text further s x is = when_left (Steps method fuel bound) is.1.options.found.undecided tt s is.1.options.status_is
+has_its_status (StepsAfter method fuel bound) text further s x is = when_left (StepsAfter method fuel bound) is.1.steps.shows.options.found.undecided tt s is.1.steps.shows.options.status_is
+has_its_status (Walk method plan) text further s x is = when_left (Walk method plan) is.1.walk.undecided tt s is.1.walk.status_is
+has_its_status (Generate size) text further s x is = when_done (Generate size) s is.1
+has_its_status (Replay method fuel bound) text further s x is = when_replayed (Replay method fuel bound) is.1.replayed.answer.verdict tt tt s is.1.replayed.answer.status_is
 
 -- what answers the bytes that were loaded answers the question
 pub answers_question : (text_of : List ℕ → Option (List ℕ)) (words : List (List ℕ)) (a : Asked) (bytes : List ℕ) (s : Status) (x : List ℕ) → asked_by words ≡ Some a → IfSome (text_asked text_of a) (λ text. bytes ≡ text) → length bytes ≤ MAX_TEXT_LEN
-    → IsAnswer a.task bytes (trace_asked text_of a) s x → IfSome (question text_of words) (λ q. (length q.text ≤ MAX_TEXT_LEN) × IsAnswer q.task q.text q.trace s x)
-answers_question text_of words a bytes s x asked told short is = of_loaded text_of words a bytes (λ q. (length q.text ≤ MAX_TEXT_LEN) × IsAnswer q.task q.text q.trace s x) asked told (short, is)
+    → IsAnswer a.task bytes (further_asked text_of a) s x → IfSome (question text_of words) (λ q. (length q.text ≤ MAX_TEXT_LEN) × IsAnswer q.task q.text q.further s x)
+answers_question text_of words a bytes s x asked told short is = of_loaded text_of words a bytes (λ q. (length q.text ≤ MAX_TEXT_LEN) × IsAnswer q.task q.text q.further s x) asked told (short, is)
 
 pub open_when_asked : (words : List (List ℕ)) (a : Asked) (s : Status) → asked_by words ≡ Some a → HasItsStatus a.task s → s ≡ Undecided → IfSome (asked_by words) (λ b. MayStayOpen b.task)
 open_when_asked words a s asked has u = subst (λ (o : Option Asked). IfSome o (λ b. MayStayOpen b.task)) (sym asked) (has.stays_open u)
@@ -60,14 +61,15 @@ open_when_asked words a s asked has u = subst (λ (o : Option Asked). IfSome o (
 pub no_when_asked : (words : List (List ℕ)) (a : Asked) (s : Status) → asked_by words ≡ Some a → HasItsStatus a.task s → s ≡ No → IfSome (asked_by words) (λ b. MaySayNo b.task)
 no_when_asked words a s asked has n = subst (λ (o : Option Asked). IfSome o (λ b. MaySayNo b.task)) (sym asked) (has.says_no n)
 
--- a task that needs no trace has the same answer for each
-pub with_any_trace : (task : Task) → ¬ (NeedsTrace task) → (text : List ℕ) (trace : Option (List ℕ)) (s : Status) (x : List ℕ) → IsAnswer task text None s x → IsAnswer task text trace s x
-with_any_trace Check none text trace s x is = is
-with_any_trace (Linearise method) none text trace s x is = is
-with_any_trace (Constelm method fuel) none text trace s x is = is
-with_any_trace (Parelm method) none text trace s x is = is
-with_any_trace (Sumelm method fuel) none text trace s x is = is
-with_any_trace (Steps method fuel bound) none text trace s x is = is
-with_any_trace (Walk method plan) none text trace s x is = is
-with_any_trace (Generate size) none text trace s x is = is
-with_any_trace (Replay method fuel bound) none text trace s x is = absurd (none tt)
+-- a task that needs no further file has the same answer for each
+pub with_any_further : (task : Task) → ¬ (NeedsFurther task) → (text : List ℕ) (further : Option (List ℕ)) (s : Status) (x : List ℕ) → IsAnswer task text None s x → IsAnswer task text further s x
+with_any_further Check none text further s x is = is
+with_any_further (Linearise method) none text further s x is = is
+with_any_further (Constelm method fuel) none text further s x is = is
+with_any_further (Parelm method) none text further s x is = is
+with_any_further (Sumelm method fuel) none text further s x is = is
+with_any_further (Steps method fuel bound) none text further s x is = is
+with_any_further (StepsAfter method fuel bound) none text further s x is = absurd (none tt)
+with_any_further (Walk method plan) none text further s x is = is
+with_any_further (Generate size) none text further s x is = is
+with_any_further (Replay method fuel bound) none text further s x is = absurd (none tt)

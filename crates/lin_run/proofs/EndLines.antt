@@ -11,14 +11,15 @@ use Rattle.lin_driver.specs.declared.fault.LinFault.TheVariants as lin
 use Rattle.lin_driver.specs.declared.methods.Method.{Method}
 use Rattle.lin_driver.specs.declared.methods.Method.TheVariants.{Auto}
 use Rattle.lin_driver.proofs.AcceptedTexts.{faulty_texts_cannot_be_linearised}
-use Rattle.lin_run.specs.Ends.{HasGoodTrace}
+use Rattle.lin_run.specs.Ends.{HasGoodFurther}
 use Rattle.lin_refusals.specs.BadTraces.{IsBadAsTold, IsBadTraceFor, IsGoodTrace, IsLongAsTold}
-use Rattle.lin_words.specs.Commands.{Asked, asked_by, NeedsTrace, Question, question, text_asked, trace_asked}
+use Rattle.lin_refusals.specs.BadChoices.{AreGoodChoices, IsBadChoiceAsTold, IsBadChoiceFor}
+use Rattle.lin_words.specs.Commands.{Asked, asked_by, further_asked, NeedsFurther, Question, question, text_asked}
 use Rattle.lin_run.specs.Ends.{IsAnswer, IsAnswered, IsTaken, IsTakenBy, IsLineOf, EndsWithLine, TookAnswer, EndsWell}
 use Rattle.lin_refusals.specs.Lines.{line_of}
-use Rattle.lin_run.specs.Causes.{HasCause, IsFaultFor, IsTooLong, IsTraceRefusal, status_of_stop}
+use Rattle.lin_run.specs.Causes.{HasCause, IsBadLineFor, IsFaultFor, IsFileRefusal, IsTooLong, status_of_stop}
 use Rattle.lin_words.specs.declared.command.Task.{Task}
-use Rattle.lin_words.specs.declared.command.Task.TheVariants.{Check, Linearise, Constelm, Parelm, Sumelm, Steps, Walk, Generate, Replay}
+use Rattle.lin_words.specs.declared.command.Task.TheVariants.{Check, Linearise, Constelm, Parelm, Sumelm, Steps, StepsAfter, Walk, Generate, Replay}
 use Rattle.lin_refusals.specs.declared.stop.Stop.{Stop}
 use Rattle.lin_refusals.specs.declared.stop.Stop.TheVariants.{Words, ReadFault, TooLong, Refused, NoMemory}
 use Rattle.lin_answers.specs.declared.status.Status.{Status}
@@ -90,73 +91,92 @@ never_refused (Constelm method fuel) text is texts fault of has = never_refused_
 never_refused (Parelm method) text is texts fault of has = never_refused_by method text is texts fault of has
 never_refused (Sumelm method fuel) text is texts fault of has = never_refused_by method text is texts fault of has
 never_refused (Steps method fuel bound) text is texts fault of has = never_refused_by method text is texts fault of has
+never_refused (StepsAfter method fuel bound) text is texts fault of has = never_refused_by method text is texts fault of has
 never_refused (Walk method plan) text is texts fault of has = never_refused_by method text is texts fault of has
 never_refused (Replay method fuel bound) text is texts fault of has = never_refused_by method text is texts fault of has
 never_refused (Generate size) text is texts fault of has = never_refused_by Auto text (is, λ e. let never : ⊥ = cc in absurd never) texts fault of has
 
--- ---- good traces
--- a trace that is told is the one that was read
-told_is_read : (told : Option (List ℕ)) (read trace : List ℕ) → told ≡ Some trace → IfSome told (λ t. read ≡ t) → read ≡ trace
-told_is_read told read trace is same = subst (λ (o : Option (List ℕ)). IfSome o (λ t. read ≡ t)) is same
+-- ---- good further files
+-- a text that is told is the one that was read
+told_is_read : (told : Option (List ℕ)) (read text : List ℕ) → told ≡ Some text → IfSome told (λ t. read ≡ t) → read ≡ text
+told_is_read told read text is same = subst (λ (o : Option (List ℕ)). IfSome o (λ t. read ≡ t)) is same
 
-good_is_short : (text : List ℕ) (told : Option (List ℕ)) → IsGoodTrace text told → IsLongAsTold told → ⊥
-good_is_short text told good long = let l = subst IsLongAsTold good.is_told long in omega (arith, good.short, l)
+-- and isn't long where it is short
+not_long : (told : Option (List ℕ)) (text : List ℕ) → told ≡ Some text → length text ≤ MAX_TEXT_LEN → IsLongAsTold told → ⊥
+not_long told text is short long = let l = subst IsLongAsTold is long in omega (arith, short, l)
 
-good_is_not_bad : (text : List ℕ) (told : Option (List ℕ)) (number : ℕ) → IsGoodTrace text told → IsBadAsTold text told number → ⊥
-good_is_not_bad text told number good bad = good.good number (subst (λ (t : List ℕ). IsBadTraceFor text t number) (told_is_read told bad.trace good.trace good.is_told bad.is_told) bad.bad)
+trace_is_not_bad : (text : List ℕ) (told : Option (List ℕ)) (number : ℕ) → IsGoodTrace text told → IsBadAsTold text told number → ⊥
+trace_is_not_bad text told number good bad = good.good number (subst (λ (t : List ℕ). IsBadTraceFor text t number) (told_is_read told bad.trace good.trace good.is_told bad.is_told) bad.bad)
 
-good_where_needed : (task : Task) (text : List ℕ) (told : Option (List ℕ)) → NeedsTrace task → HasGoodTrace task text told → IsGoodTrace text told
-good_where_needed Check text told needs good = absurd needs
-good_where_needed (Linearise method) text told needs good = absurd needs
-good_where_needed (Constelm method fuel) text told needs good = absurd needs
-good_where_needed (Parelm method) text told needs good = absurd needs
-good_where_needed (Sumelm method fuel) text told needs good = absurd needs
-good_where_needed (Steps method fuel bound) text told needs good = absurd needs
-good_where_needed (Walk method plan) text told needs good = absurd needs
-good_where_needed (Generate size) text told needs good = absurd needs
-good_where_needed (Replay method fuel bound) text told needs good = good
+choices_are_not_bad : (method : Method) (fuel bound : ℕ) (text : List ℕ) (told : Option (List ℕ)) (number : ℕ) → AreGoodChoices method fuel bound text told → IsBadChoiceAsTold method fuel bound text told number → ⊥
+choices_are_not_bad method fuel bound text told number good bad =
+    good.good number (subst (λ (t : List ℕ). IsBadChoiceFor method fuel bound text t number) (told_is_read told bad.choices good.choices good.is_told bad.is_told) bad.bad)
 
-never_too_long : (q : Question) → length q.text ≤ MAX_TEXT_LEN → HasGoodTrace q.task q.text q.trace → IsTooLong q → ⊥
-never_too_long q short good long = elim long [ inl l ↦ omega (arith, short, l) | inr t ↦ good_is_short q.text q.trace (good_where_needed q.task q.text q.trace t.0.needs good) t.1 ]
+not_long_for : (task : Task) (text : List ℕ) (told : Option (List ℕ)) → NeedsFurther task → HasGoodFurther task text told → IsLongAsTold told → ⊥
+not_long_for Check text told needs good = absurd needs
+not_long_for (Linearise method) text told needs good = absurd needs
+not_long_for (Constelm method fuel) text told needs good = absurd needs
+not_long_for (Parelm method) text told needs good = absurd needs
+not_long_for (Sumelm method fuel) text told needs good = absurd needs
+not_long_for (Steps method fuel bound) text told needs good = absurd needs
+not_long_for (StepsAfter method fuel bound) text told needs good = not_long told good.choices good.is_told good.short
+not_long_for (Walk method plan) text told needs good = absurd needs
+not_long_for (Generate size) text told needs good = absurd needs
+not_long_for (Replay method fuel bound) text told needs good = not_long told good.trace good.is_told good.short
 
-never_a_bad_trace : (q : Question) (line : List ℕ) → HasGoodTrace q.task q.text q.trace → IsTraceRefusal (Some q) line → ⊥
-never_a_bad_trace q line good r = good_is_not_bad q.text q.trace r.number (good_where_needed q.task q.text q.trace r.due.0.needs good) r.due.1
+never_too_long : (q : Question) → length q.text ≤ MAX_TEXT_LEN → HasGoodFurther q.task q.text q.further → IsTooLong q → ⊥
+never_too_long q short good long = elim long [ inl l ↦ omega (arith, short, l) | inr t ↦ not_long_for q.task q.text q.further t.0.needs good t.1 ]
+
+not_bad_for : (task : Task) (text : List ℕ) (told : Option (List ℕ)) (number : ℕ) (line : List ℕ) → HasGoodFurther task text told → IsBadLineFor task text told number line → ⊥
+not_bad_for Check text told number line good bad = bad
+not_bad_for (Linearise method) text told number line good bad = bad
+not_bad_for (Constelm method fuel) text told number line good bad = bad
+not_bad_for (Parelm method) text told number line good bad = bad
+not_bad_for (Sumelm method fuel) text told number line good bad = bad
+not_bad_for (Steps method fuel bound) text told number line good bad = bad
+not_bad_for (StepsAfter method fuel bound) text told number line good bad = choices_are_not_bad method fuel bound text told number good bad.1
+not_bad_for (Walk method plan) text told number line good bad = bad
+not_bad_for (Generate size) text told number line good bad = bad
+not_bad_for (Replay method fuel bound) text told number line good bad = trace_is_not_bad text told number good bad.1
+
+never_a_bad_file : (q : Question) (line : List ℕ) → HasGoodFurther q.task q.text q.further → IsFileRefusal (Some q) line → ⊥
+never_a_bad_file q line good r = not_bad_for q.task q.text q.further r.number line good r.due.1
 
 module _ (asked : Option Question) (a b c d : ℕ) (before after : Option (List ℕ)) where
-  -- a stop is for want of memory where the text asked for has none of the faults for which its task refuses one, and the trace is good
+  -- a stop is for want of memory where the text asked for has none of the faults for which its task refuses one, and the further file is good
   stopped_well : (P : Question → Type 0) → ((q : Question) → P q → (texts : List (List ℕ)) (fault : LinFault) → IsFaultFor q.task fault → IsRefusedWith q.text texts fault → ⊥)
-      → (stop : Stop) → (stop ≡ Words → asked ≡ None) → (stop ≡ ReadFault → Rose a b) → HasCause stop asked → IfSome asked (λ q. P q → HasGoodTrace q.task q.text q.trace → length q.text ≤ MAX_TEXT_LEN → ¬ (Rose a b) → EndsWell (status_of_stop stop) q before after)
+      → (stop : Stop) → (stop ≡ Words → asked ≡ None) → (stop ≡ ReadFault → Rose a b) → HasCause stop asked → IfSome asked (λ q. P q → HasGoodFurther q.task q.text q.further → length q.text ≤ MAX_TEXT_LEN → ¬ (Rose a b) → EndsWell (status_of_stop stop) q before after)
   stopped_well P never stop none rose cause = by_question stop asked none rose cause
     where
-      by_question : (s : Stop) (o : Option Question) → (s ≡ Words → o ≡ None) → (s ≡ ReadFault → Rose a b) → HasCause s o → IfSome o (λ q. P q → HasGoodTrace q.task q.text q.trace → length q.text ≤ MAX_TEXT_LEN → ¬ (Rose a b) → EndsWell (status_of_stop s) q before after)
+      by_question : (s : Stop) (o : Option Question) → (s ≡ Words → o ≡ None) → (s ≡ ReadFault → Rose a b) → HasCause s o → IfSome o (λ q. P q → HasGoodFurther q.task q.text q.further → length q.text ≤ MAX_TEXT_LEN → ¬ (Rose a b) → EndsWell (status_of_stop s) q before after)
       by_question s None none r h = tt
       by_question Words (Some q) none r h = λ is good short quiet. let no : Some q ≡ None = none refl in cc
       by_question ReadFault (Some q) none r h = λ is good short quiet. quiet (r refl)
       by_question TooLong (Some q) none r h = λ is good short quiet. absurd (never_too_long q short good h)
-      by_question (Refused line) (Some q) none r h = λ is good short quiet. absurd (elim h [ inl t ↦ never q is t.texts t.fault t.due.1 t.due.2 | inr t ↦ never_a_bad_trace q line.items good t ])
+      by_question (Refused line) (Some q) none r h = λ is good short quiet. absurd (elim h [ inl t ↦ never q is t.texts t.fault t.due.1 t.due.2 | inr t ↦ never_a_bad_file q line.items good t ])
       by_question NoMemory (Some q) none r h = λ is good short quiet. tt
 
   pub taken_stops_well : (stop : Stop) → (stop ≡ Words → asked ≡ None) → (stop ≡ ReadFault → Rose a b) → HasCause stop asked
-      → IfSome asked (λ q. IsTaken q.task q.text → HasGoodTrace q.task q.text q.trace → length q.text ≤ MAX_TEXT_LEN → ¬ (Rose a b) → ¬ (Rose c d) → EndsWell (status_of_stop stop) q before after)
+      → IfSome asked (λ q. IsTaken q.task q.text → HasGoodFurther q.task q.text q.further → length q.text ≤ MAX_TEXT_LEN → ¬ (Rose a b) → ¬ (Rose c d) → EndsWell (status_of_stop stop) q before after)
   taken_stops_well stop none rose cause =
       let P : Question → Type 0 = λ q. IsTaken q.task q.text in
-      on_told asked (λ q. P q → HasGoodTrace q.task q.text q.trace → length q.text ≤ MAX_TEXT_LEN → ¬ (Rose a b) → EndsWell (status_of_stop stop) q before after)
-      (λ q. IsTaken q.task q.text → HasGoodTrace q.task q.text q.trace → length q.text ≤ MAX_TEXT_LEN → ¬ (Rose a b) → ¬ (Rose c d) → EndsWell (status_of_stop stop) q before after)
+      on_told asked (λ q. P q → HasGoodFurther q.task q.text q.further → length q.text ≤ MAX_TEXT_LEN → ¬ (Rose a b) → EndsWell (status_of_stop stop) q before after)
+      (λ q. IsTaken q.task q.text → HasGoodFurther q.task q.text q.further → length q.text ≤ MAX_TEXT_LEN → ¬ (Rose a b) → ¬ (Rose c d) → EndsWell (status_of_stop stop) q before after)
       (λ q well is good short quiet still. well is good short quiet)
       (stopped_well P (λ q is texts fault of has. never_refused q.task q.text is texts fault of has) stop none rose cause)
 
   pub linearised_stops_well : (stop : Stop) → (stop ≡ Words → asked ≡ None) → (stop ≡ ReadFault → Rose a b) → HasCause stop asked
-      → IfSome asked (λ q. ((texts : List (List ℕ)) (fault : LinFault) → ¬ (IsRefusedWith q.text texts fault)) → HasGoodTrace q.task q.text q.trace → length q.text ≤ MAX_TEXT_LEN → ¬ (Rose a b) → ¬ (Rose c d) → EndsWell (status_of_stop stop) q before after)
+      → IfSome asked (λ q. ((texts : List (List ℕ)) (fault : LinFault) → ¬ (IsRefusedWith q.text texts fault)) → HasGoodFurther q.task q.text q.further → length q.text ≤ MAX_TEXT_LEN → ¬ (Rose a b) → ¬ (Rose c d) → EndsWell (status_of_stop stop) q before after)
   linearised_stops_well stop none rose cause =
       let P : Question → Type 0 = λ q. (texts : List (List ℕ)) (fault : LinFault) → ¬ (IsRefusedWith q.text texts fault) in
-      on_told asked (λ q. P q → HasGoodTrace q.task q.text q.trace → length q.text ≤ MAX_TEXT_LEN → ¬ (Rose a b) → EndsWell (status_of_stop stop) q before after)
-      (λ q. ((texts : List (List ℕ)) (fault : LinFault) → ¬ (IsRefusedWith q.text texts fault)) → HasGoodTrace q.task q.text q.trace → length q.text ≤ MAX_TEXT_LEN → ¬ (Rose a b) → ¬ (Rose c d) → EndsWell (status_of_stop stop) q before after)
+      on_told asked (λ q. P q → HasGoodFurther q.task q.text q.further → length q.text ≤ MAX_TEXT_LEN → ¬ (Rose a b) → EndsWell (status_of_stop stop) q before after)
+      (λ q. ((texts : List (List ℕ)) (fault : LinFault) → ¬ (IsRefusedWith q.text texts fault)) → HasGoodFurther q.task q.text q.further → length q.text ≤ MAX_TEXT_LEN → ¬ (Rose a b) → ¬ (Rose c d) → EndsWell (status_of_stop stop) q before after)
       (λ q well free good short quiet still. well free good short quiet)
       (stopped_well P (λ q free texts fault of has. free texts fault has) stop none rose cause)
 
   -- the whole answer was written
-  ends_well : (s : Status) (answer : List ℕ) → IsAnswered s → IfSome before (λ bytes. after ≡ Some (bytes ++ answer)) → (q : Question) → IsAnswer q.task q.text q.trace s answer → EndsWell s q before after
-  ends_well s answer answered whole q is = by_status s answered (on_told before (λ bytes. after ≡ Some (bytes ++ answer)) (λ bytes. (printed : List ℕ) × (after ≡ Some (bytes ++ printed)) × IsAnswer q.task q.text q.trace s printed) (λ bytes took. (answer, took, is)) whole)
+  ends_well : (s : Status) (answer : List ℕ) → IsAnswered s → IfSome before (λ bytes. after ≡ Some (bytes ++ answer)) → (q : Question) → IsAnswer q.task q.text q.further s answer → EndsWell s q before after
+  ends_well s answer answered whole q is = by_status s answered (on_told before (λ bytes. after ≡ Some (bytes ++ answer)) (λ bytes. (printed : List ℕ) × (after ≡ Some (bytes ++ printed)) × IsAnswer q.task q.text q.further s printed) (λ bytes took. (answer, took, is)) whole)
     where
       by_status : (s : Status) → IsAnswered s → TookAnswer s q before after → EndsWell s q before after
       by_status status.Done a took = took
@@ -168,31 +188,31 @@ module _ (asked : Option Question) (a b c d : ℕ) (before after : Option (List 
       by_status status.WriteFault a took = absurd a
       by_status status.NoMemory a took = absurd a
 
-  pub whole_answer : (s : Status) (answer : List ℕ) → IfSome asked (λ q. (length q.text ≤ MAX_TEXT_LEN) × IsAnswer q.task q.text q.trace s answer) → IfSome before (λ bytes. after ≡ Some (bytes ++ answer))
-      → IfSome asked (λ q. (length q.text ≤ MAX_TEXT_LEN) × (x : List ℕ) × IsAnswer q.task q.text q.trace s x × IfSome before (λ bytes. after ≡ Some (bytes ++ x)))
+  pub whole_answer : (s : Status) (answer : List ℕ) → IfSome asked (λ q. (length q.text ≤ MAX_TEXT_LEN) × IsAnswer q.task q.text q.further s answer) → IfSome before (λ bytes. after ≡ Some (bytes ++ answer))
+      → IfSome asked (λ q. (length q.text ≤ MAX_TEXT_LEN) × (x : List ℕ) × IsAnswer q.task q.text q.further s x × IfSome before (λ bytes. after ≡ Some (bytes ++ x)))
   whole_answer s answer answered whole =
-      on_told asked (λ q. (length q.text ≤ MAX_TEXT_LEN) × IsAnswer q.task q.text q.trace s answer) (λ q. (length q.text ≤ MAX_TEXT_LEN) × (x : List ℕ) × IsAnswer q.task q.text q.trace s x × IfSome before (λ bytes. after ≡ Some (bytes ++ x)))
+      on_told asked (λ q. (length q.text ≤ MAX_TEXT_LEN) × IsAnswer q.task q.text q.further s answer) (λ q. (length q.text ≤ MAX_TEXT_LEN) × (x : List ℕ) × IsAnswer q.task q.text q.further s x × IfSome before (λ bytes. after ≡ Some (bytes ++ x)))
       (λ q is. (is.0, answer, is.1, whole)) answered
 
-  pub part_of_answer : (s : Status) (answer : List ℕ) → IfSome asked (λ q. (length q.text ≤ MAX_TEXT_LEN) × IsAnswer q.task q.text q.trace s answer) → IfSome before (λ bytes. TakesPrefix bytes after answer)
-      → IfSome asked (λ q. (length q.text ≤ MAX_TEXT_LEN) × (t : Status) × (x : List ℕ) × IsAnswer q.task q.text q.trace t x × IfSome before (λ bytes. TakesPrefix bytes after x))
+  pub part_of_answer : (s : Status) (answer : List ℕ) → IfSome asked (λ q. (length q.text ≤ MAX_TEXT_LEN) × IsAnswer q.task q.text q.further s answer) → IfSome before (λ bytes. TakesPrefix bytes after answer)
+      → IfSome asked (λ q. (length q.text ≤ MAX_TEXT_LEN) × (t : Status) × (x : List ℕ) × IsAnswer q.task q.text q.further t x × IfSome before (λ bytes. TakesPrefix bytes after x))
   part_of_answer s answer answered part =
-      on_told asked (λ q. (length q.text ≤ MAX_TEXT_LEN) × IsAnswer q.task q.text q.trace s answer) (λ q. (length q.text ≤ MAX_TEXT_LEN) × (t : Status) × (x : List ℕ) × IsAnswer q.task q.text q.trace t x × IfSome before (λ bytes. TakesPrefix bytes after x))
+      on_told asked (λ q. (length q.text ≤ MAX_TEXT_LEN) × IsAnswer q.task q.text q.further s answer) (λ q. (length q.text ≤ MAX_TEXT_LEN) × (t : Status) × (x : List ℕ) × IsAnswer q.task q.text q.further t x × IfSome before (λ bytes. TakesPrefix bytes after x))
       (λ q is. (is.0, s, answer, is.1, part)) answered
 
-  pub taken_ends_well : (s : Status) (answer : List ℕ) → IsAnswered s → IfSome asked (λ q. (length q.text ≤ MAX_TEXT_LEN) × IsAnswer q.task q.text q.trace s answer) → IfSome before (λ bytes. after ≡ Some (bytes ++ answer))
-      → IfSome asked (λ q. IsTaken q.task q.text → HasGoodTrace q.task q.text q.trace → length q.text ≤ MAX_TEXT_LEN → ¬ (Rose a b) → ¬ (Rose c d) → EndsWell s q before after)
+  pub taken_ends_well : (s : Status) (answer : List ℕ) → IsAnswered s → IfSome asked (λ q. (length q.text ≤ MAX_TEXT_LEN) × IsAnswer q.task q.text q.further s answer) → IfSome before (λ bytes. after ≡ Some (bytes ++ answer))
+      → IfSome asked (λ q. IsTaken q.task q.text → HasGoodFurther q.task q.text q.further → length q.text ≤ MAX_TEXT_LEN → ¬ (Rose a b) → ¬ (Rose c d) → EndsWell s q before after)
   taken_ends_well s answer ok answered whole =
-      on_told asked (λ q. (length q.text ≤ MAX_TEXT_LEN) × IsAnswer q.task q.text q.trace s answer) (λ q. IsTaken q.task q.text → HasGoodTrace q.task q.text q.trace → length q.text ≤ MAX_TEXT_LEN → ¬ (Rose a b) → ¬ (Rose c d) → EndsWell s q before after)
+      on_told asked (λ q. (length q.text ≤ MAX_TEXT_LEN) × IsAnswer q.task q.text q.further s answer) (λ q. IsTaken q.task q.text → HasGoodFurther q.task q.text q.further → length q.text ≤ MAX_TEXT_LEN → ¬ (Rose a b) → ¬ (Rose c d) → EndsWell s q before after)
       (λ q is taken good short quiet still. ends_well s answer ok whole q is.1) answered
 
-  pub linearised_ends_well : (s : Status) (answer : List ℕ) → IsAnswered s → IfSome asked (λ q. (length q.text ≤ MAX_TEXT_LEN) × IsAnswer q.task q.text q.trace s answer) → IfSome before (λ bytes. after ≡ Some (bytes ++ answer))
-      → IfSome asked (λ q. ((texts : List (List ℕ)) (fault : LinFault) → ¬ (IsRefusedWith q.text texts fault)) → HasGoodTrace q.task q.text q.trace → length q.text ≤ MAX_TEXT_LEN → ¬ (Rose a b) → ¬ (Rose c d) → EndsWell s q before after)
+  pub linearised_ends_well : (s : Status) (answer : List ℕ) → IsAnswered s → IfSome asked (λ q. (length q.text ≤ MAX_TEXT_LEN) × IsAnswer q.task q.text q.further s answer) → IfSome before (λ bytes. after ≡ Some (bytes ++ answer))
+      → IfSome asked (λ q. ((texts : List (List ℕ)) (fault : LinFault) → ¬ (IsRefusedWith q.text texts fault)) → HasGoodFurther q.task q.text q.further → length q.text ≤ MAX_TEXT_LEN → ¬ (Rose a b) → ¬ (Rose c d) → EndsWell s q before after)
   linearised_ends_well s answer ok answered whole =
-      on_told asked (λ q. (length q.text ≤ MAX_TEXT_LEN) × IsAnswer q.task q.text q.trace s answer)
-      (λ q. ((texts : List (List ℕ)) (fault : LinFault) → ¬ (IsRefusedWith q.text texts fault)) → HasGoodTrace q.task q.text q.trace → length q.text ≤ MAX_TEXT_LEN → ¬ (Rose a b) → ¬ (Rose c d) → EndsWell s q before after)
+      on_told asked (λ q. (length q.text ≤ MAX_TEXT_LEN) × IsAnswer q.task q.text q.further s answer)
+      (λ q. ((texts : List (List ℕ)) (fault : LinFault) → ¬ (IsRefusedWith q.text texts fault)) → HasGoodFurther q.task q.text q.further → length q.text ≤ MAX_TEXT_LEN → ¬ (Rose a b) → ¬ (Rose c d) → EndsWell s q before after)
       (λ q is free good short quiet still. ends_well s answer ok whole q is.1) answered
 
 -- words that give no command ask for no text
 pub nothing_asked : (text_of : List ℕ → Option (List ℕ)) (words : List (List ℕ)) → asked_by words ≡ None → question text_of words ≡ None
-nothing_asked text_of words none = ap (option_and_then (λ (x : Asked). option_map (λ t. record { task = x.task; text = t; trace = trace_asked text_of x }) (text_asked text_of x))) none
+nothing_asked text_of words none = ap (option_and_then (λ (x : Asked). option_map (λ t. record { task = x.task; text = t; further = further_asked text_of x }) (text_asked text_of x))) none

@@ -1,5 +1,5 @@
 mod Told
 mod EndLines
 mod AnswerStatuses
-mod ReplayAnswers
+mod FurtherAnswers
 mod LineLengths

@@ -13,30 +13,33 @@ use Rattle.lin_driver.specs.declared.methods.Method.{Method}
 use Rattle.lin_driver.specs.declared.methods.Method.TheVariants.{Regular}
 use Rattle.lin_answers.specs.declared.status.Status.{Status}
 use Rattle.lin_answers.specs.declared.status.Status.TheVariants.{Done, Refused, Words, ReadFault, WriteFault, NoMemory, Undecided, No}
+use Rattle.lin_refusals.specs.BadChoices.{AreGoodChoices}
 use Rattle.lin_refusals.specs.BadTraces.{IsGoodTrace}
 use Rattle.lin_refusals.specs.Lines.{line_of, write_fault_line}
 use Rattle.lin_refusals.specs.declared.stop.Stop.TheVariants as stop
 use Rattle.lin_tasks.specs.Counts.{AreCounts}
+use Rattle.lin_tasks.specs.ShownAfter.{AreShownAsTold}
 use Rattle.lin_tasks.specs.ShownTexts.{AreShownSteps, IsShownWalk}
 use Rattle.lin_tasks.specs.ShownVerdicts.{IsReplayedAsTold}
 use Rattle.lin_words.specs.Commands.{Question}
 use Rattle.lin_words.specs.declared.command.Task.{Task}
-use Rattle.lin_words.specs.declared.command.Task.TheVariants.{Check, Linearise, Constelm, Parelm, Sumelm, Steps, Walk, Generate, Replay}
-use Rattle.lin_run.specs.Causes.{IsRefusal, IsTooLong, IsTraceRefusal}
+use Rattle.lin_words.specs.declared.command.Task.TheVariants.{Check, Linearise, Constelm, Parelm, Sumelm, Steps, StepsAfter, Walk, Generate, Replay}
+use Rattle.lin_run.specs.Causes.{IsRefusal, IsTooLong, IsFileRefusal}
 
 -- The answer of a task, where the text can be linearised, and its status: `ok`, or a text that stands for it, which is that of a plainly conditioned linear
--- process made of the text, or for an elimination that of what is left of a linear process for the text; or what such a process can do first, or a walk of
--- it, and whether a summand is left undecided; or how large it is; or its verdict on the trace, whose text is told or not.
+-- process made of the text, or for an elimination that of what is left of a linear process for the text; or what such a process can do first, or behind chosen
+-- moves, or a walk of it, and whether a summand is left undecided; or how large it is; or its verdict on the trace. The further file's text is told or not.
 abbrev pub IsAnswer : Task → List ℕ → Option (List ℕ) → Status → List ℕ → Type 0
-IsAnswer Check text trace status answer = CanBeLinearised text × (status ≡ Done) × (answer ≡ codes "ok\n")
-IsAnswer (Linearise method) text trace status answer = CanBeLinearised text × (status ≡ Done) × StandsFor text answer × IsWrittenFor method text answer
-IsAnswer (Constelm method fuel) text trace status answer = CanBeLinearised text × (status ≡ Done) × StandsFor text answer × IsEliminated (Constants fuel) text answer
-IsAnswer (Parelm method) text trace status answer = CanBeLinearised text × (status ≡ Done) × StandsFor text answer × IsEliminated Parameters text answer
-IsAnswer (Sumelm method fuel) text trace status answer = CanBeLinearised text × (status ≡ Done) × StandsFor text answer × IsEliminated (Sums fuel) text answer
-IsAnswer (Steps method fuel bound) text trace status answer = CanBeLinearised text × AreShownSteps fuel bound text status answer
-IsAnswer (Walk method plan) text trace status answer = CanBeLinearised text × IsShownWalk plan text status answer
-IsAnswer (Generate size) text trace status answer = CanBeLinearised text × (status ≡ Done) × AreCounts text answer
-IsAnswer (Replay method fuel bound) text trace status answer = CanBeLinearised text × IsReplayedAsTold fuel bound text trace status answer
+IsAnswer Check text further status answer = CanBeLinearised text × (status ≡ Done) × (answer ≡ codes "ok\n")
+IsAnswer (Linearise method) text further status answer = CanBeLinearised text × (status ≡ Done) × StandsFor text answer × IsWrittenFor method text answer
+IsAnswer (Constelm method fuel) text further status answer = CanBeLinearised text × (status ≡ Done) × StandsFor text answer × IsEliminated (Constants fuel) text answer
+IsAnswer (Parelm method) text further status answer = CanBeLinearised text × (status ≡ Done) × StandsFor text answer × IsEliminated Parameters text answer
+IsAnswer (Sumelm method fuel) text further status answer = CanBeLinearised text × (status ≡ Done) × StandsFor text answer × IsEliminated (Sums fuel) text answer
+IsAnswer (Steps method fuel bound) text further status answer = CanBeLinearised text × AreShownSteps fuel bound text status answer
+IsAnswer (StepsAfter method fuel bound) text further status answer = CanBeLinearised text × AreShownAsTold fuel bound text further status answer
+IsAnswer (Walk method plan) text further status answer = CanBeLinearised text × IsShownWalk plan text status answer
+IsAnswer (Generate size) text further status answer = CanBeLinearised text × (status ≡ Done) × AreCounts text answer
+IsAnswer (Replay method fuel bound) text further status answer = CanBeLinearised text × IsReplayedAsTold fuel bound text further status answer
 
 -- the tasks that may leave something undecided
 abbrev pub MayStayOpen : Task → Type 0
@@ -46,6 +49,7 @@ MayStayOpen (Constelm method fuel) = ⊥
 MayStayOpen (Parelm method) = ⊥
 MayStayOpen (Sumelm method fuel) = ⊥
 MayStayOpen (Steps method fuel bound) = ⊤
+MayStayOpen (StepsAfter method fuel bound) = ⊤
 MayStayOpen (Walk method plan) = ⊤
 MayStayOpen (Generate size) = ⊥
 MayStayOpen (Replay method fuel bound) = ⊤
@@ -58,6 +62,7 @@ MaySayNo (Constelm method fuel) = ⊥
 MaySayNo (Parelm method) = ⊥
 MaySayNo (Sumelm method fuel) = ⊥
 MaySayNo (Steps method fuel bound) = ⊥
+MaySayNo (StepsAfter method fuel bound) = ⊥
 MaySayNo (Walk method plan) = ⊥
 MaySayNo (Generate size) = ⊥
 MaySayNo (Replay method fuel bound) = ⊤
@@ -86,26 +91,28 @@ IsTaken (Constelm method fuel) text = IsTakenBy method text
 IsTaken (Parelm method) text = IsTakenBy method text
 IsTaken (Sumelm method fuel) text = IsTakenBy method text
 IsTaken (Steps method fuel bound) text = IsTakenBy method text
+IsTaken (StepsAfter method fuel bound) text = IsTakenBy method text
 IsTaken (Walk method plan) text = IsTakenBy method text
 IsTaken (Generate size) text = CanBeLinearised text
 IsTaken (Replay method fuel bound) text = IsTakenBy method text
 
--- where the task needs a trace, a good one is told
-abbrev pub HasGoodTrace : Task → List ℕ → Option (List ℕ) → Type 0
-HasGoodTrace Check text told = ⊤
-HasGoodTrace (Linearise method) text told = ⊤
-HasGoodTrace (Constelm method fuel) text told = ⊤
-HasGoodTrace (Parelm method) text told = ⊤
-HasGoodTrace (Sumelm method fuel) text told = ⊤
-HasGoodTrace (Steps method fuel bound) text told = ⊤
-HasGoodTrace (Walk method plan) text told = ⊤
-HasGoodTrace (Generate size) text told = ⊤
-HasGoodTrace (Replay method fuel bound) text told = IsGoodTrace text told
+-- where the task needs a trace or choices, good ones are told
+abbrev pub HasGoodFurther : Task → List ℕ → Option (List ℕ) → Type 0
+HasGoodFurther Check text told = ⊤
+HasGoodFurther (Linearise method) text told = ⊤
+HasGoodFurther (Constelm method fuel) text told = ⊤
+HasGoodFurther (Parelm method) text told = ⊤
+HasGoodFurther (Sumelm method fuel) text told = ⊤
+HasGoodFurther (Steps method fuel bound) text told = ⊤
+HasGoodFurther (StepsAfter method fuel bound) text told = AreGoodChoices method fuel bound text told
+HasGoodFurther (Walk method plan) text told = ⊤
+HasGoodFurther (Generate size) text told = ⊤
+HasGoodFurther (Replay method fuel bound) text told = IsGoodTrace text told
 
--- the line of a status, with its cause in the text or in the trace where these are told
+-- the line of a status, with its cause in the text or in the further file where these are told
 abbrev pub IsLineOf : Status → Option Question → List ℕ → Type 0
 IsLineOf Done asked line = line ≡ []
-IsLineOf Refused asked line = ((line ≡ line_of stop.TooLong) × IfSome asked IsTooLong) ⊎ (IsRefusal asked line ⊎ IsTraceRefusal asked line)
+IsLineOf Refused asked line = ((line ≡ line_of stop.TooLong) × IfSome asked IsTooLong) ⊎ (IsRefusal asked line ⊎ IsFileRefusal asked line)
 IsLineOf Words asked line = line ≡ line_of stop.Words
 IsLineOf ReadFault asked line = line ≡ line_of stop.ReadFault
 IsLineOf WriteFault asked line = line ≡ write_fault_line
@@ -122,7 +129,7 @@ pub record EndsWithLine (status : Status) (asked : Option Question) (before afte
 
 -- the bytes that the output took are the answer, with this status
 abbrev pub TookAnswer : Status → Question → Option (List ℕ) → Option (List ℕ) → Type 0
-TookAnswer status q before after = IfSome before (λ bytes. (answer : List ℕ) × (after ≡ Some (bytes ++ answer)) × IsAnswer q.task q.text q.trace status answer)
+TookAnswer status q before after = IfSome before (λ bytes. (answer : List ℕ) × (after ≡ Some (bytes ++ answer)) × IsAnswer q.task q.text q.further status answer)
 
 -- the task was done, and the output took its answer with the status that it has; or memory ran out
 abbrev pub EndsWell : Status → Question → Option (List ℕ) → Option (List ℕ) → Type 0

@@ -1,10 +1,9 @@
 //! The task `replay`: whether the linear process of a text has the steps of a trace.
-ghost use Rattle.std.specs.Prelude.{◌≡◌, ◌≢◌, ◌≤◌, Some, IfErr, IfOk, IsErrOf, OnOk, length};
+ghost use Rattle.std.specs.Prelude.{◌≡◌, ◌≢◌, ◌≤◌, Some, IfErr, IfOk, IsErrOf, length};
 ghost use Rattle.mcrl2_text.specs.Faults.{Rose};
-ghost use Rattle.lin_driver.specs.Accepted.{CanBeLinearised};
-ghost use Rattle.lin_tasks.specs.ShownVerdicts.{IsReplayedAsTold};
 ghost use Rattle.lin_words.specs.declared.command.Task.TheVariants.{Replay};
 ghost use Rattle.lin_run.specs.Causes.{HasCause};
+ghost use Rattle.lin_run.specs.Ends.{IsAnswer};
 
 use data_theory::Names;
 use lin_answers::Answer;
@@ -30,9 +29,8 @@ pub fn replay<H: Shelf>(
     bound: u64,
 ) -> Result<Answer, Stop>
     requires { length text.now ≤ MAX_TEXT_LEN }
-    ensures accepted { OnOk result (CanBeLinearised text.now) }
-    ensures replayed { IfOk result (λ answer. IsReplayedAsTold fuel bound text.now (H.text_of shelf.old name.now) answer.status answer.text.items) }
-    ensures cause { IfErr result (λ stop. (stop ≢ Stop.Words) × HasCause stop (Some (record { task = Replay method fuel bound; text = text.now; trace = H.text_of shelf.old name.now }))) }
+    ensures answered { IfOk result (λ answer. IsAnswer (Replay method fuel bound) text.now (H.text_of shelf.old name.now) answer.status answer.text.items) }
+    ensures cause { IfErr result (λ stop. (stop ≢ Stop.Words) × HasCause stop (Some (record { task = Replay method fuel bound; text = text.now; further = H.text_of shelf.old name.now }))) }
     ensures read_fault { IsErrOf result Stop.ReadFault → Rose (H.faults shelf.old) (H.faults shelf.new) }
 {
     let mut names = Names::new(alloc);

@@ -4,10 +4,11 @@ ghost use Rattle.mcrl2_text.specs.Bytes.{TakesPrefix};
 ghost use Rattle.mcrl2_text.specs.Faults.{Rose};
 ghost use Rattle.lin_driver.specs.Accepted.{CanBeLinearised, IsOfTheText};
 ghost use Rattle.lin_driver.specs.Refusals.{IsRefusedWith};
-ghost use Rattle.lin_words.specs.Commands.{asked_by, question, NeedsTrace, ReadsAFile};
+ghost use Rattle.lin_words.specs.Commands.{asked_by, question, NeedsFurther, ReadsAFile};
 ghost use Rattle.lin_run.specs.Causes.{HasCause, IsFaultFor, status_of_stop};
-ghost use Rattle.lin_run.specs.Ends.{EndsWell, EndsWithLine, HasGoodTrace, IsAnswer, IsAnswered, IsTaken, MayStayOpen, MaySayNo};
+ghost use Rattle.lin_run.specs.Ends.{EndsWell, EndsWithLine, HasGoodFurther, IsAnswer, IsAnswered, IsTaken, MayStayOpen, MaySayNo};
 
+use crate::leading::steps_after;
 use crate::replaying::replay;
 use crate::text_in_hand::text_for;
 use data_theory::Names;
@@ -38,10 +39,10 @@ pub fn run<H: Shelf, O: Sink, E: Sink>(
 
     // What the output gets: the whole answer, a prefix of it after a fault of its own, or nothing.
     ensures done { IsAnswered result → IfSome (question (H.text_of shelf.old) (map string_bytes words.now.items))
-        (λ q. (length q.text ≤ MAX_TEXT_LEN) × (answer : List ℕ) × IsAnswer q.task q.text q.trace result answer
+        (λ q. (length q.text ≤ MAX_TEXT_LEN) × (answer : List ℕ) × IsAnswer q.task q.text q.further result answer
         × IfSome (O.taken out.old) (λ before. O.taken out.new ≡ Some (before ++ answer))) }
     ensures cut_off { result ≡ Status.WriteFault → IfSome (question (H.text_of shelf.old) (map string_bytes words.now.items))
-        (λ q. (length q.text ≤ MAX_TEXT_LEN) × (status : Status) × (answer : List ℕ) × IsAnswer q.task q.text q.trace status answer
+        (λ q. (length q.text ≤ MAX_TEXT_LEN) × (status : Status) × (answer : List ℕ) × IsAnswer q.task q.text q.further status answer
         × IfSome (O.taken out.old) (λ before. TakesPrefix before (O.taken out.new) answer)) }
     ensures out_kept { ¬ (IsAnswered result) → result ≢ Status.WriteFault → out.new ≡ out.old }
 
@@ -53,13 +54,13 @@ pub fn run<H: Shelf, O: Sink, E: Sink>(
     ensures shelf_kept { ¬ (ReadsAFile (asked_by (map string_bytes words.now.items))) → shelf.new ≡ shelf.old }
 
     // For each text that the task takes it is done: what is written stands for the text, that of an elimination has its effect, and that of `steps`, `walk` and `replay` speaks of
-    // its steps. A trace has to be good.
-    ensures headline { IfSome (question (H.text_of shelf.old) (map string_bytes words.now.items)) (λ q. IsTaken q.task q.text → HasGoodTrace q.task q.text q.trace
+    // its steps. A trace has to be good, and so do choices.
+    ensures headline { IfSome (question (H.text_of shelf.old) (map string_bytes words.now.items)) (λ q. IsTaken q.task q.text → HasGoodFurther q.task q.text q.further
         → length q.text ≤ MAX_TEXT_LEN → ¬ (Rose (H.faults shelf.old) (H.faults shelf.new)) → ¬ (Rose (O.faults out.old) (O.faults out.new))
         → EndsWell result q (O.taken out.old) (O.taken out.new)) }
 
     // And so it is for each text without a fault.
-    ensures complete { IfSome (question (H.text_of shelf.old) (map string_bytes words.now.items)) (λ q. ((texts : List (List ℕ)) (fault : LinFault) → ¬ (IsRefusedWith q.text texts fault)) → HasGoodTrace q.task q.text q.trace
+    ensures complete { IfSome (question (H.text_of shelf.old) (map string_bytes words.now.items)) (λ q. ((texts : List (List ℕ)) (fault : LinFault) → ¬ (IsRefusedWith q.text texts fault)) → HasGoodFurther q.task q.text q.further
         → length q.text ≤ MAX_TEXT_LEN → ¬ (Rose (H.faults shelf.old) (H.faults shelf.new)) → ¬ (Rose (O.faults out.old) (O.faults out.new))
         → EndsWell result q (O.taken out.old) (O.taken out.new)) }
 {
@@ -85,21 +86,15 @@ fn answer<H: Shelf>(alloc: Global, words: &[String], shelf: &mut H) -> Result<An
     ensures read_fault { IsErrOf result Stop.ReadFault → Rose (H.faults shelf.old) (H.faults shelf.new) }
     ensures refused { IfErr result (λ stop. HasCause stop (question (H.text_of shelf.old) (map string_bytes words.now))) }
     ensures answered { IfOk result (λ answer. IsAnswered answer.status × IfSome (question (H.text_of shelf.old) (map string_bytes words.now))
-        (λ q. (length q.text ≤ MAX_TEXT_LEN) × IsAnswer q.task q.text q.trace answer.status answer.text.items)) }
+        (λ q. (length q.text ≤ MAX_TEXT_LEN) × IsAnswer q.task q.text q.further answer.status answer.text.items)) }
     ensures stays_open { IfOk result (λ answer. answer.status ≡ Status.Undecided → IfSome (asked_by (map string_bytes words.now)) (λ a. MayStayOpen a.task)) }
     ensures says_no { IfOk result (λ answer. answer.status ≡ Status.No → IfSome (asked_by (map string_bytes words.now)) (λ a. MaySayNo a.task)) }
     ensures shelf_kept { ¬ (ReadsAFile (asked_by (map string_bytes words.now))) → shelf.new ≡ shelf.old }
 {
     let command = command_of(alloc, words)?.ok_or(Stop::Words)?;
     let text = text_for(alloc, command, shelf)?;
-    if let Task::Replay {
-        method,
-        fuel,
-        bound,
-    } = command.task
-    {
-        let trace = command.trace.unwrap();
-        return replay(alloc, &text, shelf, trace, method, fuel, bound);
+    if let Some(further) = command.further {
+        return answer_with(alloc, command.task, &text, shelf, further);
     }
     let mut names = Names::new(alloc);
     match answer_to(alloc, command.task, &text, &mut names) {
@@ -108,9 +103,38 @@ fn answer<H: Shelf>(alloc: Global, words: &[String], shelf: &mut H) -> Result<An
     }
 }
 
-/// The answer of a task that needs no trace on a text.
+/// The answer of a task on a text and a further file, which a shelf has under a name.
+fn answer_with<H: Shelf>(
+    alloc: Global,
+    task: Task,
+    text: &[u8],
+    shelf: &mut H,
+    name: &str,
+) -> Result<Answer, Stop>
+    requires needs { NeedsFurther task }
+    requires short { length text.now ≤ MAX_TEXT_LEN }
+    ensures answered { IfOk result (λ answer. IsAnswer task text.now (H.text_of shelf.old name.now) answer.status answer.text.items) }
+    ensures cause { IfErr result (λ stop. (stop ≢ Stop.Words) × HasCause stop (Some (record { task = task; text = text.now; further = H.text_of shelf.old name.now }))) }
+    ensures read_fault { IsErrOf result Stop.ReadFault → Rose (H.faults shelf.old) (H.faults shelf.new) }
+{
+    match task {
+        Task::Replay {
+            method,
+            fuel,
+            bound,
+        } => replay(alloc, text, shelf, name, method, fuel, bound),
+        Task::StepsAfter {
+            method,
+            fuel,
+            bound,
+        } => steps_after(alloc, text, shelf, name, method, fuel, bound),
+        _ => unreachable!(),
+    }
+}
+
+/// The answer of a task that needs no further file on a text.
 fn answer_to(alloc: Global, task: Task, text: &[u8], names: &mut Names) -> Result<Answer, LinFault>
-    requires { ¬ (NeedsTrace task) }
+    requires { ¬ (NeedsFurther task) }
     ensures answered { IfOk result (λ answer. IsAnswer task text.now None answer.status answer.text.items) }
     ensures of_the_task { IfErr result (λ fault. fault ≢ LinFault.NoMemory → IsFaultFor task fault) }
     ensures refused { IfErr result (λ fault. fault ≢ LinFault.NoMemory → IsRefusedWith text.now names.new fault) }
@@ -146,6 +170,7 @@ fn answer_to(alloc: Global, task: Task, text: &[u8], names: &mut Names) -> Resul
         } => steps(alloc, text, names, method, fuel, bound),
         Task::Walk { method, plan } => walk(alloc, text, names, method, plan),
         Task::Generate(_) => Ok(Answer::done(counts(alloc, text, names)?)),
+        Task::StepsAfter { .. } => unreachable!(),
         Task::Replay { .. } => unreachable!(),
     }
 }

@@ -9,3 +9,7 @@ mod FollowedTraces
 mod ReplayedTexts
 mod VerdictsOnFiles
 mod FirstMoves
+mod ProcessNames
+mod StateTexts
+mod ShownAfter
+mod StepsAfter

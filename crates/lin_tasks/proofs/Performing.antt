@@ -1,5 +1,5 @@
 -- What a linear process does is done by the process that a good link pairs with it.
-use Rattle.std.proofs.Common.{◌≡◌, ℕ, zero, suc, List, [], ◌∷◌, ◌∙◌, subst, Option, Some, None}
+use Rattle.std.proofs.Common.{◌≡◌, ℕ, zero, suc, List, [], ◌∷◌, ◌++◌, ◌∙◌, subst, Option, Some, None}
 use Rattle.std.specs.Prelude.{Contains, slice_get, option_map}
 use Rattle.data_theory.specs.declared.ids.TermId.{TermId}
 use Rattle.data_theory.specs.IdTrees.{Tree}
@@ -24,13 +24,12 @@ use Rattle.bisim_laws.proofs.PuttingEqualData.{tables_refl}
 use Rattle.lps_core.specs.PlainLinears.{PlainLinear, linear_of}
 use Rattle.lps_core.proofs.Members.{In, here, there, in_contains}
 use Rattle.lps_core.proofs.Staying.{what_fits_stays}
-use Rattle.lps_simulator.specs.declared.options.Open.{Open}
 use Rattle.lps_simulator.specs.OptionLaws.{IsStepOf}
 use Rattle.lps_simulator.specs.Options.{TermMove}
 use Rattle.lps_simulator.specs.OptionsInCode.{meant_move, terms_at}
 use Rattle.lps_simulator.proofs.OptionLaws.{moves_are_steps}
+use Rattle.chosen_moves.specs.TakenMoves.{Pick, TakesMoves, none_taken, one_taken}
 use Rattle.lin_tasks.specs.FirstSteps.{Performs, nothing_done, one_done}
-use Rattle.lin_tasks.specs.Walks.{Walks, most_taken, at_the_end, no_move, one_taken}
 
 -- ---- elements of lists
 at_is_in : {A : Type 0} (xs : List A) (i : ℕ) (x : A) → slice_get xs i ≡ Some x → In x xs
@@ -69,21 +68,31 @@ module _ (th : Theory) (R : Process → Process → Type 0) (bisimulation : Bisi
         lands = lands_along s.equal a.lands;
       }
 
--- ---- a walk
+-- ---- move after move
+-- runs of the same labels, one behind the other
+pub performs_then : {th : Theory} {o q r : Outcome} {ms ns : List Label} → Performs th o ms q → Performs th q ns r → Performs th o (ms ++ ns) r
+performs_then nothing_done more = more
+performs_then (one_done agrees step rest) more = one_done agrees step (performs_then rest more)
+
 module _ (g : Sig) (own : List Equation) (fuel bound : ℕ) (l : PlainLinear) (th : Theory) (later : AreLater g own th.declared th.equations) (R : Process → Process → Type 0) (bisimulation : Bisimulation th R) (lin : Linear)
     (along : (p : Process) (ts us : List Term) → R p (state_of lin ts) → Equals th ts us → R p (state_of lin us)) where
-  pub performed : {most word : ℕ} {ts vs : List Tree} {state : Option (List TermId)} {labels : List Label} {undecided : List Open} → Walks g own fuel bound l most word ts state vs labels undecided → linear_of (entries_of g ts) l ≡ lin
-      → (o : Outcome) → Lands R o (outcome_of lin (option_map (terms_at g ts) state)) → (r : Outcome) × Performs th o labels r
-  performed most_taken same o lands = (o, nothing_done)
-  performed at_the_end same o lands = (o, nothing_done)
-  performed (no_move found has none) same o lands = (o, nothing_done)
-  performed (one_taken {ts = ts} {us = us} {state = state} found m has kept picked rest) same o (both_go_on {p = p} r) =
-      let among = at_among found.moves _ m picked in
+  -- a run with these labels that leads to where the linear process stands; that means there what it meant
+  pub record HasPerformed (o : Outcome) (labels : List Label) (vs : List Tree) (last : Option (List TermId)) : Type 0 where
+    pub outcome : Outcome
+    pub run : Performs th o labels outcome
+    pub lands : Lands R outcome (outcome_of lin (option_map (terms_at g vs) last))
+    pub same : linear_of (entries_of g vs) l ≡ lin
+
+  pub performed : {picks : List Pick} {ts vs : List Tree} {state last : Option (List TermId)} {labels : List Label} → TakesMoves g own fuel bound l picks ts state vs last labels → linear_of (entries_of g ts) l ≡ lin
+      → (o : Outcome) → Lands R o (outcome_of lin (option_map (terms_at g ts) state)) → HasPerformed o labels vs last
+  performed none_taken same o lands = record { outcome = o; run = nothing_done; lands = lands; same = same }
+  performed (one_taken {ts = ts} {us = us} {state = state} found m place has kept picked there rest) same o (both_go_on {p = p} r) =
+      let among = at_among found.moves place m there in
       let s = subst (λ (k : Linear). IsStepOf th k (terms_at g ts state) (meant_move g us m)) same (moves_are_steps g own fuel bound ts us l state found has m among th later) in
       let f = follows th R bisimulation lin along p (terms_at g ts state) (meant_move g us m) r s in
       let stays = what_fits_stays g g ts us l has.signature.table has.signature.complete (record { signature = grown_itself g; pool = kept }) has.fits in
       let on = performed rest (stays.0 ∙ same) f.outcome f.lands in
-      (on.0, one_done f.agrees f.step on.1)
+      record { outcome = on.outcome; run = one_done f.agrees f.step on.run; lands = on.lands; same = on.same }
 
 -- ---- by a link
 -- a good link, up to what is the same

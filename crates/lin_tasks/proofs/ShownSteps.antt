@@ -28,7 +28,7 @@ use Rattle.lin_tasks.proofs.ListedSteps.{step_is_listed}
 use Rattle.lin_tasks.proofs.Performing.{follows, paired, performed, IsPaired}
 
 module _ (g : Sig) (own : List Equation) (ts : List Tree) (l : PlainLinear) (k : Link) (p : Process) (good : IsGoodOver g k p (linear_state (entries_of g ts) l)) where
-  paired_in : (th : Theory) → IsTheoryFor g own th → IsPaired th (linear_of (entries_of g ts) l) p (terms_at g ts l.init) (Pairs th (Then k Same))
+  pub paired_in : (th : Theory) → IsTheoryFor g own th → IsPaired th (linear_of (entries_of g ts) l) p (terms_at g ts l.init) (Pairs th (Then k Same))
   paired_in th is = paired th k (linear_of (entries_of g ts) l) p (terms_at g ts l.init) (good th is.goes_on is.consistent)
 
   -- ---- options
@@ -53,4 +53,5 @@ module _ (g : Sig) (own : List Equation) (ts : List Tree) (l : PlainLinear) (k :
   pub shown_run : (plan : Plan) (status : Status) (shown : List ℕ) (w : ShowsWalk g own plan ts l status shown) → (th : Theory) → IsTheoryFor g own th → CanPerform th p w.labels
   shown_run plan status shown w th is =
       let r = paired_in th is in
-      performed g own plan.fuel plan.bound l th is.later (Pairs th (Then k Same)) r.bisimulation (linear_of (entries_of g ts) l) r.along w.walks refl (goes_on p) (both_go_on r.starts)
+      let q = performed g own plan.fuel plan.bound l th is.later (Pairs th (Then k Same)) r.bisimulation (linear_of (entries_of g ts) l) r.along w.walks.takes refl (goes_on p) (both_go_on r.starts) in
+      (q.outcome, q.run)

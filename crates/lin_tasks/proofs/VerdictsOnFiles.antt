@@ -18,10 +18,10 @@ use Rattle.lin_driver.specs.Eliminations.{equations_at}
 use Rattle.lin_driver.specs.LinearOfTexts.{IsLinearOf}
 use Rattle.lin_driver.specs.declared.methods.Method.{Method}
 use Rattle.lin_answers.specs.declared.status.Status.{Status}
-use Rattle.lin_refusals.specs.BadTraces.{IsBadAsTold}
-use Rattle.lin_refusals.specs.Stops.{IsTraceStop, stop_of_load}
+use Rattle.lin_refusals.specs.BadTraces.{IsBadAsTold, IsLongAsTold}
+use Rattle.lin_refusals.specs.Stops.{stop_of_load}
 use Rattle.lin_refusals.specs.declared.stop.Stop.{Stop}
-use Rattle.lin_refusals.specs.declared.stop.Stop.TheVariants.{ReadFault}
+use Rattle.lin_refusals.specs.declared.stop.Stop.TheVariants.{NoMemory, ReadFault, TooLong}
 use Rattle.lin_tasks.specs.ShownVerdicts.{IsReplayedAsTold, ShowsVerdict}
 use Rattle.lin_tasks.proofs.ReplayedTexts.{made_replay}
 
@@ -41,19 +41,17 @@ module _ (method : Method) (text : List ℕ) (spec : PlainSpec) (g : Sig) (q : P
     bad = record { spec = spec; signature = g; pool = q; equations = equations; name = x; linear = l; components = components; is_linear = is_linear; bad = subst (IsTraceFault g trace) same bad };
   }
 
--- a stop for want of a trace
-stop_of_loading : (method : Method) (text : List ℕ) (told : Option (List ℕ)) (fault : LoadFault) → (fault ≡ load.TooLong → IfSome told (λ t. MAX_TEXT_LEN < length t)) → IsTraceStop method text told (stop_of_load fault)
-stop_of_loading method text told load.ReadFault long = tt
-stop_of_loading method text told load.TooLong long = long refl
-stop_of_loading method text told load.NoMemory long = tt
+-- ---- a file that isn't loaded
+stop_of_loading : (P : Stop → Type 0) (told : Option (List ℕ)) (fault : LoadFault) → P ReadFault → (IsLongAsTold told → P TooLong) → P NoMemory → (fault ≡ load.TooLong → IsLongAsTold told) → P (stop_of_load fault)
+stop_of_loading P told load.ReadFault unread long none is_long = unread
+stop_of_loading P told load.TooLong unread long none is_long = long (is_long refl)
+stop_of_loading P told load.NoMemory unread long none is_long = none
 
-loading_stops : (method : Method) (text : List ℕ) (told : Option (List ℕ)) (fault : LoadFault) (stop : Stop) → (fault ≡ load.TooLong → IfSome told (λ t. MAX_TEXT_LEN < length t)) → stop ≡ stop_of_load fault → IsTraceStop method text told stop
-loading_stops method text told fault stop long is = subst (IsTraceStop method text told) (sym is) (stop_of_loading method text told fault long)
-
-pub not_loaded : {T : Type 0} (IsMade : Method → List ℕ → Type 0) (told : Option (List ℕ)) (r : Result T Stop) (fault : LoadFault) → (fault ≡ load.TooLong → IfSome told (λ t. MAX_TEXT_LEN < length t)) → IsErrAnd r (λ given. given ≡ stop_of_load fault)
-    → IfErr r (λ stop. (method : Method) (text : List ℕ) → IsMade method text → IsTraceStop method text told stop)
-not_loaded IsMade told (Ok x) fault long is = absurd is
-not_loaded IsMade told (Err stop) fault long is = λ method text made. loading_stops method text told fault stop long is
+-- what holds of each stop for its cause holds of that
+pub not_loaded : {T : Type 0} (P : Stop → Type 0) (told : Option (List ℕ)) (r : Result T Stop) (fault : LoadFault) → P ReadFault → (IsLongAsTold told → P TooLong) → P NoMemory → (fault ≡ load.TooLong → IsLongAsTold told)
+    → IsErrAnd r (λ given. given ≡ stop_of_load fault) → IfErr r P
+not_loaded P told (Ok x) fault unread long none is_long is = absurd is
+not_loaded P told (Err stop) fault unread long none is_long is = subst P (sym is) (stop_of_loading P told fault unread long none is_long)
 
 -- it stops by a read fault where loading did
 read_fault_alone : (fault : LoadFault) → stop_of_load fault ≡ ReadFault → fault ≡ load.ReadFault

@@ -1,5 +1,5 @@
 -- Walks, move by move.
-use Rattle.std.proofs.Common.{◌≡◌, ◌<◌, ◌+◌, ◌-◌, ◌*◌, ◌^◌, ◌/◌, cond, ℕ, zero, suc, List, [], ◌∷◌, ◌++◌, length, refl, sym, ap, ◌∙◌, subst, arith, append-nil, length-append, Option, Some, None}
+use Rattle.std.proofs.Common.{◌≡◌, ◌<◌, ◌+◌, ◌-◌, ◌*◌, ◌^◌, ◌/◌, cond, ℕ, zero, suc, List, [], ◌∷◌, ◌++◌, length, refl, sym, ap, ◌∙◌, subst, arith, append-nil, add-one, length-append, Option, Some, None}
 use Rattle.std.specs.Prelude.{codes, decimal, IfSome, slice_get}
 use Rattle.std.specs.List.{flat_map}
 use Rattle.std.proofs.lemmas.List.{append_assoc}
@@ -21,7 +21,9 @@ use Rattle.lps_simulator.specs.OptionsInCode.{PlainMove, PlainOptions, meant_mov
 use Rattle.lps_simulator.specs.Walks.{next_word, IsChooser, IsPick}
 use Rattle.lin_tasks.specs.Shown.{label_line}
 use Rattle.lin_answers.specs.Statuses.{status_with}
-use Rattle.lin_tasks.specs.Walks.{picked, place_picked, Walks, most_taken, at_the_end, no_move, one_taken, PicksByWords, TakesOne, none_behind_the_end, none_there, takes_one, HasWalked, ShowsWalk}
+use Rattle.chosen_moves.specs.TakenMoves.{Pick, TakesMoves, none_taken, one_taken}
+use Rattle.chosen_moves.proofs.TakenMoves.{takes_both}
+use Rattle.lin_tasks.specs.Walks.{picked, place_picked, picks_by_words, StopsThere, most_taken, at_the_end, no_move, Walks, PicksByWords, TakesOne, none_behind_the_end, none_there, takes_one, HasWalked, ShowsWalk}
 use Rattle.lin_answers.specs.declared.status.Status.{Status}
 use Rattle.lin_answers.specs.declared.status.Status.TheVariants.{Done}
 use Rattle.lin_answers.specs.declared.plan.Plan.{Plan}
@@ -65,12 +67,7 @@ module _ (g : Sig) (own : List Equation) (fuel bound word : ℕ) (ts us : List T
       never : (ms : List PlainMove) (k : ℕ) (m : PlainMove) → ms ≡ [] → slice_get ms k ≡ Some m → ⊥
       never [] k m e q = cc
       never (x ∷ ms) k m e q = cc
-  one_picked (Some ids) next new found k m is options chosen there_is on text =
-      takes_one found m (options_there g own fuel bound ts us l ids found stands fine fits is options) (subst (λ i. slice_get found.moves i ≡ Some m) (by_count (length found.moves) chosen) there_is) on text
-    where
-      by_count : (n : ℕ) → Some k ≡ place_picked word n → k ≡ picked word n
-      by_count zero e = cc
-      by_count (suc n) e = let q : Some k ≡ Some (picked word (suc n)) = e ∙ one_of_some word n in cc
+  one_picked (Some ids) next new found k m is options chosen there_is on text = takes_one found m k (options_there g own fuel bound ts us l ids found stands fine fits is options) (sym chosen) there_is on text
 
 -- the same of other words, processes and answers that are equal
 pub taken_as : (g : Sig) (own : List Equation) (fuel bound word word' : ℕ) (l l' : PlainLinear) (ts us : List Tree) (old new : List ℕ) (state next : Option (List TermId)) (r r' : Option Status) → word ≡ word' → l ≡ l' → r ≡ r'
@@ -80,55 +77,68 @@ taken_as g own fuel bound word word' l l' ts us old new state next r r' e f k h 
     (subst (λ (z : PlainLinear). TakesOne g own fuel bound word' z ts us old state next new r) f
     (subst (λ z. TakesOne g own fuel bound z l ts us old state next new r) e h))
 
+-- ---- words
+-- the word so many words behind a word
+abbrev pub word_behind : ℕ → ℕ → ℕ
+word_behind zero word = word
+word_behind (suc n) word = word_behind n (next_word word)
+
+next_behind : (n word : ℕ) → next_word (word_behind n word) ≡ word_behind (suc n) word
+next_behind zero word = refl
+next_behind (suc n) word = next_behind n (next_word word)
+
+one_pick_more : (n word : ℕ) → picks_by_words (suc n) word ≡ picks_by_words n word ++ place_picked (next_word (word_behind n word)) ∷ []
+one_pick_more zero word = refl
+one_pick_more (suc n) word = ap (λ (ps : List Pick). place_picked (next_word word) ∷ ps) (one_pick_more n (next_word word))
+
 -- ---- move after move
--- What was walked so far: what walks on from there walks the whole, with the labels so far in front.
+-- what was walked so far
 pub record HasWalkedSoFar (g : Sig) (own : List Equation) (plan : Plan) (word word' : ℕ) (l : PlainLinear) (ts us : List Tree) (state state' : Option (List TermId)) (old new : List ℕ) (taken : ℕ) : Type 0 where
   pub labels : List Label
   pub text : new ≡ old ++ flat_map (label_line g) labels
   pub counted : taken ≡ length labels
-  pub on : {vs : List Tree} {more : List Label} {undecided : List Open} (most : ℕ) → taken + most ≡ plan.depth → Walks g own plan.fuel plan.bound l most word' us state' vs more undecided
-      → Walks g own plan.fuel plan.bound l plan.depth word ts state vs (labels ++ more) undecided
+  pub word_is : word' ≡ word_behind taken word
+  pub takes : TakesMoves g own plan.fuel plan.bound l (picks_by_words taken word) ts state us state' labels
 
 module _ (g : Sig) (own : List Equation) (plan : Plan) (word : ℕ) (l : PlainLinear) (ts : List Tree) (state : Option (List TermId)) (old : List ℕ) where
   abbrev SoFar : ℕ → List Tree → Option (List TermId) → List ℕ → ℕ → Type 0
   SoFar word' us state' new taken = HasWalkedSoFar g own plan word word' l ts us state state' old new taken
 
   pub nothing_walked : SoFar word ts state old 0
-  nothing_walked = record {
-    labels = [];
-    text = sym (append-nil old);
-    counted = refl;
-    on = λ {vs} {more} {undecided} most e w. subst (λ n. Walks g own plan.fuel plan.bound l n word ts state vs more undecided) (let q : most ≡ 0 + most = omega arith in q ∙ e) w;
-  }
+  nothing_walked = record { labels = []; text = sym (append-nil old); counted = refl; word_is = refl; takes = none_taken }
 
   lines_more : (labels : List Label) (m : Label) → flat_map (label_line g) labels ++ label_line g m ≡ flat_map (label_line g) (labels ++ m ∷ [])
   lines_more [] m = sym (append-nil (label_line g m))
   lines_more (n ∷ labels) m = append_assoc (label_line g n) (flat_map (label_line g) labels) (label_line g m) ∙ ap (λ z. label_line g n ++ z) (lines_more labels m)
 
   one_walked : (word' : ℕ) (us vs : List Tree) (state' next : Option (List TermId)) (text new : List ℕ) (taken : ℕ) → SoFar word' us state' text taken → Extends us vs
-      → TakesOne g own plan.fuel plan.bound (next_word word') l us vs text state' next new None → SoFar (next_word word') vs next new (taken + 1)
-  one_walked word' us vs state' next text new taken far kept (takes_one found m has place to shown) =
+      → TakesOne g own plan.fuel plan.bound (next_word word') l us vs text state' next new None → SoFar (next_word word') vs next new (suc taken)
+  one_walked word' us vs state' next text new taken far kept (takes_one found m place has picked there to shown) =
       let label = (meant_move g vs m).label in
+      let one : TakesMoves g own plan.fuel plan.bound l (place_picked (next_word word') ∷ []) us state' vs next (label ∷ []) =
+      one_taken found m place has kept picked there (subst (λ (o : Option (List TermId)). TakesMoves g own plan.fuel plan.bound l [] vs m.next vs o []) (sym to) none_taken) in
+      let picks : picks_by_words taken word ++ place_picked (next_word word') ∷ [] ≡ picks_by_words (suc taken) word =
+      ap (λ w. picks_by_words taken word ++ place_picked (next_word w) ∷ []) far.word_is ∙ sym (one_pick_more taken word) in
       record {
         labels = far.labels ++ label ∷ [];
         text = shown ∙ ap (λ z. z ++ label_line g label) far.text ∙ append_assoc old (flat_map (label_line g) far.labels) (label_line g label) ∙ ap (λ z. old ++ z) (lines_more far.labels label);
-        counted = ap (λ n. n + 1) far.counted ∙ (let e : length far.labels + 1 ≡ length far.labels + length (label ∷ []) = omega arith in e) ∙ sym (length-append far.labels (label ∷ []));
-        on = λ {vs = ws} {more} {undecided} most e w.
-            subst (λ (ms : List Label). Walks g own plan.fuel plan.bound l plan.depth word ts state ws ms undecided) (sym (append_assoc far.labels (label ∷ []) more))
-            (far.on (suc most) (let q : taken + suc most ≡ taken + 1 + most = omega arith in q ∙ e) (one_taken found m has kept place (subst (λ (o : Option (List TermId)). Walks g own plan.fuel plan.bound l most (next_word word') vs o ws more undecided) to w)));
+        counted = ap suc far.counted ∙ (let e : suc (length far.labels) ≡ length far.labels + length (label ∷ []) = omega arith in e) ∙ sym (length-append far.labels (label ∷ []));
+        word_is = ap next_word far.word_is ∙ next_behind taken word;
+        takes = subst (λ (ps : List Pick). TakesMoves g own plan.fuel plan.bound l ps ts state vs next (far.labels ++ label ∷ [])) picks (takes_both far.takes one);
       }
 
   -- the same, where the next word is told
   pub one_walked_to : (word' word'' : ℕ) (us vs : List Tree) (state' next : Option (List TermId)) (text new : List ℕ) (taken : ℕ) → SoFar word' us state' text taken → Extends us vs → word'' ≡ next_word word'
       → TakesOne g own plan.fuel plan.bound (next_word word') l us vs text state' next new None → SoFar word'' vs next new (taken + 1)
-  one_walked_to word' word'' us vs state' next text new taken far kept told one = subst (λ n. SoFar n vs next new (taken + 1)) (sym told) (one_walked word' us vs state' next text new taken far kept one)
+  one_walked_to word' word'' us vs state' next text new taken far kept told one =
+      subst (λ n. SoFar n vs next new (taken + 1)) (sym told) (subst (λ n. SoFar (next_word word') vs next new n) (sym (add-one taken)) (one_walked word' us vs state' next text new taken far kept one))
 
-  whole_walk : (word' : ℕ) (us vs : List Tree) (state' : Option (List TermId)) (new : List ℕ) (taken most : ℕ) (undecided : List Open) → SoFar word' us state' new taken → taken + most ≡ plan.depth → Walks g own plan.fuel plan.bound l most word' us state' vs [] undecided
+  whole_walk : (word' : ℕ) (us vs : List Tree) (state' : Option (List TermId)) (new : List ℕ) (taken left : ℕ) (undecided : List Open) → SoFar word' us state' new taken → taken + left ≡ plan.depth → StopsThere g own plan.fuel plan.bound l left us state' vs undecided
       → HasWalked g own plan word l ts vs state old new taken (status_with undecided)
-  whole_walk word' us vs state' new taken most undecided far e w = record {
+  whole_walk word' us vs state' new taken left undecided far e there = record {
     labels = far.labels;
     undecided = undecided;
-    walks = subst (λ (ms : List Label). Walks g own plan.fuel plan.bound l plan.depth word ts state vs ms undecided) (append-nil far.labels) (far.on most e w);
+    walks = record { taken = taken; left = left; at_most = e; trees = us; last = state'; takes = far.takes; stops = there };
     text = far.text;
     counted = far.counted;
     status_is = refl;

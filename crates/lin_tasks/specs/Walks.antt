@@ -1,17 +1,17 @@
 -- Walks of a linear process.
-use Rattle.std.specs.Prelude.{◌≡◌, ◌==◌, ◌<◌, ◌^◌, ◌/◌, ◌%◌, ◌++◌, ℕ, suc, List, [], ◌∷◌, Option, Some, None, cond, length, slice_get}
+use Rattle.std.specs.Prelude.{◌≡◌, ◌==◌, ◌<◌, ◌+◌, ◌^◌, ◌/◌, ◌%◌, ◌++◌, ℕ, zero, suc, List, [], ◌∷◌, Option, Some, None, cond, length, slice_get}
 use Rattle.std.specs.List.{flat_map}
 use Rattle.data_theory.specs.declared.ids.TermId.{TermId}
 use Rattle.data_theory.specs.IdTrees.{Tree}
 use Rattle.data_theory.specs.Provable.{Equation}
 use Rattle.data_theory.specs.Signature.{Sig}
-use Rattle.term_pool.specs.Pools.{Extends}
 use Rattle.process_terms.specs.Labels.{Label}
 use Rattle.lps_core.specs.PlainLinears.{PlainLinear}
 use Rattle.lps_simulator.specs.declared.options.Open.{Open}
 use Rattle.lps_simulator.specs.OptionLaws.{HasOptions}
 use Rattle.lps_simulator.specs.OptionsInCode.{PlainMove, PlainOptions, meant_move}
 use Rattle.lps_simulator.specs.Walks.{next_word}
+use Rattle.chosen_moves.specs.TakenMoves.{Pick, TakesMoves}
 use Rattle.lin_tasks.specs.Shown.{label_line, walk_text}
 use Rattle.lin_answers.specs.Statuses.{status_with}
 use Rattle.lin_answers.specs.declared.status.Status.{Status}
@@ -22,17 +22,33 @@ use Rattle.lin_answers.specs.declared.plan.Plan.{Plan}
 abbrev pub picked : (word n : ℕ) → ℕ
 picked word n = (word / 2 ^ 33) % n
 
+-- the place that a word picks of n, where there is one
+abbrev pub place_picked : (word n : ℕ) → Option ℕ
+place_picked word n = cond (n == 0) None (Some (picked word n))
+
+-- as many picks, each by the next one of the words behind a word
+abbrev pub picks_by_words : ℕ → ℕ → List Pick
+picks_by_words zero word = []
+picks_by_words (suc n) word = place_picked (next_word word) ∷ picks_by_words n (next_word word)
+
+-- Where a walk stops that could take so many moves more: where it can take none more, at the end, or at a state without a move; then the summands that are undecided there are the
+-- walk's. The pool grows from the first trees to the second ones.
+pub data StopsThere (g : Sig) (own : List Equation) (fuel bound : ℕ) (l : PlainLinear) : ℕ → List Tree → Option (List TermId) → List Tree → List Open → Type 0 where
+  most_taken : {ts : List Tree} {state : Option (List TermId)} → StopsThere g own fuel bound l zero ts state ts []
+  at_the_end : {left : ℕ} {ts us : List Tree} → StopsThere g own fuel bound l left ts None us []
+  no_move : {left : ℕ} {ts us : List Tree} {state : List TermId} (found : PlainOptions) → HasOptions g own fuel bound ts us l state found → found.moves ≡ []
+      → StopsThere g own fuel bound l (suc left) ts (Some state) us found.undecided
+
 -- A walk of a linear process from a state, or from its end, by the words behind one: at most so many moves, each picked by the next word among the options of where the
--- walk stands. It has the labels of these moves, and the summands that are undecided where it stops without a move. The pool grows from the first trees to the
--- second ones.
-pub data Walks (g : Sig) (own : List Equation) (fuel bound : ℕ) (l : PlainLinear) : (most word : ℕ) → List Tree → Option (List TermId) → List Tree → List Label → List Open → Type 0 where
-  most_taken : {word : ℕ} {ts : List Tree} {state : Option (List TermId)} → Walks g own fuel bound l 0 word ts state ts [] []
-  at_the_end : {most word : ℕ} {ts us : List Tree} → Walks g own fuel bound l most word ts None us [] []
-  no_move : {most word : ℕ} {ts us : List Tree} {state : List TermId} (found : PlainOptions) → HasOptions g own fuel bound ts us l state found → found.moves ≡ []
-      → Walks g own fuel bound l (suc most) word ts (Some state) us [] found.undecided
-  one_taken : {most word : ℕ} {ts us vs : List Tree} {state : List TermId} {labels : List Label} {undecided : List Open} (found : PlainOptions) (m : PlainMove) → HasOptions g own fuel bound ts us l state found → Extends ts us
-      → slice_get found.moves (picked (next_word word) (length found.moves)) ≡ Some m → Walks g own fuel bound l most (next_word word) us m.next vs labels undecided
-      → Walks g own fuel bound l (suc most) word ts (Some state) vs ((meant_move g us m).label ∷ labels) undecided
+-- walk stands, up to where it stops. It has the labels of these moves, and the summands that are undecided where it stops without a move.
+pub record Walks (g : Sig) (own : List Equation) (fuel bound : ℕ) (l : PlainLinear) (most word : ℕ) (ts : List Tree) (state : Option (List TermId)) (us : List Tree) (labels : List Label) (undecided : List Open) : Type 0 where
+  pub taken : ℕ
+  pub left : ℕ
+  pub at_most : taken + left ≡ most
+  pub trees : List Tree
+  pub last : Option (List TermId)
+  pub takes : TakesMoves g own fuel bound l (picks_by_words taken word) ts state trees last labels
+  pub stops : StopsThere g own fuel bound l left trees last us undecided
 
 -- The bytes show the labels of a walk of the linear process from its initial state. `Undecided` is the status exactly where it stops before the depth, without a move, at a
 -- state with an undecided summand.
@@ -45,9 +61,6 @@ pub record ShowsWalk (g : Sig) (own : List Equation) (plan : Plan) (ts : List Tr
   pub status_is : status ≡ status_with undecided
 
 -- ---- in code
-abbrev pub place_picked : (word n : ℕ) → Option ℕ
-place_picked word n = cond (n == 0) None (Some (picked word n))
-
 -- for every word and every n a chooser may be called, and answers the place that the word picks, where there is one
 pub record PicksByWords (calls : ℕ → ℕ → Type 0) (answers : ℕ → ℕ → Option ℕ → Type 0) : Type 0 where
   pub callable : (word n : ℕ) → word < 2 ^ 64 → n < 2 ^ 64 → calls word n
@@ -58,8 +71,8 @@ pub data TakesOne (g : Sig) (own : List Equation) (fuel bound word : ℕ) (l : P
   none_behind_the_end : {next : Option (List TermId)} → TakesOne g own fuel bound word l ts us old None next old (Some Done)
   none_there : {state : List TermId} {next : Option (List TermId)} (found : PlainOptions) → HasOptions g own fuel bound ts us l state found → found.moves ≡ []
       → TakesOne g own fuel bound word l ts us old (Some state) next old (Some (status_with found.undecided))
-  takes_one : {state : List TermId} {next : Option (List TermId)} {new : List ℕ} (found : PlainOptions) (m : PlainMove) → HasOptions g own fuel bound ts us l state found
-      → slice_get found.moves (picked word (length found.moves)) ≡ Some m → next ≡ m.next → new ≡ old ++ label_line g (meant_move g us m).label
+  takes_one : {state : List TermId} {next : Option (List TermId)} {new : List ℕ} (found : PlainOptions) (m : PlainMove) (place : ℕ) → HasOptions g own fuel bound ts us l state found
+      → place_picked word (length found.moves) ≡ Some place → slice_get found.moves place ≡ Some m → next ≡ m.next → new ≡ old ++ label_line g (meant_move g us m).label
       → TakesOne g own fuel bound word l ts us old (Some state) next new None
 
 -- a walk from a state, whose labels are put behind a text

@@ -1,28 +1,60 @@
 //! The task `steps`: what the linear process of a text can do first.
 ghost use Rattle.std.specs.Prelude.{◌≡◌, ◌≢◌, ℕ, List, map, IfErr, IfOk, OnOk};
+ghost use Rattle.data_theory.specs.Provable.{Equation};
+ghost use Rattle.number_rules.specs.Rule.{IsExact, rule_of};
+ghost use Rattle.term_pool.specs.Pools.{Extends};
+ghost use Rattle.data_rewriter.specs.Rewriters.{Fits as FitsPool, number_rules};
+ghost use Rattle.data_rewriter.specs.Simplifying.{AreWellFormed};
 ghost use Rattle.mcrl2_syntax.specs.Declarations.{spec_of};
 ghost use Rattle.process_terms.specs.PlainProcesses.{plain_equation};
 ghost use Rattle.lps_core.specs.Fitting.{Fits};
 ghost use Rattle.lps_core.specs.PlainLinears.{plain_linear};
+ghost use Rattle.lps_simulator.specs.Sessions.{session_linear, session_state, SessionFits};
 ghost use Rattle.lin_driver.specs.Accepted.{CanBeLinearised};
 ghost use Rattle.lin_driver.specs.Eliminations.{equations_at, equations_in, CanRewrite};
 ghost use Rattle.lin_driver.specs.Faults.{IsFaultBy};
 ghost use Rattle.lin_driver.specs.Linearised.{IsMadeOf};
 ghost use Rattle.lin_driver.specs.Refusals.{IsRefusedWith};
-ghost use Rattle.lin_tasks.specs.Shown.{ShowsOptions};
+ghost use Rattle.lin_tasks.specs.Shown.{ShowsOptions, ShowsOptionsIn};
 ghost use Rattle.lin_tasks.specs.ShownTexts.{AreShownSteps};
 
 use crate::option_texts::options_text;
 use data_rewriter::Rewriter;
-use data_theory::{Names, NoMemory, Signature};
+use data_theory::{Names, NoMemory, Num, Signature};
 use lin_answers::{Answer, status_with};
 use lin_driver::{LinFault, Linearised, Method, linearise};
 use lps_core::{Linear, signature_stands};
 use lps_simulator::Session;
-use number_rules::NumberRules;
 use number_rules::operations::exact;
+use number_rules::{NumOp, NumberRules};
 use std::alloc::Global;
 use term_pool::{Pool, Theory};
+
+/// What a session can do where it stands, as it is shown.
+pub(crate) fn options_of_session<F: Fn(NumOp, Num, Num) -> Option<Num>>(
+    alloc: Global,
+    sig: &Signature,
+    pool: &mut Pool,
+    rewriter: &mut Rewriter<F>,
+    session: &mut Session,
+    fuel: u64,
+    bound: u64,
+) -> Result<Answer, NoMemory>
+    requires known { (own : List Equation) × FitsPool rewriter.old sig.now own pool.old.trees × AreWellFormed sig.now own }
+    requires rules { IsExact (F.pre (rule_of (number_rules rewriter.old))) (F.post (rule_of (number_rules rewriter.old))) }
+    requires session { SessionFits sig.now pool.old.trees session.old }
+    ensures kept { OnOk result (Extends pool.old.trees pool.new.trees) }
+    ensures shown { IfOk result (λ answer. (own : List Equation) → FitsPool rewriter.old sig.now own pool.old.trees → AreWellFormed sig.now own
+        → ShowsOptionsIn sig.now own fuel bound pool.old.trees (session_linear session.old) (session_state session.old) answer.status answer.text.items) }
+{
+    signature_stands(sig);
+    let found = session.options(sig, pool, rewriter, fuel, bound)?;
+    let text = options_text(alloc, sig, pool, found)?;
+    Ok(Answer {
+        text,
+        status: status_with(&found.undecided),
+    })
+}
 
 /// What a linear process can do in its initial state, as it is shown.
 fn shown_options(
@@ -38,16 +70,10 @@ fn shown_options(
     requires equations { CanRewrite sig.now pool.old.trees theory.now }
     ensures { IfOk result (λ answer. ShowsOptions sig.now (equations_in sig.now pool.old.trees theory.now) fuel bound pool.old.trees (plain_linear lin) answer.status answer.text.items) }
 {
-    signature_stands(sig);
     let rules = NumberRules::new(exact);
     let mut rewriter = Rewriter::new(alloc, sig, pool, theory, rules)?;
     let mut session = Session::new(alloc, lin)?;
-    let found = session.options(sig, pool, &mut rewriter, fuel, bound)?;
-    let text = options_text(alloc, sig, pool, found)?;
-    Ok(Answer {
-        text,
-        status: status_with(&found.undecided),
-    })
+    options_of_session(alloc, sig, pool, &mut rewriter, &mut session, fuel, bound)
 }
 
 /// What the linear process that was made of a text can do first, as it is shown.

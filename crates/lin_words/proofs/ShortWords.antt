@@ -139,7 +139,7 @@ alone : (task file : Text) → fault_behind (between (second_held task file) idl
 unfolding command_line clap_on_literals
 alone task file = refl
 
-asked_alone : (task file : Text) → asked_in (finished top.rules (second_held task file)) ≡ asked_with (Some task) (Some file) None (Some default_options)
+asked_alone : (task file : Text) → asked_in (finished top.rules (second_held task file)) ≡ asked_with (Some task) (Some file) None None (Some default_options)
 unfolding command_line clap_on_literals
 asked_alone task file = refl
 
@@ -184,7 +184,7 @@ by_default (Some m) = refl
 
 asked_value : (task file name : Text) → asked_in (finished top.rules (value_walk task file name).held) ≡ asked_by_method task file name
 unfolding command_line clap_on_literals
-asked_value task file name = ap (asked_with (Some task) (Some file) None) (by_default (method_named name))
+asked_value task file name = ap (asked_with (Some task) (Some file) None None) (by_default (method_named name))
 
 -- behind a word with both
 abbrev joined_walk : Text → Text → Text → Walk
@@ -200,7 +200,7 @@ joined_end task file name = refl
 
 asked_joined : (task file name : Text) → asked_in (finished top.rules (joined_walk task file name).held) ≡ asked_by_method task file name
 unfolding command_line clap_on_literals
-asked_joined task file name = ap (asked_with (Some task) (Some file) None) (by_default (method_named name))
+asked_joined task file name = ap (asked_with (Some task) (Some file) None None) (by_default (method_named name))
 
 module _ (task file name : Text) (first : begins_with_dash task ≡ false) (second : begins_with_dash file ≡ false) where
   there : Walk

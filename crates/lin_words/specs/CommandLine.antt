@@ -19,13 +19,13 @@ bare_command_line = on_top (λ s. record s { disable_help_flag = true; disable_v
 abbrev pub with_positionals : App → App
 with_positionals a = with_rule (with_rule a (positional (codes "task"))) (positional (codes "file"))
 
--- a command line with its six options
+-- a command line with its seven options
 abbrev pub with_options : App → App
 with_options a =
-    with_rule (with_rule (with_rule (with_rule (with_rule (with_rule a
+    with_rule (with_rule (with_rule (with_rule (with_rule (with_rule (with_rule a
     (option (codes "trace"))) (option (codes "method"))) (option (codes "fuel")))
-    (option (codes "bound"))) (option (codes "seed"))) (option (codes "depth"))
+    (option (codes "bound"))) (option (codes "seed"))) (option (codes "depth"))) (option (codes "after"))
 
--- `mcrl2lin TASK FILE [--trace FILE] [--method M] [--fuel N] [--bound N] [--seed N] [--depth N]`
+-- `mcrl2lin TASK FILE [--trace FILE] [--method M] [--fuel N] [--bound N] [--seed N] [--depth N] [--after FILE]`
 unfoldable pub command_line : App
 command_line = with_options (with_positionals bare_command_line)

@@ -18,11 +18,11 @@ default_options = record { method = Auto; fuel = 100000; bound = 16; seed = 1; d
 -- a task's name and a file ask for that task on that file with the options by default, where neither word begins with a dash
 abbrev pub TwoWordsAsk : Type 0
 TwoWordsAsk = (program task file : Text) → begins_with_dash task ≡ false → begins_with_dash file ≡ false
-    → asked_by (program ∷ task ∷ file ∷ []) ≡ asked_with (Some task) (Some file) None (Some default_options)
+    → asked_by (program ∷ task ∷ file ∷ []) ≡ asked_with (Some task) (Some file) None None (Some default_options)
 
 -- that task on that file by the method of this name
 abbrev pub asked_by_method : (task file name : Text) → Option Asked
-asked_by_method task file name = asked_with (Some task) (Some file) None (option_map (λ m. record default_options { method = m }) (method_named name))
+asked_by_method task file name = asked_with (Some task) (Some file) None None (option_map (λ m. record default_options { method = m }) (method_named name))
 
 -- behind them `--method` with a name that doesn't begin with a dash, or `--method=` in front of any name, asks for it by the method of that name
 abbrev pub MethodIsAsked : Type 0

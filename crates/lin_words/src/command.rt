@@ -1,7 +1,7 @@
 //! What the words of the command line ask for.
 ghost use Rattle.std.specs.Prelude.{◌≡◌, ◌≤◌, IfOk, IfSome, IsSome, IsTrue, map, option_map, string_bytes};
 ghost use Rattle.clap.specs.Words.{found_of, rows_of};
-ghost use Rattle.lin_words.specs.Commands.{asked, asked_by, asked_in, asked_with, has_its_trace, plan_of, size_named, task_named, IsSized, NeedsTrace};
+ghost use Rattle.lin_words.specs.Commands.{asked, asked_by, asked_in, asked_with, further_named, has_its_further, plan_of, size_named, steps_named, task_named, IsSized, NeedsFurther};
 
 use crate::command_line::{program, value_of};
 use crate::options::{Options, number, options_of};
@@ -44,6 +44,15 @@ pub enum Task {
         /// The values that are tried of a sum.
         bound: u64,
     },
+    /// Write what its linear process can do behind the moves that a file chooses.
+    StepsAfter {
+        /// How the components are encoded.
+        method: Method,
+        /// The uses of equations that a rewriting has.
+        fuel: u64,
+        /// The values that are tried of a sum.
+        bound: u64,
+    },
     /// Write the labels of a walk of its linear process.
     Walk {
         /// How the components are encoded.
@@ -71,8 +80,8 @@ pub struct Command<'a> {
     pub task: Task,
     /// The name of the file.
     pub file: &'a str,
-    /// The name of the trace's file, where one is named. [`Task::Replay`] has one.
-    pub trace: Option<&'a str>,
+    /// The name of the further file that the task reads: of the trace of [`Task::Replay`], or of the choices of [`Task::StepsAfter`].
+    pub further: Option<&'a str>,
 }
 
 /// The command that the words give, where they give one: where `clap` takes them, and each of their values is one.
@@ -83,7 +92,8 @@ pub struct Command<'a> {
 pub fn command_of<'a>(alloc: Global, words: &'a [String]) -> Result<Option<Command<'a>>, NoMemory>
     ensures asked { IfOk result (λ command. option_map asked command ≡ asked_by (map string_bytes words.entry.now)) }
     ensures sized { IfOk result (λ command. IfSome command (λ c. IsSized c.task)) }
-    ensures traced { IfOk result (λ command. IfSome command (λ c. NeedsTrace c.task → IsSome c.trace)) }
+    ensures further { IfOk result (λ command. IfSome command (λ c. NeedsFurther c.task → IsSome c.further)) }
+    ensures needs { IfOk result (λ command. IfSome command (λ c. IsSome c.further → NeedsFurther c.task)) }
 {
     let Ok(program) = program(alloc) else {
         return Err(NoMemory);
@@ -99,51 +109,102 @@ pub fn command_of<'a>(alloc: Global, words: &'a [String]) -> Result<Option<Comma
 fn command_in<'a>(matches: &ArgMatches<'a>) -> Option<Command<'a>>
     ensures asked { option_map asked result ≡ asked_in (rows_of (found_of matches.now)) }
     ensures sized { IfSome result (λ c. IsSized c.task) }
-    ensures traced { IfSome result (λ c. NeedsTrace c.task → IsSome c.trace) }
+    ensures further { IfSome result (λ c. NeedsFurther c.task → IsSome c.further) }
+    ensures needs { IfSome result (λ c. IsSome c.further → NeedsFurther c.task) }
 {
     command_with(
         value_of(matches, "task"),
         value_of(matches, "file"),
         value_of(matches, "trace"),
+        value_of(matches, "after"),
         options_of(matches),
     )
 }
 
-/// The command of a task's name, a file, a trace and the options.
+/// The command of a task's name, a file, a trace, a file of choices and the options.
 fn command_with<'a>(
     word: Option<&str>,
     file: Option<&'a str>,
     trace: Option<&'a str>,
+    after: Option<&'a str>,
     options: Option<Options>,
 ) -> Option<Command<'a>>
-    ensures asked { option_map asked result ≡ asked_with (option_map (λ s. s.now) word.entry) (option_map (λ s. s.now) file.entry) (option_map (λ s. s.now) trace.entry) options }
+    ensures asked { option_map asked result ≡ asked_with (option_map (λ s. s.now) word.entry) (option_map (λ s. s.now) file.entry) (option_map (λ s. s.now) trace.entry) (option_map (λ s. s.now) after.entry) options }
     ensures sized { IfSome result (λ c. IsSized c.task) }
-    ensures traced { IfSome result (λ c. NeedsTrace c.task → IsSome c.trace) }
+    ensures further { IfSome result (λ c. NeedsFurther c.task → IsSome c.further) }
+    ensures needs { IfSome result (λ c. IsSome c.further → NeedsFurther c.task) }
 {
     let (Some(word), Some(file), Some(options)) = (word, file, options) else {
         return None;
     };
-    let task = task_of(word, file, options)?;
-    if !has_its_trace(task, trace) {
+    let task = task_of(word, file, after, options)?;
+    let further = further_of(task, trace, after);
+    if !has_its_further(task, further) {
         return None;
     }
-    Some(Command { task, file, trace })
+    Some(Command {
+        task,
+        file,
+        further,
+    })
 }
 
-/// Whether a trace is named, where the task needs one.
-fn has_its_trace(task: Task, trace: Option<&str>) -> bool
-    ensures says { result ≡ has_its_trace task (option_map (λ s. s.now) trace.entry) }
-    ensures there { IsTrue result → NeedsTrace task → IsSome trace.entry }
+/// The further file that a task reads: the trace, or the choices.
+fn further_of<'a>(
+    task: Task,
+    trace: Option<&'a str>,
+    after: Option<&'a str>,
+) -> Option<&'a str>
+    ensures named { option_map (λ s. s.now) result ≡ further_named task (option_map (λ s. s.now) trace.entry) (option_map (λ s. s.now) after.entry) }
+    ensures needs { IsSome result → NeedsFurther task }
 {
     match task {
-        Task::Replay { .. } => trace.is_some(),
+        Task::Replay { .. } => trace,
+        Task::StepsAfter { .. } => after,
+        _ => None,
+    }
+}
+
+/// Whether a further file is named, where the task needs one.
+fn has_its_further(task: Task, further: Option<&str>) -> bool
+    ensures says { result ≡ has_its_further task (option_map (λ s. s.now) further.entry) }
+    ensures there { IsTrue result → NeedsFurther task → IsSome further.entry }
+{
+    match task {
+        Task::Replay { .. } => further.is_some(),
+        Task::StepsAfter { .. } => further.is_some(),
         _ => true,
     }
 }
 
-/// The task of this name, with what it takes of the file and of the options.
-fn task_of(word: &str, file: &str, options: Options) -> Option<Task>
-    ensures named { result ≡ task_named word.now file.now options }
+/// The task `steps`, behind the moves of a file where one is named.
+fn steps_of(after: Option<&str>, options: Options) -> Task
+    ensures named { result ≡ steps_named (option_map (λ s. s.now) after.entry) options }
+    ensures sized { IsSized result }
+{
+    let Options {
+        method,
+        fuel,
+        bound,
+        ..
+    } = options;
+    match after {
+        Some(_) => Task::StepsAfter {
+            method,
+            fuel,
+            bound,
+        },
+        None => Task::Steps {
+            method,
+            fuel,
+            bound,
+        },
+    }
+}
+
+/// The task of this name, with what it takes of the file, of that behind `--after` and of the options.
+fn task_of(word: &str, file: &str, after: Option<&str>, options: Options) -> Option<Task>
+    ensures named { result ≡ task_named word.now file.now (option_map (λ s. s.now) after.entry) options }
     ensures sized { IfSome result IsSized }
 {
     let Options {
@@ -158,11 +219,7 @@ fn task_of(word: &str, file: &str, options: Options) -> Option<Task>
         "constelm" => Some(Task::Constelm { method, fuel }),
         "parelm" => Some(Task::Parelm(method)),
         "sumelm" => Some(Task::Sumelm { method, fuel }),
-        "steps" => Some(Task::Steps {
-            method,
-            fuel,
-            bound,
-        }),
+        "steps" => Some(steps_of(after, options)),
         "walk" => Some(Task::Walk {
             method,
             plan: plan_of(options),

@@ -6,7 +6,7 @@ ghost use Rattle.lin_words.specs.CommandLine.{bare_command_line, command_line, o
 use clap::{Arg, ArgMatches, Command};
 use std::alloc::{AllocError, Global};
 
-/// The command of the program: a task and a file, and six options of one value each. It has no flags.
+/// The command of the program: a task and a file, and seven options of one value each. It has no flags.
 pub fn program<'a>(alloc: Global) -> Result<Command<'a>, AllocError>
     ensures { IfOk result (λ c. app_of c ≡ command_line) }
 {
@@ -37,7 +37,8 @@ fn add_options<'a>(alloc: Global, command: Command<'a>) -> Result<Command<'a>, A
     let command = add_option(alloc, command, "fuel")?;
     let command = add_option(alloc, command, "bound")?;
     let command = add_option(alloc, command, "seed")?;
-    add_option(alloc, command, "depth")
+    let command = add_option(alloc, command, "depth")?;
+    add_option(alloc, command, "after")
 }
 
 fn add_positional<'a>(

@@ -1,11 +1,9 @@
-use Rattle.std.proofs.Common.{rules, ℕ, List, Err, ap, map}
+use Rattle.std.proofs.Common.{rules, Err, ap, map}
 use Rattle.mcrl2_text.specs.declared.loading.LoadFault.{LoadFault}
 use Rattle.mcrl2_syntax.specs.Declarations.{spec_of}
 use Rattle.mcrl2_syntax.proofs.WordsOfTokens.{specs_are_of_words}
 use Rattle.process_terms.specs.PlainProcesses.{plain_equation}
 use Rattle.lps_core.specs.PlainLinears.{plain_linear}
-use Rattle.lin_driver.specs.LinearOfTexts.{IsLinearOf}
-use Rattle.lin_driver.specs.declared.methods.Method.{Method}
 use Rattle.lin_driver.proofs.RewritableEquations.{can_rewrite}
 use Rattle.lin_tasks.proofs.VerdictsOnFiles.{bad_as_told, not_loaded, read_fault_of_loading, replayed_as_told}
 use Rattle.lin_tasks.proofs.verdicts.verdict_on_file.Goals as goal
@@ -15,9 +13,8 @@ verdict_of-requires g c = c.requires
 
 pub returns-in_err-trace-clause-stopped : goal.returns-in_err-trace-clause-stopped
 returns-in_err-trace-clause-stopped g c =
-    let m = c.args.made in
-    not_loaded (λ (method : Method) (text : List ℕ). IsLinearOf method text (spec_of m.spec) m.sig m.pool (map plain_equation m.theory.equations.items) m.name (plain_linear m.lin) m.components) (g.H.Shelf.text_of c.args.shelf.now c.args.name.now)
-    c.from_residual.result c.in_err-trace.field-0.0 (λ e. c.in_err-trace.ensures.too_long (ap (λ (x : LoadFault). Err x) e)) c.from_residual.ensures.1
+    not_loaded _ (g.H.Shelf.text_of c.args.shelf.now c.args.name.now) c.from_residual.result c.in_err-trace.field-0.0 (λ method text is. tt) (λ long method text is. long) (λ method text is. tt)
+    (λ e. c.in_err-trace.ensures.too_long (ap (λ (x : LoadFault). Err x) e)) c.from_residual.ensures.1
 
 pub returns-in-Ok-clause-replayed : goal.returns-in-Ok-clause-replayed
 returns-in-Ok-clause-replayed g c = λ method text is.

@@ -4,7 +4,8 @@ use Rattle.std.proofs.lemmas.Option.{slice_get_read}
 use Rattle.lps_simulator.specs.OptionsInCode.{plain_move, plain_options}
 use Rattle.lps_simulator.specs.Sessions.{session_linear, session_state}
 use Rattle.lps_simulator.specs.Walks.{word_of}
-use Rattle.lin_tasks.proofs.SessionFacts.{lent, lent_shown}
+use Rattle.chosen_moves.proofs.LentOptions.{lent}
+use Rattle.lin_tasks.proofs.SessionFacts.{lent_shown}
 use Rattle.lin_tasks.proofs.ShownLines.{move_at, move_shown}
 use Rattle.lin_tasks.proofs.WalkSteps.{nothing_picked, one_picked, picked_next}
 use Rattle.lin_tasks.proofs.walking.take_one.Goals as goal

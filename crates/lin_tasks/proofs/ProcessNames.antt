@@ -1,0 +1,155 @@
+-- The name of the linear process of a text is a new one.
+use Rattle.std.proofs.Common.{◌≡◌, ◌≢◌, ◌<◌, ◌==◌, ℕ, zero, suc, Bool, true, false, cond, List, [], ◌∷◌, ◌++◌, map, length, Option, Some, inl, inr, refl, sym, ap, ◌∙◌, subst}
+use Rattle.std.specs.Prelude.{Contains, bytes_eq, codes, decimal, slice_get}
+use Rattle.std.specs.List.{All, AllByRecursion, flat_map}
+use Rattle.std.proofs.lemmas.List.Elements.{All-contains}
+use Rattle.std.proofs.lemmas.Option.{slice_get-get_or}
+use Rattle.std.proofs.lemmas.Slice.Eq.{bytes_eq-Decides}
+use Rattle.data_theory.specs.declared.ids.NameId.{NameId}
+use Rattle.data_theory.specs.declared.ids.SortId.{SortId}
+use Rattle.data_theory.specs.IdTrees.{Tree}
+use Rattle.data_theory.specs.Keys.{Key}
+use Rattle.data_theory.specs.Complete.{IsActionWithin}
+use Rattle.data_theory.specs.Fresh.{candidate, IsFresh}
+use Rattle.data_theory.specs.Signature.{Sig, IsTaken}
+use Rattle.data_theory.specs.WholeSignatures.{IsSignature}
+use Rattle.data_theory.specs.Table.{comparison_rows, extreme_rows, first_rows, language_table, list_rows, quotient_rows, sort_rows, step_rows, sum_rows, truth_rows}
+use Rattle.data_theory.specs.Terms.{Sort}
+use Rattle.data_theory.specs.IdTerms.{IsGrown, sort_under}
+use Rattle.term_pool.proofs.DeclaredConstants.{still_read}
+use Rattle.mcrl2_syntax.specs.Declarations.{PlainSpec}
+use Rattle.mcrl2_syntax.proofs.Lists.{all_back, all_both, all_front}
+use Rattle.process_terms.specs.PlainProcesses.{PlainEquation}
+use Rattle.sort_table.specs.Expressions.{Name}
+use Rattle.sort_table.specs.BareSorts.{SortExpression}
+use Rattle.sort_table.specs.BareDeclarations.{Declaration, sorts, alias, struct, constructors, mappings, variables, equation, actions, process, initial, bare_section, bare_sections, declarations_in}
+use Rattle.sort_table.specs.Duplicates.{Item, an_action}
+use Rattle.sort_table.specs.Identifiers.{copied_identifiers}
+use Rattle.sort_table.specs.NamedLists.{all_named}
+use Rattle.sort_table.specs.PlacedSections.{IsPlaced}
+use Rattle.sort_table.specs.SignatureVocabularies.{action_under, text_under, vocabulary_of}
+use Rattle.sort_table.specs.SortMeanings.{actions_by, actions_in, under_names}
+use Rattle.sort_table.specs.Vocabularies.{AreSortsOf, EachPair, IsVocabularyOf}
+use Rattle.sort_table.proofs.SpelledPlaces.{spelled_specs_are_placed}
+use Rattle.sort_checker.specs.TextModels.{IsSignatureOf}
+use Rattle.bisim_laws.proofs.Firing.{contains_cases, contains_first, contains_later, contains_none}
+use Rattle.lps_core.specs.PlainLinears.{PlainLinear}
+use Rattle.lps_core.proofs.Members.{all_from, map_contains}
+use Rattle.lps_printer.specs.CopiedSections.{kept_sections}
+use Rattle.lps_printer.specs.GrowingByAdditions.{GrowsByAdditions, nothing_added, then_constants, then_struct}
+use Rattle.lps_printer.specs.SignatureNames.{is_free}
+use Rattle.lps_printer.proofs.KeptDeclarations.{kept_actions, kept_names}
+use Rattle.lps_printer.proofs.TextItems.{fixed_by, name_of}
+use Rattle.lps_printer.proofs.TwoOfLists as lists
+use Rattle.lin_driver.specs.Linearised.{IsMadeFor, IsMadeOf}
+use Rattle.lin_driver.specs.ModelLinears.{IsProcessName}
+use Rattle.lin_tasks.specs.ProcessNames.{IsNewProcess}
+
+-- ---- what a text declares under a name
+-- what stands under a name in a list
+module _ {A : Type 0} where
+  named_there : (n : Name) (rs : List (Name × A)) (x : A) → Contains rs (n, x) → Contains (all_named n rs) x
+  named_there n [] x c = absurd (contains_none (n, x) c)
+  named_there n (r ∷ rs) x c = elim (contains_cases r (n, x) rs c) [
+    | inl here ↦
+        let same : bytes_eq r.0 n ≡ true = (bytes_eq-Decides r.0 n).1 (ap (λ (q : Name × A). q.0) here) in
+        subst (λ (b : Bool). Contains (cond b (r.1 ∷ all_named n rs) (all_named n rs)) x) (sym same) (subst (λ y. Contains (r.1 ∷ all_named n rs) y) (ap (λ (q : Name × A). q.1) here) (contains_first r.1 (all_named n rs)))
+    | inr there ↦ further (bytes_eq r.0 n) (named_there n rs x there)
+  ]
+    where
+      further : (b : Bool) → Contains (all_named n rs) x → Contains (cond b (r.1 ∷ all_named n rs) (all_named n rs)) x
+      further true c = contains_later r.1 x (all_named n rs) c
+      further false c = c
+
+  -- the list has one of these under the name
+  named_back : (n : Name) (rs : List (Name × A)) (y : A) (ys : List A) → all_named n rs ≡ y ∷ ys → Contains rs (n, y)
+  named_back n [] y ys is = let never : [] ≡ y ∷ ys = is in absurd cc
+  named_back n (r ∷ rs) y ys is = by_test (λ there. named_back n rs y ys there) (bytes_eq r.0 n) refl is
+    where
+      by_test : (all_named n rs ≡ y ∷ ys → Contains rs (n, y)) → (b : Bool) → bytes_eq r.0 n ≡ b → cond b (r.1 ∷ all_named n rs) (all_named n rs) ≡ y ∷ ys → Contains (r ∷ rs) (n, y)
+      by_test further true same is =
+          let name : r.0 ≡ n = (bytes_eq-Decides r.0 n).0 same in
+          let value : r.1 ≡ y = cc in
+          subst (λ (q : Name × A). Contains (r ∷ rs) q) (λ i. (name i, value i)) (contains_first r rs)
+      by_test further false same is = contains_later r (n, y) rs (further is)
+
+-- two lists that go together have both an element, or none
+first_of_both : {A B : Type 0} (Q : A → B → Type 0) (xs : List A) (ys : List B) (y : B) → EachPair Q xs ys → Contains ys y → (x : A) × (zs : List A) × (xs ≡ x ∷ zs)
+first_of_both Q [] [] y both c = absurd (contains_none y c)
+first_of_both Q [] (z ∷ ys) y both c = absurd both
+first_of_both Q (x ∷ xs) ys y both c = (x, xs, refl)
+
+-- ---- the names of actions
+module _ (P : Name → Type 0) where
+  by_declaration : (d : Declaration) → AllByRecursion (λ (x : Item). P (name_of x)) (fixed_by d) → AllByRecursion (λ (a : Name × List SortExpression). P a.0) (actions_by d)
+  by_declaration (sorts ns) all = tt
+  by_declaration (alias n e) all = tt
+  by_declaration (struct n cs) all = tt
+  by_declaration (constructors fs es to) all = tt
+  by_declaration (mappings fs es to) all = tt
+  by_declaration (variables vs) all = tt
+  by_declaration (equation c l r) all = tt
+  by_declaration (actions as_ es) all =
+      lists.all_mapped (λ (a : Name × List SortExpression). P a.0) (λ n. (n, es)) as_ (lists.all_unmapped (λ (x : Item). P (name_of x)) (λ n. an_action n es) as_ all)
+  by_declaration (process p vs body) all = tt
+  by_declaration (initial body) all = tt
+
+  by_declarations : (ds : List Declaration) → AllByRecursion (λ (x : Item). P (name_of x)) (flat_map fixed_by ds) → AllByRecursion (λ (a : Name × List SortExpression). P a.0) (flat_map actions_by ds)
+  by_declarations [] all = tt
+  by_declarations (d ∷ ds) all =
+      all_both (λ (a : Name × List SortExpression). P a.0) (actions_by d) (flat_map actions_by ds)
+      (by_declaration d (all_front (λ (x : Item). P (name_of x)) (fixed_by d) (flat_map fixed_by ds) all)) (by_declarations ds (all_back (λ (x : Item). P (name_of x)) (fixed_by d) (flat_map fixed_by ds) all))
+
+-- those of a signature that has what a text declares are taken, where the identifiers of what is copied are
+module _ (spec : PlainSpec) (g : Sig) (placed : IsPlaced spec) (vocabulary : IsVocabularyOf (under_names (declarations_in (bare_sections spec))) (vocabulary_of g)) (taken : (t : Name) → Contains (copied_identifiers spec) t → IsTaken g t) where
+  declared_are_taken : AllByRecursion (λ (a : Name × List SortExpression). IsTaken g a.0) (actions_in (declarations_in (bare_sections spec)))
+  declared_are_taken =
+      subst (AllByRecursion (λ (a : Name × List SortExpression). IsTaken g a.0)) (kept_actions spec.sections placed)
+      (by_declarations (IsTaken g) (declarations_in (map bare_section (kept_sections spec.sections))) (kept_names (IsTaken g) spec.sections (lists.all_from (IsTaken g) (copied_identifiers spec) taken)))
+
+  action_is_taken : (a : Key) → Contains g.actions a → IsTaken g (text_under g a.name)
+  action_is_taken a among =
+      let n = text_under g a.name in
+      let there : Contains (all_named n (vocabulary_of g).actions) (map (sort_under g) a.sorts) = named_there n (vocabulary_of g).actions (map (sort_under g) a.sorts) (map_contains (action_under g) g.actions a among) in
+      let first = first_of_both (AreSortsOf (vocabulary_of g)) (all_named n (actions_in (declarations_in (bare_sections spec)))) (all_named n (vocabulary_of g).actions) (map (sort_under g) a.sorts) (vocabulary.actions n) there in
+      all_contained (λ (b : Name × List SortExpression). IsTaken g b.0) (actions_in (declarations_in (bare_sections spec))) (n, first.0) declared_are_taken (named_back n (actions_in (declarations_in (bare_sections spec))) first.0 first.1 first.2)
+    where
+      all_contained : {A : Type 0} (Q : A → Type 0) (xs : List A) (x : A) → AllByRecursion Q xs → Contains xs x → Q x
+      all_contained Q [] x all c = absurd (contains_none x c)
+      all_contained Q (y ∷ xs) x all c = elim (contains_cases y x xs c) [ inl here ↦ subst Q here all.0 | inr there ↦ all_contained Q xs x all.1 there ]
+
+-- ---- growth
+same_actions : {g h : Sig} → GrowsByAdditions g h → h.actions ≡ g.actions
+same_actions nothing_added = refl
+same_actions (then_constants before by stands) = by.actions ∙ same_actions before
+same_actions (then_struct before by stands) = ap (λ (k : Sig). k.actions) by.is ∙ by.by_names.actions ∙ same_actions before
+
+-- ---- fresh names
+-- none of these is the name of a built-in function
+candidates_are_free : (n : ℕ) → is_free (candidate (codes "P") n) ≡ true
+unfolding language_table truth_rows sort_rows comparison_rows sum_rows first_rows quotient_rows extreme_rows step_rows list_rows
+candidates_are_free zero = refl
+candidates_are_free (suc n) = refl
+
+-- no action has a name whose text is fresh
+no_action_has_it : (s g : Sig) (x : NameId) (text : List ℕ) → IsSignature s → IsGrown s g → g.actions ≡ s.actions → ((a : Key) → Contains s.actions a → IsTaken s (text_under s a.name)) → slice_get g.texts x.0 ≡ Some text → ¬ (IsTaken s text)
+    → All (λ (a : Key). a.name ≢ x) g.actions
+no_action_has_it s g x text stands grown same taken named free = all_from (λ (a : Key). a.name ≢ x) g.actions (λ a among is.
+    let before : Contains s.actions a = subst (λ (as_ : List Key). Contains as_ a) same among in
+    let inside : a.name.0 < length s.texts = (All-contains (IsActionWithin (length s.texts) (length s.sorts)) s.actions a stands.complete.within.actions before).named in
+    let there : slice_get g.texts a.name.0 ≡ Some (text_under s a.name) = still_read s.texts g.texts grown.new_texts grown.texts a.name.0 (text_under s a.name) (slice_get-get_or s.texts a.name.0 [] inside) in
+    let one : Some (text_under s a.name) ≡ Some text = sym there ∙ ap (λ (n : NameId). slice_get g.texts n.0) is ∙ named in
+    let text_is : text_under s a.name ≡ text = cc in
+    free (subst (IsTaken s) text_is (taken a before)))
+
+pub new_process : (text : List ℕ) (spec : PlainSpec) (g : Sig) (ts : List Tree) (equations : List PlainEquation) (x : NameId) (l : PlainLinear) → IsMadeOf text spec g ts equations x l → IsNewProcess g x
+new_process text spec g ts equations x l made =
+    let m : IsMadeFor spec g ts equations x l = made.made in
+    let n : IsProcessName m.signature g x = m.name in
+    let placed : IsPlaced spec = spelled_specs_are_placed text spec made.tokens made.spelled in
+    record {
+      text = n.text;
+      named = n.named;
+      no_action = no_action_has_it m.signature g x n.text m.stands m.grow.signature (same_actions m.leads.grows) (action_is_taken spec m.signature placed m.declares.vocabulary m.taken) n.named n.fresh.free;
+      free = ap is_free n.fresh.named ∙ candidates_are_free n.fresh.number;
+    }
