@@ -47,3 +47,14 @@ pub record IsLinearOf (method : Method) (text : List ℕ) (spec : PlainSpec) (h 
 abbrev pub is_made : {method : Method} {text : List ℕ} {spec : PlainSpec} {h : Sig} {q : PoolContents} {equations : List PlainEquation} {x : NameId} {l : PlainLinear} {components : ℕ}
     → IsLinearOf method text spec h q equations x l components → IsMadeOf text spec h q.trees equations x l
 is_made i = record { tokens = i.tokens; cut = i.cut; spelled = i.spelled; made = i.by.made }
+
+-- there is one
+pub record HasLinear (method : Method) (text : List ℕ) : Type 0 where
+  pub spec : PlainSpec
+  pub signature : Sig
+  pub pool : PoolContents
+  pub equations : List PlainEquation
+  pub name : NameId
+  pub linear : PlainLinear
+  pub components : ℕ
+  pub is_linear : IsLinearOf method text spec signature pool equations name linear components

@@ -2,14 +2,17 @@
 use Rattle.std.proofs.Common.{◌≡◌, ◌≤◌, ℕ, List, [], ◌∷◌, Option, None, Some, IfSome, length, sym, subst}
 use Rattle.mcrl2_text.specs.declared.loading.TheConstants.{MAX_TEXT_LEN}
 use Rattle.lps_simulator.specs.declared.options.Open.{Open}
+use Rattle.eqn_check.specs.declared.answers.Answer.{Answer as Judged}
+use Rattle.eqn_check.specs.declared.answers.Answer.TheVariants as judged
 use Rattle.trace_replay.specs.declared.replaying.Verdict.{Verdict}
 use Rattle.trace_replay.specs.declared.replaying.Verdict.TheVariants as verdict
 use Rattle.lin_words.specs.Commands.{Asked, asked_by, further_asked, NeedsFurther, question, text_asked}
 use Rattle.lin_run.specs.Ends.{IsAnswer, IsAnswered, MayStayOpen, MaySayNo}
 use Rattle.lin_answers.specs.Statuses.{status_with}
+use Rattle.lin_tasks.specs.JudgedEquations.{status_of_judged}
 use Rattle.lin_tasks.specs.ShownVerdicts.{status_of_verdict}
 use Rattle.lin_words.specs.declared.command.Task.{Task}
-use Rattle.lin_words.specs.declared.command.Task.TheVariants.{Check, Linearise, Constelm, Parelm, Sumelm, Steps, StepsAfter, Walk, Generate, Replay}
+use Rattle.lin_words.specs.declared.command.Task.TheVariants.{Check, Linearise, Constelm, Parelm, Sumelm, Steps, StepsAfter, Walk, Equations, Generate, Replay}
 use Rattle.lin_answers.specs.declared.status.Status.{Status}
 use Rattle.lin_answers.specs.declared.status.Status.TheVariants.{Done, Undecided, No}
 use Rattle.lin_run.proofs.Told.{of_loaded}
@@ -30,6 +33,13 @@ when_left task undecided may s e = subst (HasItsStatus task) (sym e) (by_list un
     by_list [] = record { answered = tt; says_no = λ n. let never : ⊥ = cc in absurd never; stays_open = λ u. may }
     by_list (o ∷ os) = record { answered = tt; says_no = λ n. let never : ⊥ = cc in absurd never; stays_open = λ u. may }
 
+when_judged : (task : Task) (a : Judged) → MayStayOpen task → (s : Status) → s ≡ status_of_judged a → HasItsStatus task s
+when_judged task a may s e = subst (HasItsStatus task) (sym e) (by_answer a)
+  where
+    by_answer : (b : Judged) → HasItsStatus task (status_of_judged b)
+    by_answer judged.Consistent = record { answered = tt; says_no = λ n. let never : ⊥ = cc in absurd never; stays_open = λ u. may }
+    by_answer (judged.Unproved number reason) = record { answered = tt; says_no = λ n. let never : ⊥ = cc in absurd never; stays_open = λ u. may }
+
 when_replayed : (task : Task) (v : Verdict) → MayStayOpen task → MaySayNo task → (s : Status) → s ≡ status_of_verdict v → HasItsStatus task s
 when_replayed task v may says s e = subst (HasItsStatus task) (sym e) (by_verdict v)
   where
@@ -47,6 +57,7 @@ has_its_status (Sumelm method fuel) text further s x is = when_done (Sumelm meth
 has_its_status (Steps method fuel bound) text further s x is = when_left (Steps method fuel bound) is.1.options.found.undecided tt s is.1.options.status_is
 has_its_status (StepsAfter method fuel bound) text further s x is = when_left (StepsAfter method fuel bound) is.1.steps.shows.options.found.undecided tt s is.1.steps.shows.options.status_is
 has_its_status (Walk method plan) text further s x is = when_left (Walk method plan) is.1.walk.undecided tt s is.1.walk.status_is
+has_its_status (Equations method) text further s x is = when_judged (Equations method) is.1.answer tt s is.1.status_is
 has_its_status (Generate size) text further s x is = when_done (Generate size) s is.1
 has_its_status (Replay method fuel bound) text further s x is = when_replayed (Replay method fuel bound) is.1.replayed.answer.verdict tt tt s is.1.replayed.answer.status_is
 
@@ -71,5 +82,6 @@ with_any_further (Sumelm method fuel) none text further s x is = is
 with_any_further (Steps method fuel bound) none text further s x is = is
 with_any_further (StepsAfter method fuel bound) none text further s x is = absurd (none tt)
 with_any_further (Walk method plan) none text further s x is = is
+with_any_further (Equations method) none text further s x is = is
 with_any_further (Generate size) none text further s x is = is
 with_any_further (Replay method fuel bound) none text further s x is = absurd (none tt)

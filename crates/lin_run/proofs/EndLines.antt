@@ -19,7 +19,7 @@ use Rattle.lin_run.specs.Ends.{IsAnswer, IsAnswered, IsTaken, IsTakenBy, IsLineO
 use Rattle.lin_refusals.specs.Lines.{line_of}
 use Rattle.lin_run.specs.Causes.{HasCause, IsBadLineFor, IsFaultFor, IsFileRefusal, IsTooLong, status_of_stop}
 use Rattle.lin_words.specs.declared.command.Task.{Task}
-use Rattle.lin_words.specs.declared.command.Task.TheVariants.{Check, Linearise, Constelm, Parelm, Sumelm, Steps, StepsAfter, Walk, Generate, Replay}
+use Rattle.lin_words.specs.declared.command.Task.TheVariants.{Check, Linearise, Constelm, Parelm, Sumelm, Steps, StepsAfter, Walk, Equations, Generate, Replay}
 use Rattle.lin_refusals.specs.declared.stop.Stop.{Stop}
 use Rattle.lin_refusals.specs.declared.stop.Stop.TheVariants.{Words, ReadFault, TooLong, Refused, NoMemory}
 use Rattle.lin_answers.specs.declared.status.Status.{Status}
@@ -93,6 +93,7 @@ never_refused (Sumelm method fuel) text is texts fault of has = never_refused_by
 never_refused (Steps method fuel bound) text is texts fault of has = never_refused_by method text is texts fault of has
 never_refused (StepsAfter method fuel bound) text is texts fault of has = never_refused_by method text is texts fault of has
 never_refused (Walk method plan) text is texts fault of has = never_refused_by method text is texts fault of has
+never_refused (Equations method) text is texts fault of has = never_refused_by method text is texts fault of has
 never_refused (Replay method fuel bound) text is texts fault of has = never_refused_by method text is texts fault of has
 never_refused (Generate size) text is texts fault of has = never_refused_by Auto text (is, λ e. let never : ⊥ = cc in absurd never) texts fault of has
 
@@ -105,8 +106,8 @@ told_is_read told read text is same = subst (λ (o : Option (List ℕ)). IfSome 
 not_long : (told : Option (List ℕ)) (text : List ℕ) → told ≡ Some text → length text ≤ MAX_TEXT_LEN → IsLongAsTold told → ⊥
 not_long told text is short long = let l = subst IsLongAsTold is long in omega (arith, short, l)
 
-trace_is_not_bad : (text : List ℕ) (told : Option (List ℕ)) (number : ℕ) → IsGoodTrace text told → IsBadAsTold text told number → ⊥
-trace_is_not_bad text told number good bad = good.good number (subst (λ (t : List ℕ). IsBadTraceFor text t number) (told_is_read told bad.trace good.trace good.is_told bad.is_told) bad.bad)
+trace_is_not_bad : (method : Method) (text : List ℕ) (told : Option (List ℕ)) (number : ℕ) → IsGoodTrace method text told → IsBadAsTold method text told number → ⊥
+trace_is_not_bad method text told number good bad = good.good number (subst (λ (t : List ℕ). IsBadTraceFor method text t number) (told_is_read told bad.trace good.trace good.is_told bad.is_told) bad.bad)
 
 choices_are_not_bad : (method : Method) (fuel bound : ℕ) (text : List ℕ) (told : Option (List ℕ)) (number : ℕ) → AreGoodChoices method fuel bound text told → IsBadChoiceAsTold method fuel bound text told number → ⊥
 choices_are_not_bad method fuel bound text told number good bad =
@@ -121,6 +122,7 @@ not_long_for (Sumelm method fuel) text told needs good = absurd needs
 not_long_for (Steps method fuel bound) text told needs good = absurd needs
 not_long_for (StepsAfter method fuel bound) text told needs good = not_long told good.choices good.is_told good.short
 not_long_for (Walk method plan) text told needs good = absurd needs
+not_long_for (Equations method) text told needs good = absurd needs
 not_long_for (Generate size) text told needs good = absurd needs
 not_long_for (Replay method fuel bound) text told needs good = not_long told good.trace good.is_told good.short
 
@@ -136,8 +138,9 @@ not_bad_for (Sumelm method fuel) text told number line good bad = bad
 not_bad_for (Steps method fuel bound) text told number line good bad = bad
 not_bad_for (StepsAfter method fuel bound) text told number line good bad = choices_are_not_bad method fuel bound text told number good bad.1
 not_bad_for (Walk method plan) text told number line good bad = bad
+not_bad_for (Equations method) text told number line good bad = bad
 not_bad_for (Generate size) text told number line good bad = bad
-not_bad_for (Replay method fuel bound) text told number line good bad = trace_is_not_bad text told number good bad.1
+not_bad_for (Replay method fuel bound) text told number line good bad = trace_is_not_bad method text told number good bad.1
 
 never_a_bad_file : (q : Question) (line : List ℕ) → HasGoodFurther q.task q.text q.further → IsFileRefusal (Some q) line → ⊥
 never_a_bad_file q line good r = not_bad_for q.task q.text q.further r.number line good r.due.1
@@ -166,13 +169,13 @@ module _ (asked : Option Question) (a b c d : ℕ) (before after : Option (List 
       (stopped_well P (λ q is texts fault of has. never_refused q.task q.text is texts fault of has) stop none rose cause)
 
   pub linearised_stops_well : (stop : Stop) → (stop ≡ Words → asked ≡ None) → (stop ≡ ReadFault → Rose a b) → HasCause stop asked
-      → IfSome asked (λ q. ((texts : List (List ℕ)) (fault : LinFault) → ¬ (IsRefusedWith q.text texts fault)) → HasGoodFurther q.task q.text q.further → length q.text ≤ MAX_TEXT_LEN → ¬ (Rose a b) → ¬ (Rose c d) → EndsWell (status_of_stop stop) q before after)
+      → IfSome asked (λ q. ((texts : List (List ℕ)) (fault : LinFault) → IsFaultFor q.task fault → ¬ (IsRefusedWith q.text texts fault)) → HasGoodFurther q.task q.text q.further → length q.text ≤ MAX_TEXT_LEN → ¬ (Rose a b) → ¬ (Rose c d) → EndsWell (status_of_stop stop) q before after)
   linearised_stops_well stop none rose cause =
-      let P : Question → Type 0 = λ q. (texts : List (List ℕ)) (fault : LinFault) → ¬ (IsRefusedWith q.text texts fault) in
+      let P : Question → Type 0 = λ q. (texts : List (List ℕ)) (fault : LinFault) → IsFaultFor q.task fault → ¬ (IsRefusedWith q.text texts fault) in
       on_told asked (λ q. P q → HasGoodFurther q.task q.text q.further → length q.text ≤ MAX_TEXT_LEN → ¬ (Rose a b) → EndsWell (status_of_stop stop) q before after)
-      (λ q. ((texts : List (List ℕ)) (fault : LinFault) → ¬ (IsRefusedWith q.text texts fault)) → HasGoodFurther q.task q.text q.further → length q.text ≤ MAX_TEXT_LEN → ¬ (Rose a b) → ¬ (Rose c d) → EndsWell (status_of_stop stop) q before after)
+      (λ q. ((texts : List (List ℕ)) (fault : LinFault) → IsFaultFor q.task fault → ¬ (IsRefusedWith q.text texts fault)) → HasGoodFurther q.task q.text q.further → length q.text ≤ MAX_TEXT_LEN → ¬ (Rose a b) → ¬ (Rose c d) → EndsWell (status_of_stop stop) q before after)
       (λ q well free good short quiet still. well free good short quiet)
-      (stopped_well P (λ q free texts fault of has. free texts fault has) stop none rose cause)
+      (stopped_well P (λ q free texts fault of has. free texts fault of has) stop none rose cause)
 
   -- the whole answer was written
   ends_well : (s : Status) (answer : List ℕ) → IsAnswered s → IfSome before (λ bytes. after ≡ Some (bytes ++ answer)) → (q : Question) → IsAnswer q.task q.text q.further s answer → EndsWell s q before after
@@ -207,10 +210,10 @@ module _ (asked : Option Question) (a b c d : ℕ) (before after : Option (List 
       (λ q is taken good short quiet still. ends_well s answer ok whole q is.1) answered
 
   pub linearised_ends_well : (s : Status) (answer : List ℕ) → IsAnswered s → IfSome asked (λ q. (length q.text ≤ MAX_TEXT_LEN) × IsAnswer q.task q.text q.further s answer) → IfSome before (λ bytes. after ≡ Some (bytes ++ answer))
-      → IfSome asked (λ q. ((texts : List (List ℕ)) (fault : LinFault) → ¬ (IsRefusedWith q.text texts fault)) → HasGoodFurther q.task q.text q.further → length q.text ≤ MAX_TEXT_LEN → ¬ (Rose a b) → ¬ (Rose c d) → EndsWell s q before after)
+      → IfSome asked (λ q. ((texts : List (List ℕ)) (fault : LinFault) → IsFaultFor q.task fault → ¬ (IsRefusedWith q.text texts fault)) → HasGoodFurther q.task q.text q.further → length q.text ≤ MAX_TEXT_LEN → ¬ (Rose a b) → ¬ (Rose c d) → EndsWell s q before after)
   linearised_ends_well s answer ok answered whole =
       on_told asked (λ q. (length q.text ≤ MAX_TEXT_LEN) × IsAnswer q.task q.text q.further s answer)
-      (λ q. ((texts : List (List ℕ)) (fault : LinFault) → ¬ (IsRefusedWith q.text texts fault)) → HasGoodFurther q.task q.text q.further → length q.text ≤ MAX_TEXT_LEN → ¬ (Rose a b) → ¬ (Rose c d) → EndsWell s q before after)
+      (λ q. ((texts : List (List ℕ)) (fault : LinFault) → IsFaultFor q.task fault → ¬ (IsRefusedWith q.text texts fault)) → HasGoodFurther q.task q.text q.further → length q.text ≤ MAX_TEXT_LEN → ¬ (Rose a b) → ¬ (Rose c d) → EndsWell s q before after)
       (λ q is free good short quiet still. ends_well s answer ok whole q is.1) answered
 
 -- words that give no command ask for no text

@@ -3,15 +3,8 @@ use Rattle.std.proofs.Common.{◌≡◌, ◌≢◌, ◌≤◌, ◌<◌, ℕ, Lis
 use Rattle.std.specs.Prelude.{IsErrOf, option_and_then}
 use Rattle.mcrl2_text.specs.Faults.{Rose}
 use Rattle.mcrl2_text.specs.declared.loading.TheConstants.{MAX_TEXT_LEN}
-use Rattle.data_theory.specs.declared.ids.NameId.{NameId}
-use Rattle.data_theory.specs.IdTrees.{Tree}
-use Rattle.data_theory.specs.Signature.{Sig}
-use Rattle.mcrl2_syntax.specs.Declarations.{PlainSpec}
-use Rattle.process_terms.specs.PlainProcesses.{PlainEquation}
-use Rattle.lps_core.specs.PlainLinears.{PlainLinear}
 use Rattle.lin_driver.specs.Accepted.{CanBeLinearised}
-use Rattle.lin_driver.specs.Linearised.{IsMadeOf}
-use Rattle.lin_driver.specs.MadeFromLeaves.{IsMadeAlongNetworkFor}
+use Rattle.lin_driver.specs.LinearOfTexts.{HasLinear}
 use Rattle.lin_driver.specs.Refusals.{IsRefusedWith}
 use Rattle.lin_driver.specs.declared.fault.LinFault.{LinFault}
 use Rattle.lin_driver.specs.declared.fault.LinFault.TheVariants as lin
@@ -22,7 +15,7 @@ use Rattle.lin_run.specs.Causes.{HasCause, IsFaultFor}
 use Rattle.lin_refusals.specs.Stops.{IsChoiceStop, IsStopFor, IsTraceStop}
 use Rattle.lin_answers.specs.declared.answers.Answer.{Answer}
 use Rattle.lin_words.specs.declared.command.Task.{Task}
-use Rattle.lin_words.specs.declared.command.Task.TheVariants.{Check, Linearise, Constelm, Parelm, Sumelm, Steps, StepsAfter, Walk, Generate, Replay}
+use Rattle.lin_words.specs.declared.command.Task.TheVariants.{Check, Linearise, Constelm, Parelm, Sumelm, Steps, StepsAfter, Walk, Equations, Generate, Replay}
 use Rattle.lin_answers.specs.declared.status.Status.{Status}
 use Rattle.lin_answers.specs.declared.status.Status.TheVariants.{Undecided, No}
 use Rattle.lin_refusals.specs.declared.stop.Stop.{Stop}
@@ -31,21 +24,16 @@ use Rattle.lin_run.proofs.AnswerStatuses.{answers_question, has_its_status, no_w
 use Rattle.lin_run.proofs.Told.{cause_asked}
 
 -- ---- one text of many
--- what is so for each text of which it was made is so for one
-pub stopped_for : (IsMade : List ℕ → Type 0) (IsStop : List ℕ → Stop → Type 0) (r : Result Answer Stop) (text : List ℕ) → IsMade text → IfErr r (λ stop. (text : List ℕ) → IsMade text → IsStop text stop) → IfErr r (λ stop. IsStop text stop)
-stopped_for IsMade IsStop (Ok x) text made is = tt
-stopped_for IsMade IsStop (Err stop) text made is = is text made
+-- what is so for each text that has this linear process by a method is so for one
+pub stopped_for : (IsLinear : Method → List ℕ → Type 0) (IsStop : Method → List ℕ → Stop → Type 0) (r : Result Answer Stop) (method : Method) (text : List ℕ) → IsLinear method text
+    → IfErr r (λ stop. (method : Method) (text : List ℕ) → IsLinear method text → IsStop method text stop) → IfErr r (λ stop. IsStop method text stop)
+stopped_for IsLinear IsStop (Ok x) method text has is = tt
+stopped_for IsLinear IsStop (Err stop) method text has is = is method text has
 
-pub answered_for : (IsMade : List ℕ → Type 0) (Shows : List ℕ → Status → List ℕ → Type 0) (r : Result Answer Stop) (text : List ℕ) → CanBeLinearised text → IsMade text
-    → IfOk r (λ answer. (text : List ℕ) → IsMade text → Shows text answer.status answer.text.items) → IfOk r (λ answer. CanBeLinearised text × Shows text answer.status answer.text.items)
-answered_for IsMade Shows (Ok answer) text accepted made is = (accepted, is text made)
-answered_for IsMade Shows (Err stop) text accepted made is = tt
-
-pub choices_stopped_for : (method : Method) (fuel bound : ℕ) (told : Option (List ℕ)) (spec : PlainSpec) (g : Sig) (ts : List Tree) (equations : List PlainEquation) (x : NameId) (l : PlainLinear) (r : Result Answer Stop) (text : List ℕ)
-    → IsMadeOf text spec g ts equations x l → IsMadeAlongNetworkFor method spec g ts l
-    → IfErr r (λ stop. (method : Method) (text : List ℕ) → IsMadeOf text spec g ts equations x l → IsMadeAlongNetworkFor method spec g ts l → IsChoiceStop method fuel bound text told stop) → IfErr r (λ stop. IsChoiceStop method fuel bound text told stop)
-choices_stopped_for method fuel bound told spec g ts equations x l (Ok answer) text made along is = tt
-choices_stopped_for method fuel bound told spec g ts equations x l (Err stop) text made along is = is method text made along
+pub answered_for : (IsLinear : Method → List ℕ → Type 0) (Shows : Method → List ℕ → Status → List ℕ → Type 0) (r : Result Answer Stop) (method : Method) (text : List ℕ) → CanBeLinearised text → IsLinear method text
+    → IfOk r (λ answer. (method : Method) (text : List ℕ) → IsLinear method text → Shows method text answer.status answer.text.items) → IfOk r (λ answer. CanBeLinearised text × Shows method text answer.status answer.text.items)
+answered_for IsLinear Shows (Ok answer) method text accepted has is = (accepted, is method text has)
+answered_for IsLinear Shows (Err stop) method text accepted has is = tt
 
 -- ---- causes
 -- the question of a task, a text and a further file that is told or not
@@ -55,22 +43,22 @@ asks task text told = record { task = task; text = text; further = told }
 abbrev pub StopsFor : Task → List ℕ → Option (List ℕ) → Stop → Type 0
 StopsFor task text told stop = (stop ≢ Words) × HasCause stop (Some (asks task text told))
 
-module _ (text : List ℕ) (told : Option (List ℕ)) (method : Method) (fuel bound : ℕ) (short : length text ≤ MAX_TEXT_LEN) (accepted : CanBeLinearised text) where
-  trace_cause : (stop : Stop) → IsTraceStop text told stop → StopsFor (Replay method fuel bound) text told stop
+module _ (text : List ℕ) (told : Option (List ℕ)) (method : Method) (fuel bound : ℕ) (short : length text ≤ MAX_TEXT_LEN) (accepted : CanBeLinearised text) (has : HasLinear method text) where
+  trace_cause : (stop : Stop) → IsTraceStop method text told stop → StopsFor (Replay method fuel bound) text told stop
   trace_cause Words is = absurd is
   trace_cause ReadFault is = (λ e. cc, tt)
-  trace_cause TooLong is = (λ e. cc, inr (record { needs = tt; short = short; linearised = accepted }, is))
-  trace_cause (Refused line) is = (λ e. cc, inr (record { number = is.0; says = inl is.1; due = (record { needs = tt; short = short; linearised = accepted }, (is.1, is.2)) }))
+  trace_cause TooLong is = (λ e. cc, inr (record { needs = tt; short = short; linearised = accepted; linear = has }, is))
+  trace_cause (Refused line) is = (λ e. cc, inr (record { number = is.0; says = inl is.1; due = (record { needs = tt; short = short; linearised = accepted; linear = has }, (is.1, is.2)) }))
   trace_cause NoMemory is = (λ e. cc, tt)
 
   choice_cause : (stop : Stop) → IsChoiceStop method fuel bound text told stop → StopsFor (StepsAfter method fuel bound) text told stop
   choice_cause Words is = absurd is
   choice_cause ReadFault is = (λ e. cc, tt)
-  choice_cause TooLong is = (λ e. cc, inr (record { needs = tt; short = short; linearised = accepted }, is))
-  choice_cause (Refused line) is = (λ e. cc, inr (record { number = is.0; says = inr is.1; due = (record { needs = tt; short = short; linearised = accepted }, (is.1, is.2)) }))
+  choice_cause TooLong is = (λ e. cc, inr (record { needs = tt; short = short; linearised = accepted; linear = has }, is))
+  choice_cause (Refused line) is = (λ e. cc, inr (record { number = is.0; says = inr is.1; due = (record { needs = tt; short = short; linearised = accepted; linear = has }, (is.1, is.2)) }))
   choice_cause NoMemory is = (λ e. cc, tt)
 
-  pub trace_stops : (r : Result Answer Stop) → IfErr r (λ stop. IsTraceStop text told stop) → IfErr r (λ stop. StopsFor (Replay method fuel bound) text told stop)
+  pub trace_stops : (r : Result Answer Stop) → IfErr r (λ stop. IsTraceStop method text told stop) → IfErr r (λ stop. StopsFor (Replay method fuel bound) text told stop)
   trace_stops (Ok answer) is = tt
   trace_stops (Err stop) is = trace_cause stop is
 
@@ -84,7 +72,7 @@ pub text_stops : (task : Task) (text : List ℕ) (told : Option (List ℕ)) (tex
 text_stops task text told texts fault Words short by refused is = absurd is
 text_stops task text told texts fault ReadFault short by refused is = absurd is
 text_stops task text told texts fault TooLong short by refused is = absurd is
-text_stops task text told texts fault (Refused line) short by refused is = (λ e. cc, inl (record { texts = texts; fault = fault; says = is.1; due = (short, by, refused is.0) }))
+text_stops task text told texts fault (Refused line) short by refused is = (λ e. cc, inl (record { texts = texts; fault = fault; named = is.0; says = is.1; due = (short, by, refused is.0) }))
 text_stops task text told texts fault NoMemory short by refused is = (λ e. cc, tt)
 
 -- ---- for what is asked
@@ -124,6 +112,7 @@ needing_reads (Sumelm method fuel) needs = tt
 needing_reads (Steps method fuel bound) needs = tt
 needing_reads (StepsAfter method fuel bound) needs = tt
 needing_reads (Walk method plan) needs = tt
+needing_reads (Equations method) needs = tt
 needing_reads (Generate size) needs = absurd needs
 needing_reads (Replay method fuel bound) needs = tt
 

@@ -36,6 +36,7 @@ has_cause text_of words a bytes texts fault TooLong asked told short of refused 
 has_cause text_of words a bytes texts fault (Refused line) asked told short of refused is = inl (record {
   texts = texts;
   fault = fault;
+  named = is.0;
   says = is.1;
   due = of_loaded text_of words a bytes (λ q. (length q.text ≤ MAX_TEXT_LEN) × IsFaultFor q.task fault × IsRefusedWith q.text texts fault) asked told (short, of is.0, refused is.0);
 })
@@ -51,6 +52,7 @@ cause_asked text_of words a bytes (Refused line) asked told cause = elim cause [
   | inl r ↦ inl (record {
     texts = r.texts;
     fault = r.fault;
+    named = r.named;
     says = r.says;
     due = of_loaded text_of words a bytes (λ q. (length q.text ≤ MAX_TEXT_LEN) × IsFaultFor q.task r.fault × IsRefusedWith q.text r.texts r.fault) asked told r.due;
   })

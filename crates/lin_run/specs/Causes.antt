@@ -1,10 +1,12 @@
 -- The causes of stops, in what is asked.
-use Rattle.std.specs.Prelude.{⊤, ◌≡◌, ◌≤◌, ◌<◌, ◌⊎◌, ℕ, List, Option, IfSome, length}
+use Rattle.std.specs.Prelude.{⊤, ◌≡◌, ◌≢◌, ◌≤◌, ◌<◌, ◌⊎◌, ℕ, List, Option, IfSome, length}
 use Rattle.mcrl2_text.specs.declared.loading.TheConstants.{MAX_TEXT_LEN}
 use Rattle.lin_driver.specs.Accepted.{CanBeLinearised, IsOfTheText}
 use Rattle.lin_driver.specs.Faults.{IsFaultBy}
+use Rattle.lin_driver.specs.LinearOfTexts.{HasLinear}
 use Rattle.lin_driver.specs.Refusals.{IsRefusedWith}
 use Rattle.lin_driver.specs.declared.fault.LinFault.{LinFault}
+use Rattle.lin_driver.specs.declared.fault.LinFault.TheVariants as lin
 use Rattle.lin_driver.specs.declared.methods.Method.TheVariants.{Auto}
 use Rattle.lin_answers.specs.declared.status.Status.{Status}
 use Rattle.lin_answers.specs.declared.status.Status.TheVariants as status
@@ -15,7 +17,7 @@ use Rattle.lin_refusals.specs.declared.stop.Stop.{Stop}
 use Rattle.lin_refusals.specs.declared.stop.Stop.TheVariants.{Words, ReadFault, TooLong, Refused, NoMemory}
 use Rattle.lin_words.specs.Commands.{NeedsFurther, Question}
 use Rattle.lin_words.specs.declared.command.Task.{Task}
-use Rattle.lin_words.specs.declared.command.Task.TheVariants.{Check, Linearise, Constelm, Parelm, Sumelm, Steps, StepsAfter, Walk, Generate, Replay}
+use Rattle.lin_words.specs.declared.command.Task.TheVariants.{Check, Linearise, Constelm, Parelm, Sumelm, Steps, StepsAfter, Walk, Equations, Generate, Replay}
 
 -- a task refuses a text for this fault; to check one never asks for its form, and to linearise one does so by the method `Regular` alone
 abbrev pub IsFaultFor : Task → LinFault → Type 0
@@ -27,22 +29,31 @@ IsFaultFor (Sumelm method fuel) fault = IsFaultBy method fault
 IsFaultFor (Steps method fuel bound) fault = IsFaultBy method fault
 IsFaultFor (StepsAfter method fuel bound) fault = IsFaultBy method fault
 IsFaultFor (Walk method plan) fault = IsFaultBy method fault
+IsFaultFor (Equations method) fault = IsFaultBy method fault
 IsFaultFor (Generate size) fault = IsFaultBy Auto fault
 IsFaultFor (Replay method fuel bound) fault = IsFaultBy method fault
 
--- the line refuses the text, where that is told, for a fault that it has
+-- the line refuses the text for a fault, and where the text is told, for one that it has
 pub record IsRefusal (asked : Option Question) (line : List ℕ) : Type 0 where
   pub texts : List (List ℕ)
   pub fault : LinFault
+  pub named : fault ≢ lin.NoMemory
   pub says : line ≡ refusal_line texts fault
   pub due : IfSome asked (λ q. (length q.text ≤ MAX_TEXT_LEN) × IsFaultFor q.task fault × IsRefusedWith q.text texts fault)
 
 -- ---- a further file
+-- the task needs a further file, and the linear process of the text was made by the task's method
+abbrev pub HasLinearFor : Task → List ℕ → Type 0
+HasLinearFor (StepsAfter method fuel bound) text = HasLinear method text
+HasLinearFor (Replay method fuel bound) text = HasLinear method text
+HasLinearFor _ text = ⊥
+
 -- the task needs a further file, and is done with the text up to there
 pub record ComesToTheFile (q : Question) : Type 0 where
   pub needs : NeedsFurther q.task
   pub short : length q.text ≤ MAX_TEXT_LEN
   pub linearised : CanBeLinearised q.text
+  pub linear : HasLinearFor q.task q.text
 
 -- the text is too long, or behind it the further file
 abbrev pub IsTooLong : Question → Type 0
@@ -58,8 +69,9 @@ IsBadLineFor (Sumelm method fuel) text told number line = ⊥
 IsBadLineFor (Steps method fuel bound) text told number line = ⊥
 IsBadLineFor (StepsAfter method fuel bound) text told number line = (line ≡ bad_choice_line number) × IsBadChoiceAsTold method fuel bound text told number
 IsBadLineFor (Walk method plan) text told number line = ⊥
+IsBadLineFor (Equations method) text told number line = ⊥
 IsBadLineFor (Generate size) text told number line = ⊥
-IsBadLineFor (Replay method fuel bound) text told number line = (line ≡ bad_trace_line number) × IsBadAsTold text told number
+IsBadLineFor (Replay method fuel bound) text told number line = (line ≡ bad_trace_line number) × IsBadAsTold method text told number
 
 -- the line refuses a trace or choices for a line, which is the first bad one, where the text is told
 pub record IsFileRefusal (asked : Option Question) (line : List ℕ) : Type 0 where

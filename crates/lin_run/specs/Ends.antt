@@ -18,12 +18,13 @@ use Rattle.lin_refusals.specs.BadTraces.{IsGoodTrace}
 use Rattle.lin_refusals.specs.Lines.{line_of, write_fault_line}
 use Rattle.lin_refusals.specs.declared.stop.Stop.TheVariants as stop
 use Rattle.lin_tasks.specs.Counts.{AreCounts}
+use Rattle.lin_tasks.specs.JudgedEquations.{AreJudgedEquations}
 use Rattle.lin_tasks.specs.ShownAfter.{AreShownAsTold}
 use Rattle.lin_tasks.specs.ShownTexts.{AreShownSteps, IsShownWalk}
 use Rattle.lin_tasks.specs.ShownVerdicts.{IsReplayedAsTold}
 use Rattle.lin_words.specs.Commands.{Question}
 use Rattle.lin_words.specs.declared.command.Task.{Task}
-use Rattle.lin_words.specs.declared.command.Task.TheVariants.{Check, Linearise, Constelm, Parelm, Sumelm, Steps, StepsAfter, Walk, Generate, Replay}
+use Rattle.lin_words.specs.declared.command.Task.TheVariants.{Check, Linearise, Constelm, Parelm, Sumelm, Steps, StepsAfter, Walk, Equations, Generate, Replay}
 use Rattle.lin_run.specs.Causes.{IsRefusal, IsTooLong, IsFileRefusal}
 
 -- The answer of a task, where the text can be linearised, and its status: `ok`, or a text that stands for it, which is that of a plainly conditioned linear
@@ -32,14 +33,15 @@ use Rattle.lin_run.specs.Causes.{IsRefusal, IsTooLong, IsFileRefusal}
 abbrev pub IsAnswer : Task → List ℕ → Option (List ℕ) → Status → List ℕ → Type 0
 IsAnswer Check text further status answer = CanBeLinearised text × (status ≡ Done) × (answer ≡ codes "ok\n")
 IsAnswer (Linearise method) text further status answer = CanBeLinearised text × (status ≡ Done) × StandsFor text answer × IsWrittenFor method text answer
-IsAnswer (Constelm method fuel) text further status answer = CanBeLinearised text × (status ≡ Done) × StandsFor text answer × IsEliminated (Constants fuel) text answer
-IsAnswer (Parelm method) text further status answer = CanBeLinearised text × (status ≡ Done) × StandsFor text answer × IsEliminated Parameters text answer
-IsAnswer (Sumelm method fuel) text further status answer = CanBeLinearised text × (status ≡ Done) × StandsFor text answer × IsEliminated (Sums fuel) text answer
-IsAnswer (Steps method fuel bound) text further status answer = CanBeLinearised text × AreShownSteps fuel bound text status answer
-IsAnswer (StepsAfter method fuel bound) text further status answer = CanBeLinearised text × AreShownAsTold fuel bound text further status answer
-IsAnswer (Walk method plan) text further status answer = CanBeLinearised text × IsShownWalk plan text status answer
+IsAnswer (Constelm method fuel) text further status answer = CanBeLinearised text × (status ≡ Done) × StandsFor text answer × IsEliminated method (Constants fuel) text answer
+IsAnswer (Parelm method) text further status answer = CanBeLinearised text × (status ≡ Done) × StandsFor text answer × IsEliminated method Parameters text answer
+IsAnswer (Sumelm method fuel) text further status answer = CanBeLinearised text × (status ≡ Done) × StandsFor text answer × IsEliminated method (Sums fuel) text answer
+IsAnswer (Steps method fuel bound) text further status answer = CanBeLinearised text × AreShownSteps method fuel bound text status answer
+IsAnswer (StepsAfter method fuel bound) text further status answer = CanBeLinearised text × AreShownAsTold method fuel bound text further status answer
+IsAnswer (Walk method plan) text further status answer = CanBeLinearised text × IsShownWalk method plan text status answer
+IsAnswer (Equations method) text further status answer = CanBeLinearised text × AreJudgedEquations text status answer
 IsAnswer (Generate size) text further status answer = CanBeLinearised text × (status ≡ Done) × AreCounts text answer
-IsAnswer (Replay method fuel bound) text further status answer = CanBeLinearised text × IsReplayedAsTold fuel bound text further status answer
+IsAnswer (Replay method fuel bound) text further status answer = CanBeLinearised text × IsReplayedAsTold method fuel bound text further status answer
 
 -- the tasks that may leave something undecided
 abbrev pub MayStayOpen : Task → Type 0
@@ -51,6 +53,7 @@ MayStayOpen (Sumelm method fuel) = ⊥
 MayStayOpen (Steps method fuel bound) = ⊤
 MayStayOpen (StepsAfter method fuel bound) = ⊤
 MayStayOpen (Walk method plan) = ⊤
+MayStayOpen (Equations method) = ⊤
 MayStayOpen (Generate size) = ⊥
 MayStayOpen (Replay method fuel bound) = ⊤
 
@@ -64,6 +67,7 @@ MaySayNo (Sumelm method fuel) = ⊥
 MaySayNo (Steps method fuel bound) = ⊥
 MaySayNo (StepsAfter method fuel bound) = ⊥
 MaySayNo (Walk method plan) = ⊥
+MaySayNo (Equations method) = ⊥
 MaySayNo (Generate size) = ⊥
 MaySayNo (Replay method fuel bound) = ⊤
 
@@ -93,6 +97,7 @@ IsTaken (Sumelm method fuel) text = IsTakenBy method text
 IsTaken (Steps method fuel bound) text = IsTakenBy method text
 IsTaken (StepsAfter method fuel bound) text = IsTakenBy method text
 IsTaken (Walk method plan) text = IsTakenBy method text
+IsTaken (Equations method) text = IsTakenBy method text
 IsTaken (Generate size) text = CanBeLinearised text
 IsTaken (Replay method fuel bound) text = IsTakenBy method text
 
@@ -106,8 +111,9 @@ HasGoodFurther (Sumelm method fuel) text told = ⊤
 HasGoodFurther (Steps method fuel bound) text told = ⊤
 HasGoodFurther (StepsAfter method fuel bound) text told = AreGoodChoices method fuel bound text told
 HasGoodFurther (Walk method plan) text told = ⊤
+HasGoodFurther (Equations method) text told = ⊤
 HasGoodFurther (Generate size) text told = ⊤
-HasGoodFurther (Replay method fuel bound) text told = IsGoodTrace text told
+HasGoodFurther (Replay method fuel bound) text told = IsGoodTrace method text told
 
 -- the line of a status, with its cause in the text or in the further file where these are told
 abbrev pub IsLineOf : Status → Option Question → List ℕ → Type 0

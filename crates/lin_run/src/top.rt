@@ -15,7 +15,7 @@ use data_theory::Names;
 use lin_answers::{Answer, Status};
 use lin_driver::{Elimination, LinFault, check_text, eliminated_text, linear_text};
 use lin_refusals::Stop;
-use lin_tasks::{counts, steps, walk};
+use lin_tasks::{counts, equations, steps, walk};
 use lin_words::{Task, command_of};
 use mcrl2_text::{MAX_TEXT_LEN, Shelf, Sink, write_all};
 use std::alloc::Global;
@@ -59,8 +59,8 @@ pub fn run<H: Shelf, O: Sink, E: Sink>(
         → length q.text ≤ MAX_TEXT_LEN → ¬ (Rose (H.faults shelf.old) (H.faults shelf.new)) → ¬ (Rose (O.faults out.old) (O.faults out.new))
         → EndsWell result q (O.taken out.old) (O.taken out.new)) }
 
-    // And so it is for each text without a fault.
-    ensures complete { IfSome (question (H.text_of shelf.old) (map string_bytes words.now.items)) (λ q. ((texts : List (List ℕ)) (fault : LinFault) → ¬ (IsRefusedWith q.text texts fault)) → HasGoodFurther q.task q.text q.further
+    // And so it is for each text without a fault for which the task refuses it.
+    ensures complete { IfSome (question (H.text_of shelf.old) (map string_bytes words.now.items)) (λ q. ((texts : List (List ℕ)) (fault : LinFault) → IsFaultFor q.task fault → ¬ (IsRefusedWith q.text texts fault)) → HasGoodFurther q.task q.text q.further
         → length q.text ≤ MAX_TEXT_LEN → ¬ (Rose (H.faults shelf.old) (H.faults shelf.new)) → ¬ (Rose (O.faults out.old) (O.faults out.new))
         → EndsWell result q (O.taken out.old) (O.taken out.new)) }
 {
@@ -169,6 +169,7 @@ fn answer_to(alloc: Global, task: Task, text: &[u8], names: &mut Names) -> Resul
             bound,
         } => steps(alloc, text, names, method, fuel, bound),
         Task::Walk { method, plan } => walk(alloc, text, names, method, plan),
+        Task::Equations(method) => equations(alloc, text, names, method),
         Task::Generate(_) => Ok(Answer::done(counts(alloc, text, names)?)),
         Task::StepsAfter { .. } => unreachable!(),
         Task::Replay { .. } => unreachable!(),

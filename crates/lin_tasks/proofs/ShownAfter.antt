@@ -10,6 +10,7 @@ use Rattle.data_theory.specs.Terms.{Term}
 use Rattle.mcrl2_syntax.specs.Declarations.{PlainSpec}
 use Rattle.mcrl2_text.specs.declared.loading.TheConstants.{MAX_TEXT_LEN}
 use Rattle.process_terms.specs.Labels.{Label}
+use Rattle.term_pool.specs.Pools.{PoolContents}
 use Rattle.process_terms.specs.PlainProcesses.{PlainEquation}
 use Rattle.process_terms.specs.Processes.{Process}
 use Rattle.process_terms.specs.SignatureEntries.{entries_of}
@@ -29,7 +30,9 @@ use Rattle.lps_simulator.specs.OptionsInCode.{PlainOptions, meant_move, terms_at
 use Rattle.lps_simulator.proofs.OptionLaws.{moves_are_steps, undecided_summands_have_causes}
 use Rattle.chosen_moves.specs.TakenMoves.{HasOptionsIn}
 use Rattle.lin_driver.specs.Eliminations.{equations_at}
-use Rattle.lin_driver.specs.Linearised.{IsLinearised, IsMadeOf}
+use Rattle.lin_driver.specs.Linearised.{IsLinearised}
+use Rattle.lin_driver.specs.LinearOfTexts.{IsLinearOf, is_made}
+use Rattle.lin_driver.specs.declared.methods.Method.{Method}
 use Rattle.lin_driver.proofs.LinearisedTexts.{made_stands_for}
 use Rattle.lin_tasks.specs.FirstSteps.{nothing_done, one_done, CanPerform, HasNoSums, IsListed, IsTheoryFor, Performs}
 use Rattle.lin_tasks.specs.Shown.{shown_moves, ShowsOptionsIn}
@@ -93,28 +96,29 @@ module _ (g : Sig) (own : List Equation) (ts : List Tree) (x : NameId) (l : Plai
     whole_after state there decided no_sums q paired label r step =
         step_is_listed g own fuel bound s.trees s.options.later l state s.options.found (has_options state there) decided th is R link.bisimulation q paired no_sums label r step
 
--- ---- of what was made of a text
-module _ (text : List ℕ) (spec : PlainSpec) (g : Sig) (ts : List Tree) (equations : List PlainEquation) (x : NameId) (l : PlainLinear) (made : IsMadeOf text spec g ts equations x l) where
-  abbrev from : IsLinearised text spec g ts l
-  from = made_stands_for text spec g ts equations x l made
+-- ---- of the linear process of a text
+module _ (method : Method) (text : List ℕ) (spec : PlainSpec) (g : Sig) (q : PoolContents) (equations : List PlainEquation) (x : NameId) (l : PlainLinear) (components : ℕ) (is_linear : IsLinearOf method text spec g q equations x l components) where
+  abbrev from : IsLinearised text spec g q.trees l
+  from = made_stands_for text spec g q.trees equations x l (is_made is_linear)
 
-  pub made_after : (fuel bound : ℕ) (choices : List ℕ) (status : Status) (shown : List ℕ) → ShowsStepsAfter g (equations_at g ts equations) fuel bound ts x l choices status shown → AreShownStepsAfter fuel bound text choices status shown
+  pub made_after : (fuel bound : ℕ) (choices : List ℕ) (status : Status) (shown : List ℕ) → ShowsStepsAfter g (equations_at g q.trees equations) fuel bound q.trees x l choices status shown → AreShownStepsAfter method fuel bound text choices status shown
   made_after fuel bound choices status shown given =
       let own = from.theory.equations in
-      let s : ShowsStepsAfter g own fuel bound ts x l choices status shown =
-      subst (λ (qs : List Equation). ShowsStepsAfter g qs fuel bound ts x l choices status shown) (sym (own_are text spec g ts equations x l made)) given in
+      let s : ShowsStepsAfter g own fuel bound q.trees x l choices status shown =
+      subst (λ (qs : List Equation). ShowsStepsAfter g qs fuel bound q.trees x l choices status shown) (sym (own_are text spec g q.trees equations x l (is_made is_linear))) given in
       record {
         spec = spec;
         signature = g;
-        trees = ts;
+        pool = q;
         equations = equations;
         name = x;
         linear = l;
-        made = made;
+        components = components;
+        is_linear = is_linear;
         linearised = from;
         shows = s;
-        causes = causes_after g own ts x l from.link from.process from.bisimilar fuel bound choices status shown s;
-        run = run_after g own ts x l from.link from.process from.bisimilar fuel bound choices status shown s;
-        steps = steps_after g own ts x l from.link from.process from.bisimilar fuel bound choices status shown s;
-        whole = λ state there decided no_sums th is. whole_after g own ts x l from.link from.process from.bisimilar fuel bound choices status shown s th is state there decided no_sums;
+        causes = causes_after g own q.trees x l from.link from.process from.bisimilar fuel bound choices status shown s;
+        run = run_after g own q.trees x l from.link from.process from.bisimilar fuel bound choices status shown s;
+        steps = steps_after g own q.trees x l from.link from.process from.bisimilar fuel bound choices status shown s;
+        whole = λ state there decided no_sums th is. whole_after g own q.trees x l from.link from.process from.bisimilar fuel bound choices status shown s th is state there decided no_sums;
       }

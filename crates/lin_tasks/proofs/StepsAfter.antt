@@ -13,7 +13,7 @@ use Rattle.data_theory.specs.IdTrees.{Tree}
 use Rattle.data_theory.specs.Provable.{Equation}
 use Rattle.data_theory.specs.Signature.{Sig}
 use Rattle.data_theory.specs.WholeSignatures.{IsSignature}
-use Rattle.term_pool.specs.Pools.{Extends}
+use Rattle.term_pool.specs.Pools.{PoolContents, Extends}
 use Rattle.process_terms.specs.PlainProcesses.{PlainEquation}
 use Rattle.lps_core.specs.Fitting.{sort_of_variable, AreTermsOf, IsVariable}
 use Rattle.lps_core.specs.PlainLinears.{PlainLinear}
@@ -26,8 +26,7 @@ use Rattle.chosen_moves.specs.declared.following.ChoiceFault.{ChoiceFault}
 use Rattle.chosen_moves.specs.declared.following.ChoiceFault.TheVariants.{BadChoice}
 use Rattle.chosen_moves.specs.ChosenMoves.{FollowsText, IsChoiceFault}
 use Rattle.lin_driver.specs.Eliminations.{equations_at}
-use Rattle.lin_driver.specs.Linearised.{IsMadeOf}
-use Rattle.lin_driver.specs.MadeFromLeaves.{IsMadeAlongNetworkFor}
+use Rattle.lin_driver.specs.LinearOfTexts.{IsLinearOf}
 use Rattle.lin_driver.specs.declared.methods.Method.{Method}
 use Rattle.lin_refusals.specs.BadChoices.{IsBadChoiceAsTold}
 use Rattle.lin_tasks.specs.Shown.{state_line, ShowsOptionsIn}
@@ -81,26 +80,25 @@ with_state g own fuel bound ts vs x l choices last status answer line shown b is
 }
 
 -- ---- of a text, and of choices that were read
-module _ (text : List ℕ) (spec : PlainSpec) (g : Sig) (ts : List Tree) (equations : List PlainEquation) (x : NameId) (l : PlainLinear) (made : IsMadeOf text spec g ts equations x l) (told : Option (List ℕ)) (choices : List ℕ) (is : IfSome told (λ t. choices ≡ t))
-    (short : length choices ≤ MAX_TEXT_LEN) (fuel bound : ℕ) where
-  pub shown_as_told : (status : Status) (shown : List ℕ) → ShowsStepsAfter g (equations_at g ts equations) fuel bound ts x l choices status shown → AreShownAsTold fuel bound text told status shown
-  shown_as_told status shown s = record { choices = choices; is_told = is; short = short; steps = made_after text spec g ts equations x l made fuel bound choices status shown s }
+module _ (method : Method) (text : List ℕ) (spec : PlainSpec) (g : Sig) (q : PoolContents) (equations : List PlainEquation) (x : NameId) (l : PlainLinear) (components : ℕ) (is_linear : IsLinearOf method text spec g q equations x l components)
+    (told : Option (List ℕ)) (choices : List ℕ) (is : IfSome told (λ t. choices ≡ t)) (short : length choices ≤ MAX_TEXT_LEN) (fuel bound : ℕ) where
+  pub shown_as_told : (status : Status) (shown : List ℕ) → ShowsStepsAfter g (equations_at g q.trees equations) fuel bound q.trees x l choices status shown → AreShownAsTold method fuel bound text told status shown
+  shown_as_told status shown s = record { choices = choices; is_told = is; short = short; steps = made_after method text spec g q equations x l components is_linear fuel bound choices status shown s }
 
-  pub bad_as_told : (method : Method) → IsMadeAlongNetworkFor method spec g ts l → (fault : ChoiceFault) → IsChoiceFault g (equations_at g ts equations) fuel bound l choices ts (Some l.init) fault → (number : ℕ) → fault ≡ BadChoice number
-      → IsBadChoiceAsTold method fuel bound text told number
-  bad_as_told method along fault bad number same = record {
+  pub bad_as_told : (fault : ChoiceFault) → IsChoiceFault g (equations_at g q.trees equations) fuel bound l choices q.trees (Some l.init) fault → (number : ℕ) → fault ≡ BadChoice number → IsBadChoiceAsTold method fuel bound text told number
+  bad_as_told fault bad number same = record {
     choices = choices;
     is_told = is;
     short = short;
     bad = record {
       spec = spec;
       signature = g;
-      trees = ts;
+      pool = q;
       equations = equations;
       name = x;
       linear = l;
-      made = made;
-      along = along;
-      bad = subst (IsChoiceFault g (equations_at g ts equations) fuel bound l choices ts (Some l.init)) same bad;
+      components = components;
+      is_linear = is_linear;
+      bad = subst (IsChoiceFault g (equations_at g q.trees equations) fuel bound l choices q.trees (Some l.init)) same bad;
     };
   }

@@ -9,6 +9,7 @@ use Rattle.data_theory.specs.Signature.{Sig}
 use Rattle.data_theory.specs.Terms.{Term}
 use Rattle.mcrl2_syntax.specs.Declarations.{PlainSpec}
 use Rattle.mcrl2_text.specs.declared.loading.TheConstants.{MAX_TEXT_LEN}
+use Rattle.term_pool.specs.Pools.{PoolContents}
 use Rattle.process_terms.specs.Labels.{Label}
 use Rattle.process_terms.specs.PlainProcesses.{PlainEquation}
 use Rattle.process_terms.specs.Processes.{Process}
@@ -25,7 +26,9 @@ use Rattle.lps_simulator.specs.Options.{TermMove}
 use Rattle.lps_simulator.specs.OptionsInCode.{terms_at}
 use Rattle.sort_table.specs.SignatureVocabularies.{text_under}
 use Rattle.chosen_moves.specs.ChosenMoves.{FollowsText}
-use Rattle.lin_driver.specs.Linearised.{IsLinearised, IsMadeOf}
+use Rattle.lin_driver.specs.Linearised.{IsLinearised}
+use Rattle.lin_driver.specs.LinearOfTexts.{IsLinearOf}
+use Rattle.lin_driver.specs.declared.methods.Method.{Method}
 use Rattle.lin_tasks.specs.FirstSteps.{CanPerform, HasNoSums, IsListed, IsTheoryFor, Performs}
 use Rattle.lin_tasks.specs.Shown.{shown_moves, state_line, ShowsOptionsIn}
 use Rattle.lin_answers.specs.declared.status.Status.{Status}
@@ -52,20 +55,21 @@ pub record LeadsToPaired (th : Theory) (k : Link) (l : Linear) (p : Process) (la
   pub lands : Lands (Pairs th (Then k Same)) outcome (outcome_of l state)
 
 -- ---- of a text
--- There is a linear process that was made of the text and stands for it, and over the text's equations the bytes show the state to which the choices lead, and its options. Each summand
+-- There is the linear process of the text by the method, which stands for it, and over the text's equations the bytes show the state to which the choices lead, and its options. Each summand
 -- that is listed as undecided has its cause in that state.
 -- Over consistent data the text's process has a run with the labels of the chosen moves, to a process that the link pairs with the shown state, and for each shown label a run that goes on
 -- by it. Where nothing is undecided and no summand has a sum, each step of a process that is paired with the shown state has a label that is shown.
-pub record AreShownStepsAfter (fuel bound : ℕ) (text choices : List ℕ) (status : Status) (shown : List ℕ) : Type 0 where
+pub record AreShownStepsAfter (method : Method) (fuel bound : ℕ) (text choices : List ℕ) (status : Status) (shown : List ℕ) : Type 0 where
   pub spec : PlainSpec
   pub signature : Sig
-  pub trees : List Tree
+  pub pool : PoolContents
   pub equations : List PlainEquation
   pub name : NameId
   pub linear : PlainLinear
-  pub made : IsMadeOf text spec signature trees equations name linear
-  pub linearised : IsLinearised text spec signature trees linear
-  pub shows : ShowsStepsAfter signature linearised.theory.equations fuel bound trees name linear choices status shown
+  pub components : ℕ
+  pub is_linear : IsLinearOf method text spec signature pool equations name linear components
+  pub linearised : IsLinearised text spec signature pool.trees linear
+  pub shows : ShowsStepsAfter signature linearised.theory.equations fuel bound pool.trees name linear choices status shown
   pub causes : (state : List TermId) → shows.last ≡ Some state → (o : Open) → Contains shows.options.found.undecided o → HasCause signature linearised.theory.equations fuel bound shows.trees linear state o
   pub run : (th : Theory) → IsTheoryFor signature linearised.theory.equations th
       → LeadsToPaired th linearised.link (linear_of (entries_of signature shows.trees) linear) linearised.process shows.follows.labels (option_map (terms_at signature shows.trees) shows.last)
@@ -75,11 +79,11 @@ pub record AreShownStepsAfter (fuel bound : ℕ) (text choices : List ℕ) (stat
       → IsListed th (shown_moves shows.options) label
 
 -- The same of the choices that were read, which are those that are told, where any are.
-pub record AreShownAsTold (fuel bound : ℕ) (text : List ℕ) (told : Option (List ℕ)) (status : Status) (shown : List ℕ) : Type 0 where
+pub record AreShownAsTold (method : Method) (fuel bound : ℕ) (text : List ℕ) (told : Option (List ℕ)) (status : Status) (shown : List ℕ) : Type 0 where
   pub choices : List ℕ
   pub is_told : IfSome told (λ t. choices ≡ t)
   pub short : length choices ≤ MAX_TEXT_LEN
-  pub steps : AreShownStepsAfter fuel bound text choices status shown
+  pub steps : AreShownStepsAfter method fuel bound text choices status shown
 
 -- ---- in code
 -- the choices lead from a state to the last one, and the bytes show the options there

@@ -14,7 +14,7 @@ ghost use Rattle.lps_simulator.specs.Sessions.{session_linear, session_state, Se
 ghost use Rattle.chosen_moves.specs.ChosenMoves.{IsChoiceFault};
 ghost use Rattle.lin_driver.specs.Eliminations.{equations_at, equations_in, CanRewrite};
 ghost use Rattle.lin_driver.specs.Linearised.{IsMadeOf};
-ghost use Rattle.lin_driver.specs.MadeFromLeaves.{IsMadeAlongNetworkFor};
+ghost use Rattle.lin_driver.specs.LinearOfTexts.{IsLinearOf};
 ghost use Rattle.lin_driver.specs.declared.methods.Method.{Method};
 ghost use Rattle.lin_refusals.specs.Stops.{IsChoiceStop};
 ghost use Rattle.lin_tasks.specs.ProcessNames.{IsNewProcess};
@@ -175,10 +175,12 @@ pub fn steps_after_file<H: Shelf>(
     bound: u64,
 ) -> Result<Answer, Stop>
     requires { (text : List ℕ) × IsMadeOf text (spec_of made.spec) made.sig made.pool.trees (map plain_equation made.theory.equations.items) made.name (plain_linear made.lin) }
-    ensures shown { IfOk result (λ answer. (text : List ℕ) → IsMadeOf text (spec_of made.spec) made.sig made.pool.trees (map plain_equation made.theory.equations.items) made.name (plain_linear made.lin)
-        → AreShownAsTold fuel bound text (H.text_of shelf.old name.now) answer.status answer.text.items) }
-    ensures stopped { IfErr result (λ stop. (method : Method) (text : List ℕ) → IsMadeOf text (spec_of made.spec) made.sig made.pool.trees (map plain_equation made.theory.equations.items) made.name (plain_linear made.lin)
-        → IsMadeAlongNetworkFor method (spec_of made.spec) made.sig made.pool.trees (plain_linear made.lin) → IsChoiceStop method fuel bound text (H.text_of shelf.old name.now) stop) }
+    ensures shown { IfOk result (λ answer. (method : Method) (text : List ℕ)
+        → IsLinearOf method text (spec_of made.spec) made.sig made.pool (map plain_equation made.theory.equations.items) made.name (plain_linear made.lin) made.components
+        → AreShownAsTold method fuel bound text (H.text_of shelf.old name.now) answer.status answer.text.items) }
+    ensures stopped { IfErr result (λ stop. (method : Method) (text : List ℕ)
+        → IsLinearOf method text (spec_of made.spec) made.sig made.pool (map plain_equation made.theory.equations.items) made.name (plain_linear made.lin) made.components
+        → IsChoiceStop method fuel bound text (H.text_of shelf.old name.now) stop) }
     ensures read_fault { IsErrOf result Stop.ReadFault → Rose (H.faults shelf.old) (H.faults shelf.new) }
 {
     let choices = load(alloc, shelf, name)?;

@@ -9,7 +9,7 @@ use Rattle.lin_words.specs.Options.{number_of, options_in}
 use Rattle.lin_words.specs.declared.options.Options.{Options}
 use Rattle.lin_words.specs.declared.command.Command.{Command}
 use Rattle.lin_words.specs.declared.command.Task.{Task}
-use Rattle.lin_words.specs.declared.command.Task.TheVariants.{Check, Linearise, Constelm, Parelm, Sumelm, Steps, StepsAfter, Walk, Generate, Replay}
+use Rattle.lin_words.specs.declared.command.Task.TheVariants.{Check, Linearise, Constelm, Parelm, Sumelm, Steps, StepsAfter, Walk, Equations, Generate, Replay}
 use Rattle.lin_answers.specs.declared.plan.Plan.{Plan}
 
 -- how the options let a walk go
@@ -38,9 +38,10 @@ task_named word file after options =
     (cond (bytes_eq word (codes "sumelm")) (Some (Sumelm options.method options.fuel))
     (cond (bytes_eq word (codes "steps")) (Some (steps_named after options))
     (cond (bytes_eq word (codes "walk")) (Some (Walk options.method (plan_of options)))
+    (cond (bytes_eq word (codes "equations")) (Some (Equations options.method))
     (cond (bytes_eq word (codes "generate")) (option_map Generate (size_named file))
     (cond (bytes_eq word (codes "replay")) (Some (Replay options.method options.fuel options.bound))
-    None))))))))
+    None)))))))))
 
 -- the further file that the task reads: the trace that is named, or the choices behind `--after`
 abbrev pub further_named : Task → (trace after : Option Text) → Option Text
@@ -52,6 +53,7 @@ further_named (Sumelm method fuel) trace after = None
 further_named (Steps method fuel bound) trace after = None
 further_named (StepsAfter method fuel bound) trace after = after
 further_named (Walk method plan) trace after = None
+further_named (Equations method) trace after = None
 further_named (Generate size) trace after = None
 further_named (Replay method fuel bound) trace after = trace
 
@@ -65,6 +67,7 @@ has_its_further (Sumelm method fuel) further = true
 has_its_further (Steps method fuel bound) further = true
 has_its_further (StepsAfter method fuel bound) further = is_some further
 has_its_further (Walk method plan) further = true
+has_its_further (Equations method) further = true
 has_its_further (Generate size) further = true
 has_its_further (Replay method fuel bound) further = is_some further
 
@@ -111,6 +114,7 @@ IsSized (Sumelm method fuel) = ⊤
 IsSized (Steps method fuel bound) = ⊤
 IsSized (StepsAfter method fuel bound) = ⊤
 IsSized (Walk method plan) = ⊤
+IsSized (Equations method) = ⊤
 IsSized (Replay method fuel bound) = ⊤
 
 -- the tasks that need a further file
@@ -123,6 +127,7 @@ NeedsFurther (Sumelm method fuel) = ⊥
 NeedsFurther (Steps method fuel bound) = ⊥
 NeedsFurther (StepsAfter method fuel bound) = ⊤
 NeedsFurther (Walk method plan) = ⊥
+NeedsFurther (Equations method) = ⊥
 NeedsFurther (Generate size) = ⊥
 NeedsFurther (Replay method fuel bound) = ⊤
 
@@ -136,6 +141,7 @@ text_for (Sumelm method fuel) told = told
 text_for (Steps method fuel bound) told = told
 text_for (StepsAfter method fuel bound) told = told
 text_for (Walk method plan) told = told
+text_for (Equations method) told = told
 text_for (Generate size) told = Some (buffer_line size)
 text_for (Replay method fuel bound) told = told
 
@@ -156,6 +162,7 @@ ReadsFor (Sumelm method fuel) = ⊤
 ReadsFor (Steps method fuel bound) = ⊤
 ReadsFor (StepsAfter method fuel bound) = ⊤
 ReadsFor (Walk method plan) = ⊤
+ReadsFor (Equations method) = ⊤
 ReadsFor (Generate size) = ⊥
 ReadsFor (Replay method fuel bound) = ⊤
 

@@ -60,6 +60,8 @@ pub enum Task {
         /// How the walk goes.
         plan: Plan,
     },
+    /// Write whether the equations of its text keep the rules under which they are consistent.
+    Equations(Method),
     /// Write how large the linear process of a line of so many buffers is.
     Generate(u64),
     /// Write whether its linear process has the steps of a trace.
@@ -224,6 +226,7 @@ fn task_of(word: &str, file: &str, after: Option<&str>, options: Options) -> Opt
             method,
             plan: plan_of(options),
         }),
+        "equations" => Some(Task::Equations(method)),
         "generate" => Some(Task::Generate(size_of(file)?)),
         "replay" => Some(Task::Replay {
             method,
