@@ -13,3 +13,4 @@ mod ProcessNames
 mod StateTexts
 mod ShownAfter
 mod StepsAfter
+mod JudgedTexts

@@ -1,6 +1,7 @@
 use Rattle.std.proofs.Common.{◌≡◌}
 use Rattle.lin_driver.specs.declared.fault.LinFault.TheVariants.{NoMemory}
 use Rattle.lin_driver.proofs.Refused.{is_told, no_fault_refused}
+use Rattle.lin_tasks.proofs.JudgedTexts.{judged_outright}
 use Rattle.lin_tasks.proofs.ShownTexts.{no_fault_by}
 use Rattle.lin_tasks.proofs.equating.equations.Goals as goal
 
@@ -18,4 +19,5 @@ returns-clause-judged c = record {
   judged = c.in_ok-answer.ensures.judged;
   shows = c.in_ok-line.ensures;
   status_is = c.status_of_judged.ensures;
+  outright = judged_outright c.args.text.now c.in_ok-answer.answer c.in_ok-answer.ensures.judged;
 }
