@@ -18,6 +18,7 @@ use Rattle.mcrl2_syntax.specs.Declarations as trees
 use Rattle.mcrl2_syntax.specs.Declarations.{PlainDecl, PlainSection, PlainSpec}
 use Rattle.mcrl2_syntax.specs.TreeWords.{IsSpecOfWords}
 use Rattle.mcrl2_syntax.proofs.Lists.{all_both}
+use Rattle.data_theory.specs.FirstNames.{first_names}
 use Rattle.data_theory.specs.Terms.{Sort, boolean}
 use Rattle.data_theory.specs.Provable.{Equation}
 use Rattle.data_theory.proofs.PlaceLemmas.{read_contained, read_front, read_behind}
@@ -268,8 +269,8 @@ module _ (own printed : PlainSpec) (adds : AddsOnly own printed) (placed : IsPla
   new_name f k h =
       let t = its_own (IsFunction (under_names (declarations_in (bare_sections printed))) w) (all_named f new_functions) (all_named f m.function_names) (pairs_behind f) k h in
       let y : Named = (f, t.0) in
-      all_among (λ (x : Name). ¬ (Contains (copied_identifiers own) x)) (flat_map names_of_addition adds.declarations) adds.new_names
-      (named_in_addition adds.declarations adds.each_declaration y (how_declared adds.declarations (among_rows f new_functions t.0 t.1)))
+      (all_among (λ (x : Name). ¬ (Contains first_names x) × ¬ (Contains (copied_identifiers own) x)) (flat_map names_of_addition adds.declarations) adds.new_names
+      (named_in_addition adds.declarations adds.each_declaration y (how_declared adds.declarations (among_rows f new_functions t.0 t.1)))).1
 
   new_row : (r : Name × ℕ) → Among r m.function_names → ¬ (Contains (copied_identifiers own) r.0)
   new_row r a = new_name r.0 r.1 (among_named r.0 r.1 a)

@@ -12,6 +12,7 @@ use Rattle.mcrl2_syntax.specs.SpelledDeclarations.{SpellsSpec}
 use Rattle.mcrl2_syntax.specs.TreeWords.{IsSpecOfWords}
 use Rattle.mcrl2_syntax.proofs.SpecsOnce.{spec_once}
 use Rattle.mcrl2_syntax.proofs.WordsOfTokens.{specs_are_of_words}
+use Rattle.data_theory.specs.FirstNames.{first_names}
 use Rattle.data_theory.specs.Declarations.{Role, constructor, projection, recogniser, mapping, Data, DeclaredFunction, function_at, FitsRole, IsData, HasSort, NoSortIsEmpty}
 use Rattle.data_theory.specs.Equations.{trueᵗ, falseᵗ, emptyᵗ}
 use Rattle.data_theory.specs.IdData.{data_meant}
@@ -176,7 +177,7 @@ module _ (own printed : PlainSpec) (own_words : IsSpecOfWords own) (words : IsSp
   is_added_by : (q : Equation) (e : WrittenEquation) → ElaboratesEquation w e q → IsOfAnEmptyList names e → IsAdded q
   is_added_by q e elaborates is =
       let c = of_constant w e q names is elaborates in
-      let new : ¬ (Contains (copied_identifiers own) is.name) = all_among (λ (f : Name). ¬ (Contains (copied_identifiers own) f)) names adds.new_names (contains_among is.name names is.added) in
+      let new : ¬ (Contains (copied_identifiers own) is.name) = (all_among (λ (f : Name). ¬ (Contains first_names f) × ¬ (Contains (copied_identifiers own) f)) names adds.new_names (contains_among is.name names is.added)).1 in
       let k = added_number own printed adds placed words x.declared w.declared m numbers.1 ix iw is.name c.number new c.named_so in
       is_added_as q is.name c k.0 k.1 k.2
 
