@@ -3,6 +3,7 @@ pub mod Elements
 pub mod ValuesUnder
 pub mod Matching
 pub mod ExclusionLemmas
+pub mod CountingLemmas
 pub mod Decided
 pub mod Stages
 pub mod SettledValues

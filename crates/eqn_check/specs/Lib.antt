@@ -1,6 +1,7 @@
 pub mod Patterns
-pub mod Calls
 pub mod Conditions
+pub mod Counting
+pub mod Calls
 pub mod Exclusion
 pub mod Rules
 pub mod AcceptedLaws
