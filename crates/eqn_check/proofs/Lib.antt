@@ -4,6 +4,7 @@ pub mod ValuesUnder
 pub mod Matching
 pub mod ExclusionLemmas
 pub mod CountingLemmas
+pub mod CountedLemmas
 pub mod Decided
 pub mod Stages
 pub mod SettledValues

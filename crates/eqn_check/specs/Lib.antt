@@ -12,6 +12,7 @@ pub mod Linear
 pub mod Roles
 pub mod CallTrees
 pub mod CallTables
+pub mod Counted
 pub mod Fillings
 pub mod Comparisons
 pub mod ExcludedPairs

@@ -135,7 +135,7 @@ pub fn what_is_said(
 }
 
 /// Whether two numbers differ.
-fn differ(x: Num, y: Num) -> bool
+pub fn differ(x: Num, y: Num) -> bool
     ensures { result ≡ not (equal_numbers (whole_of x) (whole_of y)) }
 {
     if is_less(x, y) {

@@ -223,7 +223,7 @@ fn cant_all_hold(
 }
 
 /// The sides of a `&&`.
-fn conjuncts(sig: &Signature, pool: &Pool, term: TermId) -> Option<(TermId, TermId)>
+pub fn conjuncts(sig: &Signature, pool: &Pool, term: TermId) -> Option<(TermId, TermId)>
     requires { IsTerm sig.now pool.now.trees term }
     ensures { MatchOption result (parts (term_at sig.now pool.now.trees term) ≡ term_at sig.now pool.now.trees term ∷ []) (λ r. AreConjuncts sig.now pool.now.trees term r.0 r.1) }
 {
