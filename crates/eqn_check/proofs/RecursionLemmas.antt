@@ -348,11 +348,11 @@ module _ (sig : Sig) (table : IsTable sig) (ts : List Tree) (es : List Written) 
               let both = a p.0 (contains_at own j p.0 p.1) o in
               let args : patterns.arguments_of p.0.left ≡ terms_under sig ps = ap patterns.arguments_of m.left ∙ left_arguments sig (tree_at ts d.left) f ps left.is in
               let condition : CallsAre (ArgumentShrinks (data_meant sig) k (terms_under sig ps)) map.0 (term_at sig ts d.cond) =
-                  subst (λ (z : Terms). CallsAre (ArgumentShrinks (data_meant sig) k z) map.0 (term_at sig ts d.cond)) args (subst (CallsAre (ArgumentShrinks (data_meant sig) k (patterns.arguments_of p.0.left)) map.0) m.condition both.0) in
+              subst (λ (z : Terms). CallsAre (ArgumentShrinks (data_meant sig) k z) map.0 (term_at sig ts d.cond)) args (subst (CallsAre (ArgumentShrinks (data_meant sig) k (patterns.arguments_of p.0.left)) map.0) m.condition both.0) in
               let right : CallsAre (ArgumentFalls (data_meant sig) (term_at sig ts d.cond) k (terms_under sig ps)) map.0 (term_at sig ts d.right) =
-                  subst (λ (z : Terms). CallsAre (ArgumentFalls (data_meant sig) (term_at sig ts d.cond) k z) map.0 (term_at sig ts d.right)) args
-                  (subst (CallsAre (ArgumentFalls (data_meant sig) (term_at sig ts d.cond) k (patterns.arguments_of p.0.left)) map.0) m.right
-                  (subst (λ (c : Term). CallsAre (ArgumentFalls (data_meant sig) c k (patterns.arguments_of p.0.left)) map.0 p.0.right) m.condition both.1)) in
+              subst (λ (z : Terms). CallsAre (ArgumentFalls (data_meant sig) (term_at sig ts d.cond) k z) map.0 (term_at sig ts d.right)) args
+              (subst (CallsAre (ArgumentFalls (data_meant sig) (term_at sig ts d.cond) k (patterns.arguments_of p.0.left)) map.0) m.right
+              (subst (λ (c : Term). CallsAre (ArgumentFalls (data_meant sig) c k (patterns.arguments_of p.0.left)) map.0 p.0.right) m.condition both.1)) in
               record {
                 condition = λ us c. each_is sig map.0 (ArgumentShrinks (data_meant sig) k (terms_under sig ps)) (tree_at ts d.cond) condition f us c map.1;
                 right = λ us c. each_is sig map.0 (ArgumentFalls (data_meant sig) (term_at sig ts d.cond) k (terms_under sig ps)) (tree_at ts d.right) right f us c map.1;

@@ -1,4 +1,5 @@
-//! Counting down: the variables that a condition keeps above the least value of their sorts, and the terms that are less than one.
+//! Counting down: the variables that a condition keeps above the least value of their sorts, and
+//! the terms that are less than a variable.
 
 ghost use Rattle.std.specs.Prelude.{◌≡◌, ◌↔◌, ◌<◌, None, cond, length, pos, IfOk, OnOk, Some};
 ghost use Rattle.std.specs.List.{All, Contains};
@@ -26,7 +27,8 @@ use term_pool::{Head, Pool};
 /// The variable that a term is.
 fn variable_of(pool: &Pool, term: TermId) -> Option<VarId>
     requires { IsIn pool.now.trees term }
-    ensures { (sig : Sig) → numbered result ≡ counting.variable_in (term_at sig pool.now.trees term) }
+    ensures { (sig : Sig) → numbered result ≡ counting.variable_in
+        (term_at sig pool.now.trees term) }
 {
     match pool.node(term).head {
         Head::Var(var) => Some(var),
@@ -105,7 +107,8 @@ fn is_least(sig: &Signature, pool: &Pool, term: TermId) -> bool
 fn kept_below(sig: &Signature, pool: &Pool, one: TermId, other: TermId) -> Option<VarId>
     requires one { IsTerm sig.now pool.now.trees one }
     requires other { IsTerm sig.now pool.now.trees other }
-    ensures { numbered result ≡ cond (counting.is_from_least (term_at sig.now pool.now.trees one)) (counting.variable_in (term_at sig.now pool.now.trees other)) None }
+    ensures { numbered result ≡ cond (counting.is_from_least (term_at sig.now pool.now.trees one))
+        (counting.variable_in (term_at sig.now pool.now.trees other)) None }
 {
     if !is_from_least(sig, pool, one) {
         return None;
@@ -117,7 +120,9 @@ fn kept_below(sig: &Signature, pool: &Pool, one: TermId, other: TermId) -> Optio
 fn kept_up_to(sig: &Signature, pool: &Pool, one: TermId, other: TermId) -> Option<VarId>
     requires one { IsTerm sig.now pool.now.trees one }
     requires other { IsTerm sig.now pool.now.trees other }
-    ensures { numbered result ≡ cond (counting.is_above_least (term_at sig.now pool.now.trees one)) (counting.variable_in (term_at sig.now pool.now.trees other)) None }
+    ensures { numbered result ≡ cond (counting.is_above_least
+        (term_at sig.now pool.now.trees one)) (counting.variable_in
+        (term_at sig.now pool.now.trees other)) None }
 {
     if !is_above_least(sig, pool, one) {
         return None;
@@ -129,7 +134,8 @@ fn kept_up_to(sig: &Signature, pool: &Pool, one: TermId, other: TermId) -> Optio
 fn kept_different(sig: &Signature, pool: &Pool, one: TermId, other: TermId) -> Option<VarId>
     requires one { IsTerm sig.now pool.now.trees one }
     requires other { IsTerm sig.now pool.now.trees other }
-    ensures { numbered result ≡ counting.kept_above_by different (term_at sig.now pool.now.trees one) (term_at sig.now pool.now.trees other) }
+    ensures { numbered result ≡ counting.kept_above_by different
+        (term_at sig.now pool.now.trees one) (term_at sig.now pool.now.trees other) }
 {
     if is_least(sig, pool, other) {
         return variable_of(pool, one);
@@ -197,7 +203,8 @@ fn variables_above(
 /// The variable that a term is, if it is one of these.
 fn counted_variable(pool: &Pool, above: &VariableSet, term: TermId) -> Option<VarId>
     requires { IsIn pool.now.trees term }
-    ensures { (v : VarId) → (result ≡ Some v) ↔ ((tree_at pool.now.trees term ≡ variable v) × Contains above.now v) }
+    ensures { (v : VarId) → (result ≡ Some v) ↔
+        ((tree_at pool.now.trees term ≡ variable v) × Contains above.now v) }
 {
     let Head::Var(var) = pool.node(term).head else {
         return None;
@@ -218,7 +225,8 @@ pub fn counted_variables(
 ) -> Result<Vec<Option<VarId>>, NoMemory>
     requires condition { IsTerm sig.now pool.now.trees condition }
     requires terms { All (IsTerm sig.now pool.now.trees) terms.now }
-    ensures { IfOk result (λ counted. AreCounted sig.now pool.now.trees condition terms.now counted.items) }
+    ensures { IfOk result (λ counted. AreCounted sig.now pool.now.trees condition terms.now
+        counted.items) }
 {
     let above = variables_above(alloc, sig, pool, condition)?;
     let mut counted = Vec::new(alloc);
@@ -260,7 +268,8 @@ fn counted_down(sig: &Signature, pool: &Pool, term: TermId) -> Option<VarId>
 fn lessened_by(sig: &Signature, pool: &Pool, fun: FunId, term: TermId) -> Option<VarId>
     requires function { fun.0 < length sig.now.functions }
     requires term { IsTerm sig.now pool.now.trees term }
-    ensures { numbered result ≡ counting.lessened_by (symbol_under sig.now fun) (term_at sig.now pool.now.trees term) }
+    ensures { numbered result ≡ counting.lessened_by (symbol_under sig.now fun)
+        (term_at sig.now pool.now.trees term) }
 {
     match sign_of_function(sig, fun) {
         Sign::ToPositive => counted_down(sig, pool, term),

@@ -33,7 +33,8 @@ fn is_constructed(sig: &Signature, pool: &Pool, term: TermId) -> bool
 /// Whether a constructor stands above a term, or at its root.
 fn is_below(sig: &Signature, pool: &Pool, term: TermId, below: bool) -> bool
     requires { IsTerm sig.now pool.now.trees term }
-    ensures { Decides result ((below ≡ true) ⊎ IsConstructorAt sig.now (tree_at pool.now.trees term)) }
+    ensures { Decides result ((below ≡ true) ⊎ IsConstructorAt sig.now
+        (tree_at pool.now.trees term)) }
 {
     if below {
         return true;
@@ -47,7 +48,8 @@ fn push_marked(
     terms: &[TermId],
     mark: bool,
 ) -> Result<(), NoMemory>
-    ensures { OnOk result (waiting.new.items ≡ waiting.old.items ++ map (with_mark mark) terms.now) }
+    ensures { OnOk result (waiting.new.items ≡ waiting.old.items ++ map
+        (with_mark mark) terms.now) }
 {
     for term in terms {
         waiting.push((*term, mark))?;
@@ -57,7 +59,8 @@ fn push_marked(
 
 /// Adds the variable that a head is.
 fn add_head(head: Head, set: &mut VariableSet) -> Result<(), NoMemory>
-    ensures { OnOk result ((v : VarId) → Contains set.new v ↔ (Contains set.old v ⊎ (head ≡ Var v))) }
+    ensures { OnOk result ((v : VarId) → Contains set.new v ↔ (Contains set.old v
+        ⊎ (head ≡ Var v))) }
 {
     if let Head::Var(var) = head {
         set.insert(var)?;
@@ -183,7 +186,8 @@ fn keep_in_call(
     places: &mut Vec<bool>,
 )
     requires { IsTerm sig.now pool.now.trees call }
-    ensures { KeepsMarks places.old.items places.new.items (FallsInCall sig.now pool.now.trees below.now counted.now call) }
+    ensures { KeepsMarks places.old.items places.new.items
+        (FallsInCall sig.now pool.now.trees below.now counted.now call) }
 {
     for place in 0..places.len() {
         if falls_at(sig, pool, below, counted, call, place) {
@@ -204,7 +208,8 @@ fn keep_in_calls(
     places: &mut Vec<bool>,
 )
     requires { All (IsTerm sig.now pool.now.trees) calls.now }
-    ensures { KeepsMarks places.old.items places.new.items (FallsInCalls sig.now pool.now.trees below.now counted.now fun calls.now) }
+    ensures { KeepsMarks places.old.items places.new.items
+        (FallsInCalls sig.now pool.now.trees below.now counted.now fun calls.now) }
 {
     for call in calls {
         let Head::Fun(callee) = pool.node(*call).head else {
@@ -237,7 +242,8 @@ fn has_call(pool: &Pool, fun: FunId, calls: &[TermId]) -> bool
 pub fn calls_itself(pool: &Pool, fun: FunId, list: &EquationCalls) -> bool
     requires condition { All (IsIn pool.now.trees) list.now.condition.items }
     requires right { All (IsIn pool.now.trees) list.now.right.items }
-    ensures { Decides result (CallsItself pool.now.trees fun list.now.condition.items ⊎ CallsItself pool.now.trees fun list.now.right.items) }
+    ensures { Decides result (CallsItself pool.now.trees fun list.now.condition.items
+        ⊎ CallsItself pool.now.trees fun list.now.right.items) }
 {
     if has_call(pool, fun, list.condition.as_slice()) {
         return true;
@@ -256,7 +262,10 @@ fn keep_in_equation(
 ) -> Result<(), NoMemory>
     requires equation { IsEquationOver sig.now pool.now.trees equation.now }
     requires list { ListsEquationCalls sig.now pool.now.trees equation.now list.now }
-    ensures { OnOk result ((f : FunId) (ps : Trees) → IsLeftOf sig.now pool.now.trees equation.now f ps → KeepsMarks places.old.items places.new.items (FallsInEquation sig.now pool.now.trees equation.now f)) }
+    ensures { OnOk result ((f : FunId) (ps : Trees)
+        → IsLeftOf sig.now pool.now.trees equation.now f ps
+        → KeepsMarks places.old.items places.new.items
+        (FallsInEquation sig.now pool.now.trees equation.now f)) }
 {
     let node = pool.node(equation.left);
     let Head::Fun(fun) = node.head else {
@@ -308,7 +317,8 @@ pub fn falling_places(
 ) -> Result<Vec<Vec<bool>>, NoMemory>
     requires equations { All (IsEquationOver sig.now pool.now.trees) theory.now.equations.items }
     requires lists { ListAllCalls sig.now pool.now.trees theory.now.equations.items lists.now }
-    ensures { IfOk result (λ places. AreFallingUpTo sig.now pool.now.trees theory.now.equations.items (length theory.now.equations.items) places.items) }
+    ensures { IfOk result (λ places. AreFallingUpTo sig.now pool.now.trees
+        theory.now.equations.items (length theory.now.equations.items) places.items) }
 {
     let mut places = all_places(alloc, sig)?;
     for number in 0..theory.equations.len() {
