@@ -4,7 +4,6 @@ use Rattle.std.specs.Global.{Vec}
 use Rattle.std.proofs.lemmas.Bool.Decides.{eqb_tells}
 use Rattle.data_theory.specs.declared.ids.FunId.{FunId}
 use Rattle.data_theory.specs.Terms.{Symbol, function, Terms}
-use Rattle.data_theory.specs.Declarations.{Data}
 use Rattle.data_theory.specs.Provable.{Equation}
 use Rattle.data_theory.specs.Signature.{Sig}
 use Rattle.data_theory.specs.IdData.{data_meant}
@@ -14,7 +13,7 @@ use Rattle.data_theory.specs.IdTrees.{Tree, Trees, variable, numeral, none, more
 use Rattle.data_theory.specs.IdTrees as trees
 use Rattle.data_theory.proofs.IdSymbolLemmas.{different_functions_mean_different_symbols}
 use Rattle.graphs.specs.Graphs.{HasEdge, IsPath}
-use Rattle.eqn_check.specs.Calls.{Calls, AreCalling, ArgumentFalls, CallsFall, AllCallsFall, FunctionCalls, Reaches, at_once, by_way_of}
+use Rattle.eqn_check.specs.Calls.{Calls, AreCalling, CallsAre, AllCallsAre, FunctionCalls, Reaches, at_once, by_way_of}
 use Rattle.eqn_check.specs.Patterns.{IsMapping}
 use Rattle.eqn_check.specs.CallTrees.{CallIn, CallInOne, IsCallGraph}
 
@@ -44,29 +43,29 @@ module _ (sig : Sig) where
     calling_told h us (more t ts) k (inl c) e = inl (call_told h us t k c e)
     calling_told h us (more t ts) k (inr c) e = inr (calling_told h us ts k c e)
 
-  -- a place falls in a term exactly where it falls in each call of the tree
-  module _ (g : Data) (f place : ℕ) (ps : Terms) where
+  -- the calls of a term are so exactly where each call of the tree is
+  module _ (f : ℕ) (Are : Terms → Type 0) where
     mutual
-      pub each_falls : (t : Tree) → CallsFall g f place ps (term_under sig t) → (h : FunId) (us : Trees) → CallIn h us t → symbol_under sig h ≡ function f → ArgumentFalls g place ps (terms_under sig us)
-      each_falls (variable v) a h us c e = absurd c
-      each_falls (numeral s z) a h us c e = absurd c
-      each_falls (trees.function k ts) a h us (inl c) e = subst (λ (z : Trees). ArgumentFalls g place ps (terms_under sig z)) c.1 (a.0 (ap (symbol_under sig) c.0 ∙ e))
-      each_falls (trees.function k ts) a h us (inr c) e = all_each_falls ts a.1 h us c e
+      pub each_is : (t : Tree) → CallsAre Are f (term_under sig t) → (h : FunId) (us : Trees) → CallIn h us t → symbol_under sig h ≡ function f → Are (terms_under sig us)
+      each_is (variable v) a h us c e = absurd c
+      each_is (numeral s z) a h us c e = absurd c
+      each_is (trees.function k ts) a h us (inl c) e = subst (λ (z : Trees). Are (terms_under sig z)) c.1 (a.0 (ap (symbol_under sig) c.0 ∙ e))
+      each_is (trees.function k ts) a h us (inr c) e = all_each_are ts a.1 h us c e
 
-      all_each_falls : (ts : Trees) → AllCallsFall g f place ps (terms_under sig ts) → (h : FunId) (us : Trees) → CallInOne h us ts → symbol_under sig h ≡ function f → ArgumentFalls g place ps (terms_under sig us)
-      all_each_falls none a h us c e = absurd c
-      all_each_falls (more t ts) a h us (inl c) e = each_falls t a.0 h us c e
-      all_each_falls (more t ts) a h us (inr c) e = all_each_falls ts a.1 h us c e
+      all_each_are : (ts : Trees) → AllCallsAre Are f (terms_under sig ts) → (h : FunId) (us : Trees) → CallInOne h us ts → symbol_under sig h ≡ function f → Are (terms_under sig us)
+      all_each_are none a h us c e = absurd c
+      all_each_are (more t ts) a h us (inl c) e = each_is t a.0 h us c e
+      all_each_are (more t ts) a h us (inr c) e = all_each_are ts a.1 h us c e
 
     mutual
-      pub falls_by_each : (t : Tree) → ((h : FunId) (us : Trees) → CallIn h us t → symbol_under sig h ≡ function f → ArgumentFalls g place ps (terms_under sig us)) → CallsFall g f place ps (term_under sig t)
-      falls_by_each (variable v) a = tt
-      falls_by_each (numeral s z) a = tt
-      falls_by_each (trees.function k ts) a = ((λ e. a k ts (inl (refl, refl)) e), all_fall_by_each ts (λ h us c e. a h us (inr c) e))
+      pub are_by_each : (t : Tree) → ((h : FunId) (us : Trees) → CallIn h us t → symbol_under sig h ≡ function f → Are (terms_under sig us)) → CallsAre Are f (term_under sig t)
+      are_by_each (variable v) a = tt
+      are_by_each (numeral s z) a = tt
+      are_by_each (trees.function k ts) a = ((λ e. a k ts (inl (refl, refl)) e), all_are_by_each ts (λ h us c e. a h us (inr c) e))
 
-      all_fall_by_each : (ts : Trees) → ((h : FunId) (us : Trees) → CallInOne h us ts → symbol_under sig h ≡ function f → ArgumentFalls g place ps (terms_under sig us)) → AllCallsFall g f place ps (terms_under sig ts)
-      all_fall_by_each none a = tt
-      all_fall_by_each (more t ts) a = (falls_by_each t (λ h us c e. a h us (inl c) e), all_fall_by_each ts (λ h us c e. a h us (inr c) e))
+      all_are_by_each : (ts : Trees) → ((h : FunId) (us : Trees) → CallInOne h us ts → symbol_under sig h ≡ function f → Are (terms_under sig us)) → AllCallsAre Are f (terms_under sig ts)
+      all_are_by_each none a = tt
+      all_are_by_each (more t ts) a = (are_by_each t (λ h us c e. a h us (inl c) e), all_are_by_each ts (λ h us c e. a h us (inr c) e))
 
   -- ---- paths of the graph
   abbrev number_in : Symbol → ℕ

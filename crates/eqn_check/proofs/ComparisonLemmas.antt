@@ -49,13 +49,16 @@ reading_by signs.Equal u v = Some (record { relation = equal; one = u; other = v
 reading_by signs.Different u v = Some (record { relation = different; one = u; other = v })
 reading_by _ u v = None
 
-reading_by_sign : (f : Symbol) (u v : Term) → reading_of f u v ≡ reading_by (sign_of f) u v
+pub reading_by_sign : (f : Symbol) (u v : Term) → reading_of f u v ≡ reading_by (sign_of f) u v
 reading_by_sign (terms.comparison terms.less s) u v = refl
 reading_by_sign (terms.comparison terms.at_most s) u v = refl
 reading_by_sign (terms.comparison terms.greater s) u v = refl
 reading_by_sign (terms.comparison terms.at_least s) u v = refl
 reading_by_sign (terms.equality s) u v = refl
 reading_by_sign (terms.inequality s) u v = refl
+reading_by_sign (terms.arithmetic terms.subtract ss to) u v = refl
+reading_by_sign (terms.arithmetic terms.to_positive ss to) u v = refl
+reading_by_sign (terms.arithmetic terms.to_natural ss to) u v = refl
 reading_by_sign terms.conjunction u v = refl
 reading_by_sign terms.negation u v = refl
 reading_by_sign terms.falsity u v = refl
@@ -84,6 +87,11 @@ module _ (sig : Sig) (ts : List Tree) (o : Opposites) where
   by_comparison signs.False a b i j = refl
   by_comparison signs.Empty a b i j = refl
   by_comparison signs.Cons a b i j = refl
+  by_comparison signs.Minus a b i j = refl
+  by_comparison signs.ToPositive a b i j = refl
+  by_comparison signs.ToNatural a b i j = refl
+  by_comparison signs.Tail a b i j = refl
+  by_comparison signs.Rtail a b i j = refl
   by_comparison signs.Other a b i j = refl
 
   no_reading : (b : Filling) (t : Tree) → (IsVariableTree t → IsAlone b) → IsNotBinary t → reading (filled (filling sig ts o b) (term_under sig t)) ≡ None
@@ -289,16 +297,25 @@ lists_or_not (terms.empty s) (terms.comparison terms.less t) = ((λ e. cc), (λ 
 lists_or_not (terms.empty s) (terms.comparison terms.at_most t) = ((λ e. cc), (λ e n. n), (λ d. d))
 lists_or_not (terms.empty s) (terms.comparison terms.greater t) = ((λ e. cc), (λ e n. n), (λ d. d))
 lists_or_not (terms.empty s) (terms.comparison terms.at_least t) = ((λ e. cc), (λ e n. n), (λ d. d))
+lists_or_not (terms.empty s) (terms.arithmetic terms.subtract ss to) = ((λ e. cc), (λ e n. n), (λ d. d))
+lists_or_not (terms.empty s) (terms.arithmetic terms.to_positive ss to) = ((λ e. cc), (λ e n. n), (λ d. d))
+lists_or_not (terms.empty s) (terms.arithmetic terms.to_natural ss to) = ((λ e. cc), (λ e n. n), (λ d. d))
 lists_or_not (terms.empty s) _ = ((λ e. cc), (λ e n. n), (λ d. d))
 lists_or_not (terms.cons s) (terms.comparison terms.less t) = ((λ e. cc), (λ e n. n), (λ d. d))
 lists_or_not (terms.cons s) (terms.comparison terms.at_most t) = ((λ e. cc), (λ e n. n), (λ d. d))
 lists_or_not (terms.cons s) (terms.comparison terms.greater t) = ((λ e. cc), (λ e n. n), (λ d. d))
 lists_or_not (terms.cons s) (terms.comparison terms.at_least t) = ((λ e. cc), (λ e n. n), (λ d. d))
+lists_or_not (terms.cons s) (terms.arithmetic terms.subtract ss to) = ((λ e. cc), (λ e n. n), (λ d. d))
+lists_or_not (terms.cons s) (terms.arithmetic terms.to_positive ss to) = ((λ e. cc), (λ e n. n), (λ d. d))
+lists_or_not (terms.cons s) (terms.arithmetic terms.to_natural ss to) = ((λ e. cc), (λ e n. n), (λ d. d))
 lists_or_not (terms.cons s) _ = ((λ e. cc), (λ e n. n), (λ d. d))
 lists_or_not (terms.comparison terms.less s) h = ((λ e. cc), (λ e n. n), (λ d. d))
 lists_or_not (terms.comparison terms.at_most s) h = ((λ e. cc), (λ e n. n), (λ d. d))
 lists_or_not (terms.comparison terms.greater s) h = ((λ e. cc), (λ e n. n), (λ d. d))
 lists_or_not (terms.comparison terms.at_least s) h = ((λ e. cc), (λ e n. n), (λ d. d))
+lists_or_not (terms.arithmetic terms.subtract ss to) h = ((λ e. cc), (λ e n. n), (λ d. d))
+lists_or_not (terms.arithmetic terms.to_positive ss to) h = ((λ e. cc), (λ e n. n), (λ d. d))
+lists_or_not (terms.arithmetic terms.to_natural ss to) h = ((λ e. cc), (λ e n. n), (λ d. d))
 lists_or_not _ h = ((λ e. cc), (λ e n. n), (λ d. d))
 
 pub different_so : (f h : Symbol) (l d : Bool) → l ≡ are_of_lists (sign_of f) (sign_of h) → l ≡ false → Decides d (f ≢ h) → Decides d (AreDifferent f h)

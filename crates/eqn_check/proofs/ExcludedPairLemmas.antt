@@ -47,6 +47,9 @@ is_falsity (terms.comparison terms.less s) e = cc
 is_falsity (terms.comparison terms.at_most s) e = cc
 is_falsity (terms.comparison terms.greater s) e = cc
 is_falsity (terms.comparison terms.at_least s) e = cc
+is_falsity (terms.arithmetic terms.subtract ss to) e = cc
+is_falsity (terms.arithmetic terms.to_positive ss to) e = cc
+is_falsity (terms.arithmetic terms.to_natural ss to) e = cc
 is_falsity _ e = cc
 
 pub is_negation : (f : Symbol) → sign_of f ≡ signs.Not → f ≡ terms.negation
@@ -55,6 +58,9 @@ is_negation (terms.comparison terms.less s) e = cc
 is_negation (terms.comparison terms.at_most s) e = cc
 is_negation (terms.comparison terms.greater s) e = cc
 is_negation (terms.comparison terms.at_least s) e = cc
+is_negation (terms.arithmetic terms.subtract ss to) e = cc
+is_negation (terms.arithmetic terms.to_positive ss to) e = cc
+is_negation (terms.arithmetic terms.to_natural ss to) e = cc
 is_negation _ e = cc
 
 pub is_conjunction : (f : Symbol) → sign_of f ≡ signs.And → f ≡ terms.conjunction
@@ -63,6 +69,9 @@ is_conjunction (terms.comparison terms.less s) e = cc
 is_conjunction (terms.comparison terms.at_most s) e = cc
 is_conjunction (terms.comparison terms.greater s) e = cc
 is_conjunction (terms.comparison terms.at_least s) e = cc
+is_conjunction (terms.arithmetic terms.subtract ss to) e = cc
+is_conjunction (terms.arithmetic terms.to_positive ss to) e = cc
+is_conjunction (terms.arithmetic terms.to_natural ss to) e = cc
 is_conjunction _ e = cc
 
 abbrev symbol_in : Term → Symbol

@@ -274,7 +274,7 @@ less_of_itself : (x : ℤ) → lt_z x x ≡ true → ⊥
 less_of_itself (pos a) h = absurd (let l = (Decides-ltb a a).0 h in omega (arith, l))
 less_of_itself (negsuc a) h = absurd (let l = (Decides-ltb a a).0 h in omega (arith, l))
 
-at_most_tells : (a b : ℕ) → leb a b ≡ true → a ≤ b
+pub at_most_tells : (a b : ℕ) → leb a b ≡ true → a ≤ b
 at_most_tells a b h = elim (leb_tells a b) [
   | inl l ↦ l.1
   | inr l ↦ absurd (let e : true ≡ false = sym h ∙ l.0 in cc)
@@ -341,7 +341,7 @@ module _ (g : Data) (m : Interpretation) (r : ℕ → Value) where
   alone : (c p : Term) → IsTrueOf c → Contains (c ∷ []) p → IsTrueOf p
   alone c p h i = ⊎_elim (λ e. subst IsTrueOf e h) (λ j. absurd (contains_nothing_of p j)) (front_or_behind p c [] i)
 
-  true_parts : (c p : Term) → IsTrueOf c → Contains (parts c) p → IsTrueOf p
+  pub true_parts : (c p : Term) → IsTrueOf c → Contains (parts c) p → IsTrueOf p
   true_parts (application conjunction (more x (more y none))) p h i =
       let both = and_parts (truth_in (value_under g m r x)) (truth_in (value_under g m r y)) h in
       ⊎_elim (λ e. subst IsTrueOf e both.0) (λ j. true_parts y p both.1 j) (front_or_behind p x (parts y) i)

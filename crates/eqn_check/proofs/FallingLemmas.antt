@@ -1,6 +1,6 @@
 -- Marks of the places that fall.
 use Rattle.std.proofs.Common.{◌≡◌, ◌<◌, ◌≤◌, ◌+◌, ◌⊎◌, inl, inr, ⊎_elim, ℕ, zero, suc, List, [], ◌∷◌, ◌++◌, length, get_or, take, set, replicate, Bool, true, false, refl, sym, ap, ◌∙◌, subst, arith, length-append}
-use Rattle.std.specs.Prelude.{◌↔◌, slice_get, None, Some}
+use Rattle.std.specs.Prelude.{◌↔◌, slice_get, Option, None, Some}
 use Rattle.std.specs.Bool.{Decides}
 use Rattle.std.specs.List.{AllZip, Contains, list_any}
 use Rattle.std.specs.Global.{Vec}
@@ -27,10 +27,15 @@ use Rattle.term_pool.specs.declared.terms.Head.TheVariants.{Var, Num as Number, 
 use Rattle.term_pool.specs.HeadTrees.{tree_at, trees_at, written_tree, Stands}
 use Rattle.eqn_check.specs.declared.calls.EquationCalls.{EquationCalls}
 use Rattle.eqn_check.specs.Patterns.{StandsUnder}
-use Rattle.eqn_check.specs.Calls.{ArgumentFalls}
+use Rattle.eqn_check.specs.Calls.{ArgumentShrinks, ArgumentCountsDown, ArgumentFalls}
+use Rattle.eqn_check.specs.Counting.{lessened}
+use Rattle.eqn_check.specs.Counted.{numbered, IsCounted, AreCounted}
+use Rattle.eqn_check.specs.Judged.{term_at}
 use Rattle.eqn_check.specs.CallTrees.{CallIn, ListsCalls}
-use Rattle.eqn_check.specs.CallTables.{AllBelow, CallsItself, StandsIn, ListsEquationCalls, IsLeftOf, place_in, argument_at, FallsInCall, FallsInCalls, FallsInEquation, FallsAmong, IsMarked, KeepsMarks, marks_of, HaveAllMarks, AreFallingUpTo, HasMark}
+use Rattle.eqn_check.specs.CallTables.{AllBelow, CallsItself, StandsIn, ListsEquationCalls, IsLeftOf, place_in, argument_at, ShrinksInCall, CountsDownInCall, FallsInCall, FallsInCalls, FallsFrom, FallsInEquation, FallsAmong, IsMarked, KeepsMarks, marks_of, HaveAllMarks, AreFallingUpTo, HasMark}
 use Rattle.eqn_check.specs.Roles.{IsMappingSymbol}
+use Rattle.eqn_check.proofs.Deciding.{decides_no}
+use Rattle.eqn_check.proofs.JudgedLemmas.{as_long, pair_at, element_at_place}
 use Rattle.eqn_check.proofs.EdgeLemmas.{IsAt, no_function, one_root}
 
 -- ---- an argument that is a variable
@@ -72,15 +77,28 @@ under_tells sig ts (x ∷ args) (z ∷ sets) (suc k) v s a e c = under_tells sig
 
 -- the test of a call
 module _ (sig : Sig) (ts : List Tree) (args : List TermId) (sets : List (List VarId)) (below : AllBelow sig ts args sets) (call : TermId) (h : FunId) (us : Trees) (is : tree_at ts call ≡ trees.function h us) (k : ℕ) where
-  pub falls_told : FallsInCall ts sets call k → ArgumentFalls (data_meant sig) k (terms_under sig (trees_of (trees_at ts args))) (terms_under sig us)
-  falls_told f =
+  shrinks_told : ShrinksInCall ts sets call k → ArgumentShrinks (data_meant sig) k (terms_under sig (trees_of (trees_at ts args))) (terms_under sig us)
+  shrinks_told f =
       let there : place_in us k ≡ Some (trees.variable f.0) = ap (λ (t : Tree). argument_at t k) (sym is) ∙ f.1 in
       (f.0.0, argument_tells sig us k f.0 there, under_tells sig ts args sets k f.0 f.2.0 below f.2.1 f.2.2)
 
-  pub falls_tells : ArgumentFalls (data_meant sig) k (terms_under sig (trees_of (trees_at ts args))) (terms_under sig us) → FallsInCall ts sets call k
-  falls_tells a = (record { 0 = a.0 }, ap (λ (t : Tree). argument_at t k) is ∙ argument_told sig us k a.0 a.1, under_told sig ts args sets k (record { 0 = a.0 }) below a.2)
+  shrinks_tells : ArgumentShrinks (data_meant sig) k (terms_under sig (trees_of (trees_at ts args))) (terms_under sig us) → ShrinksInCall ts sets call k
+  shrinks_tells a = (record { 0 = a.0 }, ap (λ (t : Tree). argument_at t k) is ∙ argument_told sig us k a.0 a.1, under_told sig ts args sets k (record { 0 = a.0 }) below a.2)
 
--- ---- the code's test
+-- ---- an argument that is counted down
+place_tells : (sig : Sig) (us : Trees) (k : ℕ) (t : Tree) → place_in us k ≡ Some t → places.term_at (terms_under sig us) k ≡ term_under sig t
+place_tells sig trees.none k t e = cc
+place_tells sig (trees.more u us) zero t e = ap (term_under sig) (some_same u t e)
+  where
+    some_same : (a b : Tree) → Some a ≡ Some b → a ≡ b
+    some_same a b q = cc
+place_tells sig (trees.more u us) (suc k) t e = place_tells sig us k t e
+
+lessened_told : (sig : Sig) (us : Trees) (k x : ℕ) → lessened (places.term_at (terms_under sig us) k) ≡ Some x → (t : Tree) × (place_in us k ≡ Some t) × (lessened (term_under sig t) ≡ Some x)
+lessened_told sig trees.none k x e = cc
+lessened_told sig (trees.more u us) zero x e = (u, refl, e)
+lessened_told sig (trees.more u us) (suc k) x e = lessened_told sig us k x e
+
 place_of_id : (ts : List Tree) (args : List TermId) (k : ℕ) (a : TermId) → slice_get args k ≡ Some a → place_in (trees_of (trees_at ts args)) k ≡ Some (tree_at ts a)
 place_of_id ts [] k a e = cc
 place_of_id ts (x ∷ args) zero a e = ap (λ (z : TermId). Some (tree_at ts z)) (some_same x a e)
@@ -89,12 +107,44 @@ place_of_id ts (x ∷ args) zero a e = ap (λ (z : TermId). Some (tree_at ts z))
     some_same a b q = cc
 place_of_id ts (x ∷ args) (suc k) a e = place_of_id ts args k a e
 
+id_of_place : (ts : List Tree) (args : List TermId) (k : ℕ) (t : Tree) → place_in (trees_of (trees_at ts args)) k ≡ Some t → (a : TermId) × (slice_get args k ≡ Some a) × (tree_at ts a ≡ t)
+id_of_place ts [] k t e = cc
+id_of_place ts (x ∷ args) zero t e = (x, refl, some_same (tree_at ts x) t e)
+  where
+    some_same : (a b : Tree) → Some a ≡ Some b → a ≡ b
+    some_same a b q = cc
+id_of_place ts (x ∷ args) (suc k) t e = id_of_place ts args k t e
+
+module _ (sig : Sig) (ts : List Tree) (c : TermId) (args : List TermId) (counted : List (Option VarId)) (are : AreCounted sig ts c args counted) (call : TermId) (h : FunId) (us : Trees) (is : tree_at ts call ≡ trees.function h us) (k : ℕ) where
+  as_many : length args ≡ length counted
+  as_many = as_long (IsCounted sig ts c) args counted are
+
+  counts_down_told : CountsDownInCall sig ts counted call k → ArgumentCountsDown (term_at sig ts c) k (terms_under sig (trees_of (trees_at ts args))) (terms_under sig us)
+  counts_down_told f =
+      let a = element_at_place args k (let l = slice_get_within counted k (Some f.0) f.1 in let m = as_many in omega (arith, l, m)) in
+      let kept = (pair_at (IsCounted sig ts c) args counted k a.0 (Some f.0) are a.1 f.1 f.0).0 refl in
+      let there : place_in us k ≡ Some f.2.0 = ap (λ (t : Tree). argument_at t k) (sym is) ∙ f.2.1 in (
+        f.0.0,
+        argument_tells sig (trees_of (trees_at ts args)) k f.0 (place_of_id ts args k a.0 a.1 ∙ ap Some kept.0),
+        ap lessened (place_tells sig us k f.2.0 there) ∙ f.2.2,
+        kept.1,
+      )
+
+  counts_down_tells : ArgumentCountsDown (term_at sig ts c) k (terms_under sig (trees_of (trees_at ts args))) (terms_under sig us) → CountsDownInCall sig ts counted call k
+  counts_down_tells d =
+      let a = id_of_place ts args k (trees.variable (record { 0 = d.0 })) (argument_told sig (trees_of (trees_at ts args)) k d.0 d.1) in
+      let o = element_at_place counted k (let l = slice_get_within args k a.0 a.1 in let m = as_many in omega (arith, l, m)) in
+      let some : o.0 ≡ Some (record { 0 = d.0 }) = (pair_at (IsCounted sig ts c) args counted k a.0 o.0 are a.1 o.1 (record { 0 = d.0 })).1 (a.2, d.3) in
+      let t = lessened_told sig us k d.0 d.2 in
+      (record { 0 = d.0 }, o.1 ∙ ap Some some, (t.0, ap (λ (z : Tree). argument_at z k) is ∙ t.1, t.2))
+
+-- ---- the code's test
 no_place : (ts : List Tree) (args : List TermId) (k : ℕ) → length args ≤ k → place_in (trees_of (trees_at ts args)) k ≡ None
 no_place ts [] k l = refl
 no_place ts (x ∷ args) zero l = absurd (omega (arith, l))
 no_place ts (x ∷ args) (suc k) l = no_place ts args k (omega (arith, l))
 
-module _ (ts : List Tree) (sets : List (List VarId)) (call : TermId) (h : Head) (args : List TermId) (is : tree_at ts call ≡ written_tree h (trees_at ts args)) (k : ℕ) where
+module _ (ts : List Tree) (call : TermId) (h : Head) (args : List TermId) (is : tree_at ts call ≡ written_tree h (trees_at ts args)) (k : ℕ) where
   -- an argument stands at its place
   placed : (t : Tree) → argument_at (tree_at ts call) k ≡ Some t → place_in (trees_of (trees_at ts args)) k ≡ Some t
   placed t e = by_head h (ap (λ (z : Tree). argument_at z k) (sym is) ∙ e)
@@ -104,17 +154,32 @@ module _ (ts : List Tree) (sets : List (List VarId)) (call : TermId) (h : Head) 
       by_head (Number s z) q = cc
       by_head (Fun f) q = q
 
-  pub falls_nowhere : (length args ≤ k) ⊎ (length sets ≤ k) → Decides false (FallsInCall ts sets call k)
-  falls_nowhere l = (
+  -- the call has a function at its root, since it has arguments
+  at_call : (a : TermId) → slice_get args k ≡ Some a → (h : Head) → tree_at ts call ≡ written_tree h (trees_at ts args) → Stands h args → argument_at (tree_at ts call) k ≡ place_in (trees_of (trees_at ts args)) k
+  at_call a there (Var v) e s = absurd (some_argument args k there s)
+    where
+      some_argument : (l : List TermId) (j : ℕ) → slice_get l j ≡ Some a → l ≡ [] → ⊥
+      some_argument [] j q z = cc
+      some_argument (x ∷ l) j q z = cc
+  at_call a there (Number r z) e s = absurd (some_argument args k there s.0)
+    where
+      some_argument : (l : List TermId) (j : ℕ) → slice_get l j ≡ Some a → l ≡ [] → ⊥
+      some_argument [] j q y = cc
+      some_argument (x ∷ l) j q y = cc
+  at_call a there (Fun f) e s = ap (λ (z : Tree). argument_at z k) e
+
+module _ (ts : List Tree) (sets : List (List VarId)) (call : TermId) (h : Head) (args : List TermId) (is : tree_at ts call ≡ written_tree h (trees_at ts args)) (k : ℕ) where
+  pub shrinks_nowhere : (length args ≤ k) ⊎ (length sets ≤ k) → Decides false (ShrinksInCall ts sets call k)
+  shrinks_nowhere l = (
     (λ e. cc),
     (λ f. absurd (⊎_elim
-        (λ m. let e : Some (trees.variable f.0) ≡ None = sym (placed (trees.variable f.0) f.1) ∙ no_place ts args k m in let w : ⊥ = cc in w)
+        (λ m. let e : Some (trees.variable f.0) ≡ None = sym (placed ts call h args is k (trees.variable f.0) f.1) ∙ no_place ts args k m in let w : ⊥ = cc in w)
         (λ m. let n = slice_get_within sets k f.2.0 f.2.1 in omega (arith, m, n)) l)),
   )
 
   module _ (a : TermId) (there : slice_get args k ≡ Some a) (g : Head) (us : List Tree) (argument : tree_at ts a ≡ written_tree g us) where
     variable_is : (v : VarId) → argument_at (tree_at ts call) k ≡ Some (trees.variable v) → written_tree g us ≡ trees.variable v
-    variable_is v e = some_same (written_tree g us) (trees.variable v) (ap Some (sym argument) ∙ (sym (place_of_id ts args k a there) ∙ placed (trees.variable v) e))
+    variable_is v e = some_same (written_tree g us) (trees.variable v) (ap Some (sym argument) ∙ (sym (place_of_id ts args k a there) ∙ placed ts call h args is k (trees.variable v) e))
       where
         some_same : (a b : Tree) → Some a ≡ Some b → a ≡ b
         some_same a b q = cc
@@ -124,26 +189,12 @@ module _ (ts : List Tree) (sets : List (List VarId)) (call : TermId) (h : Head) 
     head_variable (Number s z) v e = cc
     head_variable (Fun f) v e = cc
 
-    pub falls_by_no_variable : ((v : VarId) → g ≡ Var v → ⊥) → Decides false (FallsInCall ts sets call k)
-    falls_by_no_variable n = ((λ e. cc), (λ f. absurd (n f.0 (head_variable g f.0 (variable_is f.0 f.1)))))
+    pub shrinks_by_no_variable : ((v : VarId) → g ≡ Var v → ⊥) → Decides false (ShrinksInCall ts sets call k)
+    shrinks_by_no_variable n = ((λ e. cc), (λ f. absurd (n f.0 (head_variable g f.0 (variable_is f.0 f.1)))))
 
-    -- the call has a function at its root, since it has arguments
-    at_call : (h : Head) → tree_at ts call ≡ written_tree h (trees_at ts args) → Stands h args → argument_at (tree_at ts call) k ≡ place_in (trees_of (trees_at ts args)) k
-    at_call (Var v) e s = absurd (some_argument args k there s)
-      where
-        some_argument : (l : List TermId) (j : ℕ) → slice_get l j ≡ Some a → l ≡ [] → ⊥
-        some_argument [] j q z = cc
-        some_argument (x ∷ l) j q z = cc
-    at_call (Number r z) e s = absurd (some_argument args k there s.0)
-      where
-        some_argument : (l : List TermId) (j : ℕ) → slice_get l j ≡ Some a → l ≡ [] → ⊥
-        some_argument [] j q y = cc
-        some_argument (x ∷ l) j q y = cc
-    at_call (Fun f) e s = ap (λ (z : Tree). argument_at z k) e
-
-    pub falls_by_set : Stands h args → (v : VarId) → g ≡ Var v → (set : List VarId) → slice_get sets k ≡ Some set → (b : Bool) → (b ≡ true) ↔ Contains set v → Decides b (FallsInCall ts sets call k)
-    falls_by_set stands v e set at b has = (
-      (λ t. (v, at_call h is stands ∙ (place_of_id ts args k a there ∙ ap Some (argument ∙ ap (λ (z : Head). written_tree z us) e)), (set, at, has.0 t))),
+    pub shrinks_by_set : Stands h args → (v : VarId) → g ≡ Var v → (set : List VarId) → slice_get sets k ≡ Some set → (b : Bool) → (b ≡ true) ↔ Contains set v → Decides b (ShrinksInCall ts sets call k)
+    shrinks_by_set stands v e set at b has = (
+      (λ t. (v, at_call ts call h args is k a there h is stands ∙ (place_of_id ts args k a there ∙ ap Some (argument ∙ ap (λ (z : Head). written_tree z us) e)), (set, at, has.0 t))),
       (λ f.
           let same : f.0 ≡ v = one_variable f.0 v (sym (head_variable g f.0 (variable_is f.0 f.1)) ∙ e) in
           let one : f.2.0 ≡ set = some_same f.2.0 set (sym f.2.1 ∙ at) in
@@ -155,6 +206,59 @@ module _ (ts : List Tree) (sets : List (List VarId)) (call : TermId) (h : Head) 
 
         some_same : (x y : List VarId) → Some x ≡ Some y → x ≡ y
         some_same x y q = cc
+
+-- an entry that is read
+pub read_or_none : (os : List (Option VarId)) (k : ℕ) → k < length os → slice_get os k ≡ Some (get_or os k None)
+read_or_none [] k l = absurd (omega (arith, l))
+read_or_none (o ∷ os) zero l = refl
+read_or_none (o ∷ os) (suc k) l = read_or_none os k (omega (arith, l))
+
+-- the code's test of what is counted down
+module _ (sig : Sig) (ts : List Tree) (counted : List (Option VarId)) (call : TermId) (h : Head) (args : List TermId) (is : tree_at ts call ≡ written_tree h (trees_at ts args)) (k : ℕ) where
+  pub counts_nowhere : (length args ≤ k) ⊎ (length counted ≤ k) → Decides false (CountsDownInCall sig ts counted call k)
+  counts_nowhere l = decides_no (λ f. ⊎_elim
+      (λ m. let e : Some f.2.0 ≡ None = sym (placed ts call h args is k f.2.0 f.2.1) ∙ no_place ts args k m in let w : ⊥ = cc in w)
+      (λ m. let n = slice_get_within counted k (Some f.0) f.1 in omega (arith, m, n)) l)
+
+  pub counts_by_none : (o : Option VarId) → slice_get counted k ≡ Some o → ((v : VarId) → o ≡ Some v → ⊥) → Decides false (CountsDownInCall sig ts counted call k)
+  counts_by_none o there n = decides_no (λ f. n f.0 (some_same o (Some f.0) (sym there ∙ f.1)))
+    where
+      some_same : (a b : Option VarId) → Some a ≡ Some b → a ≡ b
+      some_same a b q = cc
+
+  module _ (a : TermId) (there : slice_get args k ≡ Some a) (o : Option VarId) (at : slice_get counted k ≡ Some o) (v : VarId) (some : o ≡ Some v) (less : Option VarId) (told : numbered less ≡ lessened (term_at sig ts a)) where
+    -- where it counts down, it is less than the variable there
+    so_less : CountsDownInCall sig ts counted call k → less ≡ Some v
+    so_less f =
+        let one : f.0 ≡ v = same_variable f.0 v (same_option (Some f.0) (Some v) (sym f.1 ∙ (at ∙ ap Some some))) in
+        let tree : tree_at ts a ≡ f.2.0 = same_tree (tree_at ts a) f.2.0 (sym (place_of_id ts args k a there) ∙ placed ts call h args is k f.2.0 f.2.1) in
+        number_told less v (told ∙ (ap (λ (z : Tree). lessened (term_under sig z)) tree ∙ (f.2.2 ∙ ap (λ (z : VarId). Some z.0) one)))
+      where
+        same_option : (x y : Option VarId) → Some x ≡ Some y → x ≡ y
+        same_option x y q = cc
+
+        same_variable : (x y : VarId) → Some x ≡ Some y → x ≡ y
+        same_variable x y q = cc
+
+        same_tree : (x y : Tree) → Some x ≡ Some y → x ≡ y
+        same_tree x y q = cc
+
+        number_told : (o : Option VarId) (w : VarId) → numbered o ≡ Some w.0 → o ≡ Some w
+        number_told None w q = cc
+        number_told (Some u) w q = ap Some (let n : u.0 ≡ w.0 = cc in (λ j. record { 0 = n j }))
+
+    pub counts_by_nothing : ((w : VarId) → less ≡ Some w → ⊥) → Decides false (CountsDownInCall sig ts counted call k)
+    counts_by_nothing n = decides_no (λ f. n v (so_less f))
+
+    pub counts_by_less : Stands h args → (w : VarId) → less ≡ Some w → (b : Bool) → (b ≡ true) ↔ (w.0 ≡ v.0) → Decides b (CountsDownInCall sig ts counted call k)
+    counts_by_less stands w e b same = (
+      (λ t. (v, at ∙ ap Some some, (tree_at ts a, at_call ts call h args is k a there h is stands ∙ place_of_id ts args k a there, sym told ∙ (ap numbered e ∙ ap Some (same.0 t))))),
+      (λ f. same.1 (ap (λ (z : Option VarId). number_or 0 (numbered z)) (sym e ∙ so_less f))),
+    )
+      where
+        number_or : ℕ → Option ℕ → ℕ
+        number_or d None = d
+        number_or d (Some n) = n
 
 -- ---- marks
 pub keeps_itself : (old : List Bool) (P : ℕ → Type 0) → ((k : ℕ) → P k) → KeepsMarks old old P
@@ -231,35 +335,35 @@ all_kept old cur P n l h = record {
 }
 
 -- ---- calls one after another
-module _ (ts : List Tree) (sets : List (List VarId)) (f : FunId) (old : List Bool) where
-  pub calls_none : KeepsMarks old old (FallsInCalls ts sets f [])
-  calls_none = keeps_itself old (FallsInCalls ts sets f []) (λ k c i. absurd (let l = i.1 in omega (arith, l)))
+module _ (sig : Sig) (ts : List Tree) (sets : List (List VarId)) (counted : List (Option VarId)) (f : FunId) (old : List Bool) where
+  pub calls_none : KeepsMarks old old (FallsInCalls sig ts sets counted f [])
+  calls_none = keeps_itself old (FallsInCalls sig ts sets counted f []) (λ k c i. absurd (let l = i.1 in omega (arith, l)))
 
-  module _ (calls : List TermId) (i : ℕ) (c : TermId) (l : i < length calls) (is : c ≡ get_or calls i c) (cur : List Bool) (before : KeepsMarks old cur (FallsInCalls ts sets f (take i calls))) where
+  module _ (calls : List TermId) (i : ℕ) (c : TermId) (l : i < length calls) (is : c ≡ get_or calls i c) (cur : List Bool) (before : KeepsMarks old cur (FallsInCalls sig ts sets counted f (take i calls))) where
     one_later : take (i + 1) calls ≡ take i calls ++ c ∷ []
     one_later = take_more calls i c l ∙ ap (λ (z : TermId). take i calls ++ z ∷ []) (sym is)
 
-    step : (new : List Bool) → KeepsMarks cur new (λ k. IsAt ts c f → FallsInCall ts sets c k) → KeepsMarks old new (FallsInCalls ts sets f (take (i + 1) calls))
-    step new h = subst (λ (z : List TermId). KeepsMarks old new (FallsInCalls ts sets f z)) (sym one_later)
-        (keeps_same old new (λ k. FallsInCalls ts sets f (take i calls) k × (IsAt ts c f → FallsInCall ts sets c k)) (FallsInCalls ts sets f (take i calls ++ c ∷ []))
-        (λ k p e j a. ⊎_elim (λ m. p.0 e m a) (λ s. subst (λ (z : TermId). FallsInCall ts sets z k) s (p.1 (subst (λ (z : TermId). IsAt ts z f) (sym s) a))) (Contains-push_cases (take i calls) c e j))
+    step : (new : List Bool) → KeepsMarks cur new (λ k. IsAt ts c f → FallsInCall sig ts sets counted c k) → KeepsMarks old new (FallsInCalls sig ts sets counted f (take (i + 1) calls))
+    step new h = subst (λ (z : List TermId). KeepsMarks old new (FallsInCalls sig ts sets counted f z)) (sym one_later)
+        (keeps_same old new (λ k. FallsInCalls sig ts sets counted f (take i calls) k × (IsAt ts c f → FallsInCall sig ts sets counted c k)) (FallsInCalls sig ts sets counted f (take i calls ++ c ∷ []))
+        (λ k p e j a. ⊎_elim (λ m. p.0 e m a) (λ s. subst (λ (z : TermId). FallsInCall sig ts sets counted z k) s (p.1 (subst (λ (z : TermId). IsAt ts z f) (sym s) a))) (Contains-push_cases (take i calls) c e j))
         (λ k p. ((λ e j a. p e (Contains-append_left (take i calls) (c ∷ []) e j) a), (λ a. p c (Contains-push (take i calls) c) a)))
-        (keeps_both old cur new (FallsInCalls ts sets f (take i calls)) (λ k. IsAt ts c f → FallsInCall ts sets c k) before h))
+        (keeps_both old cur new (FallsInCalls sig ts sets counted f (take i calls)) (λ k. IsAt ts c f → FallsInCall sig ts sets counted c k) before h))
 
-    calls_passed : (IsAt ts c f → ⊥) → KeepsMarks old cur (FallsInCalls ts sets f (take (i + 1) calls))
-    calls_passed n = step cur (keeps_itself cur (λ k. IsAt ts c f → FallsInCall ts sets c k) (λ k a. absurd (n a)))
+    calls_passed : (IsAt ts c f → ⊥) → KeepsMarks old cur (FallsInCalls sig ts sets counted f (take (i + 1) calls))
+    calls_passed n = step cur (keeps_itself cur (λ k. IsAt ts c f → FallsInCall sig ts sets counted c k) (λ k a. absurd (n a)))
 
-    pub calls_passed_head : (h : Head) (us : List Tree) → tree_at ts c ≡ written_tree h us → ((g : FunId) → h ≡ Fun g → ⊥) → KeepsMarks old cur (FallsInCalls ts sets f (take (i + 1) calls))
+    pub calls_passed_head : (h : Head) (us : List Tree) → tree_at ts c ≡ written_tree h us → ((g : FunId) → h ≡ Fun g → ⊥) → KeepsMarks old cur (FallsInCalls sig ts sets counted f (take (i + 1) calls))
     calls_passed_head h us e n = calls_passed (no_function ts c h us e n f)
 
-    pub calls_passed_other : (g : FunId) → IsAt ts c g → (g.0 ≡ f.0 → ⊥) → KeepsMarks old cur (FallsInCalls ts sets f (take (i + 1) calls))
+    pub calls_passed_other : (g : FunId) → IsAt ts c g → (g.0 ≡ f.0 → ⊥) → KeepsMarks old cur (FallsInCalls sig ts sets counted f (take (i + 1) calls))
     calls_passed_other g r n = calls_passed (λ a. n (ap (λ (z : FunId). z.0) (one_root ts c g f r a)))
 
-    pub calls_more : (g : FunId) → g.0 ≡ f.0 → IsAt ts c g → (new : List Bool) → KeepsMarks cur new (FallsInCall ts sets c) → KeepsMarks old new (FallsInCalls ts sets f (take (i + 1) calls))
-    calls_more g e a new h = step new (keeps_same cur new (FallsInCall ts sets c) (λ k. IsAt ts c f → FallsInCall ts sets c k) (λ k p z. p) (λ k p. p (subst (λ (z : FunId). IsAt ts c z) (λ j. record { 0 = e j }) a)) h)
+    pub calls_more : (g : FunId) → g.0 ≡ f.0 → IsAt ts c g → (new : List Bool) → KeepsMarks cur new (FallsInCall sig ts sets counted c) → KeepsMarks old new (FallsInCalls sig ts sets counted f (take (i + 1) calls))
+    calls_more g e a new h = step new (keeps_same cur new (FallsInCall sig ts sets counted c) (λ k. IsAt ts c f → FallsInCall sig ts sets counted c k) (λ k p z. p) (λ k p. p (subst (λ (z : FunId). IsAt ts c z) (λ j. record { 0 = e j }) a)) h)
 
-  pub calls_all : (calls : List TermId) (i : ℕ) (cur : List Bool) → length calls ≤ i → KeepsMarks old cur (FallsInCalls ts sets f (take i calls)) → KeepsMarks old cur (FallsInCalls ts sets f calls)
-  calls_all calls i cur l h = subst (λ (z : List TermId). KeepsMarks old cur (FallsInCalls ts sets f z)) (take_all i calls l) h
+  pub calls_all : (calls : List TermId) (i : ℕ) (cur : List Bool) → length calls ≤ i → KeepsMarks old cur (FallsInCalls sig ts sets counted f (take i calls)) → KeepsMarks old cur (FallsInCalls sig ts sets counted f calls)
+  calls_all calls i cur l h = subst (λ (z : List TermId). KeepsMarks old cur (FallsInCalls sig ts sets counted f z)) (take_all i calls l) h
 
 -- ---- calls of a function itself
 module _ (ts : List Tree) (f : FunId) where
@@ -401,7 +505,7 @@ module _ (sig : Sig) (ts : List Tree) (es : List Written) where
     falling_passed none = record {
       size = before.size;
       exact = λ f h there m k. let w = before.exact f h there m k in (
-        (λ i. let o = w.0 i in (o.0, among_more f k o.1 (λ ps l us s. absurd (none f ps us l s)))),
+        (λ i. let o = w.0 i in (o.0, among_more f k o.1 (λ ps l. record { condition = λ us s. absurd (none f ps us l (inl s)); right = λ us s. absurd (none f ps us l (inr s)) }))),
         (λ i. w.1 (i.0, (among_less f k i.1).0)),
       );
     }
@@ -415,7 +519,7 @@ module _ (sig : Sig) (ts : List Tree) (es : List Written) where
             let old = before.exact i h there m k in
             let none : (ps us : Trees) → IsLeftOf sig ts e i ps → StandsIn ts e i us → ⊥ = λ ps us l s. q.1 (ap (λ (z : FunId). z.0) (one_root ts e.left i f (ps, l.is) root)) in
             subst (λ (z : List Bool). IsMarked z k ↔ ((k < length (arguments_of h)) × FallsAmong sig ts es (n + 1) i k)) (sym (marks_set_other places f.0 i.0 v q.1)) (
-              (λ x. let o = old.0 x in (o.0, among_more i k o.1 (λ ps l us s. absurd (none ps us l s)))),
+              (λ x. let o = old.0 x in (o.0, among_more i k o.1 (λ ps l. record { condition = λ us s. absurd (none ps us l (inl s)); right = λ us s. absurd (none ps us l (inr s)) }))),
               (λ x. old.1 (x.0, (among_less i k x.1).0)),
             )
       ];
@@ -463,36 +567,58 @@ module _ (sig : Sig) (ts : List Tree) (e : Written) (found : EquationCalls) (lis
     same_arguments : (ps us : Trees) → trees.function f ps ≡ trees.function f us → ps ≡ us
     same_arguments ps us q = cc
 
-    in_calls : (t : Tree) (calls : List TermId) → ListsCalls sig ts t calls → IsMappingSymbol (data_meant sig) (symbol_under sig f) → (k : ℕ) → FallsInCalls ts sets f calls k → (us : Trees) → CallIn f us t → ArgumentFalls (data_meant sig) k (terms_under sig (trees_of (trees_at ts args))) (terms_under sig us)
-    in_calls t calls list m k falls us c =
-        let l = list.all f us c m in
-        falls_told sig ts args sets below l.0 f us l.2 k (falls l.0 l.1 (us, l.2))
+    abbrev left_patterns : Terms
+    left_patterns = terms_under sig (trees_of (trees_at ts args))
 
-    to_calls : (t : Tree) (calls : List TermId) → ListsCalls sig ts t calls → (k : ℕ) → ((us : Trees) → CallIn f us t → ArgumentFalls (data_meant sig) k (terms_under sig (trees_of (trees_at ts args))) (terms_under sig us)) → FallsInCalls ts sets f calls k
-    to_calls t calls list k falls c i a =
+    -- what holds of each listed call, and of each call in the tree
+    in_calls : (Are : Terms → Type 0) (t : Tree) (calls : List TermId) (counted : List (Option VarId)) → ListsCalls sig ts t calls → IsMappingSymbol (data_meant sig) (symbol_under sig f) → (k : ℕ)
+        → ((c : TermId) (us : Trees) → tree_at ts c ≡ trees.function f us → FallsInCall sig ts sets counted c k → Are (terms_under sig us)) → FallsInCalls sig ts sets counted f calls k → (us : Trees) → CallIn f us t → Are (terms_under sig us)
+    in_calls Are t calls counted list m k told falls us c =
+        let l = list.all f us c m in
+        told l.0 us l.2 (falls l.0 l.1 (us, l.2))
+
+    to_calls : (Are : Terms → Type 0) (t : Tree) (calls : List TermId) (counted : List (Option VarId)) → ListsCalls sig ts t calls → (k : ℕ)
+        → ((c : TermId) (us : Trees) → tree_at ts c ≡ trees.function f us → Are (terms_under sig us) → FallsInCall sig ts sets counted c k) → ((us : Trees) → CallIn f us t → Are (terms_under sig us)) → FallsInCalls sig ts sets counted f calls k
+    to_calls Are t calls counted list k tells falls c i a =
         let l = list.each c i in
         let same : l.map ≡ f = one_root ts c l.map f (l.arguments, l.is) a in
         let is : tree_at ts c ≡ trees.function f l.arguments = l.is ∙ ap (λ (z : FunId). trees.function z l.arguments) same in
-        falls_tells sig ts args sets below c f l.arguments is k (falls l.arguments (subst (λ (z : FunId). CallIn z l.arguments t) same l.stands))
+        tells c l.arguments is (falls l.arguments (subst (λ (z : FunId). CallIn z l.arguments t) same l.stands))
 
-    pub equation_kept : (old mid new : List Bool) → KeepsMarks old mid (FallsInCalls ts sets f found.condition.items) → KeepsMarks mid new (FallsInCalls ts sets f found.right.items) → (h : FunId) (ps : Trees) → IsLeftOf sig ts e h ps → KeepsMarks old new (FallsInEquation sig ts e h)
-    equation_kept old mid new first second h ps l =
+    nothing_counted : (c : TermId) (k : ℕ) → CountsDownInCall sig ts [] c k → ⊥
+    nothing_counted c k d = let q : None ≡ Some (Some d.0) = d.1 in cc
+
+    module _ (counted : List (Option VarId)) (are : AreCounted sig ts e.cond args counted) (k : ℕ) (c : TermId) (us : Trees) (is : tree_at ts c ≡ trees.function f us) where
+      shrinking_told : FallsInCall sig ts sets [] c k → ArgumentShrinks (data_meant sig) k left_patterns (terms_under sig us)
+      shrinking_told d = ⊎_elim (λ s. shrinks_told sig ts args sets below c f us is k s) (λ n. absurd (nothing_counted c k n)) d
+
+      shrinking_tells : ArgumentShrinks (data_meant sig) k left_patterns (terms_under sig us) → FallsInCall sig ts sets [] c k
+      shrinking_tells a = inl (shrinks_tells sig ts args sets below c f us is k a)
+
+      falling_told : FallsInCall sig ts sets counted c k → ArgumentFalls (data_meant sig) (term_at sig ts e.cond) k left_patterns (terms_under sig us)
+      falling_told d = ⊎_elim (λ s. inl (shrinks_told sig ts args sets below c f us is k s)) (λ n. inr (counts_down_told sig ts e.cond args counted are c f us is k n)) d
+
+      falling_tells : ArgumentFalls (data_meant sig) (term_at sig ts e.cond) k left_patterns (terms_under sig us) → FallsInCall sig ts sets counted c k
+      falling_tells a = ⊎_elim (λ s. inl (shrinks_tells sig ts args sets below c f us is k s)) (λ n. inr (counts_down_tells sig ts e.cond args counted are c f us is k n)) a
+
+    pub equation_kept : (counted : List (Option VarId)) → AreCounted sig ts e.cond args counted → (old mid new : List Bool) → KeepsMarks old mid (FallsInCalls sig ts sets [] f found.condition.items) → KeepsMarks mid new (FallsInCalls sig ts sets counted f found.right.items)
+        → (h : FunId) (ps : Trees) → IsLeftOf sig ts e h ps → KeepsMarks old new (FallsInEquation sig ts e h)
+    equation_kept counted are old mid new first second h ps l =
         let same : f ≡ h = sym (one_root ts e.left h f (ps, l.is) (trees_of (trees_at ts args), root)) in
         subst (λ (z : FunId). KeepsMarks old new (FallsInEquation sig ts e z)) same
-        (keeps_same old new (λ k. FallsInCalls ts sets f found.condition.items k × FallsInCalls ts sets f found.right.items k) (FallsInEquation sig ts e f)
-        (λ k b qs left us s. subst (λ (z : Trees). ArgumentFalls (data_meant sig) k (terms_under sig z) (terms_under sig us)) (same_arguments (trees_of (trees_at ts args)) qs (sym root ∙ left.is)) (by_side k b us left.is_mapping s))
-        (λ k a. (
-          to_calls (tree_at ts e.cond) found.condition.items lists.condition k (λ us c. a (trees_of (trees_at ts args)) (record { is = root; is_mapping = mapping same }) us (inl c)),
-          to_calls (tree_at ts e.right) found.right.items lists.right k (λ us c. a (trees_of (trees_at ts args)) (record { is = root; is_mapping = mapping same }) us (inr c)),
+        (keeps_same old new (λ k. FallsInCalls sig ts sets [] f found.condition.items k × FallsInCalls sig ts sets counted f found.right.items k) (FallsInEquation sig ts e f)
+        (λ k b qs left. subst (λ (z : Trees). FallsFrom sig ts e f z k) (same_arguments (trees_of (trees_at ts args)) qs (sym root ∙ left.is)) (record {
+          condition = in_calls (ArgumentShrinks (data_meant sig) k left_patterns) (tree_at ts e.cond) found.condition.items [] lists.condition left.is_mapping k (shrinking_told counted are k) b.0;
+          right = in_calls (ArgumentFalls (data_meant sig) (term_at sig ts e.cond) k left_patterns) (tree_at ts e.right) found.right.items counted lists.right left.is_mapping k (falling_told counted are k) b.1;
+        }))
+        (λ k a. let from = a (trees_of (trees_at ts args)) (record { is = root; is_mapping = mapping same }) in (
+          to_calls (ArgumentShrinks (data_meant sig) k left_patterns) (tree_at ts e.cond) found.condition.items [] lists.condition k (shrinking_tells counted are k) from.condition,
+          to_calls (ArgumentFalls (data_meant sig) (term_at sig ts e.cond) k left_patterns) (tree_at ts e.right) found.right.items counted lists.right k (falling_tells counted are k) from.right,
         ))
-        (keeps_both old mid new (FallsInCalls ts sets f found.condition.items) (FallsInCalls ts sets f found.right.items) first second))
+        (keeps_both old mid new (FallsInCalls sig ts sets [] f found.condition.items) (FallsInCalls sig ts sets counted f found.right.items) first second))
       where
         mapping : f ≡ h → IsMappingSymbol (data_meant sig) (symbol_under sig f)
         mapping q = subst (λ (z : FunId). IsMappingSymbol (data_meant sig) (symbol_under sig z)) (sym q) l.is_mapping
-
-        by_side : (k : ℕ) → FallsInCalls ts sets f found.condition.items k × FallsInCalls ts sets f found.right.items k → (us : Trees) → IsMappingSymbol (data_meant sig) (symbol_under sig f) → StandsIn ts e f us → ArgumentFalls (data_meant sig) k (terms_under sig (trees_of (trees_at ts args))) (terms_under sig us)
-        by_side k b us m (inl c) = in_calls (tree_at ts e.cond) found.condition.items lists.condition m k b.0 us c
-        by_side k b us m (inr c) = in_calls (tree_at ts e.right) found.right.items lists.right m k b.1 us c
 
 -- no function's left side is a mapping's
 pub no_left : (sig : Sig) (ts : List Tree) (e : Written) (h : Head) (us : List Tree) → tree_at ts e.left ≡ written_tree h us → ((g : FunId) → h ≡ Fun g → ⊥) → (f : FunId) (ps vs : Trees) → IsLeftOf sig ts e f ps → StandsIn ts e f vs → ⊥

@@ -14,13 +14,14 @@ use Rattle.data_theory.specs.Provable.{Equation}
 use Rattle.data_theory.specs.Rewriting.{IsNoVariable, IsWellFormed}
 use Rattle.data_theory.proofs.GrowthLemmas.{function_in_grown, has_sort_in_grown}
 use Rattle.eqn_check.specs.Patterns.{IsConstructor, IsPattern, ArePatterns, IsOf, IsLeftSide, arguments_of, StandsUnder, StandsUnderOne}
-use Rattle.eqn_check.specs.Calls.{Calls, EquationCalls, FunctionCalls, Reaches, at_once, by_way_of, CallsFall, AllCallsFall, Falls}
+use Rattle.eqn_check.specs.Calls.{Calls, EquationCalls, FunctionCalls, Reaches, at_once, by_way_of, CallsAre, AllCallsAre, ArgumentShrinks, ArgumentFalls, Falls}
 use Rattle.eqn_check.specs.Conditions.{BeginDifferently, IsFalseByForm}
 use Rattle.eqn_check.specs.Exclusion.{Exclude}
 use Rattle.eqn_check.specs.Rules.{Rule, shape, repeat, overlap, recursion, Breaks, AreAccepted}
 use Rattle.eqn_check.specs.AcceptedLaws.{AreWellFormed, IsNewEmptyList, AreNewEmptyLists, AcceptedEquationsStayAccepted, AcceptedEquationsAreConsistentInGrownData}
 use Rattle.eqn_check.proofs.Elements.{contains_at}
 use Rattle.eqn_check.proofs.Decided.{not_refused, left_side_decided}
+use Rattle.eqn_check.proofs.SettledValues.{arguments_sorted}
 use Rattle.eqn_check.proofs.AcceptedLemmas.{called_within, accepted_equations_are_consistent}
 
 -- ---- places of joined lists
@@ -167,32 +168,34 @@ module _ (g h : Data) (ok : IsData h) (grows : Grows g h) (own added : List Equa
   under_at_stays vs (more t ts) (s ∷ ss) zero x i u = under_stays vs t s x i.0 u
   under_at_stays vs (more t ts) (s ∷ ss) (suc k) x i u = under_at_stays vs ts ss k x i.1 u
 
+  mutual
+    calls_stay : (Are Also : Terms → Type 0) → ((ts : Terms) → Are ts → Also ts) → (f : ℕ) (t : Term) → CallsAre Are f t → CallsAre Also f t
+    calls_stay Are Also also f (variable y) c = tt
+    calls_stay Are Also also f (numeral a z) c = tt
+    calls_stay Are Also also f (unknown d z) c = tt
+    calls_stay Are Also also f (application s ts) c = ((λ e. also ts (c.0 e)), all_calls_stay Are Also also f ts c.1)
+
+    all_calls_stay : (Are Also : Terms → Type 0) → ((ts : Terms) → Are ts → Also ts) → (f : ℕ) (ts : Terms) → AllCallsAre Are f ts → AllCallsAre Also f ts
+    all_calls_stay Are Also also f none c = tt
+    all_calls_stay Are Also also f (more t ts) c = (calls_stay Are Also also f t c.0, all_calls_stay Are Also also f ts c.1)
+
   module _ (f k : ℕ) (vs ss : List Sort) (ps : Terms) (sorted : HaveSorts g vs ps ss) where
-    mutual
-      fall_stays : (t : Term) → CallsFall g f k ps t → CallsFall h f k ps t
-      fall_stays (variable y) c = tt
-      fall_stays (numeral a z) c = tt
-      fall_stays (unknown d z) c = tt
-      fall_stays (application s ts) c = ((λ e. let a = c.0 e in (a.0, a.1, under_at_stays vs ps ss k a.0 sorted a.2)), all_fall_stay ts c.1)
+    shrinking_stays : (ts : Terms) → ArgumentShrinks g k ps ts → ArgumentShrinks h k ps ts
+    shrinking_stays ts a = (a.0, a.1, under_at_stays vs ps ss k a.0 sorted a.2)
 
-      all_fall_stay : (ts : Terms) → AllCallsFall g f k ps ts → AllCallsFall h f k ps ts
-      all_fall_stay none c = tt
-      all_fall_stay (more t ts) c = (fall_stays t c.0, all_fall_stay ts c.1)
-
-  arguments_sorted : (vs : List Sort) (t : Term) (s : Sort) (f : ℕ) → HasSort g vs t s → IsOf f t → HaveSorts g vs (arguments_of t) (function_at g f).arguments
-  arguments_sorted vs (application (function n) ts) s f i o = subst (λ m. HaveSorts g vs ts (function_at g m).arguments) o i.1
-  arguments_sorted vs (variable x) s f i o = absurd o
-  arguments_sorted vs (numeral a z) s f i o = absurd o
-  arguments_sorted vs (unknown d z) s f i o = absurd o
-  arguments_sorted vs (application _ ts) s f i o = absurd o
+    falling_stays : (c : Term) (ts : Terms) → ArgumentFalls g c k ps ts → ArgumentFalls h c k ps ts
+    falling_stays c ts a = ⊎_elim (λ b. inl (shrinking_stays ts b)) (λ b. inr b) a
 
   still_falls : (f k : ℕ) → f < length g.functions → Falls g own f k → Falls h (own ++ added) f k
   still_falls f k l falls q i o = elim (Contains-append_cases own added q i) [
     | inl j ↦
         let w = well q j in
-        let sorted = arguments_sorted q.sorts q.left w.sort f w.left o in
+        let sorted = arguments_sorted g q.sorts q.left w.sort f w.left o in
         let both = falls q j o in
-        (fall_stays f k q.sorts (function_at g f).arguments (arguments_of q.left) sorted q.condition both.0, fall_stays f k q.sorts (function_at g f).arguments (arguments_of q.left) sorted q.right both.1)
+        let ps = arguments_of q.left in (
+          calls_stay (ArgumentShrinks g k ps) (ArgumentShrinks h k ps) (shrinking_stays f k q.sorts (function_at g f).arguments ps sorted) f q.condition both.0,
+          calls_stay (ArgumentFalls g q.condition k ps) (ArgumentFalls h q.condition k ps) (falling_stays f k q.sorts (function_at g f).arguments ps sorted q.condition) f q.right both.1,
+        )
     | inr j ↦ let is = new.each q j in absurd (let same = of_application is.map f none q.left is.left o in let m = is.is_new in omega (arith, same))
   ]
 

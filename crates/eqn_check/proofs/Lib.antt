@@ -3,6 +3,8 @@ pub mod Elements
 pub mod ValuesUnder
 pub mod Matching
 pub mod ExclusionLemmas
+pub mod CountingLemmas
+pub mod CountedLemmas
 pub mod Decided
 pub mod Stages
 pub mod SettledValues

@@ -28,15 +28,15 @@ use Rattle.graphs.specs.Graphs.{HasEdge, HasCycle, IsGraph}
 use Rattle.eqn_check.specs.declared.calls.EquationCalls.{EquationCalls}
 use Rattle.eqn_check.specs.Patterns.{IsMapping, IsOf, IsLeftSide}
 use Rattle.eqn_check.specs.Patterns as patterns
-use Rattle.eqn_check.specs.Calls.{Calls, EquationCalls as CalledIn, FunctionCalls, ArgumentFalls, CallsFall, Falls}
+use Rattle.eqn_check.specs.Calls.{Calls, EquationCalls as CalledIn, FunctionCalls, ArgumentShrinks, ArgumentFalls, CallsAre, Falls}
 use Rattle.eqn_check.specs.CallTrees.{CallIn, CallInOne, ListsCalls, IsCallGraph}
 use Rattle.eqn_check.specs.CallTables.{CallsOther, CallsItself, StandsIn, ListsEquationCalls, IsLeftOf, AreEdgesUpTo, CallsRoundTo, FallsAmong, marks_of, AreFallingUpTo, AreCalls, HasMark}
-use Rattle.eqn_check.specs.Judged.{term_at, IsEquationOf, AreEquationsOf, IsEquationOver}
+use Rattle.eqn_check.specs.Judged.{term_at, IsTerm, IsEquationOf, AreEquationsOf, IsEquationOver}
 use Rattle.eqn_check.specs.Roles.{IsMappingSymbol}
 use Rattle.eqn_check.specs.Rules.{BreaksRecursion, CallsAround, CallsWithoutFall}
 use Rattle.eqn_check.proofs.Elements.{contains_at, place_of_element}
 use Rattle.eqn_check.proofs.JudgedLemmas.{as_long, pair_at, element_at_place, not_so}
-use Rattle.eqn_check.proofs.CallTreeLemmas.{call_found, call_told, each_falls, falls_by_each, path_reaches, reaches_path}
+use Rattle.eqn_check.proofs.CallTreeLemmas.{call_found, call_told, each_is, are_by_each, path_reaches, reaches_path}
 use Rattle.eqn_check.proofs.PatternsLeftLemmas.{no_left_side}
 use Rattle.term_pool.specs.declared.terms.Head.TheVariants.{Fun}
 use Rattle.eqn_check.proofs.EdgeLemmas.{IsAt, one_root, other_stands, stands_other}
@@ -90,7 +90,10 @@ left_mapping g (function k) us l = l.0
 left_mapping g _ us l = absurd l
 
 -- ---- what stands in the signature
--- listed calls are terms of the pool
+-- listed calls are terms
+pub listed_are_terms : (sig : Sig) (ts : List Tree) (t : Tree) (found : List TermId) → ListsCalls sig ts t found → All (IsTerm sig ts) found
+listed_are_terms sig ts t found l k d m = (l.each (get_or found k d) (Contains-get_or found k d m)).within
+
 pub listed_inside : (sig : Sig) (ts : List Tree) (t : Tree) (found : List TermId) → ListsCalls sig ts t found → All (IsIn ts) found
 listed_inside sig ts t found l k d m = (l.each (get_or found k d) (Contains-get_or found k d m)).within.inside
 
@@ -328,24 +331,32 @@ module _ (sig : Sig) (table : IsTable sig) (ts : List Tree) (es : List Written) 
               let each = a z.0 w.0 (slice_get_within es z.0 w.0 w.1) w.1 l.0 l.1 in
               let ps : patterns.arguments_of p.left ≡ terms_under sig l.0 = ap patterns.arguments_of m.left ∙ left_arguments sig (tree_at ts w.0.left) f l.0 l.1.is in
               let is_f : (h : FunId) (us : Trees) → StandsIn ts w.0 h us → symbol_under sig h ≡ function map.0 → h ≡ f = λ h us s y. one_function h f map.0 (stands_within sig ts w.0 i h us s) within y map.1 in (
-                subst (CallsFall (data_meant sig) map.0 k (patterns.arguments_of p.left)) (sym m.condition) (subst (λ (z : Terms). CallsFall (data_meant sig) map.0 k z (term_at sig ts w.0.cond)) (sym ps)
-                    (falls_by_each sig (data_meant sig) map.0 k (terms_under sig l.0) (tree_at ts w.0.cond) (λ h us s y. each us (inl (subst (λ (z : FunId). CallIn z us (tree_at ts w.0.cond)) (is_f h us (inl s) y) s))))),
-                subst (CallsFall (data_meant sig) map.0 k (patterns.arguments_of p.left)) (sym m.right) (subst (λ (z : Terms). CallsFall (data_meant sig) map.0 k z (term_at sig ts w.0.right)) (sym ps)
-                    (falls_by_each sig (data_meant sig) map.0 k (terms_under sig l.0) (tree_at ts w.0.right) (λ h us s y. each us (inr (subst (λ (z : FunId). CallIn z us (tree_at ts w.0.right)) (is_f h us (inr s) y) s))))),
+                subst (CallsAre (ArgumentShrinks (data_meant sig) k (patterns.arguments_of p.left)) map.0) (sym m.condition) (subst (λ (z : Terms). CallsAre (ArgumentShrinks (data_meant sig) k z) map.0 (term_at sig ts w.0.cond)) (sym ps)
+                    (are_by_each sig map.0 (ArgumentShrinks (data_meant sig) k (terms_under sig l.0)) (tree_at ts w.0.cond) (λ h us s y. each.condition us (subst (λ (z : FunId). CallIn z us (tree_at ts w.0.cond)) (is_f h us (inl s) y) s)))),
+                subst (λ (c : Term). CallsAre (ArgumentFalls (data_meant sig) c k (patterns.arguments_of p.left)) map.0 p.right) (sym m.condition)
+                    (subst (CallsAre (ArgumentFalls (data_meant sig) (term_at sig ts w.0.cond) k (patterns.arguments_of p.left)) map.0) (sym m.right)
+                    (subst (λ (z : Terms). CallsAre (ArgumentFalls (data_meant sig) (term_at sig ts w.0.cond) k z) map.0 (term_at sig ts w.0.right)) (sym ps)
+                    (are_by_each sig map.0 (ArgumentFalls (data_meant sig) (term_at sig ts w.0.cond) k (terms_under sig l.0)) (tree_at ts w.0.right)
+                    (λ h us s y. each.right us (subst (λ (z : FunId). CallIn z us (tree_at ts w.0.right)) (is_f h us (inr s) y) s))))),
               )
 
           falls_among : (k : ℕ) → Falls (data_meant sig) own map.0 k → FallsAmong sig ts es (length es) f k
-          falls_among k a j d l at_d ps left us s =
+          falls_among k a j d l at_d ps left =
               let p = meant_at j d at_d in
               let m = meant j d p.0 at_d p.1 in
               let o = subst (IsOf map.0) (sym m.left) (tree_of sig map.0 (tree_at ts d.left) f ps left.is map.1) in
               let both = a p.0 (contains_at own j p.0 p.1) o in
               let args : patterns.arguments_of p.0.left ≡ terms_under sig ps = ap patterns.arguments_of m.left ∙ left_arguments sig (tree_at ts d.left) f ps left.is in
-              by_side p.0 m args both.0 both.1 s
-            where
-              by_side : (p : Equation) → IsEquationOf sig ts d p → patterns.arguments_of p.left ≡ terms_under sig ps → CallsFall (data_meant sig) map.0 k (patterns.arguments_of p.left) p.condition → CallsFall (data_meant sig) map.0 k (patterns.arguments_of p.left) p.right → StandsIn ts d f us → ArgumentFalls (data_meant sig) k (terms_under sig ps) (terms_under sig us)
-              by_side p m args x y (inl c) = each_falls sig (data_meant sig) map.0 k (terms_under sig ps) (tree_at ts d.cond) (subst (λ (z : Terms). CallsFall (data_meant sig) map.0 k z (term_at sig ts d.cond)) args (subst (CallsFall (data_meant sig) map.0 k (patterns.arguments_of p.left)) m.condition x)) f us c map.1
-              by_side p m args x y (inr c) = each_falls sig (data_meant sig) map.0 k (terms_under sig ps) (tree_at ts d.right) (subst (λ (z : Terms). CallsFall (data_meant sig) map.0 k z (term_at sig ts d.right)) args (subst (CallsFall (data_meant sig) map.0 k (patterns.arguments_of p.left)) m.right y)) f us c map.1
+              let condition : CallsAre (ArgumentShrinks (data_meant sig) k (terms_under sig ps)) map.0 (term_at sig ts d.cond) =
+              subst (λ (z : Terms). CallsAre (ArgumentShrinks (data_meant sig) k z) map.0 (term_at sig ts d.cond)) args (subst (CallsAre (ArgumentShrinks (data_meant sig) k (patterns.arguments_of p.0.left)) map.0) m.condition both.0) in
+              let right : CallsAre (ArgumentFalls (data_meant sig) (term_at sig ts d.cond) k (terms_under sig ps)) map.0 (term_at sig ts d.right) =
+              subst (λ (z : Terms). CallsAre (ArgumentFalls (data_meant sig) (term_at sig ts d.cond) k z) map.0 (term_at sig ts d.right)) args
+              (subst (CallsAre (ArgumentFalls (data_meant sig) (term_at sig ts d.cond) k (patterns.arguments_of p.0.left)) map.0) m.right
+              (subst (λ (c : Term). CallsAre (ArgumentFalls (data_meant sig) c k (patterns.arguments_of p.0.left)) map.0 p.0.right) m.condition both.1)) in
+              record {
+                condition = λ us c. each_is sig map.0 (ArgumentShrinks (data_meant sig) k (terms_under sig ps)) (tree_at ts d.cond) condition f us c map.1;
+                right = λ us c. each_is sig map.0 (ArgumentFalls (data_meant sig) (term_at sig ts d.cond) k (terms_under sig ps)) (tree_at ts d.right) right f us c map.1;
+              }
 
           -- ---- what is answered
           around_breaks : CallsRoundTo ts edges f found → BreaksRecursion (data_meant sig) own q

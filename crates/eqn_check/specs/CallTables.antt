@@ -9,13 +9,14 @@ use Rattle.data_theory.specs.Terms.{variables_of}
 use Rattle.data_theory.specs.Functions.{Function, arguments_of}
 use Rattle.data_theory.specs.Signature.{Sig}
 use Rattle.data_theory.specs.IdData.{data_meant}
-use Rattle.data_theory.specs.IdTerms.{symbol_under, terms_under}
+use Rattle.data_theory.specs.IdTerms.{symbol_under, term_under, terms_under}
 use Rattle.data_theory.specs.IdTrees.{Tree, Trees, variable, function, none, more}
 use Rattle.term_pool.specs.HeadTrees.{tree_at}
 use Rattle.term_pool.specs.declared.terms.Equation.{Equation as Written}
 use Rattle.graphs.specs.Graphs.{HasEdge, HasCycle, IsPath}
 use Rattle.eqn_check.specs.declared.calls.EquationCalls.{EquationCalls}
-use Rattle.eqn_check.specs.Calls.{ArgumentFalls}
+use Rattle.eqn_check.specs.Calls.{ArgumentShrinks, ArgumentFalls}
+use Rattle.eqn_check.specs.Counting.{lessened}
 use Rattle.eqn_check.specs.CallTrees.{CallIn, ListsCalls}
 use Rattle.eqn_check.specs.Judged.{term_at, IsTerm}
 use Rattle.eqn_check.specs.Patterns.{IsConstructor, StandsUnder}
@@ -112,16 +113,29 @@ argument_at (function f us) k = place_in us k
 argument_at _ k = None
 
 -- the call's argument at the place is a variable of the set there
-abbrev pub FallsInCall : List Tree → List (List VarId) → TermId → ℕ → Type 0
-FallsInCall ts sets call k = (v : VarId) × (argument_at (tree_at ts call) k ≡ Some (variable v)) × ((set : List VarId) × (slice_get sets k ≡ Some set) × Contains set v)
+abbrev pub ShrinksInCall : List Tree → List (List VarId) → TermId → ℕ → Type 0
+ShrinksInCall ts sets call k = (v : VarId) × (argument_at (tree_at ts call) k ≡ Some (variable v)) × ((set : List VarId) × (slice_get sets k ≡ Some set) × Contains set v)
+
+-- the call's argument at the place is less than the variable there
+abbrev pub CountsDownInCall : Sig → List Tree → List (Option VarId) → TermId → ℕ → Type 0
+CountsDownInCall sig ts counted call k =
+    (v : VarId) × (slice_get counted k ≡ Some (Some v)) × ((t : Tree) × (argument_at (tree_at ts call) k ≡ Some t) × (lessened (term_under sig t) ≡ Some v.0))
+
+abbrev pub FallsInCall : Sig → List Tree → List (List VarId) → List (Option VarId) → TermId → ℕ → Type 0
+FallsInCall sig ts sets counted call k = ShrinksInCall ts sets call k ⊎ CountsDownInCall sig ts counted call k
 
 -- in all of these calls of the function it is so
-abbrev pub FallsInCalls : List Tree → List (List VarId) → FunId → List TermId → ℕ → Type 0
-FallsInCalls ts sets f calls k = (c : TermId) → Contains calls c → ((us : Trees) × (tree_at ts c ≡ function f us)) → FallsInCall ts sets c k
+abbrev pub FallsInCalls : Sig → List Tree → List (List VarId) → List (Option VarId) → FunId → List TermId → ℕ → Type 0
+FallsInCalls sig ts sets counted f calls k = (c : TermId) → Contains calls c → ((us : Trees) × (tree_at ts c ≡ function f us)) → FallsInCall sig ts sets counted c k
+
+-- the place falls in all calls of the function in the condition, and in all of them in the right side
+pub record FallsFrom (sig : Sig) (ts : List Tree) (e : Written) (f : FunId) (ps : Trees) (k : ℕ) : Type 0 where
+  pub condition : (us : Trees) → CallIn f us (tree_at ts e.cond) → ArgumentShrinks (data_meant sig) k (terms_under sig ps) (terms_under sig us)
+  pub right : (us : Trees) → CallIn f us (tree_at ts e.right) → ArgumentFalls (data_meant sig) (term_at sig ts e.cond) k (terms_under sig ps) (terms_under sig us)
 
 -- the place of f falls in all its own calls in the equation
 abbrev pub FallsInEquation : Sig → List Tree → Written → FunId → ℕ → Type 0
-FallsInEquation sig ts e f k = (ps : Trees) → IsLeftOf sig ts e f ps → (us : Trees) → StandsIn ts e f us → ArgumentFalls (data_meant sig) k (terms_under sig ps) (terms_under sig us)
+FallsInEquation sig ts e f k = (ps : Trees) → IsLeftOf sig ts e f ps → FallsFrom sig ts e f ps k
 
 abbrev pub FallsAmong : Sig → List Tree → List Written → ℕ → FunId → ℕ → Type 0
 FallsAmong sig ts es n f k = (j : ℕ) (e : Written) → j < n → slice_get es j ≡ Some e → FallsInEquation sig ts e f k

@@ -32,6 +32,12 @@ sign_of terms.negation = signs.Not
 sign_of terms.falsity = signs.False
 sign_of (terms.empty s) = signs.Empty
 sign_of (terms.cons s) = signs.Cons
+sign_of (terms.arithmetic terms.subtract ss to) = signs.Minus
+sign_of (terms.minus s) = signs.Minus
+sign_of (terms.arithmetic terms.to_positive ss to) = signs.ToPositive
+sign_of (terms.arithmetic terms.to_natural ss to) = signs.ToNatural
+sign_of (terms.tail s) = signs.Tail
+sign_of (terms.rtail s) = signs.Rtail
 sign_of _ = signs.Other
 
 -- both are `[]`, or both `|>`

@@ -1,6 +1,7 @@
 pub mod Patterns
-pub mod Calls
 pub mod Conditions
+pub mod Counting
+pub mod Calls
 pub mod Exclusion
 pub mod Rules
 pub mod AcceptedLaws
@@ -11,6 +12,7 @@ pub mod Linear
 pub mod Roles
 pub mod CallTrees
 pub mod CallTables
+pub mod Counted
 pub mod Fillings
 pub mod Comparisons
 pub mod ExcludedPairs

@@ -45,7 +45,8 @@ fn compare(
 ) -> Result<bool, NoMemory>
     requires one { IsTerm sig.now pool.now.trees one }
     requires other { IsTerm sig.now pool.now.trees other }
-    ensures { IfOk result (λ b. Compares sig.now pool.now.trees one other left.old.items left.new.items b) }
+    ensures { IfOk result (λ b. Compares sig.now pool.now.trees one other left.old.items
+        left.new.items b) }
 {
     sig.next_sort();
     if is_variable(pool, one) || is_variable(pool, other) {
@@ -79,7 +80,8 @@ pub fn are_alike(
 ) -> Result<bool, NoMemory>
     requires one { IsTerm sig.now pool.now.trees one }
     requires other { IsTerm sig.now pool.now.trees other }
-    ensures { IfOk result (λ b. Decides b (AreAlike (term_at sig.now pool.now.trees one) (term_at sig.now pool.now.trees other))) }
+    ensures { IfOk result (λ b. Decides b (AreAlike (term_at sig.now pool.now.trees one)
+        (term_at sig.now pool.now.trees other))) }
 {
     let mut left = Vec::new(alloc);
     left.push((one, other))?;

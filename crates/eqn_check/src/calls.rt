@@ -42,7 +42,8 @@ fn calls_in(
     term: TermId,
 ) -> Result<Vec<TermId>, NoMemory>
     requires { IsTerm sig.now pool.now.trees term }
-    ensures { IfOk result (λ calls. ListsCalls sig.now pool.now.trees (tree_at pool.now.trees term) calls.items) }
+    ensures { IfOk result (λ calls. ListsCalls sig.now pool.now.trees
+        (tree_at pool.now.trees term) calls.items) }
 {
     let mut waiting = Vec::new(alloc);
     let mut calls = Vec::new(alloc);
@@ -83,7 +84,8 @@ pub fn list_calls(
     pool: &Pool,
 ) -> Result<Vec<EquationCalls>, NoMemory>
     requires { All (IsEquationOver sig.now pool.now.trees) theory.now.equations.items }
-    ensures { IfOk result (λ lists. ListAllCalls sig.now pool.now.trees theory.now.equations.items lists.items) }
+    ensures { IfOk result (λ lists. ListAllCalls sig.now pool.now.trees theory.now.equations.items
+        lists.items) }
 {
     let mut lists = Vec::new(alloc);
     for number in 0..theory.equations.len() {

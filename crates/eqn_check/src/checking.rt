@@ -23,7 +23,8 @@ use term_pool::{Equation, Pool, Theory};
 /// Whether no variable stands twice in a term.
 fn is_linear(alloc: Global, pool: &Pool, term: TermId) -> Result<bool, NoMemory>
     requires { IsIn pool.now.trees term }
-    ensures { IfOk result (λ b. (sig : Sig) → Decides b (AreDistinct (variables_of (term_at sig pool.now.trees term)))) }
+    ensures { IfOk result (λ b. (sig : Sig) → Decides b (AreDistinct (variables_of
+        (term_at sig pool.now.trees term)))) }
 {
     let distinct = has_distinct_variables(alloc, pool, term)?;
     Ok(distinct)
@@ -86,7 +87,8 @@ fn broken_rule(
     number: usize,
 ) -> Result<Option<Reason>, NoMemory>
     requires equations { All (IsEquationOver sig.now pool.now.trees) theory.now.equations.items }
-    requires calls { AreCalls sig.now pool.now.trees theory.now.equations.items calls.now.lists.items calls.now.edges.items calls.now.cyclic calls.now.falling.items }
+    requires calls { AreCalls sig.now pool.now.trees theory.now.equations.items
+        calls.now.lists.items calls.now.edges.items calls.now.cyclic calls.now.falling.items }
     requires number { number < length theory.now.equations.items }
     ensures { IfOk result (IsReasonFor sig.now pool.now.trees theory.now.equations.items number) }
 {

@@ -96,7 +96,8 @@ fn compared_by(sign: Sign, one: FilledTerm, other: FilledTerm) -> Option<Compari
 /// The function of a term and its two arguments.
 pub fn sides(pool: &Pool, term: TermId) -> Option<(FunId, TermId, TermId)>
     requires { IsIn pool.now.trees term }
-    ensures { MatchOption result (IsNotBinary (tree_at pool.now.trees term)) (λ r. IsSides pool.now.trees term r.0 r.1 r.2) }
+    ensures { MatchOption result (IsNotBinary (tree_at pool.now.trees term))
+        (λ r. IsSides pool.now.trees term r.0 r.1 r.2) }
 {
     let node = pool.node(term);
     let Head::Fun(fun) = node.head else {
@@ -117,7 +118,8 @@ pub fn what_is_said(
 ) -> Option<Comparison>
     requires opposites { AreOppositesOver sig.now pool.now.trees opposites.now }
     requires part { IsTerm sig.now pool.now.trees part.term }
-    ensures { MatchOption result (reading (filled_at sig.now pool.now.trees opposites.now part) ≡ None) (IsComparisonOf sig.now pool.now.trees opposites.now part) }
+    ensures { MatchOption result (reading (filled_at sig.now pool.now.trees opposites.now part) ≡
+        None) (IsComparisonOf sig.now pool.now.trees opposites.now part) }
 {
     let at = resolved(sig, pool, opposites, part);
     let Some((fun, one, other)) = sides(pool, at.term) else {
@@ -135,7 +137,7 @@ pub fn what_is_said(
 }
 
 /// Whether two numbers differ.
-fn differ(x: Num, y: Num) -> bool
+pub fn differ(x: Num, y: Num) -> bool
     ensures { result ≡ not (equal_numbers (whole_of x) (whole_of y)) }
 {
     if is_less(x, y) {
@@ -165,7 +167,8 @@ pub fn fails_of_numerals(
 ) -> bool
     requires opposites { AreOppositesOver sig.now pool.now.trees opposites.now }
     requires said { AreComparable sig.now pool.now.trees said }
-    ensures { Decides result (IsFalseOfNumerals (meant_reading sig.now pool.now.trees opposites.now said)) }
+    ensures { Decides result (IsFalseOfNumerals
+        (meant_reading sig.now pool.now.trees opposites.now said)) }
 {
     let one = resolved(sig, pool, opposites, said.one);
     let other = resolved(sig, pool, opposites, said.other);
@@ -195,7 +198,8 @@ fn are_one_of_lists(one: Sign, other: Sign) -> bool
 fn are_different(sig: &Signature, one: FunId, other: FunId) -> bool
     requires one { one.0 < length sig.now.functions }
     requires other { other.0 < length sig.now.functions }
-    ensures { Decides result (AreDifferent (symbol_under sig.now one) (symbol_under sig.now other)) }
+    ensures { Decides result (AreDifferent (symbol_under sig.now one)
+        (symbol_under sig.now other)) }
 {
     sig.next_sort();
     if are_one_of_lists(sign_of_function(sig, one), sign_of_function(sig, other)) {
@@ -216,7 +220,9 @@ pub fn begin_differently(
 ) -> bool
     requires opposites { AreOppositesOver sig.now pool.now.trees opposites.now }
     requires said { AreComparable sig.now pool.now.trees said }
-    ensures { Decides result (BeginDifferently (data_meant sig.now) (filled_at sig.now pool.now.trees opposites.now said.one) (filled_at sig.now pool.now.trees opposites.now said.other)) }
+    ensures { Decides result (BeginDifferently (data_meant sig.now)
+        (filled_at sig.now pool.now.trees opposites.now said.one)
+        (filled_at sig.now pool.now.trees opposites.now said.other)) }
 {
     let one = resolved(sig, pool, opposites, said.one);
     let other = resolved(sig, pool, opposites, said.other);
@@ -249,7 +255,9 @@ pub fn have_same_sides(
     requires opposites { AreOppositesOver sig.now pool.now.trees opposites.now }
     requires said { AreComparable sig.now pool.now.trees said }
     requires also { AreComparable sig.now pool.now.trees also }
-    ensures { IfOk result (λ b. Decides b (HaveSameSides (meant_reading sig.now pool.now.trees opposites.now said) (meant_reading sig.now pool.now.trees opposites.now also))) }
+    ensures { IfOk result (λ b. Decides b (HaveSameSides
+        (meant_reading sig.now pool.now.trees opposites.now said)
+        (meant_reading sig.now pool.now.trees opposites.now also))) }
 {
     let first = are_same(alloc, sig, pool, opposites, said.one, also.one)?;
     if !first {
@@ -271,7 +279,9 @@ pub fn have_turned_sides(
     requires opposites { AreOppositesOver sig.now pool.now.trees opposites.now }
     requires said { AreComparable sig.now pool.now.trees said }
     requires also { AreComparable sig.now pool.now.trees also }
-    ensures { IfOk result (λ b. Decides b (HaveTurnedSides (meant_reading sig.now pool.now.trees opposites.now said) (meant_reading sig.now pool.now.trees opposites.now also))) }
+    ensures { IfOk result (λ b. Decides b (HaveTurnedSides
+        (meant_reading sig.now pool.now.trees opposites.now said)
+        (meant_reading sig.now pool.now.trees opposites.now also))) }
 {
     let first = are_same(alloc, sig, pool, opposites, said.one, also.other)?;
     if !first {

@@ -23,7 +23,8 @@ fn add_callees(
     found: &mut Vec<usize>,
 ) -> Result<(), NoMemory>
     requires { All (IsIn pool.now.trees) calls.now }
-    ensures { OnOk result ((b : ℕ) → Contains found.new.items b ↔ (Contains found.old.items b ⊎ CallsOther pool.now.trees fun calls.now b)) }
+    ensures { OnOk result ((b : ℕ) → Contains found.new.items b ↔ (Contains found.old.items b
+        ⊎ CallsOther pool.now.trees fun calls.now b)) }
 {
     for call in calls {
         let Head::Fun(callee) = pool.node(*call).head else {
@@ -59,7 +60,8 @@ pub fn call_edges(
 ) -> Result<Vec<Vec<usize>>, NoMemory>
     requires equations { All (IsEquationOver sig.now pool.now.trees) theory.now.equations.items }
     requires lists { ListAllCalls sig.now pool.now.trees theory.now.equations.items lists.now }
-    ensures { IfOk result (λ edges. AreEdgesUpTo sig.now pool.now.trees theory.now.equations.items (length theory.now.equations.items) edges.items) }
+    ensures { IfOk result (λ edges. AreEdgesUpTo sig.now pool.now.trees theory.now.equations.items
+        (length theory.now.equations.items) edges.items) }
 {
     let mut edges = no_edges(alloc, sig.fun_count())?;
     for number in 0..theory.equations.len() {
@@ -99,9 +101,12 @@ pub fn calls_round(
     requires fun { fun.0 < length edges.now }
     requires condition { All (IsIn pool.now.trees) list.now.condition.items }
     requires right { All (IsIn pool.now.trees) list.now.right.items }
-    requires callees { (b : ℕ) → CallsOther pool.now.trees fun list.now.condition.items b ⊎ CallsOther pool.now.trees fun list.now.right.items b → b < length edges.now }
-    ensures round { IfOk result (λ round. round ≡ true → CallsRoundTo pool.now.trees edges.now fun list.now) }
-    ensures none { IfOk result (λ round. round ≡ false → CallsRoundTo pool.now.trees edges.now fun list.now → cyclic ≡ false) }
+    requires callees { (b : ℕ) → CallsOther pool.now.trees fun list.now.condition.items b
+        ⊎ CallsOther pool.now.trees fun list.now.right.items b → b < length edges.now }
+    ensures round { IfOk result (λ round. round ≡ true
+        → CallsRoundTo pool.now.trees edges.now fun list.now) }
+    ensures none { IfOk result (λ round. round ≡ false
+        → CallsRoundTo pool.now.trees edges.now fun list.now → cyclic ≡ false) }
 {
     if !cyclic {
         return Ok(false);

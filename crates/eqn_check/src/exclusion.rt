@@ -31,7 +31,8 @@ fn is_false_comparison(
 ) -> Result<bool, NoMemory>
     requires opposites { AreOppositesOver sig.now pool.now.trees opposites.now }
     requires said { AreComparable sig.now pool.now.trees said }
-    ensures { IfOk result (λ b. Decides b (IsFalseReading (data_meant sig.now) (meant_reading sig.now pool.now.trees opposites.now said))) }
+    ensures { IfOk result (λ b. Decides b (IsFalseReading (data_meant sig.now)
+        (meant_reading sig.now pool.now.trees opposites.now said))) }
 {
     if fails_of_numerals(sig, pool, opposites, said) {
         return Ok(true);
@@ -73,7 +74,8 @@ fn is_false(
 ) -> Result<bool, NoMemory>
     requires opposites { AreOppositesOver sig.now pool.now.trees opposites.now }
     requires part { IsTerm sig.now pool.now.trees part.term }
-    ensures { IfOk result (λ b. Decides b (IsFalseByForm (data_meant sig.now) (filled_at sig.now pool.now.trees opposites.now part))) }
+    ensures { IfOk result (λ b. Decides b (IsFalseByForm (data_meant sig.now)
+        (filled_at sig.now pool.now.trees opposites.now part))) }
 {
     if is_falsity(sig, pool, opposites, part) {
         return Ok(true);
@@ -97,7 +99,9 @@ fn are_contrary_comparisons(
     requires opposites { AreOppositesOver sig.now pool.now.trees opposites.now }
     requires said { AreComparable sig.now pool.now.trees said }
     requires also { AreComparable sig.now pool.now.trees also }
-    ensures { IfOk result (λ b. Decides b (AreContraryReadings (meant_reading sig.now pool.now.trees opposites.now said) (meant_reading sig.now pool.now.trees opposites.now also))) }
+    ensures { IfOk result (λ b. Decides b (AreContraryReadings
+        (meant_reading sig.now pool.now.trees opposites.now said)
+        (meant_reading sig.now pool.now.trees opposites.now also))) }
 {
     if !contradict_turned(said.relation, also.relation) {
         return Ok(false);
@@ -125,7 +129,8 @@ fn is_negation(
     requires opposites { AreOppositesOver sig.now pool.now.trees opposites.now }
     requires part { IsTerm sig.now pool.now.trees part.term }
     requires other { IsTerm sig.now pool.now.trees other.term }
-    ensures { IfOk result (λ b. Decides b (filled_at sig.now pool.now.trees opposites.now other ≡ !ᵗ filled_at sig.now pool.now.trees opposites.now part)) }
+    ensures { IfOk result (λ b. Decides b (filled_at sig.now pool.now.trees opposites.now other ≡ !ᵗ
+        filled_at sig.now pool.now.trees opposites.now part)) }
 {
     let at = resolved(sig, pool, opposites, other);
     let node = pool.node(at.term);
@@ -158,7 +163,9 @@ fn are_contrary(
     requires opposites { AreOppositesOver sig.now pool.now.trees opposites.now }
     requires part { IsTerm sig.now pool.now.trees part.term }
     requires other { IsTerm sig.now pool.now.trees other.term }
-    ensures { IfOk result (λ b. Decides b (AreContrary (filled_at sig.now pool.now.trees opposites.now part) (filled_at sig.now pool.now.trees opposites.now other))) }
+    ensures { IfOk result (λ b. Decides b (AreContrary
+        (filled_at sig.now pool.now.trees opposites.now part)
+        (filled_at sig.now pool.now.trees opposites.now other))) }
 {
     let negated = is_negation(alloc, sig, pool, opposites, part, other)?;
     if negated {
@@ -186,7 +193,8 @@ fn cant_hold_with(
     requires opposites { AreOppositesOver sig.now pool.now.trees opposites.now }
     requires part { IsTerm sig.now pool.now.trees part.term }
     requires others { All (IsFilledTerm sig.now pool.now.trees) others.now }
-    ensures { IfOk result (λ b. Decides b (CantHoldWith sig.now pool.now.trees opposites.now part others.now)) }
+    ensures { IfOk result (λ b. Decides b (CantHoldWith sig.now pool.now.trees opposites.now part
+        others.now)) }
 {
     let wrong = is_false(alloc, sig, pool, opposites, part)?;
     if wrong {
@@ -211,7 +219,8 @@ fn cant_all_hold(
 ) -> Result<bool, NoMemory>
     requires opposites { AreOppositesOver sig.now pool.now.trees opposites.now }
     requires parts { All (IsFilledTerm sig.now pool.now.trees) parts.now }
-    ensures { IfOk result (λ b. Decides b (CantAllHold (data_meant sig.now) (map (filled_at sig.now pool.now.trees opposites.now) parts.now))) }
+    ensures { IfOk result (λ b. Decides b (CantAllHold (data_meant sig.now) (map
+        (filled_at sig.now pool.now.trees opposites.now) parts.now))) }
 {
     for i in 0..parts.len() {
         let cant = cant_hold_with(alloc, sig, pool, opposites, parts[i], parts)?;
@@ -223,9 +232,10 @@ fn cant_all_hold(
 }
 
 /// The sides of a `&&`.
-fn conjuncts(sig: &Signature, pool: &Pool, term: TermId) -> Option<(TermId, TermId)>
+pub fn conjuncts(sig: &Signature, pool: &Pool, term: TermId) -> Option<(TermId, TermId)>
     requires { IsTerm sig.now pool.now.trees term }
-    ensures { MatchOption result (parts (term_at sig.now pool.now.trees term) ≡ term_at sig.now pool.now.trees term ∷ []) (λ r. AreConjuncts sig.now pool.now.trees term r.0 r.1) }
+    ensures { MatchOption result (parts (term_at sig.now pool.now.trees term) ≡ term_at sig.now
+        pool.now.trees term ∷ []) (λ r. AreConjuncts sig.now pool.now.trees term r.0 r.1) }
 {
     let Some((fun, one, other)) = sides(pool, term) else {
         return None;
@@ -245,7 +255,8 @@ fn push_parts(
     found: &mut Vec<FilledTerm>,
 ) -> Result<(), NoMemory>
     requires { IsTerm sig.now pool.now.trees condition }
-    ensures { OnOk result (AddsParts sig.now pool.now.trees condition by found.old.items found.new.items) }
+    ensures { OnOk result (AddsParts sig.now pool.now.trees condition by found.old.items
+        found.new.items) }
 {
     let mut rest = condition;
     while let Some((one, other)) = conjuncts(sig, pool, rest) {
@@ -268,7 +279,8 @@ fn have_contrary_conditions(
     requires opposites { AreOppositesOver sig.now pool.now.trees opposites.now }
     requires one { IsEquationOver sig.now pool.now.trees one.now }
     requires other { IsEquationOver sig.now pool.now.trees other.now }
-    ensures { IfOk result (λ b. Decides b (CantAllHold (data_meant sig.now) (parts_at sig.now pool.now.trees opposites.now one.now other.now))) }
+    ensures { IfOk result (λ b. Decides b (CantAllHold (data_meant sig.now)
+        (parts_at sig.now pool.now.trees opposites.now one.now other.now))) }
 {
     let mut parts = Vec::new(alloc);
     push_parts(sig, pool, one.cond, Filling::First, &mut parts)?;

@@ -8,10 +8,11 @@ ghost use Rattle.data_theory.specs.declared.ids.VarId.{VarId};
 ghost use Rattle.data_theory.specs.IdTrees.{Trees};
 ghost use Rattle.term_pool.specs.declared.terms.Head.TheVariants.{Var};
 ghost use Rattle.term_pool.specs.HeadTrees.{tree_at, IsIn};
-ghost use Rattle.eqn_check.specs.CallTables.{with_mark, AllBelow, AreBelow, AreFallingUpTo, CallsItself, FallsInCall, FallsInCalls, FallsInEquation, HaveAllMarks, IsConstructorAt, IsLeftOf, KeepsMarks, ListAllCalls, ListsEquationCalls};
+ghost use Rattle.eqn_check.specs.CallTables.{with_mark, AllBelow, AreBelow, AreFallingUpTo, CallsItself, CountsDownInCall, FallsInCall, FallsInCalls, FallsInEquation, HaveAllMarks, IsConstructorAt, IsLeftOf, KeepsMarks, ListAllCalls, ListsEquationCalls, ShrinksInCall};
 ghost use Rattle.eqn_check.specs.Judged.{IsEquationOver, IsTerm};
 
 use crate::calls::EquationCalls;
+use crate::counting::{counted_variables, lessened};
 use crate::patterns::is_constructor;
 use crate::variable_sets::VariableSet;
 use data_theory::{FunId, NoMemory, Signature, TermId, VarId};
@@ -32,7 +33,8 @@ fn is_constructed(sig: &Signature, pool: &Pool, term: TermId) -> bool
 /// Whether a constructor stands above a term, or at its root.
 fn is_below(sig: &Signature, pool: &Pool, term: TermId, below: bool) -> bool
     requires { IsTerm sig.now pool.now.trees term }
-    ensures { Decides result ((below ≡ true) ⊎ IsConstructorAt sig.now (tree_at pool.now.trees term)) }
+    ensures { Decides result ((below ≡ true) ⊎ IsConstructorAt sig.now
+        (tree_at pool.now.trees term)) }
 {
     if below {
         return true;
@@ -46,7 +48,8 @@ fn push_marked(
     terms: &[TermId],
     mark: bool,
 ) -> Result<(), NoMemory>
-    ensures { OnOk result (waiting.new.items ≡ waiting.old.items ++ map (with_mark mark) terms.now) }
+    ensures { OnOk result (waiting.new.items ≡ waiting.old.items ++ map
+        (with_mark mark) terms.now) }
 {
     for term in terms {
         waiting.push((*term, mark))?;
@@ -56,7 +59,8 @@ fn push_marked(
 
 /// Adds the variable that a head is.
 fn add_head(head: Head, set: &mut VariableSet) -> Result<(), NoMemory>
-    ensures { OnOk result ((v : VarId) → Contains set.new v ↔ (Contains set.old v ⊎ (head ≡ Var v))) }
+    ensures { OnOk result ((v : VarId) → Contains set.new v ↔ (Contains set.old v
+        ⊎ (head ≡ Var v))) }
 {
     if let Head::Var(var) = head {
         set.insert(var)?;
@@ -110,9 +114,9 @@ fn all_variables_below(
 }
 
 /// Whether a call's argument at a place is a variable of the set there.
-fn falls_at(pool: &Pool, below: &[VariableSet], call: TermId, place: usize) -> bool
+fn shrinks_at(pool: &Pool, below: &[VariableSet], call: TermId, place: usize) -> bool
     requires { IsIn pool.now.trees call }
-    ensures { Decides result (FallsInCall pool.now.trees below.now call place) }
+    ensures { Decides result (ShrinksInCall pool.now.trees below.now call place) }
 {
     let args = pool.node(call).args.as_slice();
     if place >= args.len() {
@@ -127,13 +131,66 @@ fn falls_at(pool: &Pool, below: &[VariableSet], call: TermId, place: usize) -> b
     below[place].contains(var)
 }
 
+/// Whether a call's argument at a place is less than the variable that is counted down there.
+fn counts_down_at(
+    sig: &Signature,
+    pool: &Pool,
+    counted: &[Option<VarId>],
+    call: TermId,
+    place: usize,
+) -> bool
+    requires { IsTerm sig.now pool.now.trees call }
+    ensures { Decides result (CountsDownInCall sig.now pool.now.trees counted.now call place) }
+{
+    let args = pool.node(call).args.as_slice();
+    if place >= args.len() {
+        return false;
+    }
+    if place >= counted.len() {
+        return false;
+    }
+    let Some(var) = counted[place] else {
+        return false;
+    };
+    let Some(over) = lessened(sig, pool, args[place]) else {
+        return false;
+    };
+    over == var
+}
+
+/// Whether a call's argument at a place is a variable of the set there, or less than the variable that is counted down there.
+fn falls_at(
+    sig: &Signature,
+    pool: &Pool,
+    below: &[VariableSet],
+    counted: &[Option<VarId>],
+    call: TermId,
+    place: usize,
+) -> bool
+    requires { IsTerm sig.now pool.now.trees call }
+    ensures { Decides result (FallsInCall sig.now pool.now.trees below.now counted.now call place) }
+{
+    if shrinks_at(pool, below, call, place) {
+        return true;
+    }
+    counts_down_at(sig, pool, counted, call, place)
+}
+
 /// Takes the marks of the places back that don't fall in a call.
-fn keep_in_call(pool: &Pool, below: &[VariableSet], call: TermId, places: &mut Vec<bool>)
-    requires { IsIn pool.now.trees call }
-    ensures { KeepsMarks places.old.items places.new.items (FallsInCall pool.now.trees below.now call) }
+fn keep_in_call(
+    sig: &Signature,
+    pool: &Pool,
+    below: &[VariableSet],
+    counted: &[Option<VarId>],
+    call: TermId,
+    places: &mut Vec<bool>,
+)
+    requires { IsTerm sig.now pool.now.trees call }
+    ensures { KeepsMarks places.old.items places.new.items
+        (FallsInCall sig.now pool.now.trees below.now counted.now call) }
 {
     for place in 0..places.len() {
-        if falls_at(pool, below, call, place) {
+        if falls_at(sig, pool, below, counted, call, place) {
             continue;
         }
         places[place] = false;
@@ -142,14 +199,17 @@ fn keep_in_call(pool: &Pool, below: &[VariableSet], call: TermId, places: &mut V
 
 /// Takes the marks of the places back that don't fall in all of these calls of a function.
 fn keep_in_calls(
+    sig: &Signature,
     pool: &Pool,
     below: &[VariableSet],
+    counted: &[Option<VarId>],
     fun: FunId,
     calls: &[TermId],
     places: &mut Vec<bool>,
 )
-    requires { All (IsIn pool.now.trees) calls.now }
-    ensures { KeepsMarks places.old.items places.new.items (FallsInCalls pool.now.trees below.now fun calls.now) }
+    requires { All (IsTerm sig.now pool.now.trees) calls.now }
+    ensures { KeepsMarks places.old.items places.new.items
+        (FallsInCalls sig.now pool.now.trees below.now counted.now fun calls.now) }
 {
     for call in calls {
         let Head::Fun(callee) = pool.node(*call).head else {
@@ -158,7 +218,7 @@ fn keep_in_calls(
         if callee != fun {
             continue;
         }
-        keep_in_call(pool, below, *call, places);
+        keep_in_call(sig, pool, below, counted, *call, places);
     }
 }
 
@@ -182,7 +242,8 @@ fn has_call(pool: &Pool, fun: FunId, calls: &[TermId]) -> bool
 pub fn calls_itself(pool: &Pool, fun: FunId, list: &EquationCalls) -> bool
     requires condition { All (IsIn pool.now.trees) list.now.condition.items }
     requires right { All (IsIn pool.now.trees) list.now.right.items }
-    ensures { Decides result (CallsItself pool.now.trees fun list.now.condition.items ⊎ CallsItself pool.now.trees fun list.now.right.items) }
+    ensures { Decides result (CallsItself pool.now.trees fun list.now.condition.items
+        ⊎ CallsItself pool.now.trees fun list.now.right.items) }
 {
     if has_call(pool, fun, list.condition.as_slice()) {
         return true;
@@ -201,21 +262,36 @@ fn keep_in_equation(
 ) -> Result<(), NoMemory>
     requires equation { IsEquationOver sig.now pool.now.trees equation.now }
     requires list { ListsEquationCalls sig.now pool.now.trees equation.now list.now }
-    ensures { OnOk result ((f : FunId) (ps : Trees) → IsLeftOf sig.now pool.now.trees equation.now f ps → KeepsMarks places.old.items places.new.items (FallsInEquation sig.now pool.now.trees equation.now f)) }
+    ensures { OnOk result ((f : FunId) (ps : Trees)
+        → IsLeftOf sig.now pool.now.trees equation.now f ps
+        → KeepsMarks places.old.items places.new.items
+        (FallsInEquation sig.now pool.now.trees equation.now f)) }
 {
     let node = pool.node(equation.left);
     let Head::Fun(fun) = node.head else {
         return Ok(());
     };
-    let below = all_variables_below(alloc, sig, pool, node.args.as_slice())?;
+    let args = node.args.as_slice();
+    let below = all_variables_below(alloc, sig, pool, args)?;
+    let counted = counted_variables(alloc, sig, pool, equation.cond, args)?;
     keep_in_calls(
+        sig,
         pool,
         below.as_slice(),
+        &[],
         fun,
         list.condition.as_slice(),
         places,
     );
-    keep_in_calls(pool, below.as_slice(), fun, list.right.as_slice(), places);
+    keep_in_calls(
+        sig,
+        pool,
+        below.as_slice(),
+        counted.as_slice(),
+        fun,
+        list.right.as_slice(),
+        places,
+    );
     Ok(())
 }
 
@@ -241,7 +317,8 @@ pub fn falling_places(
 ) -> Result<Vec<Vec<bool>>, NoMemory>
     requires equations { All (IsEquationOver sig.now pool.now.trees) theory.now.equations.items }
     requires lists { ListAllCalls sig.now pool.now.trees theory.now.equations.items lists.now }
-    ensures { IfOk result (λ places. AreFallingUpTo sig.now pool.now.trees theory.now.equations.items (length theory.now.equations.items) places.items) }
+    ensures { IfOk result (λ places. AreFallingUpTo sig.now pool.now.trees
+        theory.now.equations.items (length theory.now.equations.items) places.items) }
 {
     let mut places = all_places(alloc, sig)?;
     for number in 0..theory.equations.len() {

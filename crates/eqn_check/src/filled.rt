@@ -156,7 +156,8 @@ fn push_filled(
     other: Filling,
 ) -> Result<(), NoMemory>
     requires { length ones.now ≡ length others.now }
-    ensures { OnOk result (left.new.items ≡ left.old.items ++ filled_pairs one other (pairs ones.now others.now)) }
+    ensures { OnOk result (left.new.items ≡ left.old.items ++ filled_pairs one other
+        (pairs ones.now others.now)) }
 {
     for i in 0..ones.len() {
         let first = FilledTerm {
@@ -185,7 +186,8 @@ fn are_same_leaves(
     requires leaf { IsLeaf (tree_at pool.now.trees one.term) }
     requires one_alone { IsVariableTree (tree_at pool.now.trees one.term) → IsAlone one.by }
     requires other_alone { IsVariableTree (tree_at pool.now.trees other.term) → IsAlone other.by }
-    ensures { Decides result (filled_at sig.now pool.now.trees opposites.now one ≡ filled_at sig.now pool.now.trees opposites.now other) }
+    ensures { Decides result (filled_at sig.now pool.now.trees opposites.now one ≡ filled_at sig.now
+        pool.now.trees opposites.now other) }
 {
     sig.next_sort();
     pool.len();
@@ -207,7 +209,8 @@ fn compare(
     requires opposites { AreOppositesOver sig.now pool.now.trees opposites.now }
     requires one { IsTerm sig.now pool.now.trees one.term }
     requires other { IsTerm sig.now pool.now.trees other.term }
-    ensures { IfOk result (λ b. ComparesFilled sig.now pool.now.trees opposites.now one other left.old.items left.new.items b) }
+    ensures { IfOk result (λ b. ComparesFilled sig.now pool.now.trees opposites.now one other
+        left.old.items left.new.items b) }
 {
     sig.next_sort();
     let first = resolved(sig, pool, opposites, one);
@@ -248,7 +251,8 @@ pub fn are_same(
     requires opposites { AreOppositesOver sig.now pool.now.trees opposites.now }
     requires one { IsTerm sig.now pool.now.trees one.term }
     requires other { IsTerm sig.now pool.now.trees other.term }
-    ensures { IfOk result (λ b. Decides b (filled_at sig.now pool.now.trees opposites.now one ≡ filled_at sig.now pool.now.trees opposites.now other)) }
+    ensures { IfOk result (λ b. Decides b (filled_at sig.now pool.now.trees opposites.now one ≡
+        filled_at sig.now pool.now.trees opposites.now other)) }
 {
     let mut left = Vec::new(alloc);
     left.push((one, other))?;

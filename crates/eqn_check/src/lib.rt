@@ -6,6 +6,7 @@ mod answers;
 mod calls;
 mod checking;
 mod comparisons;
+mod counting;
 mod edges;
 pub mod examples;
 mod exclusion;

@@ -24,7 +24,8 @@ pub fn push_all(terms: &mut Vec<TermId>, added: &[TermId]) -> Result<(), NoMemor
 /// Whether no variable stands twice in a term.
 pub fn has_distinct_variables(alloc: Global, pool: &Pool, term: TermId) -> Result<bool, NoMemory>
     requires { IsIn pool.now.trees term }
-    ensures { IfOk result (λ b. Decides b (AreDistinct (variables_in (tree_at pool.now.trees term)))) }
+    ensures { IfOk result (λ b. Decides b (AreDistinct (variables_in
+        (tree_at pool.now.trees term)))) }
 {
     let mut waiting = Vec::new(alloc);
     let mut seen = VariableSet::new(alloc);

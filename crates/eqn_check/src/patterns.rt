@@ -73,7 +73,8 @@ pub fn is_left_side(
     term: TermId,
 ) -> Result<bool, NoMemory>
     requires { IsTerm sig.now pool.now.trees term }
-    ensures { IfOk result (λ b. Decides b (IsLeftSide (data_meant sig.now) (term_at sig.now pool.now.trees term))) }
+    ensures { IfOk result (λ b. Decides b (IsLeftSide (data_meant sig.now)
+        (term_at sig.now pool.now.trees term))) }
 {
     let node = pool.node(term);
     let Head::Fun(fun) = node.head else {

@@ -38,7 +38,8 @@ pub fn find_calls(
     pool: &Pool,
 ) -> Result<Calls, NoMemory>
     requires { All (IsEquationOver sig.now pool.now.trees) theory.now.equations.items }
-    ensures { IfOk result (λ calls. AreCalls sig.now pool.now.trees theory.now.equations.items calls.lists.items calls.edges.items calls.cyclic calls.falling.items) }
+    ensures { IfOk result (λ calls. AreCalls sig.now pool.now.trees theory.now.equations.items
+        calls.lists.items calls.edges.items calls.cyclic calls.falling.items) }
 {
     let lists = list_calls(alloc, sig, theory, pool)?;
     let edges = call_edges(alloc, sig, theory, pool, lists.as_slice())?;
@@ -69,10 +70,13 @@ pub fn goes_around(
     number: usize,
 ) -> Result<bool, NoMemory>
     requires equations { All (IsEquationOver sig.now pool.now.trees) theory.now.equations.items }
-    requires calls { AreCalls sig.now pool.now.trees theory.now.equations.items calls.now.lists.items calls.now.edges.items calls.now.cyclic calls.now.falling.items }
+    requires calls { AreCalls sig.now pool.now.trees theory.now.equations.items
+        calls.now.lists.items calls.now.edges.items calls.now.cyclic calls.now.falling.items }
     requires number { number < length theory.now.equations.items }
-    ensures { IfOk result (λ around. (own : List Equation) → AreEquationsOf sig.now pool.now.trees theory.now.equations.items own
-        → (q : Equation) → slice_get own number ≡ Some q → IsLeftSide (data_meant sig.now) q.left → Decides around (BreaksRecursion (data_meant sig.now) own q)) }
+    ensures { IfOk result (λ around. (own : List Equation)
+        → AreEquationsOf sig.now pool.now.trees theory.now.equations.items own
+        → (q : Equation) → slice_get own number ≡ Some q → IsLeftSide (data_meant sig.now) q.left
+        → Decides around (BreaksRecursion (data_meant sig.now) own q)) }
 {
     let Head::Fun(fun) = pool.node(theory.equations[number].left).head else {
         return Ok(false);

@@ -1,4 +1,4 @@
-//! The signs that conditions are written with.
+//! The signs that conditions, and terms that are counted down, are written with.
 
 ghost use Rattle.std.specs.Prelude.{◌≡◌, ◌<◌, List, length};
 ghost use Rattle.data_theory.specs.Terms.{Sort};
@@ -6,9 +6,9 @@ ghost use Rattle.data_theory.specs.IdSymbols.{word_symbol};
 ghost use Rattle.data_theory.specs.IdTerms.{symbol_under};
 ghost use Rattle.eqn_check.specs.Comparisons.{sign_of};
 
-use data_theory::{FunId, ListWord, Signature, Word};
+use data_theory::{FunId, ListWord, NumberWord, Signature, Word};
 
-/// A sign that conditions are written with.
+/// A sign that conditions, and terms that are counted down, are written with.
 #[derive(Clone, Copy, Debug)]
 pub enum Sign {
     Less,
@@ -22,6 +22,12 @@ pub enum Sign {
     False,
     Empty,
     Cons,
+    /// Infix or prefix.
+    Minus,
+    ToPositive,
+    ToNatural,
+    Tail,
+    Rtail,
     /// Any other function.
     Other,
 }
@@ -41,6 +47,11 @@ fn sign_of_word(word: Word) -> Sign
         Word::False => Sign::False,
         Word::List(ListWord::Empty) => Sign::Empty,
         Word::List(ListWord::Cons) => Sign::Cons,
+        Word::List(ListWord::Tail) => Sign::Tail,
+        Word::List(ListWord::Rtail) => Sign::Rtail,
+        Word::Number(NumberWord::Minus) => Sign::Minus,
+        Word::Number(NumberWord::NatToPos | NumberWord::IntToPos) => Sign::ToPositive,
+        Word::Number(NumberWord::IntToNat) => Sign::ToNatural,
         _ => Sign::Other,
     }
 }

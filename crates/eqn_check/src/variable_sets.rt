@@ -36,7 +36,8 @@ impl VariableSet {
 
     /// Adds a variable.
     pub fn insert(&mut self, var: VarId) -> Result<(), NoMemory>
-        ensures { OnOk result ((v : VarId) → Contains self.new v ↔ (Contains self.old v ⊎ (var ≡ v))) }
+        ensures { OnOk result ((v : VarId) → Contains self.new v ↔ (Contains self.old v
+            ⊎ (var ≡ v))) }
     {
         self.vars.insert(var)?;
         Ok(())
