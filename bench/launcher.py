@@ -1315,6 +1315,9 @@ def led_to_its_end(place):
     for given in ("", "q", "q\n1\n", " q \n1"):
         ran = session(place, given)
         same((given, ran.returncode, ran.stdout, ran.stderr), (given, 0, START + OPEN, ""))
+    # What `?` lists.
+    listed = [it.split("  ")[0] for it in session(place, "?\n").stdout.removeprefix(START + OPEN).splitlines()]
+    same(listed[:-1], ["N", "u", "r N", "t", "w FILE", "w! FILE", "s", "?", "q"])
     # By a seed the same moves are picked.
     moves = "/".join(f"{it} a({it})" for it in range(1, 9))
     lines = [f"% after {it}: ended/moves 0, undecided 0, cut 0" for it in ("", *range(1, 9))]
