@@ -1213,7 +1213,7 @@ START = "step 0\n    s = 1\n    l = [d1, d2]\n    t = f(a, [b])\nmoves\n  1 read
 OPEN = """\
 undecided: summand 3, stuck (the equations make neither true nor false of its condition)
 undecided: summand 1, spent (its condition takes more uses of equations than `--fuel` has)
-cut: summand 2, 3 (there are more values of a sum than `--bound` tries)
+cut: summands 2, 3 (a sum has more values than `--bound` tries)
 """
 SECOND = "step 1: read(d1)\n  * s = 2\n    l = [d1, d2]\n  * t = f(a, [])\nmoves\n  1 tau\n"
 THIRD = "step 2: tau\n  * s = 3\n    l = [d1, d2]\n    t = f(a, [])\nmoves\n  1 tau\n"

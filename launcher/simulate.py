@@ -234,7 +234,8 @@ class Session:
         for summand, reason in self.view.undecided:
             yield f"undecided: summand {summand}, {reason} ({WHY_UNDECIDED.get(reason, 'there is no answer')})"
         if self.view.cut:
-            yield f"cut: summand {', '.join(map(str, self.view.cut))} (there are more values of a sum than `--bound` tries)"
+            numbers = ("summands " if self.view.cut[1:] else "summand ") + ", ".join(map(str, self.view.cut))
+            yield f"cut: {numbers} (a sum has more values than `--bound` tries)"
 
     def trace(self):
         """The labels so far."""
