@@ -27,7 +27,7 @@ TOP = pathlib.Path(__file__).resolve().parent.parent
 CRATES = ["low", "high", "mcrl2lin"]
 LISTED = "# The crates.\nmcrl2lin: high, itoa\nhigh staticlib: low # and no more\nlow:\napart: low"
 # The program that it makes. RT_SAYS is the line by which it refuses everything. A text may have the lines `% refused ..`, by which it is refused,
-# `% after CHOICES: LINE/LINE ..`, for what can be seen behind these choices, and `% at STATE: LINE/LINE ..`, for the moves of a state, with @
+# `% after CHOICES: LINE/LINE ..`, for what can be seen after these choices, and `% at STATE: LINE/LINE ..`, for the moves of a state, with @
 # for the name of what marks a summand.
 PROGRAM = """#!/bin/bash
 refuse() {
@@ -1156,7 +1156,7 @@ PLACES = [
     ("28 BadChoice 2", ["init X;", "1\n 01"], "1:2:2"),
     ("12 UnknownName 7 X", ["init X;"], "0"),
 ]
-# The words by which a task names the files behind the first one.
+# The words by which a task names the files after the first one.
 NAMED = {22: ["replay", "--trace"], 24: ["invariant", "--invariant"], 25: ["autcheck", "--aut", "--states"], 28: ["steps", "--after"]}
 
 
@@ -1208,7 +1208,7 @@ proc P(s: Pos, l: List(D), t: T) = sum d: D, k: List(D) . (s == 1) -> read(d . k
   + ((s == 2) || (l . s == d1)) -> tau . P(t = f(a, l . s));
 init P(1, [d1, d2], f(a, [b]));
 """
-# What is seen at its start, and which summands leave something open there; behind the moves 1, 1 1 and 1 1 1; and back at the start.
+# What is seen at its start, and which summands leave something open there; after the moves 1, 1 1 and 1 1 1; and back at the start.
 START = "step 0\n    s = 1\n    l = [d1, d2]\n    t = f(a, [b])\nmoves\n  1 read(d1)\n  2 a|b(1, 2)\n  3 b\n"
 OPEN = """\
 undecided: summand 3, stuck (the equations make neither true nor false of its condition)

@@ -41,7 +41,7 @@ SENTENCES = {
     16: "the rules of a `comm` don't fit: have each name in one left side at most, and each result declared with the sorts of its left side",
     17: "a `rename` of this declaration renames `{1}` twice: keep one",
     19: "a parallel operator stands under `+`, `.`, `sum` or `->` here, itself or by a call: put it outside, around sequential processes",
-    21: "component {0} calls two processes one behind the other, in summand {1} of its form: leave `--method regular` out, so that it gets a"
+    21: "component {0} calls two processes one after the other, in summand {1} of its form: leave `--method regular` out, so that it gets a"
     " stack (components are what this `init` puts side by side, from the left, and a form is a choice of summands with an action in front)",
     22: "this line is no label, which is one action of the text or more with `|` between them, all arguments closed: mend it, or put `%`"
     " in front of it",
@@ -49,12 +49,12 @@ SENTENCES = {
     24: "this is no expression of sort Bool over the parameters that `linearise` prints: mend it",
     25: 'an Aldebaran file has `des (FIRST,EDGES,STATES)` first and then a line `(FROM,"LABEL",TO)` for each edge: mend this line, or add the'
     " one that is missing",
-    26: "a file of states has a line for each state from 0 on, the closed terms of the parameters in brackets, or `-` behind the end: mend"
+    26: "a file of states has a line for each state from 0 on, the closed terms of the parameters in brackets, or `-` for the end: mend"
     " this line, or add the one that is missing",
     27: "the linear process of this `init` has a sum in its summand {0}, as `linearise` prints them, and no file lists all values of a sum: see"
     " whether `sumelm` removes it, or test traces by `replay`",
-    28: "this is no number of a move that can be made behind the lines before it: see by `steps` with those lines alone which moves there"
-    " are, and mend it",
+    28: "this is no number of a move that can be made after the lines before it: let `steps` show which moves there are after those lines"
+    " alone, and mend it",
 }
 # The same of names that lead round: where there is one name, and where there are more.
 ROUNDS = {

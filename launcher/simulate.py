@@ -1,7 +1,7 @@
 #!/usr/bin/env python3
 """Leads a linear process move by move: launcher/simulate.py explain|plain FILE COMMAND .. -- [OPTION ..]
 
-FILE is the specification, COMMAND starts the program, and the options are the program's; `explain` asks for a sentence behind a refusal.
+FILE is the specification, COMMAND starts the program, and the options are the program's; `explain` asks for a sentence with a refusal.
 The launcher ../mcrl2lin starts this as the task `simulate`, and docs/simulate.md says how it is used. Each line of standard input is a
 command, as HELP lists them.
 
@@ -10,7 +10,7 @@ shown of a state is the program's, but for the names of the parameters, which st
 once, so that a session keeps its text, and the program gets it as a file in memory. No file is written but by `w`.
 
 The status is 0, that of the program where it has no first state to show, 70 where it has no answer at all, 4 where standard output takes
-nothing, and 130 behind an interrupt.
+nothing, and 130 after an interrupt.
 """
 
 import os
@@ -61,7 +61,7 @@ class Program:
         return LinearProcess(self.ask("linearise", self.text, self.options))
 
     def view_after(self, choices):
-        """What can be seen behind these moves."""
+        """What can be seen after these moves."""
         with_choices = in_memory("".join(f"{it}\n" for it in choices).encode())
         try:
             return View(self.ask("steps", self.text, [f"--after={path_of(with_choices)}", *self.options], with_choices))
@@ -139,7 +139,7 @@ class LinearProcess:
 
 
 class Session:
-    """A session: the choices so far with their labels, and what was seen behind each."""
+    """A session: the choices so far with their labels, and what was seen after each."""
 
     def __init__(self, program, chance):
         self.program, self.chance = program, chance
