@@ -26,8 +26,36 @@ TOP = pathlib.Path(__file__).resolve().parent.parent
 # The crates of the small repository, lowest first, and one that the program doesn't use.
 CRATES = ["low", "high", "mcrl2lin"]
 LISTED = "# The crates.\nmcrl2lin: high, itoa\nhigh staticlib: low # and no more\nlow:\napart: low"
+# The program that it makes. RT_SAYS is the line by which it refuses everything. A text may have the lines `% refused ..`, by which it is refused,
+# `% after CHOICES: LINE/LINE ..`, for what can be seen after these choices, and `% at STATE: LINE/LINE ..`, for the moves of a state, with @
+# for the name of what marks a summand.
 PROGRAM = """#!/bin/bash
+refuse() {
+    [[ ! $1 ]] || { echo "$1" >&2; exit 1; }
+}
+
+steps() {
+    local key seen
+    [[ -r $2 ]] || { echo 'read fault' >&2; exit 3; }
+    case ${3-} in
+    --after=*) key="after $(paste -sd ' ' "${3#*=}")" ;;
+    *) key="at $(sed -n 's/^init \\(.*\\);$/\\1/p' "$2" | tail -n 1)" ;;
+    esac
+    seen=$(grep -aF -- "% $key: " "$2") || refuse "refused 28 BadChoice 1"
+    seen=${seen#*: }
+    seen=${seen//@/$(sed -n 's/^act \\(summand_*\\)1.*/\\1/p' "$2")}
+    case $seen in
+    'slow') sleep 60 ;;
+    'fault') echo '==1==ERROR: a fault' >&2; kill -ABRT $$ ;;
+    esac
+    tr / '\\n' <<< "$seen"
+    [[ $seen != *undecided*undecided* ]] || exit 6
+}
+
+refuse "${RT_SAYS-}"
 case "$1 ${2-}" in
+'steps '?*) [[ ${3---} != --* ]] || { steps "$@"; exit; } ;;&
+'linearise /dev/'*) [[ ! -f $2 ]] || refuse "$(sed -n 's/^% refused/refused/p' "$2")" ;;&
 'check '*) cat < "$2" ;;
 'linearise '*) cat 2> /dev/null < "$2" || { echo 'read fault' >&2; exit 3; } ;;
 'replay '*) cat -- "$2" "${4:-${3#*=}}" 2> /dev/null || { echo 'read fault' >&2; exit 3; } ;;
@@ -159,6 +187,7 @@ class Place:
         self.write("examples/two_steps.mcrl2", "act a;\n")
         for file in ("mcrl2lin", "VERSION"):
             shutil.copy(TOP / file, self.top / file)
+        shutil.copytree(TOP / "launcher", self.top / "launcher", ignore=shutil.ignore_patterns("__pycache__"))
         (self.kit / "bin").mkdir(parents=True)
         (self.folder / "temporary files").mkdir()
         (self.kit / "KIT-ID").write_text("kit one\n")
@@ -393,14 +422,15 @@ def answer_on_terminal(place):
     same(first, BUILT)
     shown, last = rows.rsplit("\r\x1b[K", 1)
     assert sum("building without a proof (0 min" in it for it in shown.split("\r\x1b[K")) >= 2, shown
-    same(last, f"refused 1 BadByte 4\r\nmcrl2lin: line 1, column 5; see 1 in {place.top / 'docs/REFUSALS.md'}\r\n")
+    same(last.split("\r\n")[0], "refused 1 BadByte 4")
+    same(last.split("\r\n")[1].partition(": ")[0], f"{text}:1:5")
 
 
-def on_terminal(place, columns, *words, env, status=0):
+def on_terminal(place, columns, *words, env, status=0, **how):
     """What a terminal of so many columns shows of a start."""
     main, side = pty.openpty()
     fcntl.ioctl(side, termios.TIOCSWINSZ, struct.pack("HHHH", 24, columns, 0, 0))
-    child = place.start(*words, env=env, stdin=side, stdout=side, stderr=side)
+    child = place.start(*words, env=env, stdin=side, stdout=side, stderr=side, **how)
     os.close(side)
     said = read_all(main)
     same(child.wait(), status)
@@ -1047,25 +1077,362 @@ def traces(place, first):
 
 
 def refused(place):
-    """On a terminal a refusal has a further line, with line and column of a place; elsewhere it has none."""
+    """On a terminal, or where `--explain` is among the words, a refusal has a sentence, with the place in the file; elsewhere it has none."""
     place.prove()
-    page = place.top / "docs" / "REFUSALS.md"
-    for line, said in (
-        ("refused 1 BadByte 25", f"line 2, column 5; see 1 in {page}"),
-        ("refused 3 OutOfProfile 0", f"line 1, column 1; see 3 in {page}"),
-        ("refused 2 NumeralTooLarge 36", f"line 3, column 2; see 2 in {page}"),
-        ("refused 6 NoInit", f"see 6 in {page}"),
-        ("refused 12 UnknownName 3 b", f"see 12 in {page}"),
+    (place.folder / "a text").write_text("init $;\n")
+    line = "refused 1 BadByte 5"
+    said = "a text:1:6: no token begins with `$`: take it away, or put it into a comment (docs/REFUSALS.md, 1)"
+    env = {"RT_SAYS": line}
+    for words in (["check", "a text"], ["--fuel", "3", "check", "--", "a text"], ["check", "--", "a text", "--explain"]):
+        ran = place.run(*words, env=env, cwd=place.folder)
+        same((ran.returncode, ran.stdout, ran.stderr), (1, "", f"{line}\n"))
+    for at in range(4):
+        words = ["check", "--fuel=3", "a text"]
+        ran = place.run(*words[:at], "--explain", *words[at:], env=env, cwd=place.folder)
+        same((ran.returncode, ran.stdout, ran.stderr), (1, "", f"{line}\n{said}\n"))
+    for words in (["check", "a text"], ["check", "--explain", "a text"]):
+        same(on_terminal(place, 80, *words, env=env, status=1, cwd=place.folder), f"{line}\r\n{said}\r\n")
+    # What isn't refused has no sentence, and the program doesn't see the word.
+    ran = place.run("none", "--explain", "-x", "--", "--explain")
+    same((ran.returncode, ran.stderr.splitlines()), (2, ["usage", "4", "none", "-x", "--", "--explain"]))
+    # A text that is no file any more, names that no terminal should get, and no python3.
+    ran = subprocess.run(["bash", "-c", '"$1" check --explain <(echo)', "", place.launcher], env={**place.env, **env}, capture_output=True, text=True)
+    assert re.fullmatch(line + r"\n/dev/fd/\d+: no token begins with what stands here: .*\n", ran.stderr), ran.stderr
+    (place.folder / "\x1b\n").write_text("init $;\n")
+    ran = place.run("check", "--explain", "\x1b\n", env=env, cwd=place.folder)
+    same(ran.stderr, f"{line}\n{said.replace('a text', chr(92) + 'x1b' + chr(92) + 'n')}\n")
+    ran = place.run("check", "--explain", "a text", env={**env, "PATH": without_python(place)}, cwd=place.folder)
+    same(ran.stderr, f"{line}\nmcrl2lin: see 1 in {place.top}/docs/REFUSALS.md\n")
+
+
+def without_python(place):
+    """A PATH with the tools of this one but for python3."""
+    tools = place.folder / "tools"
+    tools.mkdir()
+    for folder in ("/bin", "/usr/bin", place.kit / "bin"):
+        for tool in pathlib.Path(folder).iterdir():
+            if not tool.name.startswith("python") and not (tools / tool.name).exists():
+                (tools / tool.name).symlink_to(tool)
+    return str(tools)
+
+
+# Refusals of the files here: the program's line, the texts of the files that are read, and the file, the line and the column that are told of it.
+PLACES = [
+    ("1 BadByte 4", ["a\n  \xe9"], "0:2:3"),
+    ("1 BadByte 0", ["\x01"], "0:1:1"),
+    ("2 NumeralTooLarge 9", ["init\r\na(\t9"], "0:2:4"),
+    ("3 OutOfProfile 7", ["init a(lambda"], "0:1:8"),
+    ("4 Syntax 1", ["a; b act"], "0:1:1"),
+    ("4 Syntax 2", ["sort A act a; b"], "0:1:12"),
+    ("4 Syntax 3", ["sort A act a; % ;\n b"], "0:2:2"),
+    ("5 TooDeep 2", ["sort A;\n  ; init a;"], "0:2:3"),
+    ("6 NoInit", [""], "0:1:1"),
+    ("6 NoInit", ["act a;\n%\n\n"], "0:2:2"),
+    ("7 TwoInits 3", ["act a; init a; init\n\ta;"], "0:2:2 0:1:13"),
+    ("8 UnknownSort 2 D", ["act a; b';\n act' : D"], "0:1:8"),
+    ("8 UnknownSort 3 D", ["act a; 1b; actD: D"], "0:1:12"),
+    ("9 SortCycle B C", ["sort A, D; act B; sort C = B; B = C;"], "0:1:31"),
+    ("10 Duplicate 1 3", ["act a; b;\na; init a;"], "0:2:1 0:1:5"),
+    ("10 Duplicate 2 2", ["act a; b, b;"], "0:1:8"),
+    ("11 EmptySort B", ["sort A, B; cons b: B -> B;"], "0:1:9"),
+    ("12 UnknownName 1 X", ["init X;"], "0:1:6"),
+    ("13 Untyped 1", ["init X;"], "0:1:6"),
+    ("14 FreeVariable 1 X", ["eqn f = X;"], "0:1:5"),
+    ("15 VariableLeft 1", ["eqn X = f;"], "0:1:5"),
+    ("16 CommShape 1", ["init comm({}, X);"], "0:1:6"),
+    ("17 RenameTwice 1 X", ["init X;"], "0:1:6"),
+    ("18 ParallelRecursion Y X", ["proc X(Y: Nat) = Y(Y); Y(Y: Nat) = X(Y) || X(Y);"], "0:1:24"),
+    ("19 ParallelUnderSequential 1", ["init X;"], "0:1:6"),
+    ("20 Unguarded X", ["map X: Nat; proc\nX = X;"], "0:2:1"),
+    ("21 NotTail 2 3", ["act a;\ninit X;"], "0:2:6"),
+    ("23 TerminateDeclared 1", ["act\nTerminate;"], "0:2:1"),
+    ("27 HasSums 4", ["act a;\ninit X;", "", ""], "0:2:6"),
+    ("0 TooLong", ["a\n" * 8388608 + "a"], "0:8388609:1"),
+    ("22 BadTrace 3", ["init X;", "a\n\n  b\n"], "1:3:3"),
+    ("0 TooLong", ["init X;", "a" * 16777217], "1:1:16777217"),
+    ("24 BadTerm", ["init X;", "\t x"], "1:1:3"),
+    ("25 BadAut 2", ["init X;", "des (0,1,1)\n", ""], "1:2:1"),
+    ("26 BadStates 1", ["init X;", "", " \r\n"], "2:1:1"),
+    ("28 BadChoice 2", ["init X;", "1\n 01"], "1:2:2"),
+    ("12 UnknownName 7 X", ["init X;"], "0"),
+]
+# The words by which a task names the files after the first one.
+NAMED = {22: ["replay", "--trace"], 24: ["invariant", "--invariant"], 25: ["autcheck", "--aut", "--states"], 28: ["steps", "--after"]}
+
+
+def places(place):
+    """The places that refusals are told for, and that each number has a sentence of its own."""
+    place.prove()
+    found = {}
+    for line, texts, wanted in PLACES:
+        number = int(line.split()[0])
+        task, *options = NAMED.get({0: 22, 26: 25, 27: 25}.get(number, number), ["check"])
+        for at, text in enumerate(texts):
+            (place.folder / f"file {at}").write_bytes(text.encode("latin-1"))
+        words = [it for at, option in enumerate(options[: len(texts) - 1], 1) for it in (option, f"file {at}")]
+        ran = place.run(task, *words, "file 0", "--explain", env={"RT_SAYS": f"refused {line}"}, cwd=place.folder)
+        first, *rows = ran.stderr.splitlines()
+        same((ran.returncode, first), (1, f"refused {line}"))
+        told = [it.partition(": ") for it in rows]
+        same((line, [it[0] for it in told]), (line, [f"file {it}" for it in wanted.split()]))
+        found.setdefault(number, told[0][2])
+        assert told[0][2].endswith(f" (docs/REFUSALS.md, {number})") and "{" not in told[0][2].replace("{}", ""), told
+    same((sorted(found), len({*found.values()})), ([*range(29)], 29))
+
+
+def refused_examples(place):
+    """Each text of examples/refused has a line, a column and a sentence."""
+    place.prove()
+    for file in sorted((TOP / "examples" / "refused").glob("*.err")):
+        text, line = file.with_suffix(".mcrl2"), file.read_text().strip()
+        ran = place.run("linearise", str(text), "--explain", env={"RT_SAYS": line})
+        rows = ran.stderr.splitlines()
+        same((ran.returncode, rows[0]), (1, line))
+        assert re.fullmatch(re.escape(str(text)) + r":1:\d+: \S+ .* \(docs/REFUSALS.md, \d+\)", rows[1]), rows
+
+
+# A linear process, with what the program of these tries shows of it.
+LED = """\
+% after : state P(1, [d1, d2], f(a, [b]))/1 read(d1)/2 a|b(1, 2)/3 b/undecided 3 stuck/undecided 1 spent/cut 2/cut 3/moves 3, undecided 2, cut 2
+% at P(1, [d1, d2], f(a, [b])): 1 read(d1)|@1/2 a|b(1, 2)|@2/3 b|@2/moves 3, undecided 2, cut 2
+% after 1: state P(2, [d1, d2], f(a, []))/1 tau/moves 1, undecided 0, cut 0
+% at P(2, [d1, d2], f(a, [])): 1 @3/moves 1, undecided 0, cut 0
+% after 1 1: state P(3, [d1, d2], f(a, []))/1 tau/moves 1, undecided 0, cut 0
+% at P(3, [d1, d2], f(a, [])): 1 b|@2/moves 1, undecided 0, cut 0
+% after 1 1 1: ended/moves 0, undecided 0, cut 0
+% after 2: fault
+% after 3: slow
+act read: D;
+proc P(s: Pos, l: List(D), t: T) = sum d: D, k: List(D) . (s == 1) -> read(d . k) . P(s = 2)
+  + a|b(1, 2) . P()
+  + ((s == 2) || (l . s == d1)) -> tau . P(t = f(a, l . s));
+init P(1, [d1, d2], f(a, [b]));
+"""
+# What is seen at its start, and which summands leave something open there; after the moves 1, 1 1 and 1 1 1; and back at the start.
+START = "step 0\n    s = 1\n    l = [d1, d2]\n    t = f(a, [b])\nmoves\n  1 read(d1)\n  2 a|b(1, 2)\n  3 b\n"
+OPEN = """\
+undecided: summand 3, stuck (the equations make neither true nor false of its condition)
+undecided: summand 1, spent (its condition takes more uses of equations than `--fuel` has)
+cut: summands 2, 3 (a sum has more values than `--bound` tries)
+"""
+SECOND = "step 1: read(d1)\n  * s = 2\n    l = [d1, d2]\n  * t = f(a, [])\nmoves\n  1 tau\n"
+THIRD = "step 2: tau\n  * s = 3\n    l = [d1, d2]\n    t = f(a, [])\nmoves\n  1 tau\n"
+ENDED = "step 3: tau\nno moves: the process has ended\n"
+BACK = START.replace("    s", "  * s").replace("    t", "  * t") + OPEN
+# What is typed at the start, and what answers it.
+TYPED = [
+    ("u", "this is the start: there is no step to take back\n"),
+    ("t", "no step is made yet\n"),
+    ("4", "there is no move 4: the last one is 3\n"),
+    ("01", "there is no move 01: the last one is 3\n"),
+    ("9" * 3000, f"there is no move {'9' * 60}: the last one is 3\n"),
+    ("1 1", "no such command: 1 1 (? lists them)\n"),
+    ("x\x07\u00e9\u2028 y", "no such command: x\\x07\u00e9\\u2028 y (? lists them)\n"),
+    ("r", "r takes a number from 1 to 1000000: r N\n"),
+    ("r 0", "r takes a number from 1 to 1000000: r N\n"),
+    ("w", "w takes the path of a file: w FILE\n"),
+    ("2", "no step is made: mcrl2lin: the program ended without an answer (==1==ERROR: a fault)\n"),
+    ("", START + OPEN),
+    (
+        "s",
+        f"""\
+  1 read(d1): summand 1
+  2 a|b(1, 2): summand 2
+  3 b: summand 2
+{OPEN}summand 1: sum d: D, k: List(D) . (s == 1) -> read(d . k) . P(s = 2)
+summand 2: a|b(1, 2) . P()
+summand 3: ((s == 2) || (l . s == d1)) -> tau . P(t = f(a, l . s))
+""",
+    ),
+    ("1", SECOND),
+    ("s", "  1 tau: summand 3\nsummand 3: ((s == 2) || (l . s == d1)) -> tau . P(t = f(a, l . s))\n"),
+    ("  1 ", THIRD),
+    ("s", "the summands of these moves can't be told\n"),
+    ("1", ENDED),
+    ("1", "there is no move 1: there is none here, and u goes back\n"),
+    ("r 5", ENDED.partition("\n")[2]),
+    ("s", "no moves\n"),
+    ("t", "step 1: read(d1) (move 1)\nstep 2: tau (move 1)\nstep 3: tau (move 1)\n"),
+    ("u", THIRD.replace("    ", "  * ")),
+    ("u", SECOND.replace("* t", "  t")),
+    ("u", BACK),
+    ("1", SECOND),
+    ("r 7", "step 2: tau\nstep 3: tau\nno moves: the process has ended\n"),
+]
+
+
+def led(place):
+    """A session through a pipe: each command and bad ones, of the proved program and without a proof."""
+    text = place.folder / "a text"
+    text.write_text(LED)
+    given = "".join(f"{word}\n" for word, _ in TYPED)
+    wanted = START + OPEN + "".join(answer for _, answer in TYPED)
+    for is_proved in (False, True):
+        if is_proved:
+            place.prove()
+        first = "" if is_proved else f"{UNPROVED if place.unproved() else BUILT}\n"
+        for words in (["simulate", "a text"], ["--fuel", "3", "simulate", "--bound=4", "--", "a text"]):
+            ran = place.run(*words, given=given, cwd=place.folder)
+            same((ran.returncode, ran.stderr, place.rooms()), (0, first, []))
+            for found, line in zip(ran.stdout.splitlines(), wanted.splitlines()):
+                same(found, line)
+            same(ran.stdout, wanted)
+            first = "" if is_proved else f"{UNPROVED}\n"
+
+
+def session(place, given, *words, **how):
+    """A session of the text of these tries through a pipe."""
+    (place.folder / "a text").write_text(LED)
+    return place.run("simulate", "a text", *words, given=given, **{"cwd": place.folder, **how})
+
+
+def led_to_file(place):
+    """The trace as a file, which is never written over unless that is asked for."""
+    place.prove()
+    file = place.folder / "a  trace"
+    ran = session(place, "w a  trace\n1\nr 2\nw a  trace\nw! a  trace\nw .\nw no/where\nw \0\nu\nw \u00e9")
+    said = [it for it in ran.stdout.splitlines() if "trace" in it or " is" in it or "write" in it or "wrote" in it]
+    same(
+        said,
+        [
+            "wrote a  trace, with 0 labels",
+            "a  trace exists and stays as it is: w! FILE would write over it",
+            "wrote a  trace, with 3 labels",
+            ". exists and stays as it is: w! FILE would write over it",
+            "can't write no/where: No such file or directory",
+            "can't write \\x00: embedded null byte",
+            "wrote \u00e9, with 2 labels",
+        ],
+    )
+    same(file.read_text(), "read(d1) % move 1\ntau % move 1\ntau % move 1\n")
+    same((place.folder / "\u00e9").read_text(), "read(d1) % move 1\ntau % move 1\n")
+    same(sorted(it.name for it in place.folder.iterdir()), sorted(["a  trace", "a repository", "a text", "kit", "temporary files", "\u00e9"]))
+
+
+def led_to_its_end(place):
+    """Where a session ends, and where there is none."""
+    place.prove()
+    for given in ("", "q", "q\n1\n", " q \n1"):
+        ran = session(place, given)
+        same((given, ran.returncode, ran.stdout, ran.stderr), (given, 0, START + OPEN, ""))
+    # What `?` lists.
+    listed = [it.split("  ")[0] for it in session(place, "?\n").stdout.removeprefix(START + OPEN).splitlines()]
+    same(listed[:-1], ["N", "u", "r N", "t", "w FILE", "w! FILE", "s", "?", "q"])
+    # By a seed the same moves are picked.
+    moves = "/".join(f"{it} a({it})" for it in range(1, 9))
+    lines = [f"% after {it}: ended/moves 0, undecided 0, cut 0" for it in ("", *range(1, 9))]
+    (place.folder / "text").write_text("\n".join([lines[0].replace("ended", f"state P/{moves}"), *lines[1:], "proc P = a(1);\ninit P;\n"]))
+    runs = [place.run("simulate", "text", f"--seed={it}", given="r 1\n", cwd=place.folder).stdout for it in [*range(8), *range(8)]]
+    same((runs[:8], len({*runs}) > 1), (runs[8:], True))
+    # A text that can be read once.
+    ran = subprocess.run(["bash", "-c", 'echo 1 | "$1" simulate <(cat "$2")', "", place.launcher, place.folder / "a text"], env=place.env, capture_output=True, text=True)
+    same((ran.returncode, ran.stdout, ran.stderr), (0, START + OPEN + SECOND, ""))
+    # What is no session is what the program says of `steps`.
+    (place.folder / "text").write_text(f"% refused 12 UnknownName 2 X\n{LED}\n")
+    for words, status, said in (
+        (["simulate"], 2, ["usage", "1", "steps"]),
+        (["simulate", "text", "more"], 2, ["usage", "3", "steps", "text", "more"]),
+        (["simulate", "none"], 3, ["read fault", "mcrl2lin: can't read none"]),
+        (["simulate", "text"], 1, ["refused 12 UnknownName 2 X"]),
+        (["simulate", "text", "--after", "x"], 2, ["mcrl2lin: simulate reads its choices from standard input, and takes no --after"]),
     ):
-        for name in ("a text", "-"):
-            (place.folder / name).write_text(f"{line}\nabc $\n b\n")
-            ran = place.run("refuse", name, cwd=place.folder)
-            same((ran.returncode, ran.stdout, ran.stderr), (1, "", f"{line}\n"))
-            main, side = pty.openpty()
-            child = place.start("refuse", name, stdin=main, stderr=side, cwd=place.folder)
-            os.close(side)
-            same((child.communicate(timeout=20)[0], child.returncode), ("", 1))
-            same(read_all(main), f"{line}\r\nmcrl2lin: {said}\r\n")
+        ran = place.run(*words, cwd=place.folder)
+        same((words, ran.returncode, ran.stdout, ran.stderr.splitlines()), (words, status, "", said))
+    ran = place.run("simulate", "text", "--explain", cwd=place.folder)
+    first, said = ran.stderr.splitlines()
+    same((ran.returncode, first, said.partition(": ")[0]), (1, "refused 12 UnknownName 2 X", f"text:{LED.count(chr(10)) - 2}:6"))
+    ran = place.run("simulate", "text", env={"PATH": without_python(place)}, cwd=place.folder)
+    same((ran.returncode, ran.stdout, ran.stderr), (70, "", "mcrl2lin: simulate needs the command python3, which isn't on the PATH\n"))
+    # A program that fails at once, and output that takes nothing.
+    (place.folder / "text").write_text(LED.replace("% after :", "% after : fault\n%"))
+    ran = place.run("simulate", "text", cwd=place.folder)
+    same((ran.returncode, ran.stdout, ran.stderr), (70, "", "mcrl2lin: the program ended without an answer (==1==ERROR: a fault)\n"))
+    with open("/dev/full", "w", encoding="utf-8") as full:
+        ran = session(place, "q\n", capture_output=False, stdout=full, stderr=subprocess.PIPE)
+        same((ran.returncode, ran.stderr), (4, "write fault\n"))
+
+
+def led_not_kept(place):
+    """A session by a build that can't be kept, of which nothing is left."""
+    place.write("out", "")
+    ran = session(place, "1\n")
+    same((ran.returncode, ran.stdout, ran.stderr, place.rooms()), (0, START + OPEN + SECOND, f"{BUILT}\n", []))
+    ran = session(place, "2\n1\n")
+    same((ran.returncode, ran.stdout.splitlines()[-7][:20], place.rooms()), (0, "no step is made: mcr", []))
+
+
+class Terminal:
+    """A session on a terminal of its own."""
+
+    def __init__(self, place, *words):
+        (place.folder / "a text").write_text(LED)
+        self.main, self.side = pty.openpty()
+        self.child = subprocess.Popen(
+            ["setsid", "--ctty", "--wait", place.launcher, "simulate", *words],
+            env=place.env,
+            cwd=place.folder,
+            stdin=self.side,
+            stdout=self.side,
+            stderr=self.side,
+        )
+        os.close(self.side)
+
+    def read_to(self, end):
+        """What it shows up to the end of some text."""
+        said, until = b"", time.monotonic() + 20
+        while not said.endswith(end.encode()):
+            assert time.monotonic() < until and select.select([self.main], [], [], 20)[0], said
+            said += os.read(self.main, 1)
+        return said.decode().replace("\r\n", "\n").removesuffix(end)
+
+    def type(self, text):
+        os.write(self.main, text.encode())
+
+
+def led_on_terminal(place):
+    """The same on a terminal, where each command has a prompt, with the end of input and interrupts."""
+    place.prove()
+    shown = Terminal(place, "a text")
+    same(shown.read_to("> "), START + OPEN)
+    for word, answer in TYPED:
+        if word.isprintable() and len(word) < 99:
+            shown.type(f"{word}\n")
+            same((word, shown.read_to("\n> ")), (word, f"{word}\n{answer}".removesuffix("\n")))
+    shown.type("\x04")
+    same((read_all(shown.main), shown.child.wait()), ("\r\n", 0))
+    # An interrupt, of one who thinks and of one who waits for the program.
+    for typed, said in (("", "^C\r\n"), ("3\n", "3\r\n^C\r\n")):
+        shown = Terminal(place, "a text")
+        shown.read_to("> ")
+        shown.type(typed)
+        if typed:
+            time.sleep(1)
+        shown.type("\x03")
+        same((read_all(shown.main), shown.child.wait()), (said, 130))
+    place.await_end()
+    # The refused text has its place.
+    (place.folder / "text").write_text(f"% refused 12 UnknownName 2 X\n{LED}")
+    shown = Terminal(place, "text")
+    said = read_all(shown.main).split("\r\n")
+    same((said[0], said[1].partition(": ")[0], said[2:]), ("refused 12 UnknownName 2 X", f"text:{LED.count(chr(10)) - 2}:6", [""]))
+    same(shown.child.wait(), 1)
+
+
+def led_and_interrupted(place):
+    """An interrupt of a session through a pipe, by the process alone, of each program."""
+    (place.folder / "a text").write_text(LED)
+    for is_proved in (False, True):
+        if is_proved:
+            place.prove()
+        child = place.start("simulate", "a text", stdin=subprocess.PIPE, cwd=place.folder)
+        child.stdin.write("1\nw kept\n")
+        child.stdin.flush()
+        while not child.stdout.readline().startswith("wrote"):
+            assert child.poll() is None
+        child.send_signal(signal.SIGINT)
+        same((child.communicate(timeout=20)[0], child.returncode), ("", 130))
+        same(((place.folder / "kept").read_text(), place.rooms(), place.processes()), ("read(d1) % move 1\n", [], []))
+        (place.folder / "kept").unlink()
 
 
 def no_answer(place):
@@ -1201,6 +1568,14 @@ TRIES = [
     answers,
     unreadable,
     refused,
+    places,
+    refused_examples,
+    led,
+    led_to_file,
+    led_to_its_end,
+    led_not_kept,
+    led_on_terminal,
+    led_and_interrupted,
     no_answer,
     dying_tools,
     limits,
