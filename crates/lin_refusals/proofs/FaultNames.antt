@@ -112,7 +112,7 @@ are_named text texts (lin.Net net.NoMemory) refused = tt
 are_named text texts (lin.Guard (guard.Unguarded names)) refused =
     let has = (refused (λ is. cc)).has_fault in
     let e = entries_of has.signature has.pool.trees in
-    cycle_named texts has.signature e has.model Leads names.items (λ x y link. called e has.model.definitions BeforeActions x y link) (definitions_named has.signature texts has.names _ has.model.definitions has.is_model.named) has.has_fault.0
+    cycle_named texts has.signature e has.model Leads names.items (λ x y link. called e has.model.definitions BeforeActions x y link) (definitions_named has.signature texts has.names _ has.model.definitions has.is_model.named) has.has_fault.1
 are_named text texts (lin.Guard guard.NoMemory) refused = tt
 are_named text texts (lin.NotTail component summand) refused = tt
 are_named text texts lin.NoMemory refused = tt
