@@ -1,5 +1,5 @@
 -- Names on the way to be completed: what stands for them, and when a member has to be opened.
-use Rattle.std.proofs.Common.{◌≡◌, ◌<◌, ◌≤◌, ◌+◌, ℕ, zero, suc, Bool, true, false, ◌||◌, List, [], ◌∷◌, ◌++◌, map, length, refl, sym, ap, ap₂, ◌∙◌, subst, Option, Some, None, inl, inr, ◌⊎◌, ⊎_elim, arith, append-nil}
+use Rattle.std.proofs.Common.{◌≡◌, ◌<◌, ◌≤◌, ◌+◌, Bool, true, false, ◌||◌, List, [], ◌∷◌, ◌++◌, map, length, refl, sym, ap, ap₂, ◌∙◌, subst, Option, Some, None, inl, inr, ◌⊎◌, ⊎_elim, arith, append-nil}
 use Rattle.std.specs.Prelude.{Contains}
 use Rattle.std.specs.List.{list_any}
 use Rattle.std.proofs.lemmas.List.{map-append}
@@ -8,7 +8,7 @@ use Rattle.std.proofs.lemmas.List.Folds.{list_any-append}
 use Rattle.data_theory.specs.declared.ids.NameId.{NameId}
 use Rattle.process_terms.specs.declared.comm_rules.CommRule.{CommRule}
 use Rattle.process_terms.specs.PlainProcesses.{plain_rule}
-use Rattle.process_terms.specs.Labels.{Inserted, at_front, further, Permuted}
+use Rattle.process_terms.specs.Labels.{Inserted, at_front, further}
 use Rattle.lps_core.proofs.Members.{In, in_contains, contains_in}
 use Rattle.action_filters.specs.NameTests.{is_among, is_nothing, where_some, without_one}
 use Rattle.action_filters.specs.Filters.{same_name}
@@ -20,7 +20,7 @@ use Rattle.communication.proofs.Listed.{in_filter, filter_in}
 use Rattle.summand_expander.specs.ByFirst.{rules_with}
 use Rattle.summand_expander.specs.CompletableTests.{is_contained, all_opened, completes}
 use Rattle.summand_expander.specs.PlainAllowed.{PlainAllowed, joinings, can_complete_ids}
-use Rattle.summand_expander.specs.Completions.{PlainCompletion, members, completes_behind, by_member, by_given, stood_for, IsMissing, without_kept, without_free, with_member_out, giving, opened, opens_behind}
+use Rattle.summand_expander.specs.Completions.{PlainCompletion, members, completes_behind, by_member, by_given, stood_for, IsMissing, without_kept, without_free, giving, opened, opens_behind}
 use Rattle.summand_expander.proofs.FirstNames.{OpensAs, as_it_is, by_rule, OpenedAs, nothing_opened, one_opened, opened_along, told_same, opened_in, in_opened}
 use Rattle.summand_expander.proofs.TakenOut.{taken_long}
 

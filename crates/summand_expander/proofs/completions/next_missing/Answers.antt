@@ -1,5 +1,4 @@
 use Rattle.std.proofs.Common.{◌≡◌, Some, None, ap, ◌∙◌, if◌then◌else◌}
-use Rattle.data_theory.specs.declared.ids.NameId.{NameId}
 use Rattle.summand_expander.specs.Completions.{PlainCompletion, plain_completion, stood_for}
 use Rattle.summand_expander.proofs.OpenedMembers.{wanting, goes_on_with, as_many_with}
 use Rattle.summand_expander.proofs.completions.next_missing.Goals as goal
