@@ -8,7 +8,9 @@ mod conditions;
 pub mod laws;
 mod places;
 mod plans;
+mod rule_tables;
 mod starts;
 mod ways;
 
 pub use around::communicate;
+pub use rule_tables::{RuleTable, table_of};

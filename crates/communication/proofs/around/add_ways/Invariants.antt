@@ -11,4 +11,4 @@ use Rattle.communication.proofs.around.add_ways.Given as goal
 abbrev pub invariant-loop-way : goal.invariant-loop-way
 invariant-loop-way l =
     Extends l.fn.pool.trees l.pool.trees × (l.pool.constants ≡ l.fn.pool.constants)
-    × ((ps : List VarId) → SummandServes l.sig l.fn.pool.trees ps (plain_summand l.summand) → SummandsGrow l.sig ps l.fn.pool.trees (map plain_summand l.fn.found.items) l.pool.trees (map plain_summand l.found.items) (flat_map (way_summands l.sig l.fn.pool.trees (plain_rules l.rules) (plain_summand l.summand)) (take l.way-index l.ways)))
+    × ((ps : List VarId) → SummandServes l.sig l.fn.pool.trees ps (plain_summand l.summand) → SummandsGrow l.sig ps l.fn.pool.trees (map plain_summand l.fn.found.items) l.pool.trees (map plain_summand l.found.items) (flat_map (way_summands l.sig l.fn.pool.trees l.rules (plain_summand l.summand)) (take l.way-index l.ways)))

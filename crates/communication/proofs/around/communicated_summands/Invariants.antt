@@ -12,4 +12,4 @@ use Rattle.communication.proofs.around.communicated_summands.Given as goal
 abbrev pub invariant-loop-summand : goal.invariant-loop-summand
 invariant-loop-summand l =
     Extends l.fn.pool.trees l.pool.trees × (l.pool.constants ≡ l.fn.pool.constants)
-    × AreSummands l.sig l.pool.trees (plain_linear l.lin).params (map plain_summand l.summands.items) (flat_map (communicated (map (rule_of (entries_of l.sig l.fn.pool.trees)) (plain_rules l.rules))) (map (summand_of (entries_of l.sig l.fn.pool.trees)) (map plain_summand (take l.summand-index l.summand-items))))
+    × AreSummands l.sig l.pool.trees (plain_linear l.lin).params (map plain_summand l.summands.items) (flat_map (communicated (map (rule_of (entries_of l.sig l.fn.pool.trees)) l.rules)) (map (summand_of (entries_of l.sig l.fn.pool.trees)) (map plain_summand (take l.summand-index l.summand-items))))

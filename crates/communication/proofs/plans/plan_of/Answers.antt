@@ -11,5 +11,5 @@ pub equated_each-requires-clause-within : goal.equated_each-requires-clause-with
 equated_each-requires-clause-within c =
     subst (λ z. All (GroupHas (IsWithin (length c.args.actions.now))) (map plain_group z)) (sym c.as_slice-2.ensures.value)
     (subst (λ z. All (GroupHas (IsWithin (length c.args.actions.now))) z) (sym c.in_ok-groups.ensures)
-    (further_have (IsWithin (length c.args.actions.now)) placed (map joining_of (plain_rules c.args.rules.now)) c.as_slice.result.now
+    (further_have (IsWithin (length c.args.actions.now)) placed (map joining_of c.args.rules.now) c.as_slice.result.now
     (subst (λ z. All (IsWithin (length c.args.actions.now)) z) (sym (c.as_slice.ensures.value ∙ c.in_ok-rest.ensures)) (rest_has (IsWithin (length c.args.actions.now)) placed (map plain_item c.args.items.now) c.requires.within))))
