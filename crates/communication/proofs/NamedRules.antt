@@ -1,13 +1,16 @@
 -- Rules by the names on their left sides.
-use Rattle.std.proofs.Common.{◌≡◌, ◌<◌, ◌+◌, ◌==◌, ℕ, zero, suc, Bool, true, false, ◌||◌, cond, List, [], ◌∷◌, ◌++◌, map, take, drop, length, refl, sym, ap, ap₂, ◌∙◌, subst, Option, Some, None, inl, inr, ◌⊎◌, ⊎_elim, arith, true≢false}
+use Rattle.std.proofs.Common.{◌≡◌, ◌<◌, ◌+◌, ◌==◌, ℕ, zero, suc, Bool, true, false, ◌||◌, cond, List, [], ◌∷◌, ◌++◌, map, take, drop, length, get_or, refl, sym, ap, ap₂, ◌∙◌, subst, Option, Some, None, inl, inr, ◌⊎◌, ⊎_elim, arith, true≢false}
 use Rattle.std.specs.Prelude.{flat_map, filter}
 use Rattle.std.specs.List.{list_any}
 use Rattle.std.specs.Map.{lookup}
+use Rattle.std.proofs.lemmas.List.{map_more}
 use Rattle.std.proofs.lemmas.List.Folds.{list_any-append}
 use Rattle.data_theory.specs.declared.ids.NameId.{NameId}
-use Rattle.process_terms.specs.PlainProcesses.{PlainRule}
+use Rattle.process_terms.specs.declared.comm_rules.CommRule.{CommRule}
+use Rattle.process_terms.specs.PlainProcesses.{plain_rule, PlainRule}
 use Rattle.action_filters.specs.NameTests.{is_among}
 use Rattle.action_filters.specs.Filters.{same_name}
+use Rattle.action_filters.proofs.Loops.{nothing_is_empty}
 use Rattle.action_filters.proofs.NamesTold.{Told, yes, no}
 use Rattle.action_filters.proofs.Ordered.{same_name_told, told_alike}
 use Rattle.communication.specs.declared.places.Place.{Place}
@@ -46,16 +49,16 @@ nothing_begins rules (a ∷ m) e =
 
 pub empty_items : {A : Type 0} (xs : List A) → (length xs == 0) ≡ true → xs ≡ []
 empty_items [] e = refl
-empty_items (x ∷ xs) e = cc
+empty_items (x ∷ xs) e = absurd (true≢false (sym e ∙ sym (nothing_is_empty (x ∷ xs))))
 
 -- ---- a rule that is entered
 filtered_both : {A : Type 0} (f : A → Bool) (xs ys : List A) → filter f (xs ++ ys) ≡ filter f xs ++ filter f ys
 filtered_both f [] ys = refl
-filtered_both f (x ∷ xs) ys = by (f x)
+filtered_both f (x ∷ xs) ys = by (f x) (filtered_both f xs ys)
   where
-    by : (b : Bool) → cond b (x ∷ filter f (xs ++ ys)) (filter f (xs ++ ys)) ≡ cond b (x ∷ filter f xs) (filter f xs) ++ filter f ys
-    by true = ap (λ l. x ∷ l) (filtered_both f xs ys)
-    by false = filtered_both f xs ys
+    by : (b : Bool) → filter f (xs ++ ys) ≡ filter f xs ++ filter f ys → cond b (x ∷ filter f (xs ++ ys)) (filter f (xs ++ ys)) ≡ cond b (x ∷ filter f xs) (filter f xs) ++ filter f ys
+    by true e = ap (λ l. x ∷ l) e
+    by false e = e
 
 one_in_front : {A : Type 0} (xs ys : List A) (i : ℕ) → i < length xs → take 1 (drop i (xs ++ ys)) ≡ take 1 (drop i xs)
 one_in_front [] ys i l = absurd (omega (arith, l))
@@ -165,3 +168,28 @@ entered_last n i old new none e = record { entered = λ x. ap (λ es. place_of_n
     by : (x : NameId) (b : Bool) → Told (x ≡ n) b → or_else (place_of_name old x) (cond b (Some i) None) ≡ cond b (Some i) (place_of_name old x)
     by x true (yes q) = ap (λ o. or_else o (Some i)) (ap (place_of_name old) q ∙ none)
     by x false t = no_more (place_of_name old x)
+
+-- ---- rules in code
+mapped_one : {A B : Type 0} (f : A → B) (xs : List A) (i : ℕ) → map f (take 1 (drop i xs)) ≡ take 1 (drop i (map f xs))
+mapped_one f [] zero = refl
+mapped_one f [] (suc i) = refl
+mapped_one f (x ∷ xs) zero = refl
+mapped_one f (x ∷ xs) (suc i) = mapped_one f xs i
+
+pub near_one : (xs near : List CommRule) (n : NameId) (i : ℕ) (entries : List (NameId × ℕ)) → KnowsRules (map plain_rule xs) entries → Some i ≡ place_of_name entries n → near ≡ take 1 (drop i xs) → rules_with n (map plain_rule near) ≡ rules_with n (map plain_rule xs)
+unfolding KnowsRules
+near_one xs near n i entries knows e q = ap (λ z. rules_with n (map plain_rule z)) q ∙ ap (rules_with n) (mapped_one plain_rule xs i) ∙ (subst (KnowsRule (map plain_rule xs) n) (sym e) (knows n)).1
+
+pub near_none : (xs : List CommRule) (n : NameId) (entries : List (NameId × ℕ)) → KnowsRules (map plain_rule xs) entries → None ≡ place_of_name entries n → [] ≡ rules_with n (map plain_rule xs)
+unfolding KnowsRules
+near_none xs n entries knows e = sym (subst (KnowsRule (map plain_rule xs) n) (sym e) (knows n))
+
+long_front : {A B : Type 0} (f : A → B) (xs : List A) (i : ℕ) → i < length xs → i ≡ length (map f (take i xs))
+long_front f [] i l = absurd (omega (arith, l))
+long_front f (x ∷ xs) zero l = refl
+long_front f (x ∷ xs) (suc i) l = ap suc (long_front f xs i (omega (arith, l)))
+
+pub one_rule_more : (xs : List CommRule) (i : ℕ) (c d : CommRule) (left : List NameId) (old new : List (NameId × ℕ)) → i < length xs → c ≡ get_or xs i d → left ≡ c.left.items → KnowsRules (map plain_rule (take i xs)) old → AreEntered left i old new → KnowsRules (map plain_rule (take (i + 1) xs)) new
+one_rule_more xs i c d left old new l e q knows h =
+    subst (λ rs. KnowsRules rs new) (sym (map_more plain_rule xs i d l ∙ ap (λ z. map plain_rule (take i xs) ++ plain_rule z ∷ []) (sym e)))
+    (rule_entered (map plain_rule (take i xs)) (plain_rule c) old new knows (subst (λ k. AreEntered c.left.items k old new) (long_front plain_rule xs i l) (subst (λ ns. AreEntered ns i old new) q h)))

@@ -19,7 +19,7 @@ abbrev pub KnowsRule : List PlainRule → NameId → Option ℕ → Type 0
 KnowsRule rules x None = rules_with x rules ≡ []
 KnowsRule rules x (Some i) = (i < length rules) × (rules_with x (take 1 (drop i rules)) ≡ rules_with x rules)
 
-pub KnowsRules : List PlainRule → List (NameId × ℕ) → Type 0
+unfoldable pub KnowsRules : List PlainRule → List (NameId × ℕ) → Type 0
 KnowsRules rules entries = (x : NameId) → KnowsRule rules x (place_of_name entries x)
 
 -- a name has got a place that it may have had before; the others keep theirs

@@ -1,8 +1,8 @@
 //! Rules of communication, found by the names on their left sides.
 
-ghost use Rattle.std.specs.Prelude.{◌≡◌, true, take, drop, IfOk};
-ghost use Rattle.process_terms.specs.PlainProcesses.{plain_rules};
-ghost use Rattle.communication.specs.RuleTables.{AreEntered, IsEntered};
+ghost use Rattle.std.specs.Prelude.{◌≡◌, true, take, drop, map, IfOk, IfSome};
+ghost use Rattle.process_terms.specs.PlainProcesses.{plain_rule, plain_rules};
+ghost use Rattle.communication.specs.RuleTables.{rules_with, AreEntered, IsEntered, KnowsRules};
 
 use data_theory::{NameId, NoMemory};
 use indexmap::IndexMap;
@@ -10,17 +10,16 @@ use process_terms::{CommRule, CommSet};
 use std::alloc::Global;
 use std::marker::Model;
 
-/// Rules, with the place of the rule that has a name on its left side, where no two of them have one in common.
+/// Rules, with the place of the one that has a name on its left side.
 #[derive(Drop)]
 pub struct RuleTable {
     rules: Vec<CommRule>,
-    places: IndexMap<NameId, usize>,
-    /// Whether two left sides have a name in common. Those of a text haven't.
-    shared: bool,
+    /// There are none where two left sides have a name in common. Those of a text haven't.
+    places: Option<IndexMap<NameId, usize>>,
 }
 
 impl Model for RuleTable {
-    ghost use Rattle.std.specs.Prelude.{◌≡◌, false, map, List};
+    ghost use Rattle.std.specs.Prelude.{map, IfSome, List};
     ghost use Rattle.process_terms.specs.PlainProcesses.{plain_rule, PlainRule};
 
     ghost Value = { List PlainRule };
@@ -29,7 +28,7 @@ impl Model for RuleTable {
 
     ghost view = { λ table. map plain_rule table.rules.items };
 
-    ghost invariant = { λ table. table.shared ≡ false → KnowsRules (map plain_rule table.rules.items) table.places.entries };
+    ghost invariant = { λ table. IfSome table.places (λ places. KnowsRules (map plain_rule table.rules.items) places.entries) };
 }
 
 impl RuleTable {
@@ -42,18 +41,29 @@ impl RuleTable {
     pub fn near(&self, name: NameId) -> &[CommRule]
         ensures { rules_with name (map plain_rule result.now) ≡ rules_with name self.now }
     {
-        let rules = self.rules.as_slice();
-        if self.shared {
-            return rules;
-        }
-        match self.places.get(&name) {
-            Some(place) => one_of(rules, *place),
-            None => &[],
+        match &self.places {
+            Some(places) => near_by(self.rules.as_slice(), places, name),
+            None => self.rules.as_slice(),
         }
     }
 }
 
-/// The rule at a place.
+/// The rule with this name on its left side, if there is one.
+fn near_by<'a>(
+    rules: &'a [CommRule],
+    places: &IndexMap<NameId, usize>,
+    name: NameId,
+) -> &'a [CommRule]
+    requires { KnowsRules (map plain_rule rules.now) places.now.entries }
+    ensures { rules_with name (map plain_rule result.now) ≡ rules_with name (map plain_rule rules.now) }
+{
+    match places.get(&name) {
+        Some(place) => one_of(rules, *place),
+        None => &[],
+    }
+}
+
+/// The rule at a place, if there is one.
 fn one_of(rules: &[CommRule], place: usize) -> &[CommRule]
     ensures { result.now ≡ take 1 (drop place rules.now) }
 {
@@ -86,13 +96,28 @@ fn enter_names(
 ) -> Result<bool, NoMemory>
     ensures { IfOk result (λ fresh. fresh ≡ true → AreEntered names.now place places.old.entries places.new.entries) }
 {
-    let mut fresh = true;
     for name in names {
         if !enter_name(place, *name, places)? {
-            fresh = false;
+            return Ok(false);
         }
     }
-    Ok(fresh)
+    Ok(true)
+}
+
+/// The places of rules by the names of their left sides, where no two of these have one in common.
+fn name_places(
+    alloc: Global,
+    rules: &[CommRule],
+) -> Result<Option<IndexMap<NameId, usize>>, NoMemory>
+    ensures { IfOk result (λ found. IfSome found (λ places. KnowsRules (map plain_rule rules.now) places.entries)) }
+{
+    let mut places = IndexMap::new(alloc);
+    for place in 0..rules.len() {
+        if !enter_names(place, rules[place].left.as_slice(), &mut places)? {
+            return Ok(None);
+        }
+    }
+    Ok(Some(places))
 }
 
 /// The table of these rules.
@@ -103,18 +128,10 @@ fn enter_names(
 pub fn table_of(alloc: Global, rules: &CommSet) -> Result<RuleTable, NoMemory>
     ensures { IfOk result (λ table. table ≡ plain_rules rules.now) }
 {
-    let mut places = IndexMap::new(alloc);
-    let mut shared = false;
-    for place in 0..rules.rules.len() {
-        let left = rules.rules[place].left.as_slice();
-        if !enter_names(place, left, &mut places)? {
-            shared = true;
-        }
-    }
     let copy = rules.copy(alloc)?;
+    let places = name_places(alloc, copy.rules.as_slice())?;
     Ok(RuleTable {
         rules: copy.rules,
         places,
-        shared,
     })
 }
