@@ -1,8 +1,6 @@
 -- Rules by the names on their left sides.
 use Rattle.std.proofs.Common.{◌≡◌, ◌<◌, ◌+◌, ◌==◌, ℕ, zero, suc, Bool, true, false, ◌||◌, cond, List, [], ◌∷◌, ◌++◌, map, take, drop, length, get_or, refl, sym, ap, ap₂, ◌∙◌, subst, Option, Some, None, inl, inr, ◌⊎◌, ⊎_elim, arith, true≢false}
 use Rattle.std.specs.Prelude.{flat_map, filter}
-use Rattle.std.specs.List.{list_any}
-use Rattle.std.specs.Map.{lookup}
 use Rattle.std.proofs.lemmas.List.{map_more}
 use Rattle.std.proofs.lemmas.List.Folds.{list_any-append}
 use Rattle.data_theory.specs.declared.ids.NameId.{NameId}
@@ -11,12 +9,12 @@ use Rattle.process_terms.specs.PlainProcesses.{plain_rule, PlainRule}
 use Rattle.action_filters.specs.NameTests.{is_among}
 use Rattle.action_filters.specs.Filters.{same_name}
 use Rattle.action_filters.proofs.Loops.{nothing_is_empty}
-use Rattle.action_filters.proofs.NamesTold.{Told, yes, no}
+use Rattle.action_filters.proofs.NamesTold.{Told, yes}
 use Rattle.action_filters.proofs.Ordered.{same_name_told, told_alike}
 use Rattle.communication.specs.declared.places.Place.{Place}
 use Rattle.communication.specs.Places.{joining_of, placed}
 use Rattle.communication.specs.RuleTables.{rules_with, place_of_name, KnowsRule, KnowsRules, IsEntered, AreEntered}
-use Rattle.communication.specs.Ways.{Joining, Item, stays, joins, starts, starts_by, ways, further}
+use Rattle.communication.specs.Ways.{Joining, stays, joins, starts, starts_by, ways, further}
 use Rattle.communication.proofs.NoStarts.{first_missing}
 
 -- ---- the rules with the first name say what begins

@@ -1,5 +1,5 @@
 -- Rules by the names on their left sides.
-use Rattle.std.specs.Prelude.{◌≡◌, ◌<◌, ◌⊎◌, ℕ, Bool, true, List, [], take, drop, length, filter, cond, Option, Some, None}
+use Rattle.std.specs.Prelude.{◌≡◌, ◌<◌, ◌⊎◌, ℕ, true, List, [], take, drop, length, filter, cond, Option, Some, None}
 use Rattle.std.specs.Map.{lookup}
 use Rattle.data_theory.specs.declared.ids.NameId.{NameId}
 use Rattle.process_terms.specs.PlainProcesses.{PlainRule}

@@ -13,4 +13,3 @@ mod starts;
 mod ways;
 
 pub use around::communicate;
-pub use rule_tables::{RuleTable, table_of};

@@ -12,7 +12,7 @@ use std::marker::Model;
 
 /// Rules, with the place of the one that has a name on its left side.
 #[derive(Drop)]
-pub struct RuleTable {
+pub(crate) struct RuleTable {
     rules: Vec<CommRule>,
     /// There are none where two left sides have a name in common. Those of a text haven't.
     places: Option<IndexMap<NameId, usize>>,
@@ -38,7 +38,7 @@ impl RuleTable {
 
     /// Some of the rules, in their order, among them all that have this name on their left sides. Where no two left sides have a name in
     /// common, there is one at most.
-    pub fn near(&self, name: NameId) -> &[CommRule]
+    pub(crate) fn near(&self, name: NameId) -> &[CommRule]
         ensures { rules_with name (map plain_rule result.now) ≡ rules_with name self.now }
     {
         match &self.places {
@@ -125,7 +125,7 @@ fn name_places(
 /// # Errors
 ///
 /// `NoMemory` where there is none for it.
-pub fn table_of(alloc: Global, rules: &CommSet) -> Result<RuleTable, NoMemory>
+pub(crate) fn table_of(alloc: Global, rules: &CommSet) -> Result<RuleTable, NoMemory>
     ensures { IfOk result (λ table. table ≡ plain_rules rules.now) }
 {
     let copy = rules.copy(alloc)?;

@@ -1,7 +1,7 @@
 use Rattle.std.proofs.Common.{◌∙◌, map, length, sym, ap, subst}
 use Rattle.std.specs.Prelude.{flat_map}
 use Rattle.std.specs.List.{All}
-use Rattle.process_terms.specs.PlainProcesses.{plain_action, plain_rules}
+use Rattle.process_terms.specs.PlainProcesses.{plain_action}
 use Rattle.lps_core.specs.PlainLinears.{plain_summand}
 use Rattle.action_filters.specs.Filters.{AreActionsIn}
 use Rattle.action_filters.proofs.Whole.{actions_in}

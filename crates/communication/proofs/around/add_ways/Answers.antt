@@ -2,7 +2,7 @@ use Rattle.std.proofs.Common.{◌∙◌, map, take, sym, ap₂, subst}
 use Rattle.std.specs.List.{All}
 use Rattle.std.proofs.lemmas.List.{take_all}
 use Rattle.data_theory.specs.Table.{bool_sort}
-use Rattle.process_terms.specs.PlainProcesses.{plain_action, plain_rules}
+use Rattle.process_terms.specs.PlainProcesses.{plain_action}
 use Rattle.lps_core.specs.PlainLinears.{plain_summand}
 use Rattle.lps_core.specs.Fitting.{IsActionOf}
 use Rattle.lps_core.proofs.PoolTrees.{extends_on}

@@ -2,7 +2,6 @@ use Rattle.std.proofs.Common.{◌≡◌, map, take, List}
 use Rattle.std.specs.Prelude.{flat_map}
 use Rattle.data_theory.specs.declared.ids.VarId.{VarId}
 use Rattle.term_pool.specs.Pools.{Extends}
-use Rattle.process_terms.specs.PlainProcesses.{plain_rules}
 use Rattle.lps_core.specs.PlainLinears.{plain_summand}
 use Rattle.communication.specs.GrownSummands.{SummandServes, SummandsGrow}
 use Rattle.communication.proofs.GrowingSummands.{way_summands}

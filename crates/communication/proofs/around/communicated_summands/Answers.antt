@@ -1,7 +1,6 @@
 use Rattle.std.proofs.Common.{◌∙◌, map, ap, subst}
 use Rattle.std.specs.Prelude.{flat_map}
 use Rattle.std.proofs.lemmas.List.{take_all}
-use Rattle.process_terms.specs.PlainProcesses.{plain_rules}
 use Rattle.process_terms.specs.Meanings.{rule_of}
 use Rattle.process_terms.specs.SignatureEntries.{entries_of}
 use Rattle.lps_core.specs.PlainLinears.{plain_linear, plain_summand, summand_of}

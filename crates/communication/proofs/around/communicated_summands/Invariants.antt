@@ -1,7 +1,6 @@
 use Rattle.std.proofs.Common.{◌≡◌, map, take}
 use Rattle.std.specs.Prelude.{flat_map}
 use Rattle.term_pool.specs.Pools.{Extends}
-use Rattle.process_terms.specs.PlainProcesses.{plain_rules}
 use Rattle.process_terms.specs.Meanings.{rule_of}
 use Rattle.process_terms.specs.SignatureEntries.{entries_of}
 use Rattle.lps_core.specs.PlainLinears.{plain_linear, plain_summand, summand_of}

@@ -1,6 +1,5 @@
 use Rattle.std.proofs.Common.{◌∙◌, length, map, sym, subst}
 use Rattle.std.specs.List.{All}
-use Rattle.process_terms.specs.PlainProcesses.{plain_rules}
 use Rattle.communication.specs.Ways.{GroupHas}
 use Rattle.communication.specs.Places.{joining_of, placed, plain_group, plain_item}
 use Rattle.communication.specs.PlaceConditions.{IsWithin}

@@ -1,6 +1,5 @@
 use Rattle.std.proofs.Common.{◌≡◌, map, take}
 use Rattle.std.specs.Prelude.{flat_map}
-use Rattle.process_terms.specs.PlainProcesses.{plain_rules}
 use Rattle.communication.specs.Places.{joining_of, placed, plain_way}
 use Rattle.communication.specs.Rounds.{continued}
 use Rattle.communication.proofs.ways.continued_all.Given as goal

@@ -1,5 +1,4 @@
 use Rattle.std.proofs.Common.{◌≡◌, ◌++◌, map, drop}
-use Rattle.process_terms.specs.PlainProcesses.{plain_rules}
 use Rattle.communication.specs.Places.{joining_of, placed, plain_group}
 use Rattle.communication.specs.Ways.{further}
 use Rattle.communication.proofs.ways.further_of.Given as goal

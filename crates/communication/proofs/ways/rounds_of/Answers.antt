@@ -1,6 +1,5 @@
 use Rattle.std.proofs.Common.{◌+◌, [], ◌∷◌, map, ap, ◌∙◌, arith}
 use Rattle.std.specs.Prelude.{flat_map}
-use Rattle.process_terms.specs.PlainProcesses.{plain_rules}
 use Rattle.communication.specs.Places.{joining_of, placed, plain_way}
 use Rattle.communication.specs.Rounds.{continued, items_of}
 use Rattle.communication.specs.Ways.{ways}

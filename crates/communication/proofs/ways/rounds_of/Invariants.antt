@@ -1,5 +1,4 @@
 use Rattle.std.proofs.Common.{◌≡◌, map, [], ◌∷◌}
-use Rattle.process_terms.specs.PlainProcesses.{plain_rules}
 use Rattle.communication.specs.Places.{joining_of, placed, plain_way}
 use Rattle.communication.specs.Rounds.{rounds}
 use Rattle.communication.proofs.ways.rounds_of.Given as goal
