@@ -13,6 +13,7 @@ pub mod MeantPlaces
 pub mod MeantWays
 pub mod MadeGroups
 pub mod NoStarts
+pub mod NamedRules
 pub mod MeantPlans
 pub mod GrowingSummands
 pub mod WholeCommunication

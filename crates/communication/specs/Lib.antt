@@ -1,4 +1,5 @@
 pub mod Ways
+pub mod RuleTables
 pub mod Communicated
 pub mod CommunicationLaws
 pub mod WayNames

@@ -23,6 +23,7 @@ ghost use Rattle.communication.specs.Rounds.{items_of};
 use crate::conditions::condition_of;
 use crate::places::{Way, places_of};
 use crate::plans::{Plan, plan_of, signature_stands};
+use crate::rule_tables::{RuleTable, table_of};
 use crate::ways::ways_of;
 use data_theory::{NoMemory, Signature, TermId};
 use lps_core::{Linear, Summand};
@@ -89,17 +90,17 @@ fn add_ways(
     alloc: Global,
     sig: &Signature,
     pool: &mut Pool,
-    rules: &CommSet,
+    rules: &RuleTable,
     summand: &Summand,
     ways: &[Way],
     found: &mut Vec<Summand>,
 ) -> Result<(), NoMemory>
     requires actions { AreActionsIn sig.now (plain_summand summand.now).label }
     requires cond { IsTermOf sig.now pool.old.trees bool_sort (plain_summand summand.now).condition }
-    requires ways { All (WayServes sig.now pool.old.trees (plain_rules rules.now) (plain_summand summand.now).label) (map items_of (map plain_way ways.now)) }
+    requires ways { All (WayServes sig.now pool.old.trees rules.now (plain_summand summand.now).label) (map items_of (map plain_way ways.now)) }
     ensures kept { Extends pool.old.trees pool.new.trees }
     ensures constants { pool.new.constants ≡ pool.old.constants }
-    ensures added { OnOk result ((ps : List MeantVariable) → SummandServes sig.now pool.old.trees ps (plain_summand summand.now) → SummandsGrow sig.now ps pool.old.trees (map plain_summand found.old.items) pool.new.trees (map plain_summand found.new.items) (flat_map (λ v. planned_summand sig.now pool.old.trees (plain_summand summand.now) (planned sig.now (plain_rules rules.now) (plain_summand summand.now).label v)) (map items_of (map plain_way ways.now)))) }
+    ensures added { OnOk result ((ps : List MeantVariable) → SummandServes sig.now pool.old.trees ps (plain_summand summand.now) → SummandsGrow sig.now ps pool.old.trees (map plain_summand found.old.items) pool.new.trees (map plain_summand found.new.items) (flat_map (λ v. planned_summand sig.now pool.old.trees (plain_summand summand.now) (planned sig.now rules.now (plain_summand summand.now).label v)) (map items_of (map plain_way ways.now)))) }
 {
     signature_stands(sig);
     for way in ways {
@@ -120,16 +121,16 @@ fn add_communicated(
     alloc: Global,
     sig: &Signature,
     pool: &mut Pool,
-    rules: &CommSet,
+    rules: &RuleTable,
     summand: &Summand,
     found: &mut Vec<Summand>,
 ) -> Result<(), NoMemory>
     requires fits { (ps : List MeantVariable) × SummandServes sig.now pool.old.trees ps (plain_summand summand.now) }
-    requires names { All (RuleNamesIn sig.now) (plain_rules rules.now) }
-    requires results { HaveResults sig.now (plain_rules rules.now) }
+    requires names { All (RuleNamesIn sig.now) rules.now }
+    requires results { HaveResults sig.now rules.now }
     ensures kept { Extends pool.old.trees pool.new.trees }
     ensures constants { pool.new.constants ≡ pool.old.constants }
-    ensures added { OnOk result ((ps : List MeantVariable) → SummandServes sig.now pool.old.trees ps (plain_summand summand.now) → SummandsGrow sig.now ps pool.old.trees (map plain_summand found.old.items) pool.new.trees (map plain_summand found.new.items) (communicated (map (rule_of (entries_of sig.now pool.old.trees)) (plain_rules rules.now)) (summand_of (entries_of sig.now pool.old.trees) (plain_summand summand.now)))) }
+    ensures added { OnOk result ((ps : List MeantVariable) → SummandServes sig.now pool.old.trees ps (plain_summand summand.now) → SummandsGrow sig.now ps pool.old.trees (map plain_summand found.old.items) pool.new.trees (map plain_summand found.new.items) (communicated (map (rule_of (entries_of sig.now pool.old.trees)) rules.now) (summand_of (entries_of sig.now pool.old.trees) (plain_summand summand.now)))) }
 {
     signature_stands(sig);
     let places = places_of(alloc, sig, summand.label.actions.as_slice())?;
@@ -142,16 +143,16 @@ fn add_communicated(
 fn communicated_summands(
     alloc: Global,
     lin: &Linear,
-    rules: &CommSet,
+    rules: &RuleTable,
     sig: &Signature,
     pool: &mut Pool,
 ) -> Result<Vec<Summand>, NoMemory>
     requires fits { Fits sig.now pool.old.trees (plain_linear lin.now) }
-    requires names { All (RuleNamesIn sig.now) (plain_rules rules.now) }
-    requires results { HaveResults sig.now (plain_rules rules.now) }
+    requires names { All (RuleNamesIn sig.now) rules.now }
+    requires results { HaveResults sig.now rules.now }
     ensures kept { Extends pool.old.trees pool.new.trees }
     ensures constants { pool.new.constants ≡ pool.old.constants }
-    ensures made { IfOk result (λ made. AreSummands sig.now pool.new.trees (plain_linear lin.now).params (map plain_summand made.items) (flat_map (communicated (map (rule_of (entries_of sig.now pool.old.trees)) (plain_rules rules.now))) (map (summand_of (entries_of sig.now pool.old.trees)) (plain_linear lin.now).summands))) }
+    ensures made { IfOk result (λ made. AreSummands sig.now pool.new.trees (plain_linear lin.now).params (map plain_summand made.items) (flat_map (communicated (map (rule_of (entries_of sig.now pool.old.trees)) rules.now)) (map (summand_of (entries_of sig.now pool.old.trees)) (plain_linear lin.now).summands))) }
 {
     signature_stands(sig);
     let mut summands = Vec::new(alloc);
@@ -186,7 +187,8 @@ pub fn communicate(
     ensures bisimilar { IfOk result (λ made. IsGoodAround sig.now pool.new.trees (comm (plain_rules rules.now)) (plain_linear lin.now) (plain_linear made)) }
 {
     signature_stands(sig);
-    let summands = communicated_summands(alloc, lin, rules, sig, pool)?;
+    let table = table_of(alloc, rules)?;
+    let summands = communicated_summands(alloc, lin, &table, sig, pool)?;
     Ok(Linear {
         params: lin.params.to_vec(alloc)?,
         init: lin.init.to_vec(alloc)?,

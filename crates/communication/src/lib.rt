@@ -8,6 +8,7 @@ mod conditions;
 pub mod laws;
 mod places;
 mod plans;
+mod rule_tables;
 mod starts;
 mod ways;
 

@@ -4,7 +4,7 @@ ghost use Rattle.std.specs.Prelude.{◌≡◌, ◌++◌, ◌<◌, ◌∷◌, [],
 ghost use Rattle.std.specs.List.{All};
 ghost use Rattle.data_theory.specs.Signature.{Sig};
 ghost use Rattle.data_theory.specs.WholeSignatures.{IsSignature};
-ghost use Rattle.process_terms.specs.PlainProcesses.{plain_action, plain_label, plain_rules};
+ghost use Rattle.process_terms.specs.PlainProcesses.{plain_action, plain_label};
 ghost use Rattle.action_filters.specs.Filters.{AreActionsIn, IsActionIn};
 ghost use Rattle.communication.specs.PlaceConditions.{HasResult, IsWithin, ItemHasResult};
 ghost use Rattle.communication.specs.Places.{plain_group, plain_item};
@@ -12,9 +12,10 @@ ghost use Rattle.communication.specs.Plans.{action_at_place, action_of_place_ite
 ghost use Rattle.communication.specs.Ways.{GroupHas, ItemHas};
 
 use crate::places::{Group, Item, Place, sorts_of};
+use crate::rule_tables::RuleTable;
 use crate::ways::{further_of, rest_of};
 use data_theory::{ActId, NameId, NoMemory, Signature, SortId, TermId};
-use process_terms::{Action, CommSet, Label};
+use process_terms::{Action, Label};
 use std::alloc::Global;
 
 /// Two terms that are asked to be equal, and their sort.
@@ -235,14 +236,14 @@ fn label_of(
 pub(crate) fn plan_of(
     alloc: Global,
     sig: &Signature,
-    rules: &CommSet,
+    rules: &RuleTable,
     actions: &[Action],
     items: &[Item],
 ) -> Result<Plan, NoMemory>
     requires actions { AreActionsIn sig.now (map plain_action actions.now) }
     requires within { All (ItemHas (IsWithin (length actions.now))) (map plain_item items.now) }
     requires results { All (ItemHasResult sig.now (map plain_action actions.now)) (map plain_item items.now) }
-    ensures { IfOk result (λ plan. plain_plan plan ≡ planned sig.now (plain_rules rules.now) (map plain_action actions.now) (map plain_item items.now)) }
+    ensures { IfOk result (λ plan. plain_plan plan ≡ planned sig.now rules.now (map plain_action actions.now) (map plain_item items.now)) }
 {
     let rest = rest_of(alloc, items)?;
     let groups = further_of(alloc, rules, rest.as_slice())?;

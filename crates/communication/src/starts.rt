@@ -2,7 +2,7 @@
 
 ghost use Rattle.std.specs.Prelude.{◌≡◌, ◌++◌, ◌∷◌, [], false, map, flat_map, IfOk, OnOk};
 ghost use Rattle.std.specs.List.{list_any};
-ghost use Rattle.process_terms.specs.PlainProcesses.{plain_rule, plain_rules};
+ghost use Rattle.process_terms.specs.PlainProcesses.{plain_rule};
 ghost use Rattle.action_filters.specs.Filters.{same_name};
 ghost use Rattle.communication.specs.declared.places.Place.{Place};
 ghost use Rattle.communication.specs.Places.{joining_of, placed, plain_draft, plain_group, plain_start};
@@ -10,9 +10,10 @@ ghost use Rattle.communication.specs.Rounds.{drafts, grown, grown_by, if_whole, 
 ghost use Rattle.communication.specs.Ways.{starts, starts_by};
 
 use crate::places::{Draft, Group, Place, Start};
+use crate::rule_tables::RuleTable;
 use action_filters::{is_among, take_one};
 use data_theory::{NameId, NoMemory};
-use process_terms::{CommRule, CommSet};
+use process_terms::CommRule;
 use std::alloc::Global;
 
 /// Adds the draft with the next action, where it has a name that is wanted and the first one's sorts.
@@ -185,14 +186,15 @@ fn add_starts_by(
 /// The groups that an action begins: the rules in their order, and for each the choices of later actions.
 pub(crate) fn starts_of(
     alloc: Global,
-    rules: &CommSet,
+    rules: &RuleTable,
     first: Place,
     later: &[Place],
 ) -> Result<Vec<Start>, NoMemory>
-    ensures { IfOk result (λ found. map plain_start found.items ≡ starts placed (map joining_of (plain_rules rules.now)) first later.now) }
+    ensures { IfOk result (λ found. map plain_start found.items ≡ starts placed (map joining_of rules.now) first later.now) }
 {
+    let near = rules.near(first.name);
     let mut found = Vec::new(alloc);
-    for rule in &rules.rules {
+    for rule in near {
         add_starts_by(alloc, rule, first, later, &mut found)?;
     }
     Ok(found)

@@ -1,15 +1,14 @@
 //! The ways to group the actions of a label.
 
 ghost use Rattle.std.specs.Prelude.{◌≡◌, ◌++◌, ◌∷◌, [], map, flat_map, length, IfOk, OnOk};
-ghost use Rattle.process_terms.specs.PlainProcesses.{plain_rules};
 ghost use Rattle.communication.specs.Places.{joining_of, placed, plain_group, plain_item, plain_start, plain_way};
 ghost use Rattle.communication.specs.Rounds.{continued, items_of, with_start};
-ghost use Rattle.communication.specs.Ways.{further, rest, ways};
+ghost use Rattle.communication.specs.Ways.{further, rest, stays, ways};
 
 use crate::places::{Group, Item, Place, Start, Way};
+use crate::rule_tables::RuleTable;
 use crate::starts::starts_of;
 use data_theory::NoMemory;
-use process_terms::CommSet;
 use std::alloc::Global;
 
 fn copy_group(alloc: Global, group: &Group) -> Result<Group, NoMemory>
@@ -79,11 +78,11 @@ fn add_with_starts(
 /// Adds what a way becomes when its next action begins a group or stays.
 fn add_continued(
     alloc: Global,
-    rules: &CommSet,
+    rules: &RuleTable,
     way: &Way,
     found: &mut Vec<Way>,
 ) -> Result<(), NoMemory>
-    ensures { OnOk result (map plain_way found.new.items ≡ map plain_way found.old.items ++ continued placed (map joining_of (plain_rules rules.now)) (plain_way way.now)) }
+    ensures { OnOk result (map plain_way found.new.items ≡ map plain_way found.old.items ++ continued placed (map joining_of rules.now) (plain_way way.now)) }
 {
     let Some((first, later)) = way.waiting.as_slice().split_first() else {
         found.push(Way {
@@ -102,8 +101,8 @@ fn add_continued(
 }
 
 /// The ways after one more action.
-fn continued_all(alloc: Global, rules: &CommSet, ways: &[Way]) -> Result<Vec<Way>, NoMemory>
-    ensures { IfOk result (λ found. map plain_way found.items ≡ flat_map (continued placed (map joining_of (plain_rules rules.now))) (map plain_way ways.now)) }
+fn continued_all(alloc: Global, rules: &RuleTable, ways: &[Way]) -> Result<Vec<Way>, NoMemory>
+    ensures { IfOk result (λ found. map plain_way found.items ≡ flat_map (continued placed (map joining_of rules.now)) (map plain_way ways.now)) }
 {
     let mut found = Vec::new(alloc);
     for way in ways {
@@ -112,17 +111,9 @@ fn continued_all(alloc: Global, rules: &CommSet, ways: &[Way]) -> Result<Vec<Way
     Ok(found)
 }
 
-/// The ways to group these actions, in their order (mCRL2 language reference, `comm`). Each is made once.
-///
-/// # Errors
-///
-/// `NoMemory` where there is none for them.
-pub(crate) fn ways_of(
-    alloc: Global,
-    rules: &CommSet,
-    places: Vec<Place>,
-) -> Result<Vec<Way>, NoMemory>
-    ensures { IfOk result (λ found. map items_of (map plain_way found.items) ≡ ways placed (map joining_of (plain_rules rules.now)) (length places.items) places.items) }
+/// The ways to group these actions, round by round.
+fn rounds_of(alloc: Global, rules: &RuleTable, places: Vec<Place>) -> Result<Vec<Way>, NoMemory>
+    ensures { IfOk result (λ found. map items_of (map plain_way found.items) ≡ ways placed (map joining_of rules.now) (length places.items) places.items) }
 {
     let count = places.len();
     let mut found = Vec::new(alloc);
@@ -134,6 +125,50 @@ pub(crate) fn ways_of(
         found = continued_all(alloc, rules, found.as_slice())?;
     }
     Ok(found)
+}
+
+/// The items of the way in which all these actions stay.
+fn all_staying(alloc: Global, places: &[Place]) -> Result<Vec<Item>, NoMemory>
+    ensures { IfOk result (λ made. map plain_item made.items ≡ map stays places.now) }
+{
+    let mut made = Vec::new(alloc);
+    for place in places {
+        made.push(Item::Stays(*place))?;
+    }
+    Ok(made)
+}
+
+/// The way in which all these actions stay, alone.
+fn staying_way(alloc: Global, places: &[Place]) -> Result<Vec<Way>, NoMemory>
+    ensures { IfOk result (λ found. map items_of (map plain_way found.items) ≡ map stays places.now ∷ []) }
+{
+    let items = all_staying(alloc, places)?;
+    let mut found = Vec::new(alloc);
+    found.push(Way {
+        items,
+        waiting: Vec::new(alloc),
+    })?;
+    Ok(found)
+}
+
+/// The ways to group these actions, in their order (mCRL2 language reference, `comm`). Each is made once. Where no action begins a group, no
+/// round is needed.
+///
+/// # Errors
+///
+/// `NoMemory` where there is none for them.
+pub(crate) fn ways_of(
+    alloc: Global,
+    rules: &RuleTable,
+    places: Vec<Place>,
+) -> Result<Vec<Way>, NoMemory>
+    ensures { IfOk result (λ found. map items_of (map plain_way found.items) ≡ ways placed (map joining_of rules.now) (length places.items) places.items) }
+{
+    let groups = further_of(alloc, rules, places.as_slice())?;
+    if groups.is_empty() {
+        return staying_way(alloc, places.as_slice());
+    }
+    rounds_of(alloc, rules, places)
 }
 
 /// The actions that stay in a way.
@@ -162,10 +197,10 @@ fn add_groups(alloc: Global, starts: &[Start], found: &mut Vec<Group>) -> Result
 /// The groups that these actions could form.
 pub(crate) fn further_of(
     alloc: Global,
-    rules: &CommSet,
+    rules: &RuleTable,
     rest: &[Place],
 ) -> Result<Vec<Group>, NoMemory>
-    ensures { IfOk result (λ found. map plain_group found.items ≡ further placed (map joining_of (plain_rules rules.now)) rest.now) }
+    ensures { IfOk result (λ found. map plain_group found.items ≡ further placed (map joining_of rules.now) rest.now) }
 {
     let mut found = Vec::new(alloc);
     for index in 0..rest.len() {

@@ -1,7 +1,7 @@
 use Rattle.std.proofs.Common.{◌∙◌, map, length, sym, ap, subst}
 use Rattle.std.specs.Prelude.{flat_map}
 use Rattle.std.specs.List.{All}
-use Rattle.process_terms.specs.PlainProcesses.{plain_action, plain_rules}
+use Rattle.process_terms.specs.PlainProcesses.{plain_action}
 use Rattle.lps_core.specs.PlainLinears.{plain_summand}
 use Rattle.action_filters.specs.Filters.{AreActionsIn}
 use Rattle.action_filters.proofs.Whole.{actions_in}
@@ -28,7 +28,7 @@ pub add_ways-requires-clause-ways : goal.add_ways-requires-clause-ways
 add_ways-requires-clause-ways c =
     let g = c.args.sig.now in
     let s = plain_summand c.args.summand.now in
-    let rules = plain_rules c.args.rules.now in
+    let rules = c.args.rules.now in
     subst (λ z. All (WayServes g c.args.pool.now.trees rules s.label) z)
     (sym
     (ap (λ z. map items_of (map plain_way z)) c.as_slice-2.ensures.value ∙ c.in_ok-ways.ensures
@@ -39,7 +39,7 @@ pub returns-clause-added : goal.returns-clause-added
 returns-clause-added c =
     let g = c.args.sig.now in
     let s = plain_summand c.args.summand.now in
-    let rules = plain_rules c.args.rules.now in
+    let rules = c.args.rules.now in
     λ ps h.
     subst (λ z. SummandsGrow g ps c.args.pool.now.trees (map plain_summand c.args.found.now.items) c.add_ways.new.pool.trees (map plain_summand c.add_ways.new.found.items) z)
     (ap (flat_map (λ v. planned_summand g c.args.pool.now.trees s (planned g rules s.label v)))

@@ -1,7 +1,6 @@
 use Rattle.std.proofs.Common.{◌∙◌, map, ap, subst}
 use Rattle.std.specs.Prelude.{flat_map}
 use Rattle.std.proofs.lemmas.List.{take_all}
-use Rattle.process_terms.specs.PlainProcesses.{plain_rules}
 use Rattle.process_terms.specs.Meanings.{rule_of}
 use Rattle.process_terms.specs.SignatureEntries.{entries_of}
 use Rattle.lps_core.specs.PlainLinears.{plain_linear, plain_summand, summand_of}
@@ -29,7 +28,7 @@ loop-summand-preserved c =
     let own = serves_at g ts l c.deref-summand-items.result.now c.loop-summand.summand-index c.summand-item.result c.requires.fits (ap (map plain_summand) c.deref-summand-items.ensures.value) c.loop-summand-test.true c.summand-item.is in (
       extends_on ts us vs c.loop-summand.invariant.0 c.add_communicated.ensures.kept,
       c.add_communicated.ensures.constants ∙ c.loop-summand.invariant.1,
-      summand_more g c.signature_stands.ensures ts us vs c.loop-summand.invariant.0 l.params (map plain_summand c.loop-summand.summands.items) (map plain_summand c.loop-summand.summands.items) (map plain_summand c.add_communicated.new.found.items) (plain_rules c.args.rules.now)
+      summand_more g c.signature_stands.ensures ts us vs c.loop-summand.invariant.0 l.params (map plain_summand c.loop-summand.summands.items) (map plain_summand c.loop-summand.summands.items) (map plain_summand c.add_communicated.new.found.items) c.args.rules.now
           c.deref-summand-items.result.now c.loop-summand.summand-index c.summand-item.result c.loop-summand-test.true c.summand-item.is own c.loop-summand.invariant.2
           (c.in_ok-add_communicated.ensures.added l.params (serves_still g c.signature_stands.ensures ts us c.loop-summand.invariant.0 l.params (plain_summand c.summand-item.result) own)),
     )
@@ -38,5 +37,5 @@ pub returns-clause-made : goal.returns-clause-made
 returns-clause-made c =
     let g = c.args.sig.now in
     let ts = c.args.pool.now.trees in
-    subst (λ z. AreSummands g c.loop-summand.pool.trees (plain_linear c.args.lin.now).params (map plain_summand c.loop-summand.summands.items) (flat_map (communicated (map (rule_of (entries_of g ts)) (plain_rules c.args.rules.now))) (map (summand_of (entries_of g ts)) (map plain_summand z))))
+    subst (λ z. AreSummands g c.loop-summand.pool.trees (plain_linear c.args.lin.now).params (map plain_summand c.loop-summand.summands.items) (flat_map (communicated (map (rule_of (entries_of g ts)) c.args.rules.now)) (map (summand_of (entries_of g ts)) (map plain_summand z))))
     (take_all c.loop-summand.summand-index c.deref-summand-items.result.now c.loop-summand-test.false ∙ c.deref-summand-items.ensures.value) c.loop-summand.invariant.2

@@ -1,6 +1,5 @@
 use Rattle.std.proofs.Common.{◌∙◌, length, map, sym, subst}
 use Rattle.std.specs.List.{All}
-use Rattle.process_terms.specs.PlainProcesses.{plain_rules}
 use Rattle.communication.specs.Ways.{GroupHas}
 use Rattle.communication.specs.Places.{joining_of, placed, plain_group, plain_item}
 use Rattle.communication.specs.PlaceConditions.{IsWithin}
@@ -11,5 +10,5 @@ pub equated_each-requires-clause-within : goal.equated_each-requires-clause-with
 equated_each-requires-clause-within c =
     subst (λ z. All (GroupHas (IsWithin (length c.args.actions.now))) (map plain_group z)) (sym c.as_slice-2.ensures.value)
     (subst (λ z. All (GroupHas (IsWithin (length c.args.actions.now))) z) (sym c.in_ok-groups.ensures)
-    (further_have (IsWithin (length c.args.actions.now)) placed (map joining_of (plain_rules c.args.rules.now)) c.as_slice.result.now
+    (further_have (IsWithin (length c.args.actions.now)) placed (map joining_of c.args.rules.now) c.as_slice.result.now
     (subst (λ z. All (IsWithin (length c.args.actions.now)) z) (sym (c.as_slice.ensures.value ∙ c.in_ok-rest.ensures)) (rest_has (IsWithin (length c.args.actions.now)) placed (map plain_item c.args.items.now) c.requires.within))))

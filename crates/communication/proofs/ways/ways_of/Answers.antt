@@ -1,21 +1,14 @@
-use Rattle.std.proofs.Common.{◌+◌, [], ◌∷◌, map, ap, ◌∙◌, arith}
-use Rattle.std.specs.Prelude.{flat_map}
-use Rattle.process_terms.specs.PlainProcesses.{plain_rules}
-use Rattle.communication.specs.Places.{joining_of, placed, plain_way}
-use Rattle.communication.specs.Rounds.{continued, items_of}
-use Rattle.communication.specs.Ways.{ways}
-use Rattle.communication.proofs.Rounds.{rounds_are_ways, rounds_go_on}
+use Rattle.std.proofs.Common.{◌≡◌, ◌==◌, ◌∷◌, [], map, length, sym, ap, ◌∙◌}
+use Rattle.communication.specs.Places.{joining_of, placed, plain_group, plain_way}
+use Rattle.communication.specs.Rounds.{items_of}
+use Rattle.communication.specs.Ways.{further, stays, ways}
+use Rattle.action_filters.proofs.Loops.{if_ok}
+use Rattle.communication.proofs.NamedRules.{nothing_begins, empty_items}
 use Rattle.communication.proofs.ways.ways_of.Goals as goal
 
-pub loop-round-preserved : goal.loop-round-preserved
-loop-round-preserved c =
-    c.in_ok-found.ensures
-    ∙ ap (λ l. flat_map (continued placed (map joining_of (plain_rules c.args.rules.now))) (map plain_way l)) c.as_slice.ensures.value
-    ∙ ap (λ l. flat_map (continued placed (map joining_of (plain_rules c.args.rules.now))) l) c.loop-round.invariant
-    ∙ rounds_go_on placed (map joining_of (plain_rules c.args.rules.now)) c.loop-round._round (c.loop-round._round + 1) (record { items = []; waiting = c.args.places.items } ∷ []) (omega arith)
-
-pub returns : goal.returns
-returns c =
-    ap (map items_of) c.loop-round.invariant
-    ∙ rounds_are_ways placed (map joining_of (plain_rules c.args.rules.now)) c.loop-round._round c.args.places.items
-    ∙ ap (λ k. ways placed (map joining_of (plain_rules c.args.rules.now)) k c.args.places.items) (omega (arith, c.loop-round-test.false, c.loop-round.auto._round-end, c.len-count.ensures))
+pub returns-then-is_empty : goal.returns-then-is_empty
+returns-then-is_empty c =
+    let rules = map joining_of c.args.rules.now in
+    let none = sym (c.in_ok-groups.ensures ∙ ap (further placed rules) c.as_slice.ensures.value) ∙ ap (map plain_group) (empty_items c.in_ok-groups.groups.items (ap (λ n. n == 0) (sym c.in_ok-groups.groups.ok.0) ∙ sym c.is_empty.ensures ∙ c.if-is_empty.true)) in
+    if_ok c.staying_way.result _ (λ found. map items_of (map plain_way found.items) ≡ ways placed rules (length c.args.places.items) c.args.places.items)
+    (λ found e. e ∙ ap (λ ps. map stays ps ∷ []) c.as_slice-then-is_empty.ensures.value ∙ sym (nothing_begins rules c.args.places.items none)) c.staying_way.ensures

@@ -1,4 +1,4 @@
-use Rattle.std.proofs.Common.{◌∙◌, ap, subst, sym}
+use Rattle.std.proofs.Common.{sym, ap, subst, ◌∙◌}
 use Rattle.std.specs.List.Sorted.{IsPermutation}
 use Rattle.summand_expander.specs.Answers.{answer_under}
 use Rattle.summand_expander.specs.PlainAllowed.{plain_allowed}
@@ -7,12 +7,11 @@ use Rattle.summand_expander.proofs.answers.asked.Goals as goal
 
 pub returns-in-Some-clause-can : goal.returns-in-Some-clause-can
 returns-in-Some-clause-can c =
-    let code = c.sort_unstable.new.self.items in
-    right_answer (plain_allowed c.args.allowed.now) c.args.answers.now c.args.names.now code c.in-Some.can c.requires
-    (subst (λ ks. IsPermutation ks code) c.in_ok-numbers.ensures c.sort_unstable.ensures.permutation) (ap (answer_under c.args.answers.now) (sym c.as_slice.ensures.value) ∙ sym c.known.ensures ∙ c.in-Some.is)
+    right_answer (plain_allowed c.args.allowed.now) c.args.answers.now c.args.names.now c.sort_unstable.new.self.items c.in-Some.can c.requires
+    (subst (λ ks. IsPermutation ks c.sort_unstable.new.self.items) c.in_ok-numbers.ensures c.sort_unstable.ensures.permutation)
+    (ap (answer_under c.args.answers.now) (sym c.as_slice.ensures.value) ∙ sym c.known.ensures ∙ c.in-Some.is)
 
 pub returns-clause-kept : goal.returns-clause-kept
 returns-clause-kept c =
-    let code = c.sort_unstable.new.self.items in
-    one_order_more (plain_allowed c.args.allowed.now) c.args.answers.now c.insert.new.self c.args.names.now code c.in_ok-can.can c.requires
-    (subst (λ ks. IsPermutation ks code) c.in_ok-numbers.ensures c.sort_unstable.ensures.permutation) c.in_ok-can.ensures c.in_ok-insert.ensures.updates
+    one_order_more (plain_allowed c.args.allowed.now) c.args.answers.now c.insert.new.self c.args.names.now c.sort_unstable.new.self.items c.in_ok-can.can c.requires
+    (subst (λ ks. IsPermutation ks c.sort_unstable.new.self.items) c.in_ok-numbers.ensures c.sort_unstable.ensures.permutation) c.in_ok-can.ensures c.in_ok-insert.ensures.updates
