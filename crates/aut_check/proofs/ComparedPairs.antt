@@ -41,6 +41,7 @@ use Rattle.aut_check.specs.PlainSystems.{PlainEdge, PlainSystem, IsEdge, IsSyste
 use Rattle.aut_check.specs.Systems.{FileState}
 use Rattle.aut_check.specs.Tables.{answers_of, tables_of}
 use Rattle.aut_check.specs.Verdicts.{sorts_in}
+use Rattle.aut_check.proofs.ClosedTerms.{state_closed}
 use Rattle.aut_check.proofs.RunningStates.{same_state, state_read}
 use Rattle.aut_check.proofs.SettledStates.{linear_means, state_means}
 use Rattle.aut_check.proofs.TableLaws.{taken, zip_push}
@@ -89,6 +90,14 @@ states_decided s ts l fits ss xs ys e h k a c =
     subst (λ (z : List Term). ComeOut s (equalities (sorts_in s ts l) (terms_at s.signature ts xs) z) a) (terms_meant s.signature ts ys k.over)
     (subst (λ (z : List Term). ComeOut s (equalities (sorts_in s ts l) z (map (term_at s.signature ts) ys)) a) (terms_meant s.signature ts xs h.over)
     (subst (λ (z : List Sort). ComeOut s (equalities z (map (term_at s.signature ts) xs) (map (term_at s.signature ts) ys)) a) (ap (map (sort_under s.signature)) e ∙ sym (sorts_of_variables s.signature ts l.params fits.params)) c))
+
+-- of slices in code
+pub terms_decided : (s : Setting) → IsSignature s.signature → (ts : List Tree) (l : PlainLinear) → Fits s.signature ts l → (ss : List SortId) (xs ys us vs : List TermId) → ss ≡ map (sort_of_variable s.signature) l.params → xs ≡ us → ys ≡ vs → IsState s.signature ts l.params us → IsState s.signature ts l.params vs → (a : Answer)
+    → ComeOut s (equalities (map (sort_under s.signature) ss) (map (term_at s.signature ts) xs) (map (term_at s.signature ts) ys)) a → ComeOut s (equalities (sorts_in s ts l) (terms_at s.signature ts us) (terms_at s.signature ts vs)) a
+terms_decided s stands ts l fits ss xs ys us vs e f q h k a c =
+    states_decided s ts l fits ss us vs e (state_closed s.signature stands ts l.params ss us fits.params e h) (state_closed s.signature stands ts l.params ss vs fits.params e k) a
+    (subst (λ (z : List TermId). ComeOut s (equalities (map (sort_under s.signature) ss) (map (term_at s.signature ts) us) (map (term_at s.signature ts) z)) a) q
+    (subst (λ (z : List TermId). ComeOut s (equalities (map (sort_under s.signature) ss) (map (term_at s.signature ts) z) (map (term_at s.signature ts) ys)) a) f c))
 
 -- ---- as the pool grows
 module _ (g : Sig) (stands : IsSignature g) (own : List Equation) (fuel : ℕ) (ts us : List Tree) (grows : Extends ts us) (l : PlainLinear) (fits : Fits g ts l) where

@@ -45,7 +45,7 @@ module _ (s : Setting) (ss : List Sort) (f : System) (i : ℕ) (moves : List Ter
   come_both_ways Good Good h k = all_match none h k
 
 -- ---- after termination
-contains_at : {A : Type 0} (xs : List A) (k : ℕ) (x : A) → slice_get xs k ≡ Some x → Contains xs x
+pub contains_at : {A : Type 0} (xs : List A) (k : ℕ) (x : A) → slice_get xs k ≡ Some x → Contains xs x
 contains_at [] k x e = absurd (let never : ⊥ = cc in never)
 contains_at (y ∷ xs) zero x e = let q : y ≡ x = cc in subst (λ z. Contains (y ∷ xs) z) q (contains_first y xs)
 contains_at (y ∷ xs) (suc k) x e = contains_later y x xs (contains_at xs k x e)

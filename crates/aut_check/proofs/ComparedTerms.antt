@@ -11,7 +11,7 @@ use Rattle.data_theory.specs.Provable.{Equation, reflected}
 use Rattle.data_theory.specs.Rewriting.{IsWellFormed, yes_decided}
 use Rattle.data_theory.proofs.WellSorted.{sort_of_term}
 use Rattle.process_terms.specs.Communication.{equalities}
-use Rattle.process_terms.specs.Labels.{Action, Label, Inserted, at_front, further, Permuted, nothing_left, one_placed, AgreeAction, equal_args, AgreeInOrder, both_silent, next_agree, Agree}
+use Rattle.process_terms.specs.Labels.{Action, Label, AgreeAction, equal_args, AgreeInOrder, both_silent, next_agree, Agree}
 use Rattle.process_terms.specs.Names.{Name}
 use Rattle.process_terms.specs.Theories.{Theory, Equal, Equals, no_terms, more_terms}
 use Rattle.bisim_laws.specs.LinearProcesses.{LabelIsSorted, no_action_to_sort, action_sorted, NextIsSorted, next_sorted}
@@ -21,17 +21,10 @@ use Rattle.trace_replay.specs.Decidings.{Decides, hold, ComeOut, all_hold}
 use Rattle.aut_check.specs.Matching.{EndAlike, both_ended, neither_ended, state_equalities, Match}
 use Rattle.trace_replay.specs.Pairings.{AreAlike, label_equalities, IsClosedAction, IsClosedLabel}
 use Rattle.trace_replay.specs.Settings.{Setting, data_in}
+use Rattle.trace_replay.proofs.PairedLabels.{permuted_all}
 use Rattle.aut_check.specs.Systems.{FileState}
 
--- ---- in another order
-inserted_all : {A : Type 0} (P : A → Type 0) {x : A} {ys zs : List A} → Inserted x ys zs → AllByRecursion P zs → P x × AllByRecursion P ys
-inserted_all P at_front all = all
-inserted_all P (further i) all = let r = inserted_all P i all.1 in (r.0, (all.0, r.1))
-
-permuted_all : {A : Type 0} (P : A → Type 0) {xs ys : List A} → Permuted xs ys → AllByRecursion P ys → AllByRecursion P xs
-permuted_all P nothing_left all = tt
-permuted_all P (one_placed p i) all = let r = inserted_all P i all in (r.0, permuted_all P p r.1)
-
+-- ---- in two parts
 all_cut : {A : Type 0} (P : A → Type 0) (xs ys : List A) → AllByRecursion P (xs ++ ys) → AllByRecursion P xs × AllByRecursion P ys
 all_cut P [] ys h = (tt, h)
 all_cut P (x ∷ xs) ys h = let r = all_cut P xs ys h.1 in ((h.0, r.0), r.1)

@@ -7,6 +7,8 @@ pub mod TableLaws
 pub mod PairedTables
 pub mod ClosedTerms
 pub mod ComparedLabels
+pub mod SortedEdges
+pub mod Starts
 pub mod MoveRows
 pub mod ComparedPairs
 pub mod ComparedTerms

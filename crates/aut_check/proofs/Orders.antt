@@ -142,9 +142,9 @@ look_for f zero c = inr (λ i l e. omega (arith, l))
 look_for f (suc n) c = ⊎_elim
     (λ e. inl (record { row = n; below = omega arith; is = refl; column = e }))
     (λ o. ⊎_elim
-        (λ h. inl (later (λ _. true) f n c h))
-        (λ none. inr (λ i l e. ⊎_elim (λ q. o (ap f (sym q) ∙ e)) (λ q. none i (less i n l q) e) (same_or_not i n)))
-        (look_for f n c))
+    (λ h. inl (later (λ _. true) f n c h))
+    (λ none. inr (λ i l e. ⊎_elim (λ q. o (ap f (sym q) ∙ e)) (λ q. none i (less i n l q) e) (same_or_not i n)))
+    (look_for f n c))
     (same_or_not (f n) c)
   where
     less : (j m : ℕ) → j < suc m → (j ≡ m → ⊥) → j < m

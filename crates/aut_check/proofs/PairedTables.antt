@@ -49,16 +49,16 @@ together (a ∷ xs) = both a (together xs)
 
 together_hold : (xs : List Answer) → together xs ≡ hold → AllByRecursion (λ (x : Answer). mark_of false x ≡ true) xs
 together_hold [] e = tt
-together_hold (a ∷ xs) e = by a (together xs) refl e
+together_hold (a ∷ xs) e = by a (together xs) refl (together_hold xs) e
   where
-    by : (x y : Answer) → together xs ≡ y → both x y ≡ hold → AllByRecursion (λ (z : Answer). mark_of false z ≡ true) (x ∷ xs)
-    by hold hold q f = (refl, together_hold xs q)
-    by hold fail q f = absurd (let never : ⊥ = cc in never)
-    by hold stay_open q f = absurd (let never : ⊥ = cc in never)
-    by fail y q f = absurd (let never : ⊥ = cc in never)
-    by stay_open hold q f = absurd (let never : ⊥ = cc in never)
-    by stay_open fail q f = absurd (let never : ⊥ = cc in never)
-    by stay_open stay_open q f = absurd (let never : ⊥ = cc in never)
+    by : (x y : Answer) → together xs ≡ y → (together xs ≡ hold → AllByRecursion (λ (z : Answer). mark_of false z ≡ true) xs) → both x y ≡ hold → AllByRecursion (λ (z : Answer). mark_of false z ≡ true) (x ∷ xs)
+    by hold hold q rest f = (refl, rest q)
+    by hold fail q rest f = absurd (let never : ⊥ = cc in never)
+    by hold stay_open q rest f = absurd (let never : ⊥ = cc in never)
+    by fail y q rest f = absurd (let never : ⊥ = cc in never)
+    by stay_open hold q rest f = absurd (let never : ⊥ = cc in never)
+    by stay_open fail q rest f = absurd (let never : ⊥ = cc in never)
+    by stay_open stay_open q rest f = absurd (let never : ⊥ = cc in never)
 
 together_may : (xs : List Answer) → (together xs ≡ fail → ⊥) → AllByRecursion (λ (x : Answer). mark_of true x ≡ true) xs
 together_may [] n = tt
@@ -84,12 +84,12 @@ may_together : (xs : List Answer) → AllByRecursion (λ (x : Answer). mark_of t
 may_together [] h e = let never : ⊥ = cc in never
 may_together (hold ∷ xs) h e = may_together xs h.1 e
 may_together (fail ∷ xs) h e = let f = h.0 in let never : ⊥ = cc in never
-may_together (stay_open ∷ xs) h e = by (together xs) refl e
+may_together (stay_open ∷ xs) h e = by (together xs) refl (may_together xs h.1) e
   where
-    by : (y : Answer) → together xs ≡ y → both stay_open y ≡ fail → ⊥
-    by hold q f = let never : ⊥ = cc in never
-    by fail q f = may_together xs h.1 q
-    by stay_open q f = let never : ⊥ = cc in never
+    by : (y : Answer) → together xs ≡ y → (together xs ≡ fail → ⊥) → both stay_open y ≡ fail → ⊥
+    by hold q rest f = let never : ⊥ = cc in never
+    by fail q rest f = rest q
+    by stay_open q rest f = let never : ⊥ = cc in never
 
 -- ---- by places
 map_read : {A B : Type 0} (f : A → B) (xs : List A) (i : ℕ) (d : A) → slice_index_or (map f xs) i (f d) ≡ f (slice_index_or xs i d)
@@ -214,6 +214,7 @@ module _ (s : Setting) (m n : Label) (rows : List (List Answer)) (h : AreActionR
   }
 
   comes_by : (cs : List ℕ) (order : IsOrder (length n) cs) (marks : AllByRecursion (λ (x : Answer). mark_of true x ≡ true) (entries rows cs)) → ComeOut s (label_equalities m (pairing_by cs order marks).paired) (together (entries rows cs))
+  unfolding pairing_by
   comes_by cs order marks = come_together s n m rows cs h (order.long ∙ sym same) (within cs order) (alike_along s n m rows cs h (order.long ∙ sym same) (within cs order) marks)
 
   record IsOutcome (p : Pairing m n) : Type 0 where
@@ -232,6 +233,7 @@ module _ (s : Setting) (m n : Label) (rows : List (List Answer)) (h : AreActionR
       }
 
   pub labels_come : (a : Answer) → TableComes rows a → LabelsCome s m n a
+  unfolding marked_order pairing_by
   labels_come hold k =
       let o = marked_order false k in
       let marks = hold_may (entries rows o.columns) o.marks in (

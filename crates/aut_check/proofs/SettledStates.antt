@@ -49,7 +49,7 @@ module _ (g : Sig) (stands : IsSignature g) (ts us : List Tree) (grows : Extends
   pub system_means : (ps : List VarId) (f : PlainSystem) → IsSystem g ts ps f → meant_system g us f ≡ meant_system g ts f
   system_means ps f h = ap₂ (λ es os. record { first = f.first; edges = es; states = os }) (edges_mean (length f.states) f.edges h.edges) (states_mean ps f.states h.states)
 
-  edge_stays : (ps : List VarId) (count : ℕ) (e : PlainEdge) → IsEdge g ts count e → IsEdge g us count e
+  pub edge_stays : (ps : List VarId) (count : ℕ) (e : PlainEdge) → IsEdge g ts count e → IsEdge g us count e
   edge_stays ps count e h =
       let m : PlainMove = record { summand = 0; label = e.label; next = None } in
       let k : IsMove g us ps m = move_stays g ts us grows ps m (record { label = h.label; closed = h.closed; next = tt }) in

@@ -1,5 +1,5 @@
 -- Answers in code, and what they say.
-use Rattle.std.specs.Prelude.{◌≡◌, ◌<◌, ◌⊎◌, ℕ, suc, List, [], ◌∷◌, length, map, Option, Some, None, slice_get}
+use Rattle.std.specs.Prelude.{◌≡◌, ◌<◌, ◌⊎◌, ℕ, zero, suc, List, [], ◌∷◌, length, map, Option, Some, None, slice_get}
 use Rattle.std.specs.Global.{Vec}
 use Rattle.std.specs.List.{All, AllZip, Contains}
 use Rattle.data_theory.specs.Declarations.{HaveSorts}
@@ -142,7 +142,7 @@ pub record AreEdgesFrom (f : PlainSystem) (i : ℕ) (numbers : List ℕ) : Type 
 -- the numbers at a state
 abbrev pub numbers_at : List (Vec ℕ) → ℕ → List ℕ
 numbers_at [] i = []
-numbers_at (v ∷ vs) 0 = v.items
+numbers_at (v ∷ vs) zero = v.items
 numbers_at (v ∷ vs) (suc i) = numbers_at vs i
 
 -- for each state the numbers of the first so many edges from it

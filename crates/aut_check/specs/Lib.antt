@@ -8,3 +8,4 @@ pub mod Tables
 pub mod Comparing
 pub mod SystemLaws
 pub mod SystemChecks
+pub mod SystemTexts

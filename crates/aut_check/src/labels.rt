@@ -48,9 +48,7 @@ fn compare_actions<F: Fn(NumOp, Num, Num) -> Option<Num>>(
     let sorts = sorts_of(sig, left);
     let firsts = left.args.as_slice();
     let seconds = right.args.as_slice();
-    decide_equal(
-        alloc, sig, pool, rewriter, sorts, firsts, seconds, fuel,
-    )
+    decide_equal(alloc, sig, pool, rewriter, sorts, firsts, seconds, fuel)
 }
 
 /// How an action of a move compares with each action of an edge.
@@ -73,9 +71,7 @@ fn compare_action<F: Fn(NumOp, Num, Num) -> Option<Num>>(
     signature_stands(sig);
     let mut row = Vec::new(alloc);
     for other in others {
-        row.push(compare_actions(
-            alloc, sig, pool, rewriter, action, other, fuel,
-        )?)?;
+        row.push(compare_actions(alloc, sig, pool, rewriter, action, other, fuel)?)?;
     }
     Ok(row)
 }
@@ -100,9 +96,7 @@ fn compare_each<F: Fn(NumOp, Num, Num) -> Option<Num>>(
     signature_stands(sig);
     let mut rows = Vec::new(alloc);
     for action in actions {
-        rows.push(compare_action(
-            alloc, sig, pool, rewriter, action, others, fuel,
-        )?)?;
+        rows.push(compare_action(alloc, sig, pool, rewriter, action, others, fuel)?)?;
     }
     Ok(rows)
 }

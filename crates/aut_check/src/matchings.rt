@@ -51,7 +51,12 @@ fn free_place(marks: &[Vec<bool>], order: &[usize], row: usize, loose: usize) ->
 }
 
 /// An order in which two columns are exchanged.
-fn exchanged(alloc: Global, order: &[usize], one: usize, other: usize) -> Result<Vec<usize>, AllocError>
+fn exchanged(
+    alloc: Global,
+    order: &[usize],
+    one: usize,
+    other: usize,
+) -> Result<Vec<usize>, AllocError>
     requires one { one < length order.now }
     requires other { other < length order.now }
     ensures swapped { IfOk result (λ made. SwappedAt order.now made.items one other) }
@@ -96,12 +101,7 @@ fn add_trials(
 }
 
 /// The order in which the loose row gets the free column that stands at a place.
-fn filled(
-    alloc: Global,
-    trial: &Trial,
-    row: usize,
-    place: usize,
-) -> Result<Vec<usize>, AllocError>
+fn filled(alloc: Global, trial: &Trial, row: usize, place: usize) -> Result<Vec<usize>, AllocError>
     requires loose { trial.now.loose < length trial.now.order.items }
     requires place { place < length trial.now.order.items }
     ensures row { IfOk result (λ made. place ≡ row → made.items ≡ trial.now.order.items) }

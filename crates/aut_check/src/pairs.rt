@@ -1,6 +1,6 @@
 //! How moves and edges compare.
 
-ghost use Rattle.std.specs.Prelude.{◌≡◌, ◌<◌, List, length, map, option_map, IfOk, IfSome};
+ghost use Rattle.std.specs.Prelude.{◌≡◌, ◌<◌, ℕ, List, length, map, option_map, IfOk, IfSome};
 ghost use Rattle.std.specs.List.{All, Contains};
 ghost use Rattle.data_theory.specs.Provable.{Equation};
 ghost use Rattle.number_rules.specs.Rule.{IsExact, rule_of};
@@ -94,15 +94,7 @@ fn compare_pair<F: Fn(NumOp, Num, Num) -> Option<Num>>(
     ensures pair { IfOk result (λ answer. (own : List Equation) → FitsPool rewriter.old sig.now own pool.old.trees → PairComes (setting sig.now own fuel) (sorts_in (setting sig.now own fuel) pool.old.trees (plain_linear lin.now)) (meant_move sig.now pool.old.trees (plain_move step.now)) (label_of (entries_of sig.now pool.old.trees) (plain_edge edge.now).label) (meant_state sig.now pool.old.trees (plain_next state.now)) (answer_of answer)) }
 {
     signature_stands(sig);
-    let labels = compare_labels(
-        alloc,
-        sig,
-        pool,
-        rewriter,
-        &step.label,
-        &edge.label,
-        fuel,
-    )?;
+    let labels = compare_labels(alloc, sig, pool, rewriter, &step.label, &edge.label, fuel)?;
     if fails(labels) {
         return Ok(Answer::Fail);
     }

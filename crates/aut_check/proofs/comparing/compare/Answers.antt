@@ -1,4 +1,6 @@
-use Rattle.std.proofs.Common.{◌<◌, ◌≤◌, sym, subst, arith}
+use Rattle.std.proofs.Common.{◌<◌, ◌≤◌, ◌∙◌, ap, map, sym, subst, arith}
+use Rattle.std.specs.List.{All}
+use Rattle.lps_core.specs.Fitting.{sort_of_variable, IsVariable}
 use Rattle.lps_core.specs.PlainLinears.{plain_linear}
 use Rattle.lps_simulator.proofs.SessionLemmas.{linear_stays}
 use Rattle.aut_check.specs.declared.verdicts.StateVerdict.TheVariants as states
@@ -7,7 +9,20 @@ use Rattle.aut_check.specs.PlainSystems.{plain_system}
 use Rattle.aut_check.proofs.JudgedStates.{none_below, one_below, start_open, start_fails, one_fails, one_is_open, all_are_good, states_long, comes_settled}
 use Rattle.trace_replay.proofs.Keepings.{keeps_then}
 use Rattle.aut_check.proofs.SettledStates.{system_stays}
+use Rattle.aut_check.proofs.SortedEdges.{sources_within}
 use Rattle.aut_check.proofs.comparing.compare.Goals as goal
+
+pub sorts_of_variables-requires : goal.sorts_of_variables-requires
+sorts_of_variables-requires g c = subst (All (IsVariable c.args.sig.now)) (sym c.as_slice.ensures.value) c.requires.lin.params
+
+pub compare_start-requires-clause-sorts : goal.compare_start-requires-clause-sorts
+compare_start-requires-clause-sorts g c = c.as_slice-sorts.ensures.value ∙ c.in_ok-sorts.ensures ∙ ap (map (sort_of_variable c.args.sig.now)) c.as_slice.ensures.value
+
+pub edges_by_source-requires : goal.edges_by_source-requires
+edges_by_source-requires g c = sources_within c.args.sig.now c.args.pool.now.trees c.args.lin.now.params.items c.args.lts.now c.requires.system
+
+pub compare_state-requires-clause-sorts : goal.compare_state-requires-clause-sorts
+compare_state-requires-clause-sorts g c = c.as_slice-sorts.ensures.value ∙ c.in_ok-sorts.ensures ∙ ap (map (sort_of_variable c.args.sig.now)) c.as_slice.ensures.value
 
 pub returns-in-Open-clause-verdict : goal.returns-in-Open-clause-verdict
 returns-in-Open-clause-verdict g c = λ own h fine. start_open (setting c.args.sig.now own c.args.fuel) c.args.pool.now.trees (plain_linear c.args.lin.now) (plain_system c.args.lts.now) c.in_ok-compare_start.field-0 c.in-Open.is (c.in_ok-compare_start.ensures.start own h)

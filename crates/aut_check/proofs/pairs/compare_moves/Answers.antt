@@ -35,7 +35,7 @@ pub compare_move-requires-clause-system : goal.compare_move-requires-clause-syst
 compare_move-requires-clause-system g c = system_stays c.args.sig.now c.signature_stands.ensures c.args.pool.now.trees c.loop-step.pool.trees c.loop-step.invariant.kept.pool c.args.lin.now.params.items (plain_system c.args.lts.now) c.requires.system
 
 pub compare_move-requires-clause-step : goal.compare_move-requires-clause-step
-compare_move-requires-clause-step g c = move_stays c.args.sig.now c.signature_stands.ensures c.args.pool.now.trees c.loop-step.pool.trees c.loop-step.invariant.kept.pool c.args.lin.now.params.items (plain_move c.step-item.result) (move_in c.args.sig.now c.args.pool.now.trees c.args.lin.now.params.items c.args.moves.now c.loop-step.step-index c.step-item.result c.loop-step-test.true c.step-item.is c.requires.moves)
+compare_move-requires-clause-step g c = move_stays c.args.sig.now c.args.pool.now.trees c.loop-step.pool.trees c.loop-step.invariant.kept.pool c.args.lin.now.params.items (plain_move c.step-item.result) (move_in c.args.sig.now c.args.pool.now.trees c.args.lin.now.params.items c.args.moves.now c.loop-step.step-index c.step-item.result c.loop-step-test.true c.step-item.is c.requires.moves)
 
 pub returns-in_err-compare_move-clause-kept : goal.returns-in_err-compare_move-clause-kept
 returns-in_err-compare_move-clause-kept g c = keeps_then c.args.sig.now c.args.pool.now.trees c.loop-step.pool.trees c.compare_move.new.pool.trees c.args.rewriter.now c.loop-step.rewriter c.compare_move.new.rewriter c.loop-step.invariant.kept c.compare_move.ensures.kept
