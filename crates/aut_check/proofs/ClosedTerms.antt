@@ -1,8 +1,8 @@
 -- Closed terms in a pool, and how their equalities come out.
-use Rattle.std.specs.Prelude.{◌≡◌, ◌≢◌, ◌<◌, ◌+◌, ◌++◌, ℕ, List, [], ◌∷◌, length, map, take, slice_index_or, None, Result, Ok, Err, IfOk}
-use Rattle.std.proofs.Common.{refl, sym, subst, ap, ap₂, ◌∙◌, arith}
+use Rattle.std.specs.Prelude.{◌≡◌, ◌<◌, ◌+◌, ◌++◌, ℕ, List, [], ◌∷◌, length, map, take, slice_index_or, None, Result, Ok, Err, IfOk}
+use Rattle.std.proofs.Common.{refl, sym, subst, ap, ap₂, ◌∙◌}
 use Rattle.std.specs.List.{All, AllByRecursion}
-use Rattle.std.proofs.lemmas.List.{length-map, map-append}
+use Rattle.std.proofs.lemmas.List.{map-append}
 use Rattle.std.proofs.lemmas.List.Elements.{All-nil, All-cons, All-head, All-tail, All-weaker}
 use Rattle.data_theory.specs.Declarations.{IsData, HasSort, HaveSorts}
 use Rattle.data_theory.specs.Environments.{Environment, term_in, terms_of}
@@ -11,7 +11,6 @@ use Rattle.data_theory.specs.IdData.{data_meant}
 use Rattle.data_theory.specs.IdTerms.{sort_under}
 use Rattle.data_theory.specs.IdTrees.{Tree}
 use Rattle.data_theory.specs.Keys.{Key}
-use Rattle.data_theory.specs.Provable.{Equation}
 use Rattle.data_theory.specs.Signature.{Sig}
 use Rattle.data_theory.specs.Terms.{Sort, boolean, Term, put}
 use Rattle.data_theory.specs.WholeSignatures.{IsSignature}
@@ -26,8 +25,7 @@ use Rattle.term_pool.specs.Pools.{Extends}
 use Rattle.data_rewriter.specs.Standing.{IsTerm, term_at}
 use Rattle.process_terms.specs.declared.labels.Action.{Action as CodeAction}
 use Rattle.process_terms.specs.Communication.{equalities}
-use Rattle.process_terms.specs.Labels.{Action, Label}
-use Rattle.process_terms.specs.Meanings as meanings
+use Rattle.process_terms.specs.Labels.{Action}
 use Rattle.process_terms.specs.Meanings.{action_of, label_of}
 use Rattle.process_terms.specs.PlainProcesses.{PlainAction, plain_action}
 use Rattle.process_terms.specs.SignatureEntries.{entries_of}

@@ -1,9 +1,9 @@
 -- Moves and edges in code, one after another.
 use Rattle.std.specs.Prelude.{◌≡◌, ◌<◌, ◌+◌, ◌++◌, ℕ, List, [], ◌∷◌, length, map, take, option_map, Option, Some, None, IfSome, Vec, slice_get, slice_index_or}
 use Rattle.std.specs.Global.{Global}
-use Rattle.std.proofs.Common.{refl, sym, subst, ap, ◌∙◌}
-use Rattle.std.specs.List.{All, AllByRecursion, AllZip, Contains}
-use Rattle.std.proofs.lemmas.List.{length-map, map-append}
+use Rattle.std.proofs.Common.{sym, subst, ap, ◌∙◌}
+use Rattle.std.specs.List.{All, Contains}
+use Rattle.std.proofs.lemmas.List.{map-append}
 use Rattle.std.proofs.lemmas.List.Elements.{All-nil, All-cons, All-contains, Contains-get_or}
 use Rattle.data_theory.specs.IdTerms.{sort_under}
 use Rattle.data_theory.specs.IdTrees.{Tree}
@@ -15,7 +15,7 @@ use Rattle.data_theory.specs.declared.ids.SortId.{SortId}
 use Rattle.data_theory.specs.declared.ids.TermId.{TermId}
 use Rattle.data_theory.specs.declared.ids.VarId.{VarId}
 use Rattle.term_pool.specs.Pools.{Extends}
-use Rattle.data_rewriter.specs.Standing.{IsTerm, term_at}
+use Rattle.data_rewriter.specs.Standing.{term_at}
 use Rattle.process_terms.specs.Communication.{equalities}
 use Rattle.process_terms.specs.Labels.{Label}
 use Rattle.process_terms.specs.Meanings.{label_of}
@@ -34,15 +34,14 @@ use Rattle.trace_replay.specs.DecidedConditions.{answer_of}
 use Rattle.trace_replay.specs.Decidings.{Answer, hold, fail, ComeOut, all_hold}
 use Rattle.trace_replay.specs.Settings.{Setting}
 use Rattle.trace_replay.proofs.EqualityTerms.{terms_meant}
-use Rattle.aut_check.specs.declared.systems.Edge.{Edge as CodeEdge}
 use Rattle.aut_check.specs.Comparing.{setting, AreClosed, AreMoveRows, EdgeComesWith, IsMoveRow, NextComes, end_alike, one_ended, PairComes}
 use Rattle.aut_check.specs.Matching.{EndAlike, both_ended, neither_ended}
-use Rattle.aut_check.specs.PlainSystems.{PlainEdge, PlainSystem, IsEdge, IsSystem, meant_state, plain_edge}
+use Rattle.aut_check.specs.PlainSystems.{PlainEdge, PlainSystem, IsEdge, IsSystem, meant_state}
 use Rattle.aut_check.specs.Systems.{FileState}
 use Rattle.aut_check.specs.Tables.{answers_of, tables_of}
 use Rattle.aut_check.specs.Verdicts.{sorts_in}
 use Rattle.aut_check.proofs.ClosedTerms.{state_closed}
-use Rattle.aut_check.proofs.RunningStates.{same_state, state_read}
+use Rattle.aut_check.proofs.RunningStates.{same_state}
 use Rattle.aut_check.proofs.SettledStates.{linear_means, state_means}
 use Rattle.aut_check.proofs.TableLaws.{taken, zip_push}
 

@@ -1,6 +1,6 @@
 -- How moves and edges compare, and what their tables say of a state.
-use Rattle.std.specs.Prelude.{◌≡◌, ◌<◌, ◌++◌, ◌⊎◌, ℕ, zero, suc, List, [], ◌∷◌, length, map, Contains, Option, Some, None, slice_get, slice_index_or}
-use Rattle.std.proofs.Common.{refl, sym, subst, ap, ◌∙◌, arith, inl, inr, ⊎_elim}
+use Rattle.std.specs.Prelude.{◌≡◌, ◌<◌, ◌++◌, ◌⊎◌, ℕ, zero, suc, List, [], ◌∷◌, length, map, Contains, Option, Some, slice_get, slice_index_or}
+use Rattle.std.proofs.Common.{refl, sym, subst, ap, arith, inl, inr, ⊎_elim}
 use Rattle.std.specs.List.{AllZip}
 use Rattle.std.proofs.lemmas.List.Elements.{Contains-append_left, Contains-append_right}
 use Rattle.data_theory.specs.IdTrees.{Tree}
@@ -21,13 +21,12 @@ use Rattle.aut_check.specs.Comparing.{AreEdgesFrom, AreMoveRows, EdgeComes, Edge
 use Rattle.aut_check.specs.Matching.{Match, CouldStillMatch, Differ, DoNotMatch, EndAlike, state_equalities}
 use Rattle.aut_check.specs.PlainSystems.{PlainEdge, PlainSystem, meant_edge, meant_state}
 use Rattle.aut_check.specs.Systems.{Edge, FileState, System, HasEdge, IsStateAt}
-use Rattle.aut_check.specs.Tables.{both, column_answers, worse, IsBest, IsVerdictOn, IsWorst}
+use Rattle.aut_check.specs.Tables.{both, column_answers, IsBest, IsWorst}
 use Rattle.aut_check.specs.Verdicts.{EachEdge, EachMove, SomeEdge, SomeMove, system_in}
 use Rattle.aut_check.proofs.ComparedStates.{contains_at}
 use Rattle.aut_check.proofs.Firings.{member_at}
 use Rattle.aut_check.proofs.GoodFiles.{at_place, map_at}
 use Rattle.aut_check.proofs.PairedTables.{come_both, zip_at}
-use Rattle.aut_check.proofs.TableLaws.{zip_long}
 
 -- ---- a move and an edge
 fails_first : (s : Setting) (cs ds : List Term) → ComeOut s cs fail → ComeOut s (cs ++ ds) fail

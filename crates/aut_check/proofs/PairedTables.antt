@@ -1,20 +1,20 @@
 -- Tables of actions, and the pairings of two labels.
 use Rattle.std.specs.Prelude.{◌≡◌, ◌≢◌, ◌<◌, ◌++◌, ◌⊎◌, ℕ, zero, suc, Bool, true, false, List, [], ◌∷◌, length, map, slice_index_or}
 use Rattle.std.proofs.Common.{refl, sym, subst, ap, ◌∙◌, arith, inl, inr}
-use Rattle.std.specs.List.{AllByRecursion, AllZip, Contains}
+use Rattle.std.specs.List.{AllByRecursion, AllZip}
 use Rattle.std.proofs.lemmas.List.{length-map}
 use Rattle.std.proofs.lemmas.List.Elements.{Contains-append_left, Contains-append_right}
 use Rattle.data_theory.specs.Rewriting.{yes_decided}
 use Rattle.data_theory.specs.Terms.{Term}
 use Rattle.process_terms.specs.Communication.{equalities}
-use Rattle.process_terms.specs.Labels.{Action, Label, Permuted}
+use Rattle.process_terms.specs.Labels.{Action, Label}
 use Rattle.trace_replay.specs.Decidings.{Decides, IsOpen, Answer, hold, fail, stay_open, ComeOut, all_hold, one_fails, one_is_open}
 use Rattle.trace_replay.specs.Pairings.{AreAlike, Pairing, label_equalities}
 use Rattle.trace_replay.specs.Settings.{Setting}
 use Rattle.trace_replay.specs.Ways.{action_at, actions_at, no_action}
 use Rattle.trace_replay.proofs.BegunWays.{alike_long, permuted_long}
 use Rattle.aut_check.specs.Comparing.{ActionsCome, AreActionRows, IsActionRow, LabelsCome}
-use Rattle.aut_check.specs.Matchings.{column_of, mark_at, HasMatching, IsMatching, IsOrder, IsSquare}
+use Rattle.aut_check.specs.Matchings.{column_of, mark_at, HasMatching, IsOrder, IsSquare}
 use Rattle.aut_check.specs.Tables.{both, mark_of, marked, TableComes}
 use Rattle.aut_check.proofs.PermutedOrders.{order_permutes, permuted_order}
 use Rattle.aut_check.proofs.TableLaws.{zip_long}

@@ -17,7 +17,6 @@ use Rattle.lps_core.specs.PlainLinears.{PlainLinear, plain_next}
 use Rattle.lps_core.proofs.Members.{all_at, all_from}
 use Rattle.lps_simulator.specs.Options.{TermMove}
 use Rattle.lps_simulator.specs.OptionsInCode.{PlainOptions, AreOptions, IsMove, IsState, meant_move}
-use Rattle.lps_simulator.proofs.FittingSummands.{moves_mean}
 use Rattle.aut_check.specs.declared.verdicts.StateVerdict.{StateVerdict}
 use Rattle.aut_check.specs.Comparing.{setting, state_answer, AreEdgesFrom, AreMoveRows, EdgeComesWith, EdgesAreStates, EdgesCome, MovesCome}
 use Rattle.aut_check.specs.Tables.{answers_of, tables_of, IsVerdictOn}

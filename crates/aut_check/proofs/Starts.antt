@@ -1,9 +1,8 @@
 -- How the start comes out, in code.
-use Rattle.std.specs.Prelude.{◌≡◌, ◌<◌, ℕ, List, length, map, Option, Some, None, Vec, slice_get, slice_index_or}
+use Rattle.std.specs.Prelude.{◌≡◌, ◌<◌, List, length, Option, Some, None, Vec, slice_index_or}
 use Rattle.std.specs.Global.{Global}
-use Rattle.std.proofs.Common.{refl, sym, subst, ap, ◌∙◌}
+use Rattle.std.proofs.Common.{subst}
 use Rattle.data_theory.specs.IdTrees.{Tree}
-use Rattle.data_theory.specs.Terms.{Term}
 use Rattle.data_theory.specs.declared.ids.TermId.{TermId}
 use Rattle.process_terms.specs.Communication.{equalities}
 use Rattle.lps_core.specs.PlainLinears.{PlainLinear, plain_next}
@@ -14,7 +13,7 @@ use Rattle.aut_check.specs.declared.systems.Lts.{Lts}
 use Rattle.aut_check.specs.Comparing.{TheStart}
 use Rattle.aut_check.specs.Matching.{has_ended, compared}
 use Rattle.aut_check.specs.PlainSystems.{meant_state, plain_system}
-use Rattle.aut_check.specs.Systems.{FileState, IsStateAt}
+use Rattle.aut_check.specs.Systems.{IsStateAt}
 use Rattle.aut_check.specs.Verdicts.{sorts_in, system_in}
 use Rattle.aut_check.proofs.GoodFiles.{map_at}
 use Rattle.aut_check.proofs.RunningStates.{state_read}

@@ -1,17 +1,15 @@
 -- The best and the worst of answers, one after another.
-use Rattle.std.specs.Prelude.{◌≡◌, ◌<◌, ◌+◌, ◌++◌, ◌⊎◌, ℕ, zero, suc, Bool, true, false, List, [], ◌∷◌, length, map, take, slice_index_or, IsTrue}
-use Rattle.std.proofs.Common.{refl, sym, subst, ap, ap₂, ◌∙◌, arith, ⊎_elim}
+use Rattle.std.specs.Prelude.{◌≡◌, ◌<◌, ◌+◌, ◌++◌, ℕ, zero, suc, Bool, true, false, List, [], ◌∷◌, length, map, take, slice_index_or, IsTrue}
+use Rattle.std.proofs.Common.{refl, sym, subst, ap, ◌∙◌, arith, ⊎_elim}
 use Rattle.std.specs.Global.{Vec}
 use Rattle.std.specs.List.{All, AllZip, Contains}
-use Rattle.std.proofs.lemmas.List.{get_or_default, length-map, map-append, take_more}
+use Rattle.std.proofs.lemmas.List.{map-append, take_more}
 use Rattle.std.proofs.lemmas.List.Elements.{All-get_or, Contains-append_left, Contains-push_cases, Contains-push}
 use Rattle.trace_replay.specs.declared.deciding.Answer.{Answer as CodeAnswer}
 use Rattle.trace_replay.specs.DecidedConditions.{answer_of}
 use Rattle.trace_replay.specs.Decidings.{Answer, hold, fail, stay_open}
-use Rattle.aut_check.specs.declared.verdicts.StateVerdict.{StateVerdict}
-use Rattle.aut_check.specs.declared.verdicts.StateVerdict.TheVariants.{Good, Differs, Open}
-use Rattle.aut_check.specs.Matchings.{rows as mark_rows}
-use Rattle.aut_check.specs.Tables.{answers_of, better, column_answers, mark_of, marked, settled_verdict, tables_of, IsBest, IsWorst}
+use Rattle.aut_check.specs.declared.verdicts.StateVerdict.TheVariants.{Open}
+use Rattle.aut_check.specs.Tables.{answers_of, better, column_answers, settled_verdict, tables_of, IsBest, IsWorst}
 use Rattle.aut_check.proofs.Orders.{same_or_not}
 use Rattle.aut_check.proofs.Trials.{contains_nothing}
 

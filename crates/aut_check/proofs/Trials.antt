@@ -1,11 +1,11 @@
 -- Trials, and the search that they are.
-use Rattle.std.specs.Prelude.{◌≡◌, ◌≢◌, ◌<◌, ◌≤◌, ◌+◌, ◌⊎◌, ℕ, zero, suc, Bool, true, false, List, [], ◌∷◌, ◌++◌, length, set, cond, slice_index_or}
+use Rattle.std.specs.Prelude.{◌≡◌, ◌<◌, ◌≤◌, ◌+◌, ◌⊎◌, ℕ, zero, suc, Bool, true, false, List, [], ◌∷◌, ◌++◌, length, set, cond, slice_index_or}
 use Rattle.std.proofs.Common.{refl, sym, subst, ap, ◌∙◌, arith, inl, inr, ⊎_elim, length-append, get_or-set_same, get_or-set_other}
 use Rattle.std.specs.List.{Contains, SwappedAt}
 use Rattle.std.proofs.lemmas.List.Elements.{Contains-append_left, Contains-push_cases, Contains-push}
 use Rattle.std.proofs.lemmas.List.Sums.{sum_by-set}
 use Rattle.std.proofs.Math.ListN.{length-set}
-use Rattle.aut_check.specs.Matchings.{column_of, mark_at, unmoved_count, AddsTrials, HasMatching, IsBegun, IsMarkedBelow, IsMoved, IsOrder, IsTrial, PlainTrial}
+use Rattle.aut_check.specs.Matchings.{column_of, mark_at, AddsTrials, HasMatching, IsBegun, IsMarkedBelow, IsMoved, IsTrial, PlainTrial}
 use Rattle.aut_check.proofs.Orders.{same_or_not, exchanged_order, no_matching_left}
 
 -- a moved row is one of the rows

@@ -1,5 +1,5 @@
 -- Answers in code, and what they say.
-use Rattle.std.specs.Prelude.{◌≡◌, ◌<◌, ◌⊎◌, ℕ, zero, suc, List, [], ◌∷◌, length, map, Option, Some, None, slice_get}
+use Rattle.std.specs.Prelude.{◌≡◌, ◌<◌, ◌⊎◌, ℕ, zero, suc, List, [], ◌∷◌, length, map, Option, Some, slice_get}
 use Rattle.std.specs.Global.{Vec}
 use Rattle.std.specs.List.{All, AllZip, Contains}
 use Rattle.data_theory.specs.Declarations.{HaveSorts}

@@ -1,11 +1,10 @@
-use Rattle.std.proofs.Common.{◌≡◌, ◌<◌, List, arith, length, refl, subst, sym}
+use Rattle.std.proofs.Common.{◌<◌, List, arith, length, refl, subst, sym}
 use Rattle.std.specs.List.{All}
 use Rattle.std.proofs.lemmas.List.{length-map}
 use Rattle.data_theory.specs.declared.ids.SortId.{SortId}
 use Rattle.data_theory.specs.declared.ids.TermId.{TermId}
 use Rattle.lps_core.specs.PlainLinears.{plain_linear, plain_next}
 use Rattle.trace_replay.specs.DecidedConditions.{answer_of}
-use Rattle.trace_replay.proofs.Keepings.{keeps_itself}
 use Rattle.aut_check.specs.Comparing.{setting, AreClosed}
 use Rattle.aut_check.proofs.ClosedTerms.{if_ok_then, sorts_within, state_closed}
 use Rattle.aut_check.proofs.ComparedPairs.{terms_decided}

@@ -1,4 +1,4 @@
-use Rattle.std.proofs.Common.{◌≡◌, ◌∙◌, ◌<◌, List, ap, arith, get_or, length, refl, subst, sym}
+use Rattle.std.proofs.Common.{◌∙◌, ◌<◌, List, ap, arith, get_or, length, refl, subst, sym}
 use Rattle.std.proofs.lemmas.List.{length-map}
 use Rattle.lps_core.specs.PlainLinears.{plain_next}
 use Rattle.aut_check.specs.declared.systems.Edge.{Edge as CodeEdge}

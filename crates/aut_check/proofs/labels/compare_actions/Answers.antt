@@ -1,4 +1,4 @@
-use Rattle.std.proofs.Common.{ap, subst, sym}
+use Rattle.std.proofs.Common.{ap, sym}
 use Rattle.process_terms.specs.PlainProcesses.{plain_action}
 use Rattle.trace_replay.specs.DecidedConditions.{answer_of}
 use Rattle.trace_replay.proofs.EqualityTerms.{sorts_inside}

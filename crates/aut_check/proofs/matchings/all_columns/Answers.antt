@@ -1,4 +1,4 @@
-use Rattle.aut_check.proofs.MarkedTables.{numbers_are_order, numbers_more}
+use Rattle.aut_check.proofs.MarkedTables.{numbers_are_order}
 use Rattle.aut_check.proofs.matchings.all_columns.Goals as goal
 
 pub returns : goal.returns

@@ -1,4 +1,4 @@
-use Rattle.std.proofs.Common.{◌≡◌, ◌<◌, length, replicate, false, refl, sym, subst, ℕ, arith}
+use Rattle.std.proofs.Common.{◌<◌, refl, sym, subst, ℕ, arith}
 use Rattle.aut_check.proofs.TrialsInCode.{begun_search, ended_search, popped_filled, popped_inside, popped_long, popped_on, popped_trial}
 use Rattle.aut_check.proofs.matchings.with_row.Goals as goal
 

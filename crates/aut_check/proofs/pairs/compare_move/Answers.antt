@@ -1,4 +1,4 @@
-use Rattle.std.proofs.Common.{◌<◌, ℕ, List, [], arith, get_or, length, refl, subst, sym, take}
+use Rattle.std.proofs.Common.{◌<◌, ℕ, List, [], arith, get_or, length, subst, sym, take}
 use Rattle.std.proofs.lemmas.List.{take_all, take_more}
 use Rattle.std.proofs.lemmas.List.Elements.{All-get_or}
 use Rattle.lps_core.specs.PlainLinears.{plain_linear, plain_next}

@@ -1,4 +1,4 @@
-use Rattle.std.proofs.Common.{List, refl, subst, sym}
+use Rattle.std.proofs.Common.{List, subst, sym}
 use Rattle.std.specs.List.{All}
 use Rattle.std.specs.Prelude.{◌<◌, length, IfSome, Option, Vec}
 use Rattle.std.specs.Global.{Global}

@@ -1,4 +1,4 @@
-use Rattle.std.proofs.Common.{◌∙◌, [], ◌∷◌, ap, arith, length, length-append}
+use Rattle.std.proofs.Common.{[], ◌∷◌, ap, arith, length, length-append}
 use Rattle.trace_replay.specs.Decidings.{Answer}
 use Rattle.aut_check.specs.Tables.{column_answers, tables_of, IsBest}
 use Rattle.aut_check.proofs.TableLaws.{answers_more}

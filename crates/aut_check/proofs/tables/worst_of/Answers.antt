@@ -1,10 +1,10 @@
-use Rattle.std.proofs.Common.{◌+◌, ◌∙◌, List, ap, rules, subst, sym, take}
+use Rattle.std.proofs.Common.{◌+◌, List, ap, rules, subst, sym, take}
 use Rattle.std.proofs.lemmas.List.{take_all}
 use Rattle.trace_replay.specs.declared.deciding.Answer.{Answer as CodeAnswer}
 use Rattle.trace_replay.specs.DecidedConditions.{answer_of}
 use Rattle.aut_check.specs.declared.verdicts.StateVerdict.{StateVerdict}
 use Rattle.aut_check.specs.Tables.{answers_of, settled_verdict, IsWorst}
-use Rattle.aut_check.proofs.TableLaws.{taken, worst_first, worst_is_open, worst_turn_fail, worst_turn_hold}
+use Rattle.aut_check.proofs.TableLaws.{taken, worst_first, worst_turn_hold}
 use Rattle.aut_check.proofs.tables.worst_of.Goals as goal
 
 pub loop-best-init : goal.loop-best-init
