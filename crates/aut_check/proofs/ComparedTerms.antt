@@ -21,13 +21,8 @@ use Rattle.trace_replay.specs.Decidings.{Decides, hold, ComeOut, all_hold}
 use Rattle.aut_check.specs.Matching.{EndAlike, both_ended, neither_ended, state_equalities, Match}
 use Rattle.trace_replay.specs.Pairings.{AreAlike, label_equalities, IsClosedAction, IsClosedLabel}
 use Rattle.trace_replay.specs.Settings.{Setting, data_in}
-use Rattle.trace_replay.proofs.PairedLabels.{permuted_all}
+use Rattle.trace_replay.proofs.PairedLabels.{agree_named, all_cut, permuted_all}
 use Rattle.aut_check.specs.Systems.{FileState}
-
--- ---- in two parts
-all_cut : {A : Type 0} (P : A → Type 0) (xs ys : List A) → AllByRecursion P (xs ++ ys) → AllByRecursion P xs × AllByRecursion P ys
-all_cut P [] ys h = (tt, h)
-all_cut P (x ∷ xs) ys h = let r = all_cut P xs ys h.1 in ((h.0, r.0), r.1)
 
 pub all_of_hold : {s : Setting} {cs : List Term} → ComeOut s cs hold → AllByRecursion (Decides s yes_decided) cs
 all_of_hold (all_hold h) = h
@@ -36,12 +31,6 @@ all_of_hold (all_hold h) = h
 sorted_closed : (s : Setting) (m : Label) → LabelIsSorted (data_in s) [] m → IsClosedLabel (data_in s) m
 sorted_closed s _ no_action_to_sort = tt
 sorted_closed s _ (action_sorted {m = m} h k) = (h, sorted_closed s m k)
-
--- actions with the same name and sorts, and provably equal arguments
-agree_named : (th : Theory) (a b : Action) → a.name ≡ b.name → a.sorts ≡ b.sorts → Equals th a.args b.args → AgreeAction th a b
-agree_named th a b e f h =
-    subst (λ (ss : List Sort). AgreeAction th a (record { name = b.name; sorts = ss; args = b.args })) f
-    (subst (λ (n : Name). AgreeAction th a (record { name = n; sorts = a.sorts; args = b.args })) e (equal_args h))
 
 -- what the next terms of a move and the terms of a state are where both match
 pub data LandAlike (th : Theory) : Option (List Term) → FileState → Type 0 where

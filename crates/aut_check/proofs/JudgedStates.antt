@@ -21,6 +21,7 @@ use Rattle.aut_check.specs.PlainSystems.{PlainSystem, IsSystem}
 use Rattle.trace_replay.specs.Settings.{Setting}
 use Rattle.aut_check.specs.Verdicts.{bisimilar, mismatch, undecided, Judges, nothing_fails, start_differs, start_is_open, state_differs, state_is_open, StateAnswer, is_good, mismatches, is_undecided, StateIs}
 use Rattle.aut_check.proofs.GoodFiles.{at_place}
+use Rattle.aut_check.proofs.Orders.{less_or_same}
 use Rattle.aut_check.proofs.SettledStates.{state_is_settled}
 
 -- the states with a lesser number are good
@@ -30,12 +31,6 @@ AreGoodBelow s ts l f k = (j : ℕ) (q : Option (List TermId)) → j < k → sli
 -- all that a state with this number comes out as
 abbrev pub ComesAt : Setting → List Tree → PlainLinear → PlainSystem → ℕ → StateAnswer → Type 0
 ComesAt s ts l f i a = (o : Option (List TermId)) → slice_get f.states i ≡ Some o → StateIs s ts l f i o a
-
-less_or_same : (j k : ℕ) → j < k + 1 → (j < k) ⊎ (j ≡ k)
-less_or_same zero zero l = inr refl
-less_or_same zero (suc k) l = inl (omega arith)
-less_or_same (suc j) zero l = absurd (omega (arith, l))
-less_or_same (suc j) (suc k) l = ⊎_elim (λ h. inl (omega (arith, h))) (λ e. inr (ap suc e)) (less_or_same j k (omega (arith, l)))
 
 module _ (s : Setting) (ts : List Tree) (l : PlainLinear) (f : PlainSystem) where
   pub none_below : AreGoodBelow s ts l f 0

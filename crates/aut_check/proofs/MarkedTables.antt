@@ -4,7 +4,7 @@ use Rattle.std.proofs.Common.{sym, subst, ap, ◌∙◌, arith, ⊎_elim}
 use Rattle.std.specs.Global.{Vec}
 use Rattle.std.proofs.lemmas.List.{length-map, get_or_default, get_or_append_left, get_or_at}
 use Rattle.aut_check.specs.Matchings.{column_of, mark_at, rows, IsOrder, IsSquare}
-use Rattle.aut_check.proofs.Orders.{same_or_not}
+use Rattle.aut_check.proofs.Orders.{less_unless_same, same_or_not}
 
 pub rows_long : (marks : List (Vec Bool)) → length (rows marks) ≡ length marks
 rows_long marks = length-map marks (λ (v : Vec Bool). v.items)
@@ -28,12 +28,9 @@ module _ (marks : List (Vec Bool)) (row column : ℕ) (v : Vec Bool) (inside : r
 pub numbers_more : (xs : List ℕ) (n : ℕ) → length xs ≡ n → ((row : ℕ) → row < n → column_of xs row ≡ row) → (row : ℕ) → row < n + 1 → column_of (xs ++ n ∷ []) row ≡ row
 numbers_more xs n long at row l = ⊎_elim
     (λ e. subst (λ (z : ℕ). column_of (xs ++ n ∷ []) z ≡ z) (sym e) (get_or_at xs n [] 0 n long))
-    (λ o. get_or_append_left xs (n ∷ []) 0 row (inside (less row n l o)) ∙ at row (less row n l o))
+    (λ o. get_or_append_left xs (n ∷ []) 0 row (inside (less_unless_same row n l o)) ∙ at row (less_unless_same row n l o))
     (same_or_not row n)
   where
-    less : (r m : ℕ) → r < m + 1 → (r ≡ m → ⊥) → r < m
-    less r m h o = grind (arith, h, o)
-
     inside : row < n → row < length xs
     inside h = omega (arith, h, long)
 

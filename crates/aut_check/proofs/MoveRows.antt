@@ -2,7 +2,7 @@
 use Rattle.std.specs.Prelude.{◌≡◌, ◌<◌, ◌++◌, ◌⊎◌, ℕ, zero, suc, List, [], ◌∷◌, length, map, Contains, Option, Some, slice_get, slice_index_or}
 use Rattle.std.proofs.Common.{refl, sym, subst, ap, arith, inl, inr, ⊎_elim}
 use Rattle.std.specs.List.{AllZip}
-use Rattle.std.proofs.lemmas.List.Elements.{Contains-append_left, Contains-append_right}
+use Rattle.std.proofs.lemmas.List.Elements.{Contains-append_left, Contains-append_right, Contains-get_or}
 use Rattle.data_theory.specs.IdTrees.{Tree}
 use Rattle.data_theory.specs.Terms.{Sort, Term}
 use Rattle.data_theory.specs.declared.ids.TermId.{TermId}
@@ -104,11 +104,6 @@ place_in (y ∷ xs) d x c = ⊎_elim
     (λ e. (zero, (omega arith, e)))
     (λ j. let r = place_in xs d x j in let l : r.0 < length xs = r.1.0 in (suc r.0, (omega (arith, l), r.1.1)))
     (contains_cases y x xs c)
-
-at_in : {A : Type 0} (xs : List A) (d : A) (i : ℕ) → i < length xs → Contains xs (slice_index_or xs i d)
-at_in [] d i l = absurd (omega (arith, l))
-at_in (x ∷ xs) d zero l = contains_first x xs
-at_in (x ∷ xs) d (suc i) l = contains_later x (slice_index_or xs i d) xs (at_in xs d i (omega (arith, l)))
 
 zip_through : {A B C : Type 0} (P : A → B → Type 0) (Q : B → C → Type 0) (R : A → C → Type 0) → ((x : A) (y : B) (z : C) → P x y → Q y z → R x z) → (xs : List A) (ys : List B) (zs : List C) → AllZip P xs ys → AllZip Q ys zs → AllZip R xs zs
 zip_through P Q R f [] [] [] h k = tt
@@ -301,7 +296,7 @@ module _ (s : Setting) (ts : List Tree) (f : PlainSystem) (i : ℕ) (numbers : L
           let l : p.0 < length bests = subst (λ (z : ℕ). p.0 < z) (sym long) p.1.0 in
           record {
             answer = slice_index_or bests p.0 fail;
-            among = at_in bests fail p.0 l;
+            among = Contains-get_or bests p.0 fail l;
             comes = subst (λ (z : FileState). EdgeComes s ss moves n z (slice_index_or bests p.0 fail)) r.state_is
                 (subst (λ (z : Label). EdgeComes s ss moves z (meant_state s.signature ts r.state) (slice_index_or bests p.0 fail)) r.label_is (at_edge p.0 r.number r.edge r.state p.1.0 p.1.1 r.at r.there));
           }
@@ -310,7 +305,7 @@ module _ (s : Setting) (ts : List Tree) (f : PlainSystem) (i : ℕ) (numbers : L
       some_answered a c K turn =
           let p = place_in bests fail a c in
           let l : p.0 < length numbers = subst (λ (z : ℕ). p.0 < z) long p.1.0 in
-          let e = edge_of (slice_index_or numbers p.0 0) (at_in numbers 0 p.0 l) in
+          let e = edge_of (slice_index_or numbers p.0 0) (Contains-get_or numbers p.0 0 l) in
           record {
             label = label_of (entries_of s.signature ts) e.edge.label;
             to = e.edge.to;

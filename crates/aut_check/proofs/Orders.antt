@@ -1,5 +1,5 @@
 -- Orders of columns, and that no matching is left where rows share too few columns.
-use Rattle.std.specs.Prelude.{◌≡◌, ◌≢◌, ◌<◌, ◌≤◌, ◌⊎◌, ℕ, zero, suc, Bool, true, false, List, [], ◌∷◌, length, cond, eqb, ◌||◌, slice_index_or}
+use Rattle.std.specs.Prelude.{◌≡◌, ◌≢◌, ◌<◌, ◌≤◌, ◌+◌, ◌⊎◌, ℕ, zero, suc, Bool, true, false, List, [], ◌∷◌, length, cond, eqb, ◌||◌, slice_index_or}
 use Rattle.std.proofs.Common.{refl, sym, subst, ap, ◌∙◌, arith, inl, inr, ⊎_elim}
 use Rattle.std.specs.Cmp.{nat_eq_equiv}
 use Rattle.std.specs.List.{AllByRecursion, IsDistinct, SwappedAt, list_any}
@@ -10,6 +10,12 @@ use Rattle.aut_check.specs.Matchings.{column_of, mark_at, IsBegun, IsMatching, I
 
 pub same_or_not : (a b : ℕ) → (a ≡ b) ⊎ (a ≢ b)
 same_or_not a b = elim (eqb_tells a b) [ inl w ↦ inl w.1 | inr w ↦ inr w.1 ]
+
+pub less_unless_same : (i j : ℕ) → i < j + 1 → (i ≡ j → ⊥) → i < j
+less_unless_same i j l n = grind (arith, l, n)
+
+pub less_or_same : (i j : ℕ) → i < j + 1 → (i < j) ⊎ (i ≡ j)
+less_or_same i j l = ⊎_elim (λ e. inr e) (λ n. inl (less_unless_same i j l n)) (same_or_not i j)
 
 -- ---- two columns exchanged
 data Where (a b m : ℕ) : Type 0 where

@@ -12,6 +12,8 @@ use Rattle.trace_replay.specs.Decidings.{Decides, IsOpen, Answer, hold, fail, st
 use Rattle.trace_replay.specs.Pairings.{AreAlike, Pairing, label_equalities}
 use Rattle.trace_replay.specs.Settings.{Setting}
 use Rattle.trace_replay.specs.Ways.{action_at, actions_at, no_action}
+use Rattle.trace_replay.proofs.ConditionLemmas.{all_weaker}
+use Rattle.trace_replay.proofs.PairedLabels.{all_append}
 use Rattle.trace_replay.proofs.BegunWays.{alike_long, permuted_long}
 use Rattle.aut_check.specs.Comparing.{ActionsCome, AreActionRows, IsActionRow, LabelsCome}
 use Rattle.aut_check.specs.Matchings.{column_of, mark_at, HasMatching, IsOrder, IsSquare}
@@ -20,22 +22,14 @@ use Rattle.aut_check.proofs.PermutedOrders.{order_permutes, permuted_order}
 use Rattle.aut_check.proofs.TableLaws.{zip_long}
 
 -- ---- conditions in two parts
-all_both : {A : Type 0} (P : A → Type 0) (xs ys : List A) → AllByRecursion P xs → AllByRecursion P ys → AllByRecursion P (xs ++ ys)
-all_both P [] ys h k = k
-all_both P (x ∷ xs) ys h k = (h.0, all_both P xs ys h.1 k)
-
-not_no : (s : Setting) (cs : List Term) → AllByRecursion (Decides s yes_decided) cs → AllByRecursion (λ (d : Term). Decides s yes_decided d ⊎ IsOpen s d) cs
-not_no s [] h = tt
-not_no s (c ∷ cs) h = (inl h.0, not_no s cs h.1)
-
 pub come_both : (s : Setting) (cs ds : List Term) {a b : Answer} → ComeOut s cs a → ComeOut s ds b → ComeOut s (cs ++ ds) (both a b)
-come_both s cs ds (all_hold h) (all_hold k) = all_hold (all_both (Decides s yes_decided) cs ds h k)
+come_both s cs ds (all_hold h) (all_hold k) = all_hold (all_append (Decides s yes_decided) cs ds h k)
 come_both s cs ds (all_hold h) (one_fails {c = c} k d) = one_fails (Contains-append_right cs ds c k) d
-come_both s cs ds (all_hold h) (one_is_open {c = c} k j o) = one_is_open (all_both (λ (d : Term). Decides s yes_decided d ⊎ IsOpen s d) cs ds (not_no s cs h) k) (Contains-append_right cs ds c j) o
+come_both s cs ds (all_hold h) (one_is_open {c = c} k j o) = one_is_open (all_append (λ (d : Term). Decides s yes_decided d ⊎ IsOpen s d) cs ds (all_weaker (Decides s yes_decided) (λ (d : Term). Decides s yes_decided d ⊎ IsOpen s d) (λ d k. inl k) cs h) k) (Contains-append_right cs ds c j) o
 come_both s cs ds (one_fails {c = c} h d) k = one_fails (Contains-append_left cs ds c h) d
-come_both s cs ds (one_is_open {c = c} h j o) (all_hold k) = one_is_open (all_both (λ (d : Term). Decides s yes_decided d ⊎ IsOpen s d) cs ds h (not_no s ds k)) (Contains-append_left cs ds c j) o
+come_both s cs ds (one_is_open {c = c} h j o) (all_hold k) = one_is_open (all_append (λ (d : Term). Decides s yes_decided d ⊎ IsOpen s d) cs ds h (all_weaker (Decides s yes_decided) (λ (d : Term). Decides s yes_decided d ⊎ IsOpen s d) (λ d j. inl j) ds k)) (Contains-append_left cs ds c j) o
 come_both s cs ds (one_is_open h j o) (one_fails {c = c} k d) = one_fails (Contains-append_right cs ds c k) d
-come_both s cs ds (one_is_open {c = c} h j o) (one_is_open k i p) = one_is_open (all_both (λ (d : Term). Decides s yes_decided d ⊎ IsOpen s d) cs ds h k) (Contains-append_left cs ds c j) o
+come_both s cs ds (one_is_open {c = c} h j o) (one_is_open k i p) = one_is_open (all_append (λ (d : Term). Decides s yes_decided d ⊎ IsOpen s d) cs ds h k) (Contains-append_left cs ds c j) o
 
 -- ---- the answers at the columns of an order
 abbrev entries : List (List Answer) → List ℕ → List Answer

@@ -18,9 +18,9 @@ use Rattle.aut_check.specs.declared.systems.Edge.{Edge as CodeEdge}
 use Rattle.aut_check.specs.declared.systems.Lts.{Lts}
 use Rattle.aut_check.specs.Comparing.{numbers_at, AreEdgesFrom, AreSorted}
 use Rattle.aut_check.specs.PlainSystems.{plain_edge, plain_system, IsEdge, IsSystem, PlainEdge, PlainSystem}
-use Rattle.aut_check.proofs.Orders.{same_or_not}
+use Rattle.aut_check.proofs.Orders.{less_unless_same, same_or_not}
 use Rattle.aut_check.proofs.RunningStates.{same_state, state_read}
-use Rattle.aut_check.proofs.Trials.{contains_nothing}
+use Rattle.bisim_laws.proofs.Firing.{contains_none}
 
 -- ---- lists of numbers
 pub none_there : (lists new : List (Vec ℕ Global)) (v : Vec ℕ Global) → ((i : ℕ) → numbers_at lists i ≡ []) → v.items ≡ [] → new ≡ lists ++ v ∷ [] → (i : ℕ) → numbers_at new i ≡ []
@@ -58,7 +58,7 @@ set_other (x ∷ xs) (suc i) (suc j) v n = set_other xs i j v (λ e. n (ap suc e
 pub sorted_first : (f : PlainSystem) (lists : List (Vec ℕ Global)) → length lists ≡ length f.states → ((i : ℕ) → numbers_at lists i ≡ []) → AreSorted f 0 lists
 sorted_first f lists size none = record {
   size = size;
-  within = λ i k c. absurd (contains_nothing k (subst (λ (z : List ℕ). Contains z k) (none i) c));
+  within = λ i k c. absurd (contains_none k (subst (λ (z : List ℕ). Contains z k) (none i) c));
   whole = λ i k e l at from. absurd (omega (arith, l));
 }
 
@@ -72,15 +72,12 @@ sorted_more f n lists e old new later h at inside read pushed made = subst (AreS
       (same_or_not i e.from);
   whole = λ i k d l there from. ⊎_elim
       (λ q. last i k d q there from)
-      (λ o. earlier i k d (less k n l o) there from)
+      (λ o. earlier i k d (less_unless_same k n l o) there from)
       (same_or_not k n);
 })
   where
     here : numbers_at (set lists e.from new) e.from ≡ numbers_at lists e.from ++ n ∷ []
     here = set_same lists e.from new inside ∙ pushed ∙ ap (λ (z : List ℕ). z ++ n ∷ []) (sym (numbers_read lists e.from old inside read))
-
-    less : (r m : ℕ) → r < m + 1 → (r ≡ m → ⊥) → r < m
-    less r m a o = grind (arith, a, o)
 
     within_here : (i k : ℕ) → i ≡ e.from → Contains (numbers_at (set lists e.from new) i) k → (d : PlainEdge) × ((slice_get f.edges k ≡ Some d) × (d.from ≡ i))
     within_here i k q c = ⊎_elim

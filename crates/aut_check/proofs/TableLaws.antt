@@ -10,8 +10,8 @@ use Rattle.trace_replay.specs.DecidedConditions.{answer_of}
 use Rattle.trace_replay.specs.Decidings.{Answer, hold, fail, stay_open}
 use Rattle.aut_check.specs.declared.verdicts.StateVerdict.TheVariants.{Open}
 use Rattle.aut_check.specs.Tables.{answers_of, better, column_answers, settled_verdict, tables_of, IsBest, IsWorst}
-use Rattle.aut_check.proofs.Orders.{same_or_not}
-use Rattle.aut_check.proofs.Trials.{contains_nothing}
+use Rattle.aut_check.proofs.Orders.{less_unless_same, same_or_not}
+use Rattle.bisim_laws.proofs.Firing.{contains_none}
 
 -- ---- lists side by side
 pub zip_push : {A B : Type 0} (P : A → B → Type 0) (xs : List A) (ys : List B) (x : A) (y : B) → AllZip P xs ys → P x y → AllZip P (xs ++ x ∷ []) (ys ++ y ∷ [])
@@ -39,7 +39,7 @@ not_in : (xs : List Answer) (b x : Answer) → (Contains xs x → ⊥) → (b �
 not_in xs b x h k c = ⊎_elim h k (Contains-push_cases xs b x c)
 
 pub best_first : IsBest [] fail
-best_first = (contains_nothing hold, contains_nothing stay_open)
+best_first = (contains_none hold, contains_none stay_open)
 
 pub best_more : (xs : List Answer) (a b : Answer) → IsBest xs a → IsBest (xs ++ b ∷ []) (better a b)
 best_more xs hold b h = Contains-append_left xs (b ∷ []) hold h
@@ -55,7 +55,7 @@ best_turn bs xs a b c e f h = subst (λ (zs : List Answer). IsBest zs c) (sym e)
 
 -- ---- the worst
 pub worst_first : IsWorst [] (settled_verdict false)
-worst_first = (contains_nothing stay_open, contains_nothing fail)
+worst_first = (contains_none stay_open, contains_none fail)
 
 worst_hold : (xs : List Answer) (b : Bool) → IsWorst xs (settled_verdict b) → IsWorst (xs ++ hold ∷ []) (settled_verdict b)
 worst_hold xs true h = (not_in xs hold stay_open h.0 (λ e. let never : ⊥ = cc in never), Contains-append_left xs (hold ∷ []) fail h.1)
@@ -99,12 +99,9 @@ pub answers_more : (P : ℕ → Answer → Type 0) (xs : List CodeAnswer) (n : �
     → (i : ℕ) → i < n + 1 → P i (slice_index_or (answers_of ys) i fail)
 answers_more P xs n x ys long h k e i l = subst (λ (zs : List CodeAnswer). P i (slice_index_or (answers_of zs) i fail)) (sym e) (⊎_elim
     (λ q. subst (λ (j : ℕ). P j (slice_index_or (answers_of (xs ++ x ∷ [])) j fail)) (sym q) (subst (P n) (sym (last xs n long)) k))
-    (λ o. subst (P i) (sym (before xs i (inside (less i n l o)))) (h i (less i n l o)))
+    (λ o. subst (P i) (sym (before xs i (inside (less_unless_same i n l o)))) (h i (less_unless_same i n l o)))
     (same_or_not i n))
   where
-    less : (r m : ℕ) → r < m + 1 → (r ≡ m → ⊥) → r < m
-    less r m a o = grind (arith, a, o)
-
     inside : i < n → i < length xs
     inside a = omega (arith, a, long)
 

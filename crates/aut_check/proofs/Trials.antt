@@ -5,8 +5,9 @@ use Rattle.std.specs.List.{Contains, SwappedAt}
 use Rattle.std.proofs.lemmas.List.Elements.{Contains-append_left, Contains-push_cases, Contains-push}
 use Rattle.std.proofs.lemmas.List.Sums.{sum_by-set}
 use Rattle.std.proofs.Math.ListN.{length-set}
+use Rattle.bisim_laws.proofs.Firing.{contains_none}
 use Rattle.aut_check.specs.Matchings.{column_of, mark_at, AddsTrials, HasMatching, IsBegun, IsMarkedBelow, IsMoved, IsTrial, PlainTrial}
-use Rattle.aut_check.proofs.Orders.{same_or_not, exchanged_order, no_matching_left}
+use Rattle.aut_check.proofs.Orders.{same_or_not, exchanged_order, less_or_same, no_matching_left}
 
 -- a moved row is one of the rows
 pub moved_below : (moved : List Bool) (v : ℕ) → IsMoved moved v → v < length moved
@@ -23,9 +24,6 @@ moved_before moved v other l h = ⊎_elim (λ e. subst (IsMoved (set moved v tru
 
 pub moved_since : (moved : List Bool) (v other : ℕ) → IsMoved (set moved v true) other → IsMoved moved other ⊎ (other ≡ v)
 moved_since moved v other h = ⊎_elim (λ e. inr e) (λ n. inl (sym (get_or-set_other moved v other true false n) ∙ h)) (same_or_not other v)
-
-pub contains_nothing : {A : Type 0} (x : A) → Contains [] x → ⊥
-contains_nothing x (k, below, _) = omega (arith, below)
 
 abbrev unmoved_at : Bool → ℕ
 unmoved_at b = cond b 0 1
@@ -91,12 +89,6 @@ module _ (marks : List (List Bool)) (row : ℕ) (first : List ℕ) where
       new = λ t h. inl h;
       left = refl;
     }
-
-    less_or_same : (n k : ℕ) → n < k + 1 → (n < k) ⊎ (n ≡ k)
-    less_or_same n k l = ⊎_elim (λ e. inr e) (λ o. inl (less n k l o)) (same_or_not n k)
-      where
-        less : (i j : ℕ) → i < j + 1 → (i ≡ j → ⊥) → i < j
-        less i j h o = grind (arith, h, o)
 
     module _ (place : ℕ) (moved moved' : List Bool) (waiting waiting' : List PlainTrial) (so_far : AddsTrials marks row first loose place moved moved' waiting waiting') where
       pub adds_old : IsMoved moved' place → AddsTrials marks row first loose (place + 1) moved moved' waiting waiting'
@@ -172,7 +164,7 @@ module _ (marks : List (List Bool)) (row : ℕ) (first : List ℕ) where
       root = moved_now none row (subst (λ (n : ℕ). row < n) (sym size) begun.below)
 
       only : (y x : PlainTrial) → Contains (y ∷ []) x → x ≡ y
-      only y x h = ⊎_elim (λ m. absurd (contains_nothing x m)) (λ e. sym e) (Contains-push_cases [] y x h)
+      only y x h = ⊎_elim (λ m. absurd (contains_none x m)) (λ e. sym e) (Contains-push_cases [] y x h)
 
   -- one trial less, and those that it adds
   pub search_on : (moved moved' : List Bool) (all waiting waiting' : List PlainTrial) (t : PlainTrial) → all ≡ waiting ++ t ∷ [] → IsSearch moved all → ((place : ℕ) → row ≤ place → place < length marks → mark_at marks t.loose (column_of first place) ≡ false)
@@ -218,6 +210,6 @@ module _ (marks : List (List Bool)) (row : ℕ) (first : List ℕ) where
     where
       closed : (v q : ℕ) → IsMoved moved v → q < length marks → mark_at marks v (column_of first q) ≡ true → IsMoved moved q × (q < row)
       closed v q m l marked = ⊎_elim
-          (λ r. absurd (contains_nothing r.0 (subst (λ (xs : List PlainTrial). Contains xs r.0) is r.1.0)))
+          (λ r. absurd (contains_none r.0 (subst (λ (xs : List PlainTrial). Contains xs r.0) is r.1.0)))
           (λ c. c q l marked)
           (h.settled v m)
