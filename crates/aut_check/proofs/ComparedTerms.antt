@@ -1,5 +1,5 @@
 -- What is decided equal is provably equal, over later data.
-use Rattle.std.specs.Prelude.{◌≡◌, List, [], ◌∷◌, ◌++◌, Contains, Option, Some, None}
+use Rattle.std.specs.Prelude.{List, [], ◌∷◌, Contains, Option, Some, None}
 use Rattle.std.proofs.Common.{refl, sym, subst}
 use Rattle.std.specs.List.{AllByRecursion}
 use Rattle.data_theory.specs.Terms.{Sort, boolean, Term}
@@ -11,8 +11,7 @@ use Rattle.data_theory.specs.Provable.{Equation, reflected}
 use Rattle.data_theory.specs.Rewriting.{IsWellFormed, yes_decided}
 use Rattle.data_theory.proofs.WellSorted.{sort_of_term}
 use Rattle.process_terms.specs.Communication.{equalities}
-use Rattle.process_terms.specs.Labels.{Action, Label, AgreeAction, equal_args, AgreeInOrder, both_silent, next_agree, Agree}
-use Rattle.process_terms.specs.Names.{Name}
+use Rattle.process_terms.specs.Labels.{Label, AgreeInOrder, both_silent, next_agree, Agree}
 use Rattle.process_terms.specs.Theories.{Theory, Equal, Equals, no_terms, more_terms}
 use Rattle.bisim_laws.specs.LinearProcesses.{LabelIsSorted, no_action_to_sort, action_sorted, NextIsSorted, next_sorted}
 use Rattle.lps_simulator.specs.Options.{TermMove}

@@ -1,7 +1,7 @@
 -- States one after another, and the verdict on all of them.
-use Rattle.std.specs.Prelude.{◌≡◌, ◌<◌, ◌≤◌, ◌+◌, ◌⊎◌, ℕ, zero, suc, List, map, length, Option, Some, slice_get, Vec}
+use Rattle.std.specs.Prelude.{◌≡◌, ◌<◌, ◌≤◌, ◌+◌, ℕ, List, map, length, Option, Some, slice_get, Vec}
 use Rattle.std.specs.Global.{Global}
-use Rattle.std.proofs.Common.{refl, sym, subst, ap, arith, inl, inr, ⊎_elim}
+use Rattle.std.proofs.Common.{sym, subst, arith, ⊎_elim}
 use Rattle.std.proofs.lemmas.List.{length-map}
 use Rattle.std.proofs.lemmas.Option.{slice_get_within}
 use Rattle.data_theory.specs.IdTrees.{Tree}
