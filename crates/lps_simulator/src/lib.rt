@@ -11,6 +11,6 @@ mod session;
 pub mod sum_values;
 mod walk;
 
-pub use options::{Move, Open, Options};
+pub use options::{Move, Open, Options, options_at};
 pub use session::Session;
 pub use walk::Walk;

@@ -244,7 +244,7 @@ pub(crate) fn nothing(alloc: Global) -> Options
 }
 
 /// What a linear process can do in a state.
-pub(crate) fn options_at<F: Fn(NumOp, Num, Num) -> Option<Num>>(
+pub fn options_at<F: Fn(NumOp, Num, Num) -> Option<Num>>(
     alloc: Global,
     sig: &Signature,
     pool: &mut Pool,

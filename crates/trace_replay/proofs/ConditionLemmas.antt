@@ -34,7 +34,7 @@ all_behind : {A : Type 0} (P : A → Type 0) (xs : List A) (y : A) → AllByRecu
 all_behind P [] y h k = (k, tt)
 all_behind P (x ∷ xs) y h k = (h.0, all_behind P xs y h.1 k)
 
-all_weaker : {A : Type 0} (P Q : A → Type 0) → ((x : A) → P x → Q x) → (xs : List A) → AllByRecursion P xs → AllByRecursion Q xs
+pub all_weaker : {A : Type 0} (P Q : A → Type 0) → ((x : A) → P x → Q x) → (xs : List A) → AllByRecursion P xs → AllByRecursion Q xs
 all_weaker P Q f [] h = tt
 all_weaker P Q f (x ∷ xs) h = (f x h.0, all_weaker P Q f xs h.1)
 

@@ -1,5 +1,5 @@
 -- Terms of equalities in a pool, and actions that stand there.
-use Rattle.std.specs.Prelude.{◌≡◌, ◌<◌, ◌≤◌, ◌+◌, ◌++◌, ℕ, zero, suc, min, List, [], ◌∷◌, map, length, drop, get_or, Some, Result, Ok, Err, IfOk, slice_get}
+use Rattle.std.specs.Prelude.{◌≡◌, ◌<◌, ◌≤◌, ◌+◌, ◌++◌, ℕ, zero, suc, min, List, [], ◌∷◌, map, length, drop, get_or, Some, Result, Ok, Err, IfOk, OnOk, slice_get}
 use Rattle.std.proofs.Common.{refl, sym, subst, ap, ap₂, ◌∙◌, arith, append_assoc, append-nil, add-one, drop-cons}
 use Rattle.std.specs.List.{All, AllZip}
 use Rattle.std.proofs.lemmas.List.{map-append}
@@ -70,6 +70,10 @@ pub both_ok : {A E : Type 0} (r : Result A E) (P Q R : A → Type 0) → ((a : A
 both_ok (Ok a) P Q R f h k = f a h k
 both_ok (Err e) P Q R f h k = h
 
+pub ok_then : {A E : Type 0} {P Q : Type 0} (r : Result A E) → (P → Q) → OnOk r P → OnOk r Q
+ok_then (Ok a) f h = f h
+ok_then (Err e) f h = tt
+
 -- ---- actions
 pub terms_meant : (g : Sig) (ts : List Tree) (ids : List TermId) → All (IsTerm g ts) ids → map (term_at g ts) ids ≡ map (meanings.term_at (entries_of g ts)) ids
 terms_meant g ts [] h = refl
@@ -113,11 +117,9 @@ action_inside g ts x a h = slice_get_within g.actions x.act.0 h.key h.stands
 pub key_is : (g : Sig) (ts : List Tree) (x : PlainAction) (a : Action) (h : ActionIs g ts x a) → key_at g x ≡ h.key
 key_is g ts x a h = get_or_from_slice_get g.actions x.act.0 h.key (key (record { 0 = 0 }) []) h.stands
 
-pub sort_inside : (g : Sig) → IsSignature g → (ts : List Tree) (x : PlainAction) (a : Action) → ActionIs g ts x a → (sorts : List SortId) (i : ℕ) (d : SortId) → sorts ≡ (key_at g x).sorts → i < length sorts → (get_or sorts i d).0 < length g.sorts
-sort_inside g stands ts x a h sorts i d e l =
-    let is : sorts ≡ h.key.sorts = e ∙ ap (λ (k : Key). k.sorts) (key_is g ts x a h) in
-    All-get_or (λ (s : SortId). s.0 < length g.sorts) sorts i d l
-    (subst (All (λ (s : SortId). s.0 < length g.sorts)) (sym is) (all_at (IsActionWithin (length g.texts) (length g.sorts)) g.actions x.act.0 h.key stands.complete.within.actions h.stands).takes)
+pub sorts_inside : (g : Sig) → IsSignature g → (ts : List Tree) (x : PlainAction) (a : Action) → ActionIs g ts x a → (sorts : List SortId) → sorts ≡ (key_at g x).sorts → All (λ (s : SortId). s.0 < length g.sorts) sorts
+sorts_inside g stands ts x a h sorts e =
+    subst (All (λ (s : SortId). s.0 < length g.sorts)) (sym (e ∙ ap (λ (k : Key). k.sorts) (key_is g ts x a h))) (all_at (IsActionWithin (length g.texts) (length g.sorts)) g.actions x.act.0 h.key stands.complete.within.actions h.stands).takes
 
 -- ---- equalities one after the other
 abbrev pub equalities_at : Sig → List Tree → List SortId → List TermId → List TermId → List Term
@@ -169,14 +171,13 @@ equalities_turn g ts us vs grows later ss xs ys i a b c l m n over_xs over_ys no
     ∙ h
 
 -- at the end of the loop
-pub equalities_all : (g : Sig) (ts : List Tree) (x y : PlainAction) (a b : Action) → ActionIs g ts x a → ActionIs g ts y b → (ss : List SortId) (xs ys : List TermId) → ss ≡ (key_at g x).sorts → xs ≡ x.args → ys ≡ y.args → (i : ℕ)
-    → min (min (length ss) (length xs)) (length ys) ≤ i → (new old : List Term) → new ++ equalities_at g ts (drop i ss) (drop i xs) (drop i ys) ≡ old ++ equalities_at g ts ss xs ys → new ≡ old ++ equalities a.sorts a.args b.args
-equalities_all g ts x y a b h k ss xs ys e q r i l new old is =
-    sym (append-nil new)
-    ∙ ap (λ z. new ++ z) (sym (equalities_past g ts ss xs ys i l))
-    ∙ is
-    ∙ ap (λ z. old ++ z)
-    (ap (λ z. equalities_at g ts z xs ys) (e ∙ ap (λ (z : Key). z.sorts) (key_is g ts x a h))
+pub equalities_end : (g : Sig) (ts : List Tree) (ss : List SortId) (xs ys : List TermId) (i : ℕ) → min (min (length ss) (length xs)) (length ys) ≤ i → (new : List Term) (all : List Term) → new ++ equalities_at g ts (drop i ss) (drop i xs) (drop i ys) ≡ all → new ≡ all
+equalities_end g ts ss xs ys i l new all is = sym (append-nil new) ∙ ap (λ z. new ++ z) (sym (equalities_past g ts ss xs ys i l)) ∙ is
+
+-- the arguments of two actions
+pub equalities_are : (g : Sig) (ts : List Tree) (x y : PlainAction) (a b : Action) → ActionIs g ts x a → ActionIs g ts y b → (ss : List SortId) (xs ys : List TermId) → ss ≡ (key_at g x).sorts → xs ≡ x.args → ys ≡ y.args → equalities_at g ts ss xs ys ≡ equalities a.sorts a.args b.args
+equalities_are g ts x y a b h k ss xs ys e q r =
+    ap (λ z. equalities_at g ts z xs ys) (e ∙ ap (λ (z : Key). z.sorts) (key_is g ts x a h))
     ∙ ap₂ (λ (w z : List TermId). equalities_at g ts h.key.sorts w z) q r
     ∙ ap (λ z. equalities z (map (term_at g ts) x.args) (map (term_at g ts) y.args)) h.sorts
-    ∙ ap₂ (λ w z. equalities a.sorts w z) h.args k.args)
+    ∙ ap₂ (λ w z. equalities a.sorts w z) h.args k.args

@@ -46,16 +46,16 @@ agreeing_are_alike both_silent = tt
 agreeing_are_alike (next_agree (equal_args k) h) = (refl, refl, agreeing_are_alike h)
 
 -- ---- equalities
-all_append : {A : Type 0} (P : A → Type 0) (xs ys : List A) → AllByRecursion P xs → AllByRecursion P ys → AllByRecursion P (xs ++ ys)
+pub all_append : {A : Type 0} (P : A → Type 0) (xs ys : List A) → AllByRecursion P xs → AllByRecursion P ys → AllByRecursion P (xs ++ ys)
 all_append P [] ys f h = h
 all_append P (x ∷ xs) ys f h = (f.0, all_append P xs ys f.1 h)
 
-all_cut : {A : Type 0} (P : A → Type 0) (xs ys : List A) → AllByRecursion P (xs ++ ys) → AllByRecursion P xs × AllByRecursion P ys
+pub all_cut : {A : Type 0} (P : A → Type 0) (xs ys : List A) → AllByRecursion P (xs ++ ys) → AllByRecursion P xs × AllByRecursion P ys
 all_cut P [] ys h = (tt, h)
 all_cut P (x ∷ xs) ys h = let r = all_cut P xs ys h.1 in ((h.0, r.0), r.1)
 
 -- actions with the same name and sorts, and provably equal arguments
-agree_named : (th : Theory) (a b : Action) → a.name ≡ b.name → a.sorts ≡ b.sorts → Equals th a.args b.args → AgreeAction th a b
+pub agree_named : (th : Theory) (a b : Action) → a.name ≡ b.name → a.sorts ≡ b.sorts → Equals th a.args b.args → AgreeAction th a b
 agree_named th a b e f h =
     subst (λ (ss : List Sort). AgreeAction th a (record { name = b.name; sorts = ss; args = b.args })) f
     (subst (λ (n : Name). AgreeAction th a (record { name = n; sorts = a.sorts; args = b.args })) e (equal_args h))

@@ -19,7 +19,7 @@ use term_pool::Pool;
 
 /// How some conditions come out together.
 #[derive(Clone, Copy, Debug, PartialEq, Eq)]
-pub(crate) enum Answer {
+pub enum Answer {
     /// All are decided `Yes`.
     Hold,
     /// One is decided `No`.
@@ -44,7 +44,7 @@ fn without_no(is_open: bool) -> Answer
 /// # Errors
 ///
 /// `NoMemory` where the rewriter has none, or there is none for the terms.
-pub(crate) fn decide_all<F: Fn(NumOp, Num, Num) -> Option<Num>>(
+pub fn decide_all<F: Fn(NumOp, Num, Num) -> Option<Num>>(
     sig: &Signature,
     pool: &mut Pool,
     rewriter: &mut Rewriter<F>,

@@ -16,6 +16,9 @@ mod states;
 mod traces;
 mod ways;
 
+pub use deciding::{Answer, decide_all};
+pub use lines::split_line;
 pub use reading::{Line, read_trace};
 pub use replaying::{ReplayFault, Verdict};
 pub use traces::replay;
+pub use ways::{add_term_equalities, sorts_of};

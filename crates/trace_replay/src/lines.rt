@@ -17,7 +17,7 @@ fn line_len(text: &[u8]) -> usize
 }
 
 /// The first line of a text, without its line feed, and the text behind it.
-pub(crate) fn split_line(text: &[u8]) -> (&[u8], &[u8])
+pub fn split_line(text: &[u8]) -> (&[u8], &[u8])
     requires { text.now ≢ [] }
     ensures lines { lines_of text.now ≡ result.0.now ∷ lines_of result.1.now }
     ensures shorter { length result.1.now < length text.now }

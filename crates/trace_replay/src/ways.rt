@@ -54,11 +54,40 @@ fn equality(
 }
 
 /// The sorts of an action's arguments.
-fn sorts_of<'a>(sig: &'a Signature, action: &Action) -> &'a [SortId]
+pub fn sorts_of<'a>(sig: &'a Signature, action: &Action) -> &'a [SortId]
     requires { action.now.act.0 < length sig.now.actions }
     ensures { result.now ≡ (key_at sig.now (plain_action action.now)).sorts }
 {
     sig.acts()[action.act.0].sorts.as_slice()
+}
+
+/// Adds the equalities of terms of these sorts, as far as all three go.
+///
+/// # Errors
+///
+/// `NoMemory` where there is none for them. The pool may have got some terms then.
+pub fn add_term_equalities(
+    sig: &Signature,
+    pool: &mut Pool,
+    sorts: &[SortId],
+    firsts: &[TermId],
+    seconds: &[TermId],
+    conditions: &mut Vec<TermId>,
+) -> Result<(), NoMemory>
+    requires sorts { All (λ s. s.0 < length sig.now.sorts) sorts.now }
+    requires firsts { All (IsTerm sig.now pool.old.trees) firsts.now }
+    requires seconds { All (IsTerm sig.now pool.old.trees) seconds.now }
+    requires conditions { All (IsTerm sig.now pool.old.trees) conditions.old.items }
+    ensures kept { Extends pool.old.trees pool.new.trees }
+    ensures over { OnOk result (All (IsTerm sig.now pool.new.trees) conditions.new.items) }
+    ensures added { OnOk result (map (term_at sig.now pool.new.trees) conditions.new.items ≡ map (term_at sig.now pool.old.trees) conditions.old.items ++ equalities (map (sort_under sig.now) sorts.now) (map (term_at sig.now pool.old.trees) firsts.now) (map (term_at sig.now pool.old.trees) seconds.now)) }
+{
+    signature_stands(sig);
+    let count = sorts.len().min(firsts.len()).min(seconds.len());
+    for index in 0..count {
+        conditions.push(equality(sig, pool, sorts[index], firsts[index], seconds[index])?)?;
+    }
+    Ok(())
 }
 
 /// Adds the equalities of the arguments of two actions, as far as both go.
@@ -80,11 +109,7 @@ fn add_equalities(
     let sorts = sorts_of(sig, left);
     let firsts = left.args.as_slice();
     let seconds = right.args.as_slice();
-    let count = sorts.len().min(firsts.len()).min(seconds.len());
-    for index in 0..count {
-        conditions.push(equality(sig, pool, sorts[index], firsts[index], seconds[index])?)?;
-    }
-    Ok(())
+    add_term_equalities(sig, pool, sorts, firsts, seconds, conditions)
 }
 
 /// These places without that at a number.

@@ -1,36 +1,22 @@
-use Rattle.std.proofs.Common.{◌≡◌, ◌∙◌, ◌<◌, ◌≤◌, ◌++◌, map, length, min, refl, sym, ap, subst, arith}
-use Rattle.std.specs.Prelude.{List}
+use Rattle.std.proofs.Common.{◌∙◌, ◌++◌, map, sym, ap, subst}
 use Rattle.std.specs.List.{All}
-use Rattle.std.proofs.lemmas.List.Elements.{All-push}
-use Rattle.data_theory.specs.declared.ids.TermId.{TermId}
 use Rattle.process_terms.specs.PlainProcesses.{plain_action}
 use Rattle.data_rewriter.specs.Standing.{term_at, IsTerm}
-use Rattle.lps_core.proofs.PoolTrees.{extends_itself, extends_on}
-use Rattle.lps_simulator.proofs.Bindings.{terms_stay}
-use Rattle.trace_replay.proofs.EqualityTerms.{equalities_all, equalities_turn}
-use Rattle.trace_replay.proofs.WaysInCode.{min_inside}
+use Rattle.trace_replay.proofs.EqualityTerms.{equalities_are, ok_then, sorts_inside}
 use Rattle.trace_replay.proofs.ways.add_equalities.Goals as goal
 
-pub loop-index-init : goal.loop-index-init
-loop-index-init c = record { kept = extends_itself c.args.pool.now.trees; over = c.requires.conditions; left = refl }
+pub add_term_equalities-requires-clause-sorts : goal.add_term_equalities-requires-clause-sorts
+add_term_equalities-requires-clause-sorts c = sorts_inside c.args.sig.now c.signature_stands.ensures c.args.pool.now.trees (plain_action c.args.left.now) c.requires.left.0 c.requires.left.1 c.sorts_of-sorts.result.now c.sorts_of-sorts.ensures
 
-pub returns-in_err-push-clause-kept : goal.returns-in_err-push-clause-kept
-returns-in_err-push-clause-kept c = extends_on c.args.pool.now.trees c.loop-index.pool.trees c.equality.new.pool.trees c.loop-index.invariant.kept c.equality.ensures.kept
+pub add_term_equalities-requires-clause-firsts : goal.add_term_equalities-requires-clause-firsts
+add_term_equalities-requires-clause-firsts c = subst (All (IsTerm c.args.sig.now c.args.pool.now.trees)) (sym c.as_slice-firsts.ensures.value) c.requires.left.1.over
 
-pub loop-index-preserved : goal.loop-index-preserved
-loop-index-preserved c =
-    let inside = min_inside (length c.sorts_of-sorts.result.now) (length c.as_slice-firsts.result.now) (length c.as_slice-seconds.result.now) c.min-count.result c.loop-index.index (c.min-count.ensures ∙ ap (λ k. min k (length c.as_slice-seconds.result.now)) c.min.ensures) c.loop-index-test.true in
-    record {
-      kept = extends_on c.args.pool.now.trees c.loop-index.pool.trees c.equality.new.pool.trees c.loop-index.invariant.kept c.equality.ensures.kept;
-      over = subst (λ (ids : List TermId). All (IsTerm c.args.sig.now c.equality.new.pool.trees) ids) (sym c.in_ok-push.ensures.items)
-          (All-push (IsTerm c.args.sig.now c.equality.new.pool.trees) c.loop-index.conditions.items c.in_ok-equality.field-0 (terms_stay c.args.sig.now c.loop-index.pool.trees c.equality.new.pool.trees c.loop-index.conditions.items c.equality.ensures.kept c.loop-index.invariant.over) c.in_ok-equality.ensures.means.term);
-      left = equalities_turn c.args.sig.now c.args.pool.now.trees c.loop-index.pool.trees c.equality.new.pool.trees c.loop-index.invariant.kept c.equality.ensures.kept c.sorts_of-sorts.result.now c.as_slice-firsts.result.now c.as_slice-seconds.result.now c.loop-index.index (record { 0 = 0 }) (record { 0 = 0 }) (record { 0 = 0 })
-          inside.0 inside.1 inside.2 (subst (All (IsTerm c.args.sig.now c.args.pool.now.trees)) (sym c.as_slice-firsts.ensures.value) c.requires.left.1.over) (subst (All (IsTerm c.args.sig.now c.args.pool.now.trees)) (sym c.as_slice-seconds.ensures.value) c.requires.right.1.over)
-          c.loop-index.conditions.items c.push.new.self.items c.in_ok-equality.field-0 _ c.loop-index.invariant.over c.in_ok-push.ensures.items c.in_ok-equality.ensures.means c.loop-index.invariant.left;
-    }
+pub add_term_equalities-requires-clause-seconds : goal.add_term_equalities-requires-clause-seconds
+add_term_equalities-requires-clause-seconds c = subst (All (IsTerm c.args.sig.now c.args.pool.now.trees)) (sym c.as_slice-seconds.ensures.value) c.requires.right.1.over
 
 pub returns-clause-added : goal.returns-clause-added
-returns-clause-added c = λ a b h k.
-    equalities_all c.args.sig.now c.args.pool.now.trees (plain_action c.args.left.now) (plain_action c.args.right.now) a b h k c.sorts_of-sorts.result.now c.as_slice-firsts.result.now c.as_slice-seconds.result.now c.sorts_of-sorts.ensures c.as_slice-firsts.ensures.value c.as_slice-seconds.ensures.value c.loop-index.index
-    (subst (λ k. k ≤ c.loop-index.index) (c.min-count.ensures ∙ ap (λ k. min k (length c.as_slice-seconds.result.now)) c.min.ensures) c.loop-index-test.false)
-    (map (term_at c.args.sig.now c.loop-index.pool.trees) c.loop-index.conditions.items) (map (term_at c.args.sig.now c.args.pool.now.trees) c.args.conditions.now.items) c.loop-index.invariant.left
+returns-clause-added c = ok_then c.add_term_equalities.result (λ added. λ a b h k.
+    added
+    ∙ ap (λ z. map (term_at c.args.sig.now c.args.pool.now.trees) c.args.conditions.now.items ++ z)
+    (equalities_are c.args.sig.now c.args.pool.now.trees (plain_action c.args.left.now) (plain_action c.args.right.now) a b h k c.sorts_of-sorts.result.now c.as_slice-firsts.result.now c.as_slice-seconds.result.now c.sorts_of-sorts.ensures c.as_slice-firsts.ensures.value c.as_slice-seconds.ensures.value))
+    c.add_term_equalities.ensures.added

@@ -3,7 +3,7 @@ use Rattle.std.specs.List.{All}
 use Rattle.term_pool.specs.Pools.{Extends}
 use Rattle.data_rewriter.specs.Standing.{IsTerm, term_at}
 use Rattle.trace_replay.proofs.EqualityTerms.{equalities_at}
-use Rattle.trace_replay.proofs.ways.add_equalities.Given as goal
+use Rattle.trace_replay.proofs.ways.add_term_equalities.Given as goal
 
 abbrev pub invariant-loop-index : goal.invariant-loop-index
 invariant-loop-index l = record {

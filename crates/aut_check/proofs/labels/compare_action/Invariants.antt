@@ -1,0 +1,17 @@
+use Rattle.std.proofs.Common.{List, map, take}
+use Rattle.data_theory.specs.Provable.{Equation}
+use Rattle.data_rewriter.specs.Rewriters.{Fits as FitsPool}
+use Rattle.process_terms.specs.Meanings.{action_of, label_of}
+use Rattle.process_terms.specs.PlainProcesses.{plain_action}
+use Rattle.process_terms.specs.SignatureEntries.{entries_of}
+use Rattle.trace_replay.specs.Keeping.{Keeps}
+use Rattle.aut_check.specs.Comparing.{setting, IsActionRow}
+use Rattle.aut_check.specs.Tables.{answers_of}
+use Rattle.aut_check.proofs.labels.compare_action.Given as goal
+
+abbrev pub invariant-loop-other : goal.invariant-loop-other
+invariant-loop-other g l = record {
+  kept : Keeps l.sig l.fn.pool.trees l.pool.trees l.fn.rewriter l.rewriter;
+  so_far : (own : List Equation) → FitsPool l.fn.rewriter l.sig own l.fn.pool.trees
+      → IsActionRow (setting l.sig own l.fuel) (label_of (entries_of l.sig l.fn.pool.trees) (map plain_action (take l.other-index l.others))) (action_of (entries_of l.sig l.fn.pool.trees) (plain_action l.action)) (answers_of l.row.items);
+}

@@ -1,0 +1,11 @@
+pub mod Systems
+pub mod SystemBisimulations
+pub mod Matching
+pub mod Matchings
+pub mod PlainSystems
+pub mod Verdicts
+pub mod Tables
+pub mod Comparing
+pub mod SystemLaws
+pub mod SystemChecks
+pub mod SystemTexts
