@@ -1,0 +1,11 @@
+pub mod SolvedPlaces
+pub mod HeldInvariants
+pub mod DecidedPlaces
+pub mod HoldingWith
+pub mod PutPlaces
+pub mod Parts
+pub mod PuttingParts
+pub mod Keepings
+pub mod Deciding
+pub mod Sifting
+pub mod JudgedSummands
