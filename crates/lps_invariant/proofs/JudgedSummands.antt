@@ -33,7 +33,7 @@ use Rattle.lps_invariant.specs.Places.{Place, SolvedPlaceIs}
 use Rattle.lps_invariant.specs.Decisions.{IsRefuted, IsProvedWhole}
 use Rattle.lps_invariant.specs.Judging.{AreSifted, none_to_sift, IsShownWith, IsShownBy, IsOpenAt, PlaceOf, StartIs, PlaceIs, the_start, a_summand, UnprovedAt, HoldsWith, plain_truths}
 use Rattle.lps_invariant.specs.JudgingInCode.{ArePartsOf, IsFound, IsOpenSummand}
-use Rattle.lps_invariant.proofs.Deciding.{answers_stay}
+use Rattle.lps_invariant.proofs.DecidedTerms.{answers_stay}
 use Rattle.lps_invariant.proofs.PutPlaces.{terms_stay_listed}
 use Rattle.lps_invariant.proofs.Sifting.{sifted_stays, sifted_goes, sifted_at, sifted_all, sifted_among, sifted_weaker}
 

@@ -3,9 +3,10 @@ pub mod HeldInvariants
 pub mod DecidedPlaces
 pub mod HoldingWith
 pub mod PutPlaces
-pub mod Parts
+pub mod PartsInCode
 pub mod PuttingParts
 pub mod Keepings
-pub mod Deciding
+pub mod DecidedTerms
 pub mod Sifting
 pub mod JudgedSummands
+pub mod Sets

@@ -1,6 +1,7 @@
 -- The parts of an invariant with terms for the parameters, in code.
-use Rattle.std.proofs.Common.{◌≡◌, ◌==◌, ◌<◌, ◌≤◌, ◌+◌, ℕ, zero, suc, true, false, List, [], ◌∷◌, ◌++◌, map, take, length, get_or, refl, sym, ap, ap₂, ◌∙◌, subst, cond, arith, add-one, Option, Some, None}
+use Rattle.std.proofs.Common.{◌≡◌, ◌==◌, ◌<◌, ◌≤◌, ◌+◌, ℕ, zero, suc, true, false, List, [], ◌∷◌, ◌++◌, map, take, length, get_or, refl, sym, ap, ap₂, ◌∙◌, subst, cond, arith, add-one, Option, Some, None, Vec}
 use Rattle.std.specs.Prelude.{option_map, IfSome}
+use Rattle.std.specs.Global.{Global}
 use Rattle.std.specs.List.{All, AllByRecursion, zip}
 use Rattle.std.proofs.lemmas.List.{map-append, length-map, take_all}
 use Rattle.std.proofs.lemmas.List.Elements.{All-nil, All-cons, All-head, All-tail}
@@ -25,6 +26,7 @@ use Rattle.process_terms.specs.SignatureEntries.{entries_of}
 use Rattle.bisim_laws.specs.LinearProcesses.{variables}
 use Rattle.lps_core.specs.Conditions.{parts}
 use Rattle.lps_core.specs.Fitting.{sort_of_variable, IsTermOf, AreTermsOf}
+use Rattle.lps_core.specs.PlainLinears.{plain_next}
 use Rattle.lps_core.specs.TreeSummands.{bound_tree, numbers_of}
 use Rattle.lps_core.proofs.MeantTrees.{Means, bound_means, puts_mean, numbers_meant}
 use Rattle.lps_core.proofs.PutWithin.{put_within}
@@ -115,3 +117,13 @@ module _ (g : Sig) (ok : IsSignature g) where
   -- ---- next terms
   pub next_some : (ts : List Tree) (params : List VarId) (o : Option (List TermId)) (ids zs : List TermId) → o ≡ Some ids → zs ≡ ids → IfSome o (AreTermsOf g ts (map (sort_of_variable g) params)) → AreTermsOf g ts (map (sort_of_variable g) params) zs
   next_some ts params o ids zs e q h = subst (AreTermsOf g ts (map (sort_of_variable g) params)) (sym q) (subst (λ z. IfSome z (AreTermsOf g ts (map (sort_of_variable g) params))) e h)
+
+  pub next_put : (ts : List Tree) (params : List VarId) (inv : Term) (o : Option (Vec TermId Global)) (terms : Vec TermId Global) (zs : List TermId) (made : List Term) → o ≡ Some terms → zs ≡ terms.items → made ≡ parts_at (map (bound_at (entries_of g ts)) params) inv (map (term_at (entries_of g ts)) zs)
+      → made ≡ next_goals (map (bound_at (entries_of g ts)) params) inv (option_map (map (term_at (entries_of g ts))) (plain_next o))
+  next_put ts params inv o terms zs made e q h =
+      subst (λ (z : Option (Vec TermId Global)). made ≡ next_goals (map (bound_at (entries_of g ts)) params) inv (option_map (map (term_at (entries_of g ts))) (plain_next z))) (sym e)
+      (subst (λ z. made ≡ parts_at (map (bound_at (entries_of g ts)) params) inv (map (term_at (entries_of g ts)) z)) q h)
+
+  pub next_none : (ts us : List Tree) (params : List VarId) (inv : Term) (o : Option (Vec TermId Global)) (made : List TermId) → o ≡ None → made ≡ [] → listed_at g us made ≡ next_goals (map (bound_at (entries_of g ts)) params) inv (option_map (map (term_at (entries_of g ts))) (plain_next o))
+  next_none ts us params inv o made e q =
+      subst (λ (z : Option (Vec TermId Global)). listed_at g us made ≡ next_goals (map (bound_at (entries_of g ts)) params) inv (option_map (map (term_at (entries_of g ts))) (plain_next z))) (sym e) (ap (listed_at g us) q)

@@ -19,6 +19,7 @@ use crate::places::Place;
 use data_rewriter::{Rewriter, Truth};
 use data_theory::{NoMemory, Num, Signature, TermId};
 use indexmap::IndexSet;
+use lps_core::signature_stands;
 use number_rules::NumOp;
 use std::alloc::Global;
 use term_pool::Pool;
@@ -127,8 +128,11 @@ pub(crate) fn open_goal<F: Fn(NumOp, Num, Num) -> Option<Num>>(
     requires rules { IsExact (F.pre (rule_of (number_rules rewriter.old))) (F.post (rule_of (number_rules rewriter.old))) }
     requires place { PlaceStands sig.now pool.old.trees place.now }
     ensures kept { Keeps sig.now pool.old.trees pool.new.trees rewriter.old rewriter.new }
-    ensures open { IfOk result (λ found. (own : List Equation) → Fits rewriter.old sig.now own pool.old.trees → MatchOption found (IsProvedWhole (data_meant sig.now) own fuel (place_at sig.now pool.old.trees place.now)) (λ p. IsFirstOpen sig.now own fuel pool.new.trees p.0 p.1 (place_at sig.now pool.old.trees place.now))) }
+    ensures found { IfOk result (λ found. (own : List Equation) → Fits rewriter.old sig.now own pool.old.trees → MatchOption found (IsProvedWhole (data_meant sig.now) own fuel (place_at sig.now pool.old.trees place.now)) (λ p. IsFirstOpen sig.now own fuel pool.new.trees p.0 p.1 (place_at sig.now pool.old.trees place.now))) }
 {
+    signature_stands(sig);
+    // What a pool keeps stands behind each of its calls.
+    pool.len();
     let mut known = IndexSet::new(alloc);
     insert_all(place.hypotheses.as_slice(), &mut known)?;
     for number in 0..place.goals.len() {

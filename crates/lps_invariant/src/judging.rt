@@ -197,14 +197,14 @@ fn with_summands(
 }
 
 /// The answer where a place has a goal that isn't proved.
-fn unproved(open: OpenPlace) -> Judged
-    ensures { result ≡ Unproved open.place open.part open.truths }
+fn unproved(found: OpenPlace) -> Judged
+    ensures { result ≡ Unproved found.place found.part found.truths }
 {
     let OpenPlace {
         place,
         part,
         truths,
-    } = open;
+    } = found;
     Judged::Unproved {
         place,
         part,

@@ -1,9 +1,9 @@
 -- How the terms of a place are decided, one after another.
-use Rattle.std.proofs.Common.{◌≡◌, ◌<◌, ◌≤◌, ◌+◌, ◌++◌, ◌⊎◌, inl, inr, ⊎_elim, ℕ, zero, suc, List, [], ◌∷◌, map, take, length, get_or, refl, sym, ap, ◌∙◌, subst, arith, add-one, Option, Some, None}
-use Rattle.std.specs.Prelude.{◌≢◌, Contains, slice_get}
+use Rattle.std.proofs.Common.{◌≡◌, ◌<◌, ◌≤◌, ◌+◌, ◌++◌, ◌⊎◌, inl, inr, ⊎_elim, ℕ, zero, suc, List, [], ◌∷◌, map, take, length, get_or, refl, sym, ap, ap₂, ◌∙◌, subst, arith, add-one, Bool, true, false, Option, Some, None}
+use Rattle.std.specs.Prelude.{◌≢◌, ◌↔◌, Contains, IsTrue, slice_get}
 use Rattle.std.specs.List.{All, AllZip}
 use Rattle.std.proofs.lemmas.List.{map-append, length-map, take_more, take_all}
-use Rattle.std.proofs.lemmas.List.Elements.{All-contains, Contains-get_or}
+use Rattle.std.proofs.lemmas.List.Elements.{All-head, All-tail, All-contains, All-weaker, Contains-get_or}
 use Rattle.std.proofs.lemmas.Option.{slice_get_within}
 use Rattle.data_theory.specs.declared.ids.TermId.{TermId}
 use Rattle.data_theory.specs.Terms.{Term}
@@ -22,9 +22,32 @@ use Rattle.data_rewriter.specs.Standing.{IsTerm, StandsFor, listed_at, term_at}
 use Rattle.data_rewriter.proofs.Standings.{term_kept, term_stays, same_terms}
 use Rattle.bisim_laws.proofs.Firing.{contains_none, contains_cases}
 use Rattle.lps_core.proofs.Members.{contains_map, map_contains}
+use Rattle.lps_invariant.specs.declared.places.Place as code
 use Rattle.lps_invariant.specs.Places.{Place}
+use Rattle.lps_invariant.specs.PlacesInCode.{place_at, PlaceStands}
 use Rattle.lps_invariant.specs.Decisions.{IsProved, IsProvedWhole, IsRefuted}
 use Rattle.lps_invariant.specs.Judging.{IsTruthFor, AreAnswered, IsShownWith, IsFirstOpen, IsOpenAt}
+
+-- ---- tests
+differ : true ≡ false → ⊥
+differ e = cc
+
+pub not_so : {P : Type 0} (b : Bool) → IsTrue b ↔ P → b ≡ false → P → ⊥
+not_so b h e p = differ (sym (h.1 p) ∙ e)
+
+-- ---- pools that grow
+listed_stay : (g : Sig) (ts us : List Tree) → Extends ts us → (ids : List TermId) → All (IsTerm g ts) ids → listed_at g us ids ≡ listed_at g ts ids
+listed_stay g ts us x [] h = refl
+listed_stay g ts us x (id ∷ ids) h = ap₂ (λ t zs. t ∷ zs) (term_kept g ts us id x (All-head (IsTerm g ts) id ids h).inside) (listed_stay g ts us x ids (All-tail (IsTerm g ts) id ids h))
+
+pub place_stays : (g : Sig) (ts us : List Tree) → Extends ts us → (p : code.Place) → PlaceStands g ts p → place_at g us p ≡ place_at g ts p
+place_stays g ts us x p h = ap₂ (λ hs gs. record { hypotheses = hs; goals = gs }) (listed_stay g ts us x p.hypotheses.items h.hypotheses) (listed_stay g ts us x p.goals.items h.goals)
+
+pub place_still_stands : (g : Sig) (ts us : List Tree) → Extends ts us → (p : code.Place) → PlaceStands g ts p → PlaceStands g us p
+place_still_stands g ts us x p h = record {
+  hypotheses = All-weaker (IsTerm g ts) (IsTerm g us) (λ id k. term_stays g ts us x id k) p.hypotheses.items h.hypotheses;
+  goals = All-weaker (IsTerm g ts) (IsTerm g us) (λ id k. term_stays g ts us x id k) p.goals.items h.goals;
+}
 
 -- ---- one decision
 pub decided_as : (g : Sig) (own : List Equation) (ts us : List Tree) (t : TermId) (fuel left : ℕ) (a : Truth) → Extends ts us → IsTerm g ts t → IsDecision g own ts us t fuel left a → IsTruthFor g own fuel us (term_at g ts t) a
@@ -143,7 +166,7 @@ module _ (g : Sig) (own : List Equation) (fuel : ℕ) (ts : List Tree) (hypothes
 
     -- a goal that isn't proved
     pub is_open : IsSignature g → AreDistinct ts → (Contains hypotheses (get_or goals i d) → ⊥) → (a ≡ Yes → ⊥) → IsFirstOpen g own fuel vs (i + 1) a P
-    is_open ok distinct none no = record {
+    is_open ok distinct none other = record {
       number = i;
       from_one = add-one i;
       goal = term_at g ts (get_or goals i d);
@@ -151,7 +174,7 @@ module _ (g : Sig) (own : List Equation) (fuel : ℕ) (ts : List Tree) (hypothes
       before = before;
       no_hypothesis = λ c. let r = contains_map (term_at g ts) hypotheses (term_at g ts (get_or goals i d)) c in none (subst (Contains hypotheses) (same r.0 r.1.0 (sym r.1.1)) r.1.0);
       answered = answered;
-      not_yes = no;
+      not_yes = other;
     }
       where
         same : (h : TermId) → Contains hypotheses h → term_at g ts h ≡ term_at g ts (get_or goals i d) → h ≡ get_or goals i d
