@@ -47,6 +47,45 @@ use Rattle.lps_invariant.proofs.HeldInvariants.{invariant_holds, held_good}
 use Rattle.lps_invariant.proofs.JudgedSummands.{both_grow, linear_stays, place_weaker}
 use Rattle.lps_invariant.proofs.Sifting.{sifted_all, sifted_among, sifted_weaker_on}
 
+-- ---- what is left
+module _ (g : Sig) (own : List Equation) (fuel : ℕ) (ts us : List Tree) (l : PlainLinear) (inv : TermId) (k : PlainLinear) (truths : List (List Truth)) (stands : IsSignature g) (fits : Fits g ts l) (extends : Extends ts us) (holds : HoldsWith g own fuel ts us l inv k truths) where
+  left_fit : All (SummandFits g ts l.params) k.summands
+  left_fit = sifted_all (λ s a. PlaceOf (IsShownWith g own fuel us a) g ts l inv s) (PlaceOf (IsRefuted (data_meant g) own fuel) g ts l inv) (SummandFits g ts l.params) holds.summands fits.summands
+
+  same_summands : (ss : List PlainSummand) → All (SummandFits g ts l.params) ss → map (summand_of (entries_of g us)) ss ≡ map (summand_of (entries_of g ts)) ss
+  same_summands [] h = refl
+  same_summands (s ∷ ss) h =
+      ap₂ (λ t zs. t ∷ zs) (summand_stays g g ts us stands.table stands.complete (both_grow g ts us extends) l.params s (All-head (SummandFits g ts l.params) s ss h)) (same_summands ss (All-tail (SummandFits g ts l.params) s ss h))
+
+  same_linear : linear_of (entries_of g us) l ≡ linear_of (entries_of g ts) l
+  same_linear = (what_fits_stays g g ts us l stands.table stands.complete (both_grow g ts us extends) fits).0
+
+  fits_later : Fits g us l
+  fits_later = linear_stays g stands ts us l extends fits
+
+  among : (s : PlainSummand) → Contains k.summands s → Contains l.summands s
+  among s i = sifted_among (λ s a. PlaceOf (IsShownWith g own fuel us a) g ts l inv s) (PlaceOf (IsRefuted (data_meant g) own fuel) g ts l inv) holds.summands s i
+
+  fits_with : Fits g us (record { params = l.params; init = l.init; summands = k.summands })
+  fits_with = record {
+    params = fits_later.params;
+    init = fits_later.init;
+    closed = fits_later.closed;
+    summands = sifted_all (λ s a. PlaceOf (IsShownWith g own fuel us a) g ts l inv s) (PlaceOf (IsRefuted (data_meant g) own fuel) g ts l inv) (SummandFits g us l.params) holds.summands fits_later.summands;
+    linear = record {
+      distinct = fits_later.linear.distinct;
+      summands = λ s i.
+          let r = contains_map (summand_of (entries_of g us)) k.summands s i in
+          subst (theory.IsSummand (linear_of (entries_of g us) l).params) (sym r.1.1) (fits_later.linear.summands (summand_of (entries_of g us) r.0) (map_contains (summand_of (entries_of g us)) l.summands r.0 (among r.0 r.1.0)));
+    };
+    taken = fits_later.taken;
+    sums_taken = sifted_all (λ s a. PlaceOf (IsShownWith g own fuel us a) g ts l inv s) (PlaceOf (IsRefuted (data_meant g) own fuel) g ts l inv) (λ (s : PlainSummand). All (HasTakenName g) s.sums) holds.summands fits_later.sums_taken;
+  }
+
+  pub left_fits : Fits g us k
+  left_fits = subst (Fits g us) (ap₂ (λ ps is. record { params = ps; init = is; summands = k.summands }) (sym holds.params) (sym holds.init)) fits_with
+
+-- ---- what follows
 module _ (g : Sig) (own : List Equation) (fuel : ℕ) (ts us : List Tree) (l : PlainLinear) (inv : TermId) (k : PlainLinear) (truths : List (List Truth)) (stands : IsSignature g) (fine : AreWellFormed g own) (fits : Fits g ts l) (invariant : IsInvariantIn g ts l inv) (extends : Extends ts us) (holds : HoldsWith g own fuel ts us l inv k truths) where
   abbrev L : theory.Linear
   L = linear_of (entries_of g ts) l
@@ -76,51 +115,14 @@ module _ (g : Sig) (own : List Equation) (fuel : ℕ) (ts us : List Tree) (l : P
   judged_there : IsJudgedBy (data_meant g) own fuel L I (initial_of (entries_of g ts) l) KS
   judged_there = record { start = holds.start; summands = all_judged holds.summands }
 
-  left_fit : All (SummandFits g ts l.params) k.summands
-  left_fit = sifted_all (λ s a. PlaceOf (IsShownWith g own fuel us a) g ts l inv s) (PlaceOf (IsRefuted (data_meant g) own fuel) g ts l inv) (SummandFits g ts l.params) holds.summands fits.summands
-
-  same_summands : (ss : List PlainSummand) → All (SummandFits g ts l.params) ss → map (summand_of (entries_of g us)) ss ≡ map (summand_of (entries_of g ts)) ss
-  same_summands [] h = refl
-  same_summands (s ∷ ss) h =
-      ap₂ (λ t zs. t ∷ zs) (summand_stays g g ts us stands.table stands.complete (both_grow g ts us extends) l.params s (All-head (SummandFits g ts l.params) s ss h)) (same_summands ss (All-tail (SummandFits g ts l.params) s ss h))
-
-  same_linear : linear_of (entries_of g us) l ≡ L
-  same_linear = (what_fits_stays g g ts us l stands.table stands.complete (both_grow g ts us extends) fits).0
-
   kept_params : (linear_of (entries_of g us) k).params ≡ L.params
-  kept_params = ap (λ ps. map (bound_at (entries_of g us)) ps) holds.params ∙ ap (λ (z : theory.Linear). z.params) same_linear
+  kept_params = ap (λ ps. map (bound_at (entries_of g us)) ps) holds.params ∙ ap (λ (z : theory.Linear). z.params) (same_linear g own fuel ts us l inv k truths stands fits extends holds)
 
   init_kept : initial_of (entries_of g us) k ≡ initial_of (entries_of g ts) l
   init_kept = ap (map (meanings.term_at (entries_of g us))) holds.init ∙ (what_fits_stays g g ts us l stands.table stands.complete (both_grow g ts us extends) fits).1
 
   left_is : linear_of (entries_of g us) k ≡ with_summands L KS
-  left_is = ap₂ (λ ps ss. record { params = ps; summands = ss }) kept_params (same_summands k.summands left_fit)
-
-  -- what is left fits
-  fits_later : Fits g us l
-  fits_later = linear_stays g stands ts us l extends fits
-
-  among : (s : PlainSummand) → Contains k.summands s → Contains l.summands s
-  among s i = sifted_among (λ s a. PlaceOf (IsShownWith g own fuel us a) g ts l inv s) (PlaceOf (IsRefuted (data_meant g) own fuel) g ts l inv) holds.summands s i
-
-  fits_with : Fits g us (record { params = l.params; init = l.init; summands = k.summands })
-  fits_with = record {
-    params = fits_later.params;
-    init = fits_later.init;
-    closed = fits_later.closed;
-    summands = sifted_all (λ s a. PlaceOf (IsShownWith g own fuel us a) g ts l inv s) (PlaceOf (IsRefuted (data_meant g) own fuel) g ts l inv) (SummandFits g us l.params) holds.summands fits_later.summands;
-    linear = record {
-      distinct = fits_later.linear.distinct;
-      summands = λ s i.
-          let r = contains_map (summand_of (entries_of g us)) k.summands s i in
-          subst (theory.IsSummand (linear_of (entries_of g us) l).params) (sym r.1.1) (fits_later.linear.summands (summand_of (entries_of g us) r.0) (map_contains (summand_of (entries_of g us)) l.summands r.0 (among r.0 r.1.0)));
-    };
-    taken = fits_later.taken;
-    sums_taken = sifted_all (λ s a. PlaceOf (IsShownWith g own fuel us a) g ts l inv s) (PlaceOf (IsRefuted (data_meant g) own fuel) g ts l inv) (λ (s : PlainSummand). All (HasTakenName g) s.sums) holds.summands fits_later.sums_taken;
-  }
-
-  pub left_fits : Fits g us k
-  left_fits = subst (Fits g us) (ap₂ (λ ps is. record { params = ps; init = is; summands = k.summands }) (sym holds.params) (sym holds.init)) fits_with
+  left_is = ap₂ (λ ps ss. record { params = ps; summands = ss }) kept_params (same_summands g own fuel ts us l inv k truths stands fits extends holds k.summands (left_fit g own fuel ts us l inv k truths stands fits extends holds))
 
   init_sorted : HaveSorts (data_meant g) (variable_sorts g) (terms_of (initial_of (entries_of g ts) l)) (sorts L.params)
   init_sorted = subst (λ ss. HaveSorts (data_meant g) (variable_sorts g) (terms_of (initial_of (entries_of g ts) l)) ss) (sym (sorts_of_variables g ts l.params fits.params)) (terms_sorted g ts (map (sort_of_variable g) l.params) l.init stands.table fits.init)
@@ -174,5 +176,5 @@ what_holds g own fuel ts us l inv k truths stands fine fits invariant extends ho
   in_every_run = in_every_run g own fuel ts us l inv k truths stands fine fits invariant extends holds;
   left_out = left_out g own fuel ts us l inv k truths stands fine fits invariant extends holds;
   good = good_left g own fuel ts us l inv k truths stands fine fits invariant extends holds;
-  fits = left_fits g own fuel ts us l inv k truths stands fits invariant extends holds;
+  fits = left_fits g own fuel ts us l inv k truths stands fits extends holds;
 }

@@ -23,15 +23,15 @@ use Rattle.bisim_laws.specs.LinearProcesses as theory
 use Rattle.lps_core.specs.declared.linears.Summand.{Summand}
 use Rattle.lps_core.specs.Conditions.{parts}
 use Rattle.lps_core.specs.Fitting.{Fits, SummandFits, IsVariable}
-use Rattle.lps_core.specs.PlainLinears.{PlainSummand, PlainLinear, linear_of, plain_linear, plain_summand, summand_of}
+use Rattle.lps_core.specs.PlainLinears.{PlainSummand, PlainLinear, initial_of, linear_of, plain_linear, plain_summand, summand_of}
 use Rattle.lps_core.proofs.Members.{all_at}
 use Rattle.lps_core.proofs.Staying.{variable_stays, summand_stays, what_fits_stays}
 use Rattle.lps_core.proofs.StayingFits.{what_fits_fits_still}
 use Rattle.lps_invariant.specs.declared.deciding.Found.{Found}
 use Rattle.lps_invariant.specs.declared.deciding.Found.TheVariants.{Contradictory, Shown, Open}
-use Rattle.lps_invariant.specs.Places.{Place, SolvedPlaceIs}
+use Rattle.lps_invariant.specs.Places.{Place, SolvedPlaceIs, parts_at}
 use Rattle.lps_invariant.specs.Decisions.{IsRefuted, IsProvedWhole}
-use Rattle.lps_invariant.specs.Judging.{AreSifted, none_to_sift, IsShownWith, IsShownBy, IsOpenAt, PlaceOf, StartIs, PlaceIs, the_start, a_summand, UnprovedAt, HoldsWith, plain_truths}
+use Rattle.lps_invariant.specs.Judging.{AreSifted, none_to_sift, IsShownWith, IsShownBy, IsFirstOpen, IsOpenAt, PlaceOf, StartIs, PlaceIs, the_start, a_summand, UnprovedAt, HoldsWith, plain_truths}
 use Rattle.lps_invariant.specs.JudgingInCode.{ArePartsOf, IsFound, IsOpenSummand}
 use Rattle.lps_invariant.proofs.DecidedTerms.{answers_stay}
 use Rattle.lps_invariant.proofs.PutPlaces.{terms_stay_listed}
@@ -149,3 +149,22 @@ module _ (g : Sig) (own : List Equation) (fuel : ℕ) (ts vs : List Tree) (l : P
       before (suc i) k =
           let r = some_there l.summands h.number i h.summand h.there (omega (arith, k)) in
           ⊎_elim (λ w. inl (a_summand r.1 w)) (λ w. inr (a_summand r.1 w)) (h.before i r.0 (omega (arith, k)) r.1)
+
+-- ---- the start
+module _ (g : Sig) (ts us : List Tree) (l : PlainLinear) (inv : TermId) (hypotheses goals : List TermId) (none : hypotheses ≡ []) (are : listed_at g us goals ≡ parts_at (map (bound_at (entries_of g ts)) l.params) (term_at g ts inv) (initial_of (entries_of g ts) l)) where
+  pub start_is : (P : Place → Type 0) → P (record { hypotheses = listed_at g us hypotheses; goals = listed_at g us goals }) → StartIs P g ts l inv
+  start_is P h = subst P (ap₂ (λ xs ys. record { hypotheses = xs; goals = ys }) (ap (listed_at g us) none) are) h
+
+  pub start_open : (own : List Equation) (fuel : ℕ) (vs : List Tree) (part : ℕ) (truth : Truth) (truths : List Truth) → truths ≡ truth ∷ [] → IsFirstOpen g own fuel vs part truth (record { hypotheses = listed_at g us hypotheses; goals = listed_at g us goals })
+      → StartIs (IsOpenAt g own fuel vs part truths) g ts l inv
+  start_open own fuel vs part truth truths e h = record { for_hypotheses = []; for_goal = truth; are = e; hypotheses = tt; goal = start_is (IsFirstOpen g own fuel vs part truth) h }
+
+-- ---- what holds
+pub holds_with : (g : Sig) (own : List Equation) (fuel : ℕ) (ts us : List Tree) (l : PlainLinear) (inv : TermId) (k : PlainLinear) (made : List PlainSummand) (truths : List (List Truth)) → k.params ≡ l.params → k.init ≡ l.init → k.summands ≡ made
+    → StartIs (IsProvedWhole (data_meant g) own fuel) g ts l inv → AreSiftedSoFar g own fuel ts us l inv l.summands made truths → HoldsWith g own fuel ts us l inv k truths
+holds_with g own fuel ts us l inv k made truths params init summands start sifted = record {
+  params = params;
+  init = init;
+  start = start;
+  summands = subst (λ z. AreSiftedSoFar g own fuel ts us l inv l.summands z truths) (sym summands) sifted;
+}

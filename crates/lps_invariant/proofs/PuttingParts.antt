@@ -1,6 +1,6 @@
 -- The parts of an invariant with terms for the parameters, in code.
-use Rattle.std.proofs.Common.{◌≡◌, ◌==◌, ◌<◌, ◌≤◌, ◌+◌, ℕ, zero, suc, true, false, List, [], ◌∷◌, ◌++◌, map, take, length, get_or, refl, sym, ap, ap₂, ◌∙◌, subst, cond, arith, add-one, Option, Some, None, Vec}
-use Rattle.std.specs.Prelude.{option_map, IfSome}
+use Rattle.std.proofs.Common.{◌≡◌, ◌==◌, ◌<◌, ◌≤◌, ◌+◌, ℕ, zero, suc, true, false, List, [], ◌∷◌, ◌++◌, map, take, length, get_or, refl, sym, ap, ap₂, ◌∙◌, subst, cond, arith, add-one, Option, Some, None, Vec, Result, Ok, Err}
+use Rattle.std.specs.Prelude.{option_map, IfOk}
 use Rattle.std.specs.Global.{Global}
 use Rattle.std.specs.List.{All, AllByRecursion, zip}
 use Rattle.std.proofs.lemmas.List.{map-append, length-map, take_all}
@@ -19,20 +19,24 @@ use Rattle.data_theory.specs.IdTerms.{term_under, IsTreeWithin}
 use Rattle.data_theory.proofs.IdTermLemmas.{sorted_trees_are_within}
 use Rattle.term_pool.specs.Bindings.{listed, listed_terms}
 use Rattle.term_pool.specs.HeadTrees.{tree_at, trees_at, IsIn, AreIn}
+use Rattle.term_pool.specs.Pools.{Extends}
 use Rattle.data_rewriter.specs.Standing.{IsTerm, listed_at}
-use Rattle.data_rewriter.specs.Standing as standing
+use Rattle.data_rewriter.proofs.Standings.{term_kept, term_stays}
 use Rattle.process_terms.specs.Meanings.{bound_at, term_at}
 use Rattle.process_terms.specs.SignatureEntries.{entries_of}
 use Rattle.bisim_laws.specs.LinearProcesses.{variables}
 use Rattle.lps_core.specs.Conditions.{parts}
-use Rattle.lps_core.specs.Fitting.{sort_of_variable, IsTermOf, AreTermsOf}
-use Rattle.lps_core.specs.PlainLinears.{plain_next}
+use Rattle.lps_core.specs.Fitting.{sort_of_variable, IsTermOf, AreTermsOf, SummandFits}
+use Rattle.lps_core.specs.PlainLinears.{PlainSummand, plain_next, summand_of}
+use Rattle.lps_core.specs.TreeConditions.{tree_parts}
 use Rattle.lps_core.specs.TreeSummands.{bound_tree, numbers_of}
 use Rattle.lps_core.proofs.MeantTrees.{Means, bound_means, puts_mean, numbers_meant}
 use Rattle.lps_core.proofs.PutWithin.{put_within}
-use Rattle.lps_core.proofs.Staying.{terms_are}
+use Rattle.lps_core.proofs.Staying.{term_is, terms_are}
 use Rattle.lps_sumelm.proofs.SolvedTrees.{terms_over, terms_listed}
 use Rattle.lps_invariant.specs.Places.{parts_at, next_goals}
+use Rattle.lps_invariant.proofs.PartsInCode.{parts_stand_behind, parts_meant_behind}
+use Rattle.lps_invariant.proofs.PutPlaces.{terms_stay_listed, terms_stay_terms}
 
 -- ---- variables and terms, place by place
 pub zip_more : (xs : List VarId) (ids : List TermId) (by new : List (VarId × TermId)) (n : ℕ) (x : VarId) (id : TermId) → n < length xs → length ids ≡ length xs → by ≡ zip (take n xs) (take n ids) → new ≡ by ++ (get_or xs n x, get_or ids n id) ∷ [] → new ≡ zip (take (n + 1) xs) (take (n + 1) ids)
@@ -114,16 +118,34 @@ module _ (g : Sig) (ok : IsSignature g) where
         ∙ ap (map (put (term_in (bound (numbers_of params) (map (term_under g) (trees_at ts ids)))))) (terms_listed g ok ts invariant ∙ h)
         ∙ ap₂ (λ xs zs. map (put (term_in (bound xs zs))) (parts inv)) (sym (numbers_meant g ts params)) (sym (terms_are g ts ids terms.within))
 
-  -- ---- next terms
-  pub next_some : (ts : List Tree) (params : List VarId) (o : Option (List TermId)) (ids zs : List TermId) → o ≡ Some ids → zs ≡ ids → IfSome o (AreTermsOf g ts (map (sort_of_variable g) params)) → AreTermsOf g ts (map (sort_of_variable g) params) zs
-  next_some ts params o ids zs e q h = subst (AreTermsOf g ts (map (sort_of_variable g) params)) (sym q) (subst (λ z. IfSome z (AreTermsOf g ts (map (sort_of_variable g) params))) e h)
+-- ---- next terms
+pub next_put : (g : Sig) (ts : List Tree) (params : List VarId) (inv : Term) (o : Option (Vec TermId Global)) (terms : Vec TermId Global) (zs : List TermId) (made : List Term) → o ≡ Some terms → zs ≡ terms.items → made ≡ parts_at (map (bound_at (entries_of g ts)) params) inv (map (term_at (entries_of g ts)) zs)
+    → made ≡ next_goals (map (bound_at (entries_of g ts)) params) inv (option_map (map (term_at (entries_of g ts))) (plain_next o))
+next_put g ts params inv o terms zs made e q h =
+    subst (λ (z : Option (Vec TermId Global)). made ≡ next_goals (map (bound_at (entries_of g ts)) params) inv (option_map (map (term_at (entries_of g ts))) (plain_next z))) (sym e)
+    (subst (λ z. made ≡ parts_at (map (bound_at (entries_of g ts)) params) inv (map (term_at (entries_of g ts)) z)) q h)
 
-  pub next_put : (ts : List Tree) (params : List VarId) (inv : Term) (o : Option (Vec TermId Global)) (terms : Vec TermId Global) (zs : List TermId) (made : List Term) → o ≡ Some terms → zs ≡ terms.items → made ≡ parts_at (map (bound_at (entries_of g ts)) params) inv (map (term_at (entries_of g ts)) zs)
-      → made ≡ next_goals (map (bound_at (entries_of g ts)) params) inv (option_map (map (term_at (entries_of g ts))) (plain_next o))
-  next_put ts params inv o terms zs made e q h =
-      subst (λ (z : Option (Vec TermId Global)). made ≡ next_goals (map (bound_at (entries_of g ts)) params) inv (option_map (map (term_at (entries_of g ts))) (plain_next z))) (sym e)
-      (subst (λ z. made ≡ parts_at (map (bound_at (entries_of g ts)) params) inv (map (term_at (entries_of g ts)) z)) q h)
+-- ---- the place of a summand
+pub if_ok : {A E : Type 0} (r : Result A E) (P Q : A → Type 0) → ((a : A) → P a → Q a) → IfOk r P → IfOk r Q
+if_ok (Ok a) P Q f h = f a h
+if_ok (Err e) P Q f h = h
 
-  pub next_none : (ts us : List Tree) (params : List VarId) (inv : Term) (o : Option (Vec TermId Global)) (made : List TermId) → o ≡ None → made ≡ [] → listed_at g us made ≡ next_goals (map (bound_at (entries_of g ts)) params) inv (option_map (map (term_at (entries_of g ts))) (plain_next o))
-  next_none ts us params inv o made e q =
-      subst (λ (z : Option (Vec TermId Global)). listed_at g us made ≡ next_goals (map (bound_at (entries_of g ts)) params) inv (option_map (map (term_at (entries_of g ts))) (plain_next z))) (sym e) (ap (listed_at g us) q)
+module _ (g : Sig) (ok : IsSignature g) (ts us : List Tree) (x : Extends ts us) (params : List VarId) (invariant old new : List TermId) (s : PlainSummand) (same : old ≡ invariant) (stand : All (IsTerm g ts) invariant) (fits : SummandFits g ts params s) (parts_are : trees_at us new ≡ trees_at us old ++ tree_parts (tree_at us s.condition)) (within : AreIn us old → AreIn us new) where
+  old_stand : All (IsTerm g us) old
+  old_stand = rw same (terms_stay_terms g ok ts us x invariant stand)
+
+  condition_stands : IsTerm g ts s.condition
+  condition_stands = sorted_stands g ok ts bool_sort s.condition fits.condition
+
+  pub hypotheses_stand : All (IsTerm g us) new
+  hypotheses_stand = parts_stand_behind g ok us old s.condition new old_stand (term_stays g ts us x s.condition condition_stands) parts_are (within (all_inside g ok us old old_stand))
+
+  pub hypotheses_meant : (inv : Term) → listed_at g ts invariant ≡ parts inv → listed_at g us new ≡ parts inv ++ parts (summand_of (entries_of g ts) s).condition
+  hypotheses_meant inv h =
+      parts_meant_behind g ok us old s.condition new (term_stays g ts us x s.condition condition_stands) parts_are
+      ∙ ap₂ (λ xs c. xs ++ parts c) (ap (listed_at g us) same ∙ terms_stay_listed g ok ts us x invariant stand ∙ h) (term_kept g ts us s.condition x fits.condition.within ∙ sym (term_is g ts s.condition fits.condition.within))
+
+-- the variables of a summand
+pub variables_are : (g : Sig) (ts : List Tree) (slice vars front sums params : List VarId) → slice ≡ vars → vars ≡ front ++ params → front ≡ sums → numbers_of slice ≡ variables (map (bound_at (entries_of g ts)) sums) ++ variables (map (bound_at (entries_of g ts)) params)
+variables_are g ts slice vars front sums params a b d =
+    ap numbers_of (a ∙ b ∙ ap (λ z. z ++ params) d) ∙ map-append (λ (v : VarId). v.0) sums params ∙ ap₂ (λ xs ys. xs ++ ys) (sym (numbers_meant g ts sums)) (sym (numbers_meant g ts params))

@@ -1,5 +1,5 @@
 -- A place that is solved says the same in every closed instance in which its hypotheses hold.
-use Rattle.std.proofs.Common.{ℕ, List, [], ◌∷◌, sym, subst, cond, ⊎_elim}
+use Rattle.std.proofs.Common.{◌≡◌, ℕ, List, [], ◌∷◌, sym, subst, cond, ⊎_elim}
 use Rattle.std.specs.Prelude.{Contains}
 use Rattle.std.specs.List.{AllByRecursion}
 use Rattle.std.proofs.lemmas.Bool.Decides.{eqb_tells}
@@ -97,3 +97,7 @@ way_goes_on xs p now next w s q h = w q (one_solved s.first (subst (λ z. IsSolv
 
 pub way_ends : (xs : List ℕ) (p now : Place) → IsOnTheWay xs p now → NoneGives xs now.hypotheses → IsSolvedPlace xs p now
 way_ends xs p now w n = w now (nothing_to_solve n)
+
+-- the same variables and the same place
+pub solved_as : {xs ys : List ℕ} {p q r : Place} → xs ≡ ys → p ≡ q → IsSolvedPlace xs p r → IsSolvedPlace ys q r
+solved_as {xs} {ys} {p} {q} {r} a b h = subst (λ zs. IsSolvedPlace zs q r) a (subst (λ z. IsSolvedPlace xs z r) b h)

@@ -116,7 +116,8 @@ pub(crate) fn parts_with(
 {
     signature_stands(sig);
     let by = pairs(alloc, params, terms)?;
-    put_all(alloc, pool, invariant, by.as_slice())
+    let made = put_all(alloc, pool, invariant, by.as_slice())?;
+    Ok(made)
 }
 
 /// The parts of an invariant with next terms for the parameters. None where there are no next terms.
