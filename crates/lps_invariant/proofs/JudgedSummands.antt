@@ -9,6 +9,7 @@ use Rattle.data_theory.specs.declared.ids.VarId.{VarId}
 use Rattle.data_theory.specs.Terms.{Term}
 use Rattle.data_theory.specs.Provable.{Equation}
 use Rattle.data_theory.specs.Signature.{Sig}
+use Rattle.data_theory.specs.Table.{bool_sort}
 use Rattle.data_theory.specs.IdData.{data_meant}
 use Rattle.data_theory.specs.IdTrees.{Tree}
 use Rattle.data_theory.specs.WholeSignatures.{IsSignature}
@@ -16,15 +17,18 @@ use Rattle.term_pool.specs.Pools.{Extends}
 use Rattle.term_pool.proofs.DeclaredConstants.{grown_itself}
 use Rattle.data_rewriter.specs.declared.rewriter.Truth.{Truth}
 use Rattle.data_rewriter.specs.Standing.{IsTerm, listed_at, term_at}
+use Rattle.process_terms.specs.Meanings as meanings
 use Rattle.process_terms.specs.Meanings.{bound_at}
 use Rattle.process_terms.specs.Processes.{Bound}
 use Rattle.process_terms.specs.SignatureEntries.{entries_of, BothGrow}
 use Rattle.bisim_laws.specs.LinearProcesses as theory
+use Rattle.lps_core.specs.declared.linears.Linear.{Linear}
 use Rattle.lps_core.specs.declared.linears.Summand.{Summand}
 use Rattle.lps_core.specs.Conditions.{parts}
-use Rattle.lps_core.specs.Fitting.{Fits, SummandFits, IsVariable}
+use Rattle.lps_core.specs.Fitting.{Fits, SummandFits, IsTermOf, IsVariable}
 use Rattle.lps_core.specs.PlainLinears.{PlainSummand, PlainLinear, initial_of, linear_of, plain_linear, plain_summand, summand_of}
 use Rattle.lps_core.proofs.Members.{all_at}
+use Rattle.lps_core.proofs.PoolTrees.{extends_on}
 use Rattle.lps_core.proofs.Staying.{variable_stays, summand_stays, what_fits_stays}
 use Rattle.lps_core.proofs.StayingFits.{what_fits_fits_still}
 use Rattle.lps_invariant.specs.declared.deciding.Found.{Found}
@@ -32,9 +36,10 @@ use Rattle.lps_invariant.specs.declared.deciding.Found.TheVariants.{Contradictor
 use Rattle.lps_invariant.specs.Places.{Place, SolvedPlaceIs, parts_at}
 use Rattle.lps_invariant.specs.Decisions.{IsRefuted, IsProvedWhole}
 use Rattle.lps_invariant.specs.Judging.{AreSifted, none_to_sift, IsShownWith, IsShownBy, IsFirstOpen, IsOpenAt, PlaceOf, StartIs, PlaceIs, the_start, a_summand, UnprovedAt, HoldsWith, plain_truths}
-use Rattle.lps_invariant.specs.JudgingInCode.{ArePartsOf, IsFound, IsOpenSummand}
+use Rattle.lps_invariant.specs.JudgingInCode.{ArePartsOf, IsAskedOf, IsFound, IsOpenSummand}
 use Rattle.lps_invariant.proofs.DecidedTerms.{answers_stay}
-use Rattle.lps_invariant.proofs.PutPlaces.{terms_stay_listed}
+use Rattle.lps_invariant.proofs.PutPlaces.{terms_stay_listed, terms_stay_terms}
+use Rattle.lps_invariant.proofs.PuttingParts.{sorted_stands}
 use Rattle.lps_invariant.proofs.Sifting.{sifted_stays, sifted_goes, sifted_at, sifted_all, sifted_among, sifted_weaker}
 
 -- ---- places of summands
@@ -168,3 +173,39 @@ holds_with g own fuel ts us l inv k made truths params init summands start sifte
   start = start;
   summands = subst (λ z. AreSiftedSoFar g own fuel ts us l inv l.summands z truths) (sym summands) sifted;
 }
+
+-- ---- one summand in code
+module _ (g : Sig) (ok : IsSignature g) (ts now us : List Tree) (lin : Linear) (inv : TermId) (invariant : List TermId) (asked : IsAskedOf g ts now (plain_linear lin) inv invariant) (later : Extends now us) (items : List Summand) (i : ℕ) (s : Summand) (slice : List VarId) (params_are : slice ≡ lin.params.items) (same : items ≡ lin.summands.items) (less : i < length items) (is : s ≡ get_or items i s) where
+  grown : Extends ts us
+  grown = extends_on ts now us asked.pool later
+
+  pub summand_fits_there : SummandFits g us slice (plain_summand s)
+  summand_fits_there =
+      subst (λ ps. SummandFits g us ps (plain_summand s)) (sym params_are)
+      (all_at (SummandFits g us lin.params.items) (map plain_summand lin.summands.items) i (plain_summand s) (linear_stays g ok ts us (plain_linear lin) grown asked.lin).summands (summand_there items lin.summands.items i s same less is))
+
+  pub invariant_there : All (IsTerm g us) invariant
+  invariant_there = terms_stay_terms g ok ts us grown invariant asked.invariant.stand
+
+  pub looked_at : (own : List Equation) (fuel : ℕ) (vs : List Tree) (told found : Found) → told ≡ found
+      → ((t : Term) → listed_at g us invariant ≡ parts t → SolvedPlaceIs (IsFound g own fuel vs told) (map (bound_at (entries_of g us)) slice) t (summand_of (entries_of g us) (plain_summand s)))
+      → PlaceOf (IsFound g own fuel vs found) g ts (plain_linear lin) inv (plain_summand s)
+  looked_at own fuel vs told found e h =
+      found_there g ok ts us grown (plain_linear lin) asked.lin (IsFound g own fuel vs found) inv invariant (plain_summand s) asked.invariant
+      (all_at (SummandFits g ts lin.params.items) (map plain_summand lin.summands.items) i (plain_summand s) asked.lin.summands (summand_there items lin.summands.items i s same less is))
+      (λ t k.
+      subst (λ z. SolvedPlaceIs (IsFound g own fuel vs z) (map (bound_at (entries_of g us)) lin.params.items) t (summand_of (entries_of g us) (plain_summand s))) e
+      (subst (λ ps. SolvedPlaceIs (IsFound g own fuel vs told) (map (bound_at (entries_of g us)) ps) t (summand_of (entries_of g us) (plain_summand s))) params_are (h t k)))
+
+-- the parts of an invariant
+pub parts_there : (g : Sig) (ok : IsSignature g) (ts : List Tree) (inv : TermId) (ids slice : List TermId) → slice ≡ ids → IsTermOf g ts bool_sort inv → All (IsTerm g ts) ids → listed_at g ts ids ≡ parts (term_at g ts inv) → ArePartsOf g ts inv slice
+parts_there g ok ts inv ids slice e h stand are = rw e (record { term = sorted_stands g ok ts bool_sort inv h; stand = stand; are = are })
+
+-- the goals of the start
+pub put_there : (g : Sig) (ts us : List Tree) (lin : Linear) (inv : TermId) (goals : List TermId) (params : List VarId) (init : List TermId) → params ≡ lin.params.items → init ≡ lin.init.items
+    → listed_at g us goals ≡ parts_at (map (bound_at (entries_of g ts)) params) (term_at g ts inv) (map (meanings.term_at (entries_of g ts)) init) → listed_at g us goals ≡ parts_at (map (bound_at (entries_of g ts)) lin.params.items) (term_at g ts inv) (initial_of (entries_of g ts) (plain_linear lin))
+put_there g ts us lin inv goals params init a b h = h ∙ ap₂ (λ ps is. parts_at (map (bound_at (entries_of g ts)) ps) (term_at g ts inv) (map (meanings.term_at (entries_of g ts)) is)) a b
+
+-- no summand yet
+pub none_sifted : (g : Sig) (own : List Equation) (fuel : ℕ) (ts us : List Tree) (l : PlainLinear) (inv : TermId) (summands : List Summand) (truths : List (Vec Truth Global)) → summands ≡ [] → truths ≡ [] → AreSiftedSoFar g own fuel ts us l inv [] (map plain_summand summands) (plain_truths truths)
+none_sifted g own fuel ts us l inv summands truths a b = rw a (rw b none_to_sift)

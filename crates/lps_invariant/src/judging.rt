@@ -165,7 +165,7 @@ fn look_at_summands<F: Fn(NumOp, Num, Num) -> Option<Num>>(
         match look_at_summand(
             alloc, sig, pool, rewriter, params, invariant, summand, fuel,
         )? {
-            Found::Contradictory => {}
+            Found::Contradictory => continue,
             Found::Shown(truths) => keep(alloc, left, summand, truths)?,
             Found::Open(part, truths) => {
                 return Ok(Some(OpenPlace {
