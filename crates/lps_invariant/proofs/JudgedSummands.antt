@@ -31,6 +31,7 @@ use Rattle.lps_core.proofs.Members.{all_at}
 use Rattle.lps_core.proofs.PoolTrees.{extends_on}
 use Rattle.lps_core.proofs.Staying.{variable_stays, summand_stays, what_fits_stays}
 use Rattle.lps_core.proofs.StayingFits.{what_fits_fits_still}
+use Rattle.lps_invariant.specs.declared.judging.OpenPlace.{OpenPlace}
 use Rattle.lps_invariant.specs.declared.deciding.Found.{Found}
 use Rattle.lps_invariant.specs.declared.deciding.Found.TheVariants.{Contradictory, Shown, Open}
 use Rattle.lps_invariant.specs.Places.{Place, SolvedPlaceIs, parts_at}
@@ -46,7 +47,7 @@ use Rattle.lps_invariant.proofs.Sifting.{sifted_stays, sifted_goes, sifted_at, s
 pub place_weaker : (P Q : Place → Type 0) → ((p : Place) → P p → Q p) → (params : List Bound) (inv : Term) (s : theory.Summand) → SolvedPlaceIs P params inv s → SolvedPlaceIs Q params inv s
 place_weaker P Q f params inv s h = record { place = h.place; solved = h.solved; is = f h.place h.is }
 
-both_grow : (g : Sig) (ts us : List Tree) → Extends ts us → BothGrow g g ts us
+pub both_grow : (g : Sig) (ts us : List Tree) → Extends ts us → BothGrow g g ts us
 both_grow g ts us x = record { signature = grown_itself g; pool = x }
 
 pub linear_stays : (g : Sig) → IsSignature g → (ts us : List Tree) (l : PlainLinear) → Extends ts us → Fits g ts l → Fits g us l
@@ -209,3 +210,25 @@ put_there g ts us lin inv goals params init a b h = h ∙ ap₂ (λ ps is. parts
 -- no summand yet
 pub none_sifted : (g : Sig) (own : List Equation) (fuel : ℕ) (ts us : List Tree) (l : PlainLinear) (inv : TermId) (summands : List Summand) (truths : List (Vec Truth Global)) → summands ≡ [] → truths ≡ [] → AreSiftedSoFar g own fuel ts us l inv [] (map plain_summand summands) (plain_truths truths)
 none_sifted g own fuel ts us l inv summands truths a b = rw a (rw b none_to_sift)
+
+-- ---- what was found
+-- of the start
+abbrev pub FoundAtStart : Sig → List Equation → ℕ → List Tree → List Tree → PlainLinear → TermId → Option OpenPlace → Type 0
+FoundAtStart g own fuel ts us l inv o = MatchOption o (StartIs (IsProvedWhole (data_meant g) own fuel) g ts l inv) (λ p. (p.place ≡ 0) × StartIs (IsOpenAt g own fuel us p.part p.truths.items) g ts l inv)
+
+pub start_found_shown : (g : Sig) (own : List Equation) (fuel : ℕ) (ts us : List Tree) (l : PlainLinear) (inv : TermId) (o : Option OpenPlace) → o ≡ None → FoundAtStart g own fuel ts us l inv o → StartIs (IsProvedWhole (data_meant g) own fuel) g ts l inv
+start_found_shown g own fuel ts us l inv o e h = subst (FoundAtStart g own fuel ts us l inv) e h
+
+pub start_found_open : (g : Sig) (own : List Equation) (fuel : ℕ) (ts us : List Tree) (l : PlainLinear) (inv : TermId) (o : Option OpenPlace) (p : OpenPlace) → o ≡ Some p → FoundAtStart g own fuel ts us l inv o → UnprovedAt g own fuel ts us l inv p.place p.part p.truths.items
+start_found_open g own fuel ts us l inv o p e h = let k = subst (FoundAtStart g own fuel ts us l inv) e h in unproved_at_start g own fuel ts us l inv p.part p.truths.items p.place k.0 k.1
+
+-- of the summands
+abbrev pub FoundAtSummands : Sig → List Equation → ℕ → List Tree → List Tree → PlainLinear → TermId → List PlainSummand → List (List Truth) → Option OpenPlace → Type 0
+FoundAtSummands g own fuel ts us l inv made truths o = MatchOption o (AreSiftedSoFar g own fuel ts us l inv l.summands made truths) (λ p. IsOpenSummand g own fuel ts us l inv p.place p.part p.truths.items)
+
+pub summands_found_sifted : (g : Sig) (own : List Equation) (fuel : ℕ) (ts us : List Tree) (l : PlainLinear) (inv : TermId) (made : List PlainSummand) (truths : List (List Truth)) (o : Option OpenPlace) → o ≡ None → FoundAtSummands g own fuel ts us l inv made truths o → AreSiftedSoFar g own fuel ts us l inv l.summands made truths
+summands_found_sifted g own fuel ts us l inv made truths o e h = subst (FoundAtSummands g own fuel ts us l inv made truths) e h
+
+pub summands_found_open : (g : Sig) (own : List Equation) (fuel : ℕ) (ts us : List Tree) (l : PlainLinear) (inv : TermId) (made : List PlainSummand) (truths : List (List Truth)) (o : Option OpenPlace) (p : OpenPlace) → o ≡ Some p → StartIs (IsProvedWhole (data_meant g) own fuel) g ts l inv → FoundAtSummands g own fuel ts us l inv made truths o
+    → UnprovedAt g own fuel ts us l inv p.place p.part p.truths.items
+summands_found_open g own fuel ts us l inv made truths o p e start h = unproved_at_summand g own fuel ts us l inv p.place p.part p.truths.items start (subst (FoundAtSummands g own fuel ts us l inv made truths) e h)
