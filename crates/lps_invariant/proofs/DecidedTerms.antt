@@ -1,15 +1,15 @@
 -- How the terms of a place are decided, one after another.
-use Rattle.std.proofs.Common.{◌≡◌, ◌<◌, ◌≤◌, ◌+◌, ◌++◌, ◌⊎◌, inl, inr, ⊎_elim, ℕ, zero, suc, List, [], ◌∷◌, map, take, length, get_or, refl, sym, ap, ap₂, ◌∙◌, subst, arith, add-one, Bool, true, false, Option, Some, None}
+use Rattle.std.proofs.Common.{◌≡◌, ◌<◌, ◌≤◌, ◌+◌, ◌++◌, ◌⊎◌, inl, inr, ⊎_elim, ℕ, zero, suc, List, [], ◌∷◌, take, length, get_or, refl, sym, ap, ap₂, ◌∙◌, subst, arith, add-one, Bool, true, false, Some}
 use Rattle.std.specs.Prelude.{◌≢◌, ◌↔◌, Contains, IsTrue, slice_get}
 use Rattle.std.specs.List.{All, AllZip}
-use Rattle.std.proofs.lemmas.List.{map-append, length-map, take_more, take_all}
+use Rattle.std.proofs.lemmas.List.{map-append, take_more}
 use Rattle.std.proofs.lemmas.List.Elements.{All-head, All-tail, All-contains, All-weaker, Contains-get_or}
 use Rattle.std.proofs.lemmas.Option.{slice_get_within}
 use Rattle.data_theory.specs.declared.ids.TermId.{TermId}
 use Rattle.data_theory.specs.Terms.{Term}
 use Rattle.data_theory.specs.Equations.{trueᵗ, falseᵗ}
 use Rattle.data_theory.specs.Provable.{Equation}
-use Rattle.data_theory.specs.Rewriting.{GoesTo, IsDecided, yes_decided, no_decided}
+use Rattle.data_theory.specs.Rewriting.{GoesTo, IsDecided, no_decided}
 use Rattle.data_theory.specs.Signature.{Sig}
 use Rattle.data_theory.specs.IdData.{data_meant}
 use Rattle.data_theory.specs.IdTrees.{Tree}
@@ -18,7 +18,7 @@ use Rattle.term_pool.specs.Pools.{Extends, AreDistinct}
 use Rattle.data_rewriter.specs.declared.rewriter.Truth.{Truth}
 use Rattle.data_rewriter.specs.declared.rewriter.Truth.TheVariants.{Yes, No, Stuck, Spent}
 use Rattle.data_rewriter.specs.Rewriters.{IsDecision}
-use Rattle.data_rewriter.specs.Standing.{IsTerm, StandsFor, listed_at, term_at}
+use Rattle.data_rewriter.specs.Standing.{IsTerm, listed_at, term_at}
 use Rattle.data_rewriter.proofs.Standings.{term_kept, term_stays, same_terms}
 use Rattle.bisim_laws.proofs.Firing.{contains_none, contains_cases}
 use Rattle.lps_core.proofs.Members.{contains_map, map_contains}

@@ -2,7 +2,7 @@
 use Rattle.std.proofs.Common.{◌≡◌, ℕ, List, [], ◌∷◌, map, refl, sym, ap, ap₂, ◌∙◌, subst}
 use Rattle.std.specs.Prelude.{Contains}
 use Rattle.std.specs.List.{All}
-use Rattle.std.proofs.lemmas.List.Elements.{All-head, All-tail, All-contains_itself, All-weaker}
+use Rattle.std.proofs.lemmas.List.Elements.{All-head, All-tail, All-contains_itself}
 use Rattle.data_theory.specs.declared.ids.TermId.{TermId}
 use Rattle.data_theory.specs.Terms.{boolean, Term}
 use Rattle.data_theory.specs.Declarations.{HasSort, HaveSorts}
@@ -22,11 +22,9 @@ use Rattle.data_rewriter.specs.declared.rewriter.Truth.{Truth}
 use Rattle.data_rewriter.specs.Simplifying.{AreLater, AreWellFormed}
 use Rattle.data_rewriter.specs.Standing.{term_at}
 use Rattle.term_pool.specs.Pools.{Extends}
-use Rattle.term_pool.proofs.DeclaredConstants.{grown_itself}
 use Rattle.process_terms.specs.Theories.{Theory}
 use Rattle.process_terms.specs.Meanings as meanings
 use Rattle.process_terms.specs.Meanings.{bound_at}
-use Rattle.process_terms.specs.Processes.{Bound}
 use Rattle.process_terms.specs.SignatureEntries.{entries_of}
 use Rattle.bisim_laws.specs.LinearProcesses as theory
 use Rattle.bisim_laws.specs.LinearProcesses.{sorts, state_of}
@@ -37,7 +35,7 @@ use Rattle.lps_core.specs.PlainLinears.{PlainSummand, PlainLinear, linear_of, su
 use Rattle.lps_core.proofs.GrowingData.{sort_grown, linear_grown, terms_grown}
 use Rattle.lps_core.proofs.Members.{contains_map, map_contains}
 use Rattle.lps_core.proofs.Staying.{summand_stays, condition_sorted, sorts_of_variables, term_is, terms_sorted, what_fits_is_sorted, what_fits_stays}
-use Rattle.lps_invariant.specs.Places.{Place, SolvedPlaceIs, IsShown, IsContradictory, AreJudged, none_to_judge, it_stays, it_is_left_out}
+use Rattle.lps_invariant.specs.Places.{IsShown, IsContradictory, AreJudged, none_to_judge, it_stays, it_is_left_out}
 use Rattle.lps_invariant.specs.InvariantLaws.{IsInvariantOf, IsJudged, with_summands}
 use Rattle.lps_invariant.specs.Decisions.{IsProvedWhole, IsRefuted, IsJudgedBy}
 use Rattle.lps_invariant.specs.Judging.{AreSifted, none_to_sift, one_stays, one_goes, IsInvariantIn, IsShownWith, HoldsWith, PlaceOf}

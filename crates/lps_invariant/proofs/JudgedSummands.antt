@@ -1,6 +1,6 @@
 -- Summands that are looked at one after another.
 use Rattle.std.proofs.Common.{◌≡◌, ◌<◌, ◌≤◌, ◌+◌, ◌⊎◌, inl, inr, ⊎_elim, ℕ, zero, suc, List, [], ◌∷◌, ◌++◌, map, take, length, get_or, refl, sym, ap, ap₂, ◌∙◌, subst, arith, add-one, Option, Some, None, Vec}
-use Rattle.std.specs.Prelude.{IfSome, MatchOption, Contains, slice_get, option_map}
+use Rattle.std.specs.Prelude.{MatchOption, slice_get}
 use Rattle.std.specs.Global.{Global}
 use Rattle.std.specs.List.{All}
 use Rattle.std.proofs.lemmas.List.{map-append, take_more, take_all}
@@ -29,11 +29,10 @@ use Rattle.lps_core.specs.Fitting.{Fits, SummandFits, IsTermOf, IsVariable}
 use Rattle.lps_core.specs.PlainLinears.{PlainSummand, PlainLinear, initial_of, linear_of, plain_linear, plain_summand, summand_of}
 use Rattle.lps_core.proofs.Members.{all_at}
 use Rattle.lps_core.proofs.PoolTrees.{extends_on}
-use Rattle.lps_core.proofs.Staying.{variable_stays, summand_stays, what_fits_stays}
+use Rattle.lps_core.proofs.Staying.{variable_stays, summand_stays}
 use Rattle.lps_core.proofs.StayingFits.{what_fits_fits_still}
 use Rattle.lps_invariant.specs.declared.judging.OpenPlace.{OpenPlace}
 use Rattle.lps_invariant.specs.declared.deciding.Found.{Found}
-use Rattle.lps_invariant.specs.declared.deciding.Found.TheVariants.{Contradictory, Shown, Open}
 use Rattle.lps_invariant.specs.Places.{Place, SolvedPlaceIs, parts_at}
 use Rattle.lps_invariant.specs.Decisions.{IsRefuted, IsProvedWhole}
 use Rattle.lps_invariant.specs.Judging.{AreSifted, none_to_sift, IsShownWith, IsShownBy, IsFirstOpen, IsOpenAt, PlaceOf, StartIs, PlaceIs, the_start, a_summand, UnprovedAt, HoldsWith, plain_truths}
@@ -41,7 +40,7 @@ use Rattle.lps_invariant.specs.JudgingInCode.{ArePartsOf, IsAskedOf, IsFound, Is
 use Rattle.lps_invariant.proofs.DecidedTerms.{answers_stay}
 use Rattle.lps_invariant.proofs.PutPlaces.{terms_stay_listed, terms_stay_terms}
 use Rattle.lps_invariant.proofs.PuttingParts.{sorted_stands}
-use Rattle.lps_invariant.proofs.Sifting.{sifted_stays, sifted_goes, sifted_at, sifted_all, sifted_among, sifted_weaker}
+use Rattle.lps_invariant.proofs.Sifting.{sifted_stays, sifted_goes, sifted_at, sifted_weaker}
 
 -- ---- places of summands
 pub place_weaker : (P Q : Place → Type 0) → ((p : Place) → P p → Q p) → (params : List Bound) (inv : Term) (s : theory.Summand) → SolvedPlaceIs P params inv s → SolvedPlaceIs Q params inv s

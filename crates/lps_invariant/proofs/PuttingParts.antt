@@ -1,5 +1,5 @@
 -- The parts of an invariant with terms for the parameters, in code.
-use Rattle.std.proofs.Common.{◌≡◌, ◌==◌, ◌<◌, ◌≤◌, ◌+◌, ℕ, zero, suc, true, false, List, [], ◌∷◌, ◌++◌, map, take, length, get_or, refl, sym, ap, ap₂, ◌∙◌, subst, cond, arith, add-one, Option, Some, None, Vec, Result, Ok, Err}
+use Rattle.std.proofs.Common.{◌≡◌, ◌==◌, ◌<◌, ◌≤◌, ◌+◌, ℕ, zero, suc, true, false, List, [], ◌∷◌, ◌++◌, map, take, length, get_or, refl, sym, ap, ap₂, ◌∙◌, subst, cond, arith, add-one, Option, Some, Vec, Result, Ok, Err}
 use Rattle.std.specs.Prelude.{option_map, IfOk}
 use Rattle.std.specs.Global.{Global}
 use Rattle.std.specs.List.{All, AllByRecursion, zip}
@@ -13,7 +13,7 @@ use Rattle.data_theory.specs.Environments.{term_in, bound}
 use Rattle.data_theory.specs.Signature.{Sig}
 use Rattle.data_theory.specs.WholeSignatures.{IsSignature}
 use Rattle.data_theory.specs.Table.{bool_sort}
-use Rattle.data_theory.specs.IdTrees.{Tree, variable, put_tree, trees_of}
+use Rattle.data_theory.specs.IdTrees.{Tree, put_tree, trees_of}
 use Rattle.data_theory.specs.IdTreeSorts.{HaveTreeSorts}
 use Rattle.data_theory.specs.IdTerms.{term_under, IsTreeWithin}
 use Rattle.data_theory.proofs.IdTermLemmas.{sorted_trees_are_within}

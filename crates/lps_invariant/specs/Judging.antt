@@ -16,7 +16,6 @@ use Rattle.data_rewriter.specs.declared.rewriter.Truth.{Truth}
 use Rattle.data_rewriter.specs.declared.rewriter.Truth.TheVariants.{Yes, No, Stuck, Spent}
 use Rattle.data_rewriter.specs.Standing.{IsTerm, term_at}
 use Rattle.process_terms.specs.SignatureEntries.{entries_of}
-use Rattle.bisim_laws.specs.LinearProcesses as theory
 use Rattle.bisim_laws.specs.LinearProcesses.{variables}
 use Rattle.lps_core.specs.Fitting.{IsTermOf, Fits}
 use Rattle.lps_core.specs.PlainLinears.{PlainSummand, PlainLinear, plain_linear, linear_of, summand_of, initial_of}

@@ -162,9 +162,7 @@ fn look_at_summands<F: Fn(NumOp, Num, Num) -> Option<Num>>(
     signature_stands(sig);
     let params = lin.params.as_slice();
     for (index, summand) in lin.summands.iter().enumerate() {
-        match look_at_summand(
-            alloc, sig, pool, rewriter, params, invariant, summand, fuel,
-        )? {
+        match look_at_summand(alloc, sig, pool, rewriter, params, invariant, summand, fuel)? {
             Found::Contradictory => continue,
             Found::Shown(truths) => keep(alloc, left, summand, truths)?,
             Found::Open(part, truths) => {
@@ -180,11 +178,7 @@ fn look_at_summands<F: Fn(NumOp, Num, Num) -> Option<Num>>(
 }
 
 /// The linear process with the summands that stay.
-fn with_summands(
-    alloc: Global,
-    lin: &Linear,
-    summands: Vec<Summand>,
-) -> Result<Linear, NoMemory>
+fn with_summands(alloc: Global, lin: &Linear, summands: Vec<Summand>) -> Result<Linear, NoMemory>
     ensures params { IfOk result (λ made. (plain_linear made).params ≡ (plain_linear lin.now).params) }
     ensures init { IfOk result (λ made. (plain_linear made).init ≡ (plain_linear lin.now).init) }
     ensures summands { IfOk result (λ made. (plain_linear made).summands ≡ map plain_summand summands.items) }
@@ -255,9 +249,7 @@ pub fn judge<F: Fn(NumOp, Num, Num) -> Option<Num>>(
         summands: Vec::new(alloc),
         truths: Vec::new(alloc),
     };
-    let found = look_at_summands(
-        alloc, sig, pool, rewriter, lin, invariant, fuel, &mut left,
-    )?;
+    let found = look_at_summands(alloc, sig, pool, rewriter, lin, invariant, fuel, &mut left)?;
     if let Some(open) = found {
         return Ok(unproved(open));
     }

@@ -38,11 +38,7 @@ fn sides(pool: &Pool, term: TermId) -> Option<(TermId, TermId)>
 /// # Errors
 ///
 /// `NoMemory` where there is none for them.
-pub(crate) fn add_parts(
-    pool: &Pool,
-    term: TermId,
-    found: &mut Vec<TermId>,
-) -> Result<(), NoMemory>
+pub(crate) fn add_parts(pool: &Pool, term: TermId, found: &mut Vec<TermId>) -> Result<(), NoMemory>
     requires { IsIn pool.now.trees term }
     ensures parts { OnOk result (trees_at pool.now.trees found.new.items ≡ trees_at pool.now.trees found.old.items ++ tree_parts (tree_at pool.now.trees term)) }
     ensures within { OnOk result (AreIn pool.now.trees found.old.items → AreIn pool.now.trees found.new.items) }

@@ -80,11 +80,7 @@ fn solved(
 }
 
 /// Variables with terms, place by place, to be put in.
-fn pairs(
-    alloc: Global,
-    vars: &[VarId],
-    terms: &[TermId],
-) -> Result<Vec<(VarId, TermId)>, NoMemory>
+fn pairs(alloc: Global, vars: &[VarId], terms: &[TermId]) -> Result<Vec<(VarId, TermId)>, NoMemory>
     requires { length terms.now ≡ length vars.now }
     ensures { IfOk result (λ by. by.items ≡ zip vars.now terms.now) }
 {
@@ -165,11 +161,7 @@ fn place_of(
 }
 
 /// The sum variables and behind them the parameters.
-fn all_variables(
-    alloc: Global,
-    sums: &[VarId],
-    params: &[VarId],
-) -> Result<Vec<VarId>, NoMemory>
+fn all_variables(alloc: Global, sums: &[VarId], params: &[VarId]) -> Result<Vec<VarId>, NoMemory>
     ensures { IfOk result (λ vars. vars.items ≡ sums.now ++ params.now) }
 {
     let mut vars = sums.to_vec(alloc)?;

@@ -1,4 +1,4 @@
-use Rattle.std.proofs.Common.{rules, ◌<◌, ◌≤◌, ◌∙◌, length, subst, sym, arith}
+use Rattle.std.proofs.Common.{rules, ◌<◌, ◌≤◌, length, subst, sym, arith}
 use Rattle.std.specs.Prelude.{◌↔◌, IsTrue}
 use Rattle.std.specs.List.{Contains}
 use Rattle.std.proofs.lemmas.List.{length-map}
@@ -49,9 +49,9 @@ returns-then-not-is_yes-clause-found g c =
     let told : IsTrue c.has_term.result ↔ Contains hs c.index-goal.result.now =
     set_tells c.new-known.result.keys c.insert_all.new.set.keys c.as_slice.result.now hs c.new-known.ensures.empty c.as_slice.ensures.value c.in_ok-insert_all.ensures c.has_term.result c.index-goal.result.now c.has_term.ensures in
     λ own h.
-        is_open sig own c.args.fuel ts hs gs c.requires.place.hypotheses c.requires.place.goals us c.decided.new.pool.trees inv.kept.pool c.loop-number.number c.index-goal.result.now less c.in_ok-truth.truth
-        (subst (λ z. IsTruthFor sig own c.args.fuel c.decided.new.pool.trees (term_at sig us z) c.in_ok-truth.truth) c.index-goal.ensures (c.in_ok-truth.ensures.decided own (inv.kept.fits own h))) (inv.proved own h) c.signature_stands.ensures c.len.ensures.distinct
-        (λ i. not_so c.has_term.result told c.if-has_term.false (subst (Contains hs) (sym c.index-goal.ensures) i)) (not_so c.is_yes.result c.is_yes.ensures c.if-not-is_yes.true)
+    is_open sig own c.args.fuel ts hs gs c.requires.place.hypotheses c.requires.place.goals us c.decided.new.pool.trees inv.kept.pool c.loop-number.number c.index-goal.result.now less c.in_ok-truth.truth
+    (subst (λ z. IsTruthFor sig own c.args.fuel c.decided.new.pool.trees (term_at sig us z) c.in_ok-truth.truth) c.index-goal.ensures (c.in_ok-truth.ensures.decided own (inv.kept.fits own h))) (inv.proved own h) c.signature_stands.ensures c.len.ensures.distinct
+    (λ i. not_so c.has_term.result told c.if-has_term.false (subst (Contains hs) (sym c.index-goal.ensures) i)) (not_so c.is_yes.result c.is_yes.ensures c.if-not-is_yes.true)
 
 pub loop-number-preserved : goal.loop-number-preserved
 loop-number-preserved g c =

@@ -43,10 +43,10 @@ returns-in-Some-found-clause-judged g c =
     let made = map plain_summand c.look_at_summands.new.left.summands.items in
     let truths = plain_truths c.look_at_summands.new.left.truths.items in
     λ own h.
-        subst (IsJudgement sig own c.args.fuel ts vs l c.args.inv) (sym c.unproved-in-Some-found.ensures)
-        (summands_found_open sig own c.args.fuel ts vs l c.args.inv made truths c.in_ok-found.found c.in-Some-found.open c.in-Some-found.is
-        (start_found_shown sig own c.args.fuel ts us l c.args.inv c.in_ok-open.field-0 c.in_default.is (c.in_ok-open.ensures.start own h c.args.inv are))
-        (c.in_ok-found.ensures.found own (c.look_at_start.ensures.kept.fits own h) ts c.args.inv asked))
+    subst (IsJudgement sig own c.args.fuel ts vs l c.args.inv) (sym c.unproved-in-Some-found.ensures)
+    (summands_found_open sig own c.args.fuel ts vs l c.args.inv made truths c.in_ok-found.found c.in-Some-found.open c.in-Some-found.is
+    (start_found_shown sig own c.args.fuel ts us l c.args.inv c.in_ok-open.field-0 c.in_default.is (c.in_ok-open.ensures.start own h c.args.inv are))
+    (c.in_ok-found.ensures.found own (c.look_at_start.ensures.kept.fits own h) ts c.args.inv asked))
 
 pub returns-clause-fits : goal.returns-clause-fits
 returns-clause-fits g c =
@@ -79,6 +79,6 @@ returns-clause-judged g c =
     let made = map plain_summand c.look_at_summands.new.left.summands.items in
     let truths = plain_truths c.look_at_summands.new.left.truths.items in
     λ own h.
-        holds_with sig own c.args.fuel ts vs l c.args.inv (plain_linear c.in_ok-with_summands.field-0) made truths c.in_ok-with_summands.ensures.params c.in_ok-with_summands.ensures.init c.in_ok-with_summands.ensures.summands
-        (start_found_shown sig own c.args.fuel ts us l c.args.inv c.in_ok-open.field-0 c.in_default.is (c.in_ok-open.ensures.start own h c.args.inv are))
-        (summands_found_sifted sig own c.args.fuel ts vs l c.args.inv made truths c.in_ok-found.found c.in_default-found.is (c.in_ok-found.ensures.found own (c.look_at_start.ensures.kept.fits own h) ts c.args.inv asked))
+    holds_with sig own c.args.fuel ts vs l c.args.inv (plain_linear c.in_ok-with_summands.field-0) made truths c.in_ok-with_summands.ensures.params c.in_ok-with_summands.ensures.init c.in_ok-with_summands.ensures.summands
+    (start_found_shown sig own c.args.fuel ts us l c.args.inv c.in_ok-open.field-0 c.in_default.is (c.in_ok-open.ensures.start own h c.args.inv are))
+    (summands_found_sifted sig own c.args.fuel ts vs l c.args.inv made truths c.in_ok-found.found c.in_default-found.is (c.in_ok-found.ensures.found own (c.look_at_start.ensures.kept.fits own h) ts c.args.inv asked))

@@ -1,4 +1,4 @@
-use Rattle.std.proofs.Common.{◌++◌, ◌∷◌, ◌∙◌, [], ℕ, List, Option, ap, refl, subst}
+use Rattle.std.proofs.Common.{◌++◌, ◌∷◌, ◌∙◌, [], ℕ, Option, ap, refl, subst}
 use Rattle.std.specs.Prelude.{MatchOption}
 use Rattle.data_theory.specs.IdData.{data_meant}
 use Rattle.data_rewriter.specs.declared.rewriter.Truth.{Truth}
@@ -44,8 +44,8 @@ returns-in_default-clause-start g c =
     let grown = keeps_grown sig ts us c.args.rewriter.now c.parts_with.ensures.kept in
     let place : Place = record { hypotheses = listed_at sig us c.new.result.items; goals = listed_at sig us c.in_ok-goals.goals.items } in
     λ own h inv are.
-        start_is sig ts us l inv c.new.result.items c.in_ok-goals.goals.items c.new.ensures.items (put_there sig ts us c.args.lin.now inv c.in_ok-goals.goals.items c.as_slice-params.result.now c.as_slice.result.now c.as_slice-params.ensures.value c.as_slice.ensures.value (c.in_ok-goals.ensures.put (term_at sig ts inv) are.are)) (IsProvedWhole (data_meant sig) own c.args.fuel)
-        (subst (λ (o : Option (ℕ × Truth)). MatchOption o (IsProvedWhole (data_meant sig) own c.args.fuel place) (λ q. IsFirstOpen sig own c.args.fuel vs q.0 q.1 place)) c.in_default.is (c.in_ok-part.ensures.found own (grown.fits own h)))
+    start_is sig ts us l inv c.new.result.items c.in_ok-goals.goals.items c.new.ensures.items (put_there sig ts us c.args.lin.now inv c.in_ok-goals.goals.items c.as_slice-params.result.now c.as_slice.result.now c.as_slice-params.ensures.value c.as_slice.ensures.value (c.in_ok-goals.ensures.put (term_at sig ts inv) are.are)) (IsProvedWhole (data_meant sig) own c.args.fuel)
+    (subst (λ (o : Option (ℕ × Truth)). MatchOption o (IsProvedWhole (data_meant sig) own c.args.fuel place) (λ q. IsFirstOpen sig own c.args.fuel vs q.0 q.1 place)) c.in_default.is (c.in_ok-part.ensures.found own (grown.fits own h)))
 
 pub returns-clause-start : goal.returns-clause-start
 returns-clause-start g c =

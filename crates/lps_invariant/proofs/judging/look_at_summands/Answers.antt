@@ -1,7 +1,7 @@
-use Rattle.std.proofs.Common.{◌≡◌, ◌+◌, ◌∙◌, [], List, map, take, ap, refl, subst, sym}
+use Rattle.std.proofs.Common.{◌+◌, List, map, take, refl, subst}
 use Rattle.lps_core.specs.PlainLinears.{PlainSummand, plain_linear, plain_summand}
 use Rattle.lps_invariant.specs.declared.deciding.Found.TheVariants.{Contradictory, Shown, Open}
-use Rattle.lps_invariant.specs.Judging.{none_to_sift, plain_truths}
+use Rattle.lps_invariant.specs.Judging.{plain_truths}
 use Rattle.lps_invariant.proofs.JudgedSummands.{all_summands, invariant_there, looked_at, more_goes, more_stays, none_sifted, one_more_summand, open_summand, sifted_later, summand_fits_there, summand_there, AreSiftedSoFar}
 use Rattle.lps_invariant.proofs.Keepings.{keeps_itself, keeps_then, known_on}
 use Rattle.lps_invariant.proofs.judging.look_at_summands.Goals as goal
@@ -90,10 +90,10 @@ returns-in-Open-clause-found g c =
     let all = c.args.lin.now.summands.items in
     let items = c.deref-summand-items.result.now in
     λ own h ts i asked.
-        open_summand sig own c.args.fuel ts vs l i all (map plain_summand c.loop-index.left.summands.items) (plain_truths c.loop-index.left.truths.items) c.loop-index.index (plain_summand c.summand-item.result) c.in-Open.part c.in-Open.truths.items refl
-        (sifted_later sig own c.args.fuel ts us vs c.look_at_summand.ensures.kept.pool l i (map plain_summand (take c.loop-index.index all)) (map plain_summand c.loop-index.left.summands.items) (plain_truths c.loop-index.left.truths.items) (inv.sifted own h ts i asked))
-        (summand_there c.deref-summand-items.result.now c.args.lin.now.summands.items c.loop-index.index c.summand-item.result c.deref-summand-items.ensures.value c.loop-index-test.true c.summand-item.is)
-        (looked_at sig c.signature_stands.ensures ts now us c.args.lin.now i c.args.invariant.now asked inv.kept.pool items c.loop-index.index c.summand-item.result c.as_slice-params.result.now c.as_slice-params.ensures.value c.deref-summand-items.ensures.value c.loop-index-test.true c.summand-item.is own c.args.fuel vs _ (Open c.in-Open.part c.in-Open.truths) c.in-Open.is (c.in_ok-look_at_summand.ensures.found own (inv.kept.fits own h)))
+    open_summand sig own c.args.fuel ts vs l i all (map plain_summand c.loop-index.left.summands.items) (plain_truths c.loop-index.left.truths.items) c.loop-index.index (plain_summand c.summand-item.result) c.in-Open.part c.in-Open.truths.items refl
+    (sifted_later sig own c.args.fuel ts us vs c.look_at_summand.ensures.kept.pool l i (map plain_summand (take c.loop-index.index all)) (map plain_summand c.loop-index.left.summands.items) (plain_truths c.loop-index.left.truths.items) (inv.sifted own h ts i asked))
+    (summand_there c.deref-summand-items.result.now c.args.lin.now.summands.items c.loop-index.index c.summand-item.result c.deref-summand-items.ensures.value c.loop-index-test.true c.summand-item.is)
+    (looked_at sig c.signature_stands.ensures ts now us c.args.lin.now i c.args.invariant.now asked inv.kept.pool items c.loop-index.index c.summand-item.result c.as_slice-params.result.now c.as_slice-params.ensures.value c.deref-summand-items.ensures.value c.loop-index-test.true c.summand-item.is own c.args.fuel vs _ (Open c.in-Open.part c.in-Open.truths) c.in-Open.is (c.in_ok-look_at_summand.ensures.found own (inv.kept.fits own h)))
 
 pub returns-clause-found : goal.returns-clause-found
 returns-clause-found g c = λ own h ts i asked.

@@ -1,4 +1,3 @@
-use Rattle.std.proofs.Common.{map}
 use Rattle.lps_invariant.proofs.PuttingParts.{if_ok, next_put}
 use Rattle.lps_invariant.proofs.places.parts_next.Goals as goal
 

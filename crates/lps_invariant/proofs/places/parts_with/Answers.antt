@@ -1,9 +1,6 @@
-use Rattle.std.proofs.Common.{◌≡◌, ◌∙◌, map, ap, sym, subst}
-use Rattle.data_theory.specs.IdTrees.{put_tree}
-use Rattle.data_rewriter.specs.Standing.{IsTerm}
-use Rattle.term_pool.specs.Bindings.{listed, listed_terms}
-use Rattle.term_pool.specs.HeadTrees.{trees_at, AreIn, IsIn}
-use Rattle.lps_core.specs.Fitting.{sort_of_variable}
+use Rattle.std.proofs.Common.{◌∙◌, sym, subst}
+use Rattle.term_pool.specs.Bindings.{listed_terms}
+use Rattle.term_pool.specs.HeadTrees.{AreIn, IsIn}
 use Rattle.lps_invariant.proofs.PuttingParts.{one_each, zip_terms, all_inside, put_stand, put_meant}
 use Rattle.lps_invariant.proofs.places.parts_with.Goals as goal
 

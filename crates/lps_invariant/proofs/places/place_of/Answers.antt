@@ -1,4 +1,4 @@
-use Rattle.std.proofs.Common.{◌∙◌, ap₂}
+use Rattle.std.proofs.Common.{ap₂}
 use Rattle.lps_core.specs.PlainLinears.{plain_summand}
 use Rattle.lps_invariant.proofs.PuttingParts.{hypotheses_stand, hypotheses_meant}
 use Rattle.lps_invariant.proofs.places.place_of.Goals as goal
