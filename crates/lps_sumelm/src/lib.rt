@@ -12,3 +12,4 @@ mod solving;
 mod variables;
 
 pub use eliminating::eliminate;
+pub use solutions::{Solution, first_solution};

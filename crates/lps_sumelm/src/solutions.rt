@@ -21,7 +21,7 @@ use term_pool::{Head, Pool};
 
 /// A variable with the term that a part gives for it.
 #[derive(Clone, Copy, Debug)]
-pub(crate) struct Solution {
+pub struct Solution {
     pub var: VarId,
     pub term: TermId,
 }
@@ -132,7 +132,7 @@ fn solution_of(
 /// # Errors
 ///
 /// `NoMemory` where there is none to look into the terms.
-pub(crate) fn first_solution(
+pub fn first_solution(
     alloc: Global,
     sig: &Signature,
     pool: &Pool,

@@ -1,0 +1,12 @@
+pub mod SolvedPlaces
+pub mod HeldInvariants
+pub mod DecidedPlaces
+pub mod HoldingWith
+pub mod PutPlaces
+pub mod PartsInCode
+pub mod PuttingParts
+pub mod Keepings
+pub mod DecidedTerms
+pub mod Sifting
+pub mod JudgedSummands
+pub mod Sets
