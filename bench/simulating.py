@@ -26,6 +26,14 @@ def walks(folder):
         yield f"walk of {depth}", ["walk", ALTERNATING, "--depth", str(depth)]
 
 
+def choices(folder):
+    """As many choices of the first move of the alternating bit protocol, which always has one."""
+    for count in (1_000, 10_000, 100_000):
+        path = folder / f"{count}.choices"
+        path.write_text("1\n" * count)
+        yield f"steps after {count}", ["steps", ALTERNATING, "--after", path]
+
+
 def lines_of_buffers(folder):
     """Lines of buffers, of which the program makes the text itself."""
     for count in (5, 10, 20, 40):
@@ -55,7 +63,7 @@ def first_steps(folder):
 
 
 COMMAND = sys.argv[1:] or [PROGRAM]
-KINDS = [first_steps, walks, lines_of_buffers, sums, traces]
+KINDS = [first_steps, walks, choices, lines_of_buffers, sums, traces]
 
 
 def run(words):

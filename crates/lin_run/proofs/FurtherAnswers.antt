@@ -130,3 +130,17 @@ further_told before after a name same named = ap (λ (f : List ℕ → Option (L
 -- a count that rose in a later call rose
 pub rose_before : (a b c : ℕ) → a ≤ b → Rose b c → Rose a c
 rose_before a b c l r = elim r [ inl up ↦ inl (omega (arith, l, up)) | inr full ↦ inr full ]
+
+-- ---- tasks
+-- one that needs a further file is one of two
+pub one_of_two : (t : Task) → NeedsFurther t → ((m : Method) (f b : ℕ) → t ≡ Replay m f b → ⊥) → ((m : Method) (f b : ℕ) → t ≡ StepsAfter m f b → ⊥) → ⊥
+one_of_two Check n r s = n
+one_of_two (Linearise m) n r s = n
+one_of_two (Constelm m f) n r s = n
+one_of_two (Parelm m) n r s = n
+one_of_two (Sumelm m f) n r s = n
+one_of_two (Steps m f b) n r s = n
+one_of_two (StepsAfter m f b) n r s = s m f b refl
+one_of_two (Walk m p) n r s = n
+one_of_two (Generate z) n r s = n
+one_of_two (Replay m f b) n r s = r m f b refl

@@ -86,8 +86,8 @@ module _ (g : Sig) (own : List Equation) (fuel bound : ℕ) (l : PlainLinear) (t
   pub performed : {picks : List Pick} {ts vs : List Tree} {state last : Option (List TermId)} {labels : List Label} → TakesMoves g own fuel bound l picks ts state vs last labels → linear_of (entries_of g ts) l ≡ lin
       → (o : Outcome) → Lands R o (outcome_of lin (option_map (terms_at g ts) state)) → HasPerformed o labels vs last
   performed none_taken same o lands = record { outcome = o; run = nothing_done; lands = lands; same = same }
-  performed (one_taken {ts = ts} {us = us} {state = state} found m place has kept picked there rest) same o (both_go_on {p = p} r) =
-      let among = at_among found.moves place m there in
+  performed (one_taken {ts = ts} {us = us} {state = state} found m place has kept picked stands rest) same o (both_go_on {p = p} r) =
+      let among = at_among found.moves place m stands in
       let s = subst (λ (k : Linear). IsStepOf th k (terms_at g ts state) (meant_move g us m)) same (moves_are_steps g own fuel bound ts us l state found has m among th later) in
       let f = follows th R bisimulation lin along p (terms_at g ts state) (meant_move g us m) r s in
       let stays = what_fits_stays g g ts us l has.signature.table has.signature.complete (record { signature = grown_itself g; pool = kept }) has.fits in

@@ -150,6 +150,6 @@ new_process text spec g ts equations x l made =
     record {
       text = n.text;
       named = n.named;
-      no_action = no_action_has_it m.signature g x n.text m.stands m.grow.signature (same_actions m.leads.grows) (action_is_taken spec m.signature placed m.declares.vocabulary m.taken) n.named n.fresh.free;
+      no_action = no_action_has_it m.signature g x n.text m.stands m.grow.signature (same_actions m.leads.grows) (action_is_taken spec m.signature placed m.declares.vocabulary (λ t i. (m.taken t).1 (inr i))) n.named n.fresh.free;
       free = ap is_free n.fresh.named ∙ candidates_are_free n.fresh.number;
     }

@@ -56,6 +56,11 @@ behind_blank : (x : Name) (es : Expressions) → codes "state " ++ (bytes_of (pr
 behind_blank x none = ap (λ z. codes "state " ++ z) (bytes_behind (print_action (act x none) [] []) (10 ∷ []))
 behind_blank x (more e es) = ap (λ z. codes "state " ++ z) (bytes_behind (print_action (act x (more e es)) [] []) (10 ∷ []))
 
+-- the line of an ended process
+pub ended_line : (g : Sig) (x : Name) → codes "ended\n" ≡ state_line g x None
+unfolding state_line
+ended_line g x = refl
+
 -- ---- a signature with an action more
 module _ (g : Sig) (more_actions : List Key) where
   abbrev with_more : Sig

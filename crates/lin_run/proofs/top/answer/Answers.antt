@@ -12,6 +12,9 @@ pub answer_with-requires-clause-needs : goal.answer_with-requires-clause-needs
 answer_with-requires-clause-needs g c =
     subst (λ (o : Option Command). IfSome o (λ (x : Command). IsSome x.further → NeedsFurther x.task)) c.in_ok-command.ensures.ok_part c.in_ok-command_of.ensures.needs (subst IsSome (sym c.in-Some.is) tt)
 
+pub answer_with-requires-clause-short : goal.answer_with-requires-clause-short
+answer_with-requires-clause-short g c = search rules
+
 pub answer_to-requires : goal.answer_to-requires
 answer_to-requires g c = λ needs.
     let some : IsSome c.in_ok-command.command.further = subst (λ (o : Option Command). IfSome o (λ (x : Command). NeedsFurther x.task → IsSome x.further)) c.in_ok-command.ensures.ok_part c.in_ok-command_of.ensures.further needs in
