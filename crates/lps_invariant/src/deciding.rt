@@ -1,7 +1,7 @@
 //! How the terms of a place are decided.
 
 ghost use Rattle.std.specs.Prelude.{◌≡◌, ◌↔◌, ◌⊎◌, ◌==◌, List, IfOk, IsTrue, MatchOption, OnOk};
-ghost use Rattle.std.specs.List.{list_any, All, Contains};
+ghost use Rattle.std.specs.List.{list_any, Contains};
 ghost use Rattle.data_theory.specs.Provable.{Equation};
 ghost use Rattle.data_theory.specs.IdData.{data_meant};
 ghost use Rattle.data_theory.specs.declared.ids.TermId.{TermId};
@@ -25,7 +25,7 @@ use std::alloc::Global;
 use term_pool::Pool;
 
 /// What is found at a place.
-#[derive(Debug, Drop)]
+#[derive(Drop)]
 pub(crate) enum Found {
     /// Some hypothesis is decided `No`.
     Contradictory,

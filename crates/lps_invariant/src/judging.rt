@@ -11,7 +11,7 @@ ghost use Rattle.term_pool.specs.Pools.{Extends};
 ghost use Rattle.number_rules.specs.Rule.{IsExact, rule_of};
 ghost use Rattle.data_rewriter.specs.Rewriters as rewriters;
 ghost use Rattle.data_rewriter.specs.Rewriters.{number_rules};
-ghost use Rattle.data_rewriter.specs.Standing.{listed_at, term_at, IsTerm};
+ghost use Rattle.data_rewriter.specs.Standing.{listed_at, IsTerm};
 ghost use Rattle.process_terms.specs.Meanings.{bound_at};
 ghost use Rattle.process_terms.specs.SignatureEntries.{entries_of};
 ghost use Rattle.lps_core.specs.Conditions.{parts};
@@ -53,7 +53,7 @@ pub enum Judged {
 }
 
 /// The first place with a goal that isn't proved, the first such goal, and the answers.
-#[derive(Debug, Drop)]
+#[derive(Drop)]
 struct OpenPlace {
     place: usize,
     part: usize,
@@ -61,7 +61,7 @@ struct OpenPlace {
 }
 
 /// The summands that stay, and for each of them the answers for what may be assumed there.
-#[derive(Debug, Drop)]
+#[derive(Drop)]
 struct Left {
     summands: Vec<Summand>,
     truths: Vec<Vec<Truth>>,

@@ -1,9 +1,8 @@
 //! Places where an invariant has to be shown.
 
-ghost use Rattle.std.specs.Prelude.{◌≡◌, ◌<◌, ◌++◌, List, length, map, option_map, IfOk, IfSome, MatchOption};
+ghost use Rattle.std.specs.Prelude.{◌≡◌, ◌<◌, ◌++◌, length, map, option_map, IfOk, IfSome, MatchOption};
 ghost use Rattle.std.specs.List.{All, zip};
-ghost use Rattle.data_theory.specs.Environments.{bound, term_in};
-ghost use Rattle.data_theory.specs.Terms.{put, Term};
+ghost use Rattle.data_theory.specs.Terms.{Term};
 ghost use Rattle.term_pool.specs.Pools.{Extends};
 ghost use Rattle.data_rewriter.specs.Standing.{listed_at, IsTerm};
 ghost use Rattle.process_terms.specs.Meanings.{bound_at, term_at};
@@ -24,7 +23,7 @@ use std::alloc::Global;
 use term_pool::Pool;
 
 /// What may be assumed at a place, and what is to be shown there.
-#[derive(Debug, Drop)]
+#[derive(Drop)]
 pub(crate) struct Place {
     pub hypotheses: Vec<TermId>,
     pub goals: Vec<TermId>,
