@@ -8,10 +8,12 @@ ghost use Rattle.data_theory.specs.Environments.{AreDistinct};
 ghost use Rattle.data_theory.specs.Signature.{Sig};
 ghost use Rattle.term_pool.specs.HeadTrees.{IsIn};
 ghost use Rattle.eqn_check.specs.CallTables.{AreCalls};
+ghost use Rattle.eqn_check.specs.Earlier.{ArePrevious};
 ghost use Rattle.eqn_check.specs.Judged.{IsAnswerFor, IsEquationOver, IsReasonFor, DecidesOverlap, TellsOverlap, term_at};
 
 use crate::alike::are_alike;
 use crate::answers::{Answer, Reason};
+use crate::earlier::{begin_apart, previous_ones};
 use crate::exclusion::exclude;
 use crate::linear::has_distinct_variables;
 use crate::patterns::is_left_side;
@@ -42,6 +44,9 @@ fn overlap(
     requires other { IsEquationOver sig.now pool.now.trees other.now }
     ensures { IfOk result (DecidesOverlap sig.now pool.now.trees one.now other.now) }
 {
+    if begin_apart(sig, pool, one.left, other.left) {
+        return Ok(false);
+    }
     let alike = are_alike(alloc, sig, pool, one.left, other.left)?;
     if !alike {
         return Ok(false);
@@ -51,18 +56,23 @@ fn overlap(
 }
 
 /// Whether an equation overlaps with an earlier one, where the left sides of all of these are linear.
+/// Those of its own mapping are looked at, from the last one on.
 fn overlaps(
     alloc: Global,
     sig: &Signature,
     theory: &Theory,
     pool: &Pool,
+    previous: &[Option<usize>],
     number: usize,
 ) -> Result<bool, NoMemory>
     requires equations { All (IsEquationOver sig.now pool.now.trees) theory.now.equations.items }
+    requires previous { ArePrevious pool.now.trees theory.now.equations.items previous.now }
     requires number { number < length theory.now.equations.items }
     ensures { IfOk result (TellsOverlap sig.now pool.now.trees theory.now.equations.items number) }
 {
-    for earlier in 0..number {
+    sig.next_sort();
+    let mut next = previous[number];
+    while let Some(earlier) = next {
         let both = overlap(
             alloc,
             sig,
@@ -73,6 +83,7 @@ fn overlaps(
         if both {
             return Ok(true);
         }
+        next = previous[earlier];
     }
     Ok(false)
 }
@@ -83,10 +94,12 @@ fn broken_rule(
     sig: &Signature,
     theory: &Theory,
     pool: &Pool,
+    previous: &[Option<usize>],
     calls: &Calls,
     number: usize,
 ) -> Result<Option<Reason>, NoMemory>
     requires equations { All (IsEquationOver sig.now pool.now.trees) theory.now.equations.items }
+    requires previous { ArePrevious pool.now.trees theory.now.equations.items previous.now }
     requires calls { AreCalls sig.now pool.now.trees theory.now.equations.items
         calls.now.lists.items calls.now.edges.items calls.now.cyclic calls.now.falling.items }
     requires number { number < length theory.now.equations.items }
@@ -101,7 +114,7 @@ fn broken_rule(
     if !linear {
         return Ok(Some(Reason::Repeat));
     }
-    let overlapping = overlaps(alloc, sig, theory, pool, number)?;
+    let overlapping = overlaps(alloc, sig, theory, pool, previous, number)?;
     if overlapping {
         return Ok(Some(Reason::Overlap));
     }
@@ -128,9 +141,18 @@ pub fn check(
     requires { All (IsEquationOver sig.now pool.now.trees) theory.now.equations.items }
     ensures { IfOk result (IsAnswerFor sig.now pool.now.trees theory.now.equations.items) }
 {
+    let previous = previous_ones(alloc, sig, theory, pool)?;
     let calls = find_calls(alloc, sig, theory, pool)?;
     for number in 0..theory.equations.len() {
-        let broken = broken_rule(alloc, sig, theory, pool, &calls, number)?;
+        let broken = broken_rule(
+            alloc,
+            sig,
+            theory,
+            pool,
+            previous.as_slice(),
+            &calls,
+            number,
+        )?;
         if let Some(reason) = broken {
             return Ok(Answer::Unproved(number + 1, reason));
         }
