@@ -1,5 +1,5 @@
 -- The equations before an equation whose left sides are of the same function.
-use Rattle.std.proofs.Common.{◌≡◌, ℕ, zero, suc, ◌<◌, ◌≤◌, ◌+◌, ◌⊎◌, inl, inr, ⊎_elim, List, [], ◌∷◌, ◌++◌, length, get_or, set, replicate, Bool, true, false, refl, sym, ap, ◌∙◌, subst, arith, length-append}
+use Rattle.std.proofs.Common.{◌≡◌, ℕ, zero, suc, ◌<◌, ◌≤◌, ◌+◌, ◌⊎◌, inl, inr, List, [], ◌∷◌, ◌++◌, length, get_or, set, replicate, Bool, true, false, refl, sym, ap, ◌∙◌, subst, arith, length-append}
 use Rattle.std.specs.Prelude.{Option, None, Some, slice_get, ℤ, not}
 use Rattle.std.specs.Bool.{Decides}
 use Rattle.std.specs.List.{All}
@@ -10,15 +10,12 @@ use Rattle.std.proofs.lemmas.Option.{slice_get_within}
 use Rattle.data_theory.specs.declared.ids.FunId.{FunId}
 use Rattle.data_theory.specs.declared.ids.TermId.{TermId}
 use Rattle.data_theory.specs.Whole.{whole_of}
-use Rattle.data_theory.specs.Terms as terms
-use Rattle.data_theory.specs.Terms.{Symbol}
 use Rattle.data_theory.specs.Provable.{Equation}
 use Rattle.data_theory.specs.Signature.{Sig}
 use Rattle.data_theory.specs.IdData.{data_meant}
 use Rattle.data_theory.specs.IdTables.{IsTable}
-use Rattle.data_theory.specs.IdTerms.{symbol_under, term_under, IsTreeWithin}
-use Rattle.data_theory.specs.IdTrees as trees
-use Rattle.data_theory.specs.IdTrees.{Tree, trees_of}
+use Rattle.data_theory.specs.IdTerms.{term_under, IsTreeWithin}
+use Rattle.data_theory.specs.IdTrees.{Tree}
 use Rattle.data_theory.specs.Arithmetic.{equal_numbers}
 use Rattle.data_theory.proofs.SameValues.{equal_numbers_itself}
 use Rattle.data_theory.proofs.IdSymbolLemmas.{different_functions_mean_different_symbols}
@@ -31,8 +28,8 @@ use Rattle.eqn_check.specs.Patterns.{IsOf}
 use Rattle.eqn_check.specs.Exclusion.{Exclude}
 use Rattle.eqn_check.specs.Rules.{LeftSidesMeet, BreaksOverlap}
 use Rattle.eqn_check.specs.Judged.{term_at, IsTerm, IsEquationOver, IsEquationOf, AreEquationsOf, AreLinear, DecidesOverlap}
-use Rattle.eqn_check.specs.Earlier.{LeftAt, IsLast, read_at, ArePreviousUpTo, ArePrevious, PassesEquations, end_of, NoneOverlapsFrom, WalksBack}
-use Rattle.eqn_check.specs.LeftHeads.{IsOtherFunction, IsOtherNumber, AreApart}
+use Rattle.eqn_check.specs.Earlier.{LeftAt, IsLast, read_at, ArePreviousUpTo, ArePrevious, PassesEquations, end_of, WalksBack}
+use Rattle.eqn_check.specs.LeftHeads.{AreApart}
 use Rattle.eqn_check.proofs.Deciding.{decides_no}
 use Rattle.eqn_check.proofs.Elements.{contains_at}
 use Rattle.eqn_check.proofs.JudgedLemmas.{not_so, as_long, pair_at, element_at_place}
