@@ -12,12 +12,11 @@ use Rattle.std.proofs.lemmas.Option.{slice_get_within}
 use Rattle.data_theory.specs.declared.ids.FunId.{FunId}
 use Rattle.data_theory.specs.declared.ids.TermId.{TermId}
 use Rattle.data_theory.specs.Whole.{whole_of}
-use Rattle.data_theory.specs.Terms as terms
 use Rattle.data_theory.specs.Provable.{Equation}
 use Rattle.data_theory.specs.Signature.{Sig}
 use Rattle.data_theory.specs.IdData.{data_meant}
 use Rattle.data_theory.specs.IdTables.{IsTable}
-use Rattle.data_theory.specs.IdTerms.{symbol_under, term_under, IsTreeWithin}
+use Rattle.data_theory.specs.IdTerms.{term_under, IsTreeWithin}
 use Rattle.data_theory.specs.IdTrees as trees
 use Rattle.data_theory.specs.IdTrees.{Tree, Trees, trees_of}
 use Rattle.data_theory.specs.Arithmetic.{equal_numbers}
@@ -32,8 +31,8 @@ use Rattle.eqn_check.specs.Patterns.{IsOf}
 use Rattle.eqn_check.specs.Exclusion.{Exclude}
 use Rattle.eqn_check.specs.Rules.{LeftSidesMeet, BreaksOverlap}
 use Rattle.eqn_check.specs.Judged.{term_at, IsTerm, IsEquationOver, IsEquationOf, AreEquationsOf, AreLinear, DecidesOverlap}
-use Rattle.eqn_check.specs.Earlier.{Key, start_at, open_at, IsStartOf, IsOpenOf, AreStarts, AreOpens, KeyAt, IsLast, read_at, ArePreviousUpTo, ArePrevious, same_key, last_of, last_if, PassesKeys, Enters, IsChain, end_of, NoneOverlapsFrom, WalksBack, TellsAlong}
-use Rattle.eqn_check.specs.LeftHeads.{IsOtherFunction, IsOtherNumber, AreApart}
+use Rattle.eqn_check.specs.Earlier.{Key, start_at, open_at, IsStartOf, IsOpenOf, AreStarts, AreOpens, KeyAt, IsLast, read_at, ArePreviousUpTo, ArePrevious, same_key, last_of, last_if, PassesKeys, Enters, IsChain, end_of, WalksBack, TellsAlong}
+use Rattle.eqn_check.specs.LeftHeads.{AreApart}
 use Rattle.eqn_check.proofs.AlikeLemmas.{meeting_left_sides}
 use Rattle.eqn_check.proofs.Deciding.{decides_no, decides_yes}
 use Rattle.eqn_check.proofs.Elements.{contains_at}

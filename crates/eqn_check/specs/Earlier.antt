@@ -5,7 +5,7 @@ use Rattle.std.specs.HashMap.{HashMap, get}
 use Rattle.data_theory.specs.Provable.{Equation}
 use Rattle.data_theory.specs.Signature.{Sig}
 use Rattle.data_theory.specs.IdData.{data_meant}
-use Rattle.data_theory.specs.IdTrees.{Tree, function, none, more}
+use Rattle.data_theory.specs.IdTrees.{Tree, function, more}
 use Rattle.term_pool.specs.HeadTrees.{tree_at}
 use Rattle.term_pool.specs.declared.terms.Equation.{Equation as Written}
 use Rattle.eqn_check.specs.Exclusion.{Exclude}
