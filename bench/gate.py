@@ -1,7 +1,9 @@
 #!/usr/bin/env python3
 """Says what a run of the gate takes, crate by crate, in processor-minutes.
 
-  bench/gate.py [COMMAND..]      starts the command at the top of the repository (`rt ci` without one) and prints a table at its end
+  bench/gate.py [COMMAND..]          starts the command at the top of the repository (`rt ci` without one) and prints a table at its end
+  bench/gate.py --write [COMMAND..]  the same, and writes the table to docs/GATE.md
+  bench/gate.py --from FILE          writes docs/GATE.md by what an earlier run has printed into the file
 
 It looks every quarter of a second at the processes that the command has started, so it costs next to nothing. The processes of
 the prover name their crate on their command line: proofs of the crate, of its tests (with what is built and run of these and of
@@ -21,6 +23,15 @@ import time
 TICKS = os.sysconf("SC_CLK_TCK")
 TOP = os.path.dirname(os.path.dirname(os.path.abspath(__file__)))
 KINDS = ("proof", "tests", "edits")
+HEAD = "| Crate | Lines | Proof | Tests | Edits | Minutes | per 1,000 lines |"
+PAGE = """# What the gate takes
+
+The gate is `rt ci`: every proof, every edit that must be refused and every test. `bench/gate.py --write` runs it and writes this
+page. The minutes are those of one processor. *Lines* are those of `src/` and `specs/`. *Tests* are the proofs of a crate's
+tests, with what is built and run of these and of programs. *Edits* are a further proof of a crate, and the edits that are tried
+over it. [HACKING.md](HACKING.md) says how checks are kept short.
+
+"""
 
 
 def lines_of(crate):
@@ -156,16 +167,16 @@ def clock(below, work, processors):
 
 
 def prospects(sums):
-    """Prints the longest chain, and what machines of two and of four processors would take."""
+    """The longest chain, and what machines of two and of four processors would take."""
     below = listed()
     work = {crate: (sums.get(crate, {}).get("proof", 0.0) / 60, sum(sums.get(crate, {}).get(kind, 0.0) for kind in KINDS[1:]) / 60) for crate in below}
     minutes, chain = max(ways_down(below, {crate: work[crate][0] for crate in below}).values())
-    print(f"longest chain: {minutes:.1f} processor-minutes: {', '.join(chain)}")
-    print(f"at best {clock(below, work, 2):.0f} minutes on two processors, {clock(below, work, 4):.0f} on four")
+    yield f"longest chain: {minutes:.1f} processor-minutes: {', '.join(chain)}"
+    yield f"at best {clock(below, work, 2):.0f} minutes on two processors, {clock(below, work, 4):.0f} on four"
 
 
-def table(watch, total):
-    """Prints the table and the edits."""
+def lines_of_table(watch, total):
+    """The lines of the table, and those of the edits."""
     sums, edits = {}, {}
     for key, seconds in watch.taken.items():
         crate, kind, run = watch.known[key]
@@ -174,32 +185,55 @@ def table(watch, total):
             runs = edits.setdefault(crate, {})
             runs[run] = runs.get(run, 0.0) + seconds
     order = listed()
-    print("| Crate | Lines | Proof | Tests | Edits | Minutes | per 1,000 lines |")
-    print("|---|---|---|---|---|---|---|")
+    yield HEAD
+    yield "|---|---|---|---|---|---|---|"
     whole, seen = 0, 0.0
     for crate in [it for it in order if it in sums]:
         lines, parts = lines_of(crate), [sums[crate][kind] / 60 for kind in KINDS]
         whole, seen = whole + lines, seen + sum(parts)
         each = f"{1000 * sum(parts) / lines:.1f}" if lines else "-"
-        print(f"| `{crate}` | {lines:,} | {' | '.join(f'{it:.1f}' for it in parts)} | {sum(parts):.1f} | {each} |")
-    print(f"| the rest | | | | | {total / 60 - seen:.1f} | |")
-    print(f"| all | {whole:,} | | | | {total / 60:.1f} | {1000 * total / 60 / max(whole, 1):.1f} |")
-    prospects(sums)
+        yield f"| `{crate}` | {lines:,} | {' | '.join(f'{it:.1f}' for it in parts)} | {sum(parts):.1f} | {each} |"
+    yield f"| the rest | | | | | {total / 60 - seen:.1f} | |"
+    yield f"| all | {whole:,} | | | | {total / 60:.1f} | {1000 * total / 60 / max(whole, 1):.1f} |"
+    yield from prospects(sums)
     for crate, runs in edits.items():
-        print(f"edits of {crate}: {' '.join(f'{it:.0f}' for it in runs.values())} s")
+        yield f"edits of {crate}: {' '.join(f'{it:.0f}' for it in runs.values())} s"
+
+
+def table(watch, total):
+    """Prints the table and the edits."""
+    print("\n".join(lines_of_table(watch, total)))
+
+
+def write(lines):
+    """Writes docs/GATE.md by the lines that a run has printed."""
+    begin = lines.index(HEAD)
+    end = next(place for place in range(begin, len(lines)) if not lines[place].startswith("|"))
+    with open(f"{TOP}/docs/GATE.md", "w", encoding="utf-8") as file:
+        file.write(PAGE)
+        file.write("\n".join([*lines[begin:end], "", *(f"- {line}" for line in lines[end:] if line)]) + "\n")
 
 
 def main(words):
+    if words[:1] == ["--from"]:
+        with open(words[1], encoding="utf-8") as file:
+            write(file.read().split("\n"))
+        return 0
+    is_written = words[:1] == ["--write"]
     began = time.time()
-    started = subprocess.Popen(words or ["rt", "ci"], cwd=TOP)
+    started = subprocess.Popen(words[is_written:] or ["rt", "ci"], cwd=TOP)
     watch = Watch(started.pid)
     watch.start()
     status = started.wait()
     watch.is_over = True
     watch.join()
     used = resource.getrusage(resource.RUSAGE_CHILDREN)
-    table(watch, used.ru_utime + used.ru_stime)
-    print(f"{(time.time() - began) / 60:.1f} minutes by the clock, status {status}")
+    kit = subprocess.run(["rt", "version"], stdout=subprocess.PIPE, text=True, check=False).stdout.strip()
+    lines = [*lines_of_table(watch, used.ru_utime + used.ru_stime), f"{(time.time() - began) / 60:.1f} minutes by the clock on {os.cpu_count()} processors, status {status}",
+             f"toolchain: {kit}"]
+    print("\n".join(lines))
+    if is_written and status == 0:
+        write(lines)
     return status
 
 
