@@ -1,8 +1,7 @@
 -- Counting down, in code.
-use Rattle.std.proofs.Common.{◌≡◌, ℕ, ◌<◌, ◌⊎◌, inl, inr, ⊎_elim, List, [], ◌∷◌, ◌++◌, length, get_or, take, Bool, true, false, cond, refl, sym, ap, ◌∙◌, subst, arith}
-use Rattle.std.specs.Prelude.{◌↔◌, Option, None, Some, IfSome, slice_get, ℤ, pos, negsuc, not}
-use Rattle.std.specs.List.{AllZip, Contains}
-use lib.Signed.{lt_z, le_z}
+use Rattle.std.proofs.Common.{◌≡◌, ℕ, ◌<◌, ◌⊎◌, inl, inr, ⊎_elim, List, [], ◌∷◌, length, take, Bool, true, false, refl, sym, ap, ◌∙◌, subst}
+use Rattle.std.specs.Prelude.{◌↔◌, Option, None, Some, IfSome, slice_get, ℤ, pos, not}
+use Rattle.std.specs.List.{Contains}
 use Rattle.data_theory.specs.declared.ids.TermId.{TermId}
 use Rattle.data_theory.specs.declared.ids.VarId.{VarId}
 use Rattle.data_theory.specs.declared.ids.FunId.{FunId}
@@ -16,13 +15,12 @@ use Rattle.data_theory.specs.Signature.{Sig}
 use Rattle.data_theory.specs.Sorts.{SortInfo, kind_of}
 use Rattle.data_theory.specs.IdSorts.{constructions, meaning_of}
 use Rattle.data_theory.specs.IdTables.{IsTable}
-use Rattle.data_theory.specs.IdTerms.{sort_under, symbol_under, term_under, terms_under}
-use Rattle.data_theory.specs.IdTrees.{Tree, Trees, variable, numeral, function, none, more, trees_of}
+use Rattle.data_theory.specs.IdTerms.{sort_under, term_under}
+use Rattle.data_theory.specs.IdTrees.{Tree, variable, numeral, function, none, more}
 use Rattle.data_theory.proofs.IdSymbolLemmas.{read_sort}
-use Rattle.term_pool.specs.declared.terms.Head.{Head}
-use Rattle.term_pool.specs.declared.terms.Head.TheVariants.{Var, Num as Number, Fun}
+use Rattle.term_pool.specs.declared.terms.Head.TheVariants.{Fun}
 use Rattle.term_pool.specs.HeadTrees.{tree_at, trees_at, written_tree}
-use Rattle.eqn_check.specs.Conditions.{parts, reading}
+use Rattle.eqn_check.specs.Conditions.{parts}
 use Rattle.eqn_check.specs.Comparisons.{IsNotBinary}
 use Rattle.eqn_check.specs.Counting.{least, is_least, kept_above, counted_down, lessened, IsKeptAbove}
 use Rattle.eqn_check.specs.Counted.{numbered, AddsKept, AreKeptAbove, IsCounted, WalksKept}

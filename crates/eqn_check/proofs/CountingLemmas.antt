@@ -1,16 +1,16 @@
 -- What is counted down has a smaller value.
-use Rattle.std.proofs.Common.{◌≡◌, ℕ, zero, suc, ◌<◌, ◌≤◌, ◌+◌, ◌-◌, List, [], ◌∷◌, Bool, true, false, cond, refl, sym, ap, ◌∙◌, subst, arith}
+use Rattle.std.proofs.Common.{◌≡◌, ℕ, zero, suc, ◌<◌, ◌+◌, ◌-◌, List, Bool, true, false, cond, refl, sym, ap, ◌∙◌, subst, arith}
 use Rattle.std.specs.Prelude.{Option, None, Some, ℤ, pos, negsuc, ◌-ℤ◌, not}
 use lib.Signed.{lt_z, le_z}
 use lib.Dec.{ltb}
 use Rattle.std.proofs.lemmas.Bool.Decides.{Decides-ltb}
-use Rattle.data_theory.specs.Terms.{Sort, boolean, positive, natural, integer, list, named, less, at_most, greater, at_least, subtract, to_positive, to_natural, Symbol, equality, inequality, comparison, arithmetic, minus, empty, tail, rtail, Term, Terms, variable, numeral, unknown, application, none, more}
-use Rattle.data_theory.specs.Declarations.{Data, Declares, IsNumberSort, positives, naturals, integers, IsOperation, subtract_pos, subtract_nat, subtract_int, nat2pos, int2nat, int2pos, argument_sorts, result_sort, IsSymbol, HasSort, HaveSorts}
+use Rattle.data_theory.specs.Terms.{Sort, boolean, positive, natural, integer, list, named, less, at_most, greater, at_least, subtract, to_positive, to_natural, Symbol, equality, inequality, comparison, arithmetic, minus, empty, tail, rtail, Term, variable, numeral, unknown, application, none, more}
+use Rattle.data_theory.specs.Declarations.{Data, Declares, IsNumberSort, positives, naturals, integers, IsOperation, subtract_pos, subtract_nat, subtract_int, nat2pos, int2nat, int2pos, argument_sorts, IsSymbol, HasSort, HaveSorts}
 use Rattle.data_theory.specs.Arithmetic.{value_of}
 use Rattle.data_theory.specs.Values.{Value, Values, a_truth, a_number, a_list, constructed, an_unknown, no_value, value_then, same_value, truth_in, number_in, list_in, after_first_item, before_last_from, before_last_item, number_or, default_value, Interpretation}
 use Rattle.data_theory.proofs.SameValues.{same_value_commutes, equal_numbers_tells}
 use Rattle.data_theory.proofs.EnvironmentLemmas.{one_sort}
-use Rattle.eqn_check.specs.Conditions.{below, up_to, different, reading_of}
+use Rattle.eqn_check.specs.Conditions.{reading_of}
 use Rattle.eqn_check.specs.Counting.{variable_in, least, is_from_least, is_above_least, is_least, kept_above_in, kept_above, is_minus, is_from_one, counted_down, lessened_by, lessened}
 use Rattle.eqn_check.proofs.ExclusionLemmas.{at_most_tells}
 use Rattle.eqn_check.proofs.ValuesUnder.{value_under}

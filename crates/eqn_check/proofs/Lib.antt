@@ -34,3 +34,4 @@ pub mod EdgeLemmas
 pub mod BelowLemmas
 pub mod FallingLemmas
 pub mod RecursionLemmas
+pub mod EarlierLemmas

@@ -63,7 +63,7 @@ mutual
   calling_within sig h us (trees.more t ts) w (inr c) = calling_within sig h us ts w.1 c
 
 -- a declared function's term is its tree
-of_tree : (sig : Sig) (f : ℕ) (t : Tree) → IsOf f (term_under sig t) → (i : FunId) × (us : Trees) × (t ≡ trees.function i us) × (symbol_under sig i ≡ function f)
+pub of_tree : (sig : Sig) (f : ℕ) (t : Tree) → IsOf f (term_under sig t) → (i : FunId) × (us : Trees) × (t ≡ trees.function i us) × (symbol_under sig i ≡ function f)
 of_tree sig f (trees.variable v) o = absurd o
 of_tree sig f (trees.numeral a z) o = absurd o
 of_tree sig f (trees.function i us) o = (i, us, refl, of_symbol (symbol_under sig i) (terms_under sig us) o)

@@ -90,12 +90,6 @@ DecidesOverlap sig ts e f b =
     (p q : Equation) → IsEquationOf sig ts e p → IsEquationOf sig ts f q → IsLinearLeft (data_meant sig) p → IsLinearLeft (data_meant sig) q
     → Decides b (LeftSidesMeet p q × (Exclude (data_meant sig) p q → ⊥))
 
--- none of the first n equations overlaps with this one, where all up to this one are linear
-abbrev pub NoneOverlaps : Sig → List Tree → List Written → ℕ → ℕ → Type 0
-NoneOverlaps sig ts es number n =
-    (own : List Equation) → AreEquationsOf sig ts es own → AreLinear (data_meant sig) own (number + 1) → (q : Equation) → slice_get own number ≡ Some q
-    → (j : ℕ) (p : Equation) → j < n → slice_get own j ≡ Some p → LeftSidesMeet p q → (Exclude (data_meant sig) p q → ⊥) → ⊥
-
 -- the flag tells whether this equation overlaps with an earlier one, where all up to it are linear
 abbrev pub TellsOverlap : Sig → List Tree → List Written → ℕ → Bool → Type 0
 TellsOverlap sig ts es number b =

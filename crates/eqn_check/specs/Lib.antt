@@ -16,3 +16,5 @@ pub mod Counted
 pub mod Fillings
 pub mod Comparisons
 pub mod ExcludedPairs
+pub mod Earlier
+pub mod LeftHeads

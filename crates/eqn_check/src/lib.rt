@@ -7,6 +7,7 @@ mod calls;
 mod checking;
 mod comparisons;
 mod counting;
+mod earlier;
 mod edges;
 pub mod examples;
 mod exclusion;

@@ -1,0 +1,6 @@
+use Rattle.std.proofs.Common.{take}
+use Rattle.eqn_check.specs.Earlier.{AreOpens}
+use Rattle.eqn_check.proofs.earlier.opens_of.Given as goal
+
+abbrev pub invariant-loop-number : goal.invariant-loop-number
+invariant-loop-number l = AreOpens l.pool.trees l.count (take l.number l.theory.equations.items) l.keys.items
