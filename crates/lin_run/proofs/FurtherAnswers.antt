@@ -142,5 +142,6 @@ one_of_two (Sumelm m f) n r s = n
 one_of_two (Steps m f b) n r s = n
 one_of_two (StepsAfter m f b) n r s = s m f b refl
 one_of_two (Walk m p) n r s = n
+one_of_two (Equations m) n r s = n
 one_of_two (Generate z) n r s = n
 one_of_two (Replay m f b) n r s = r m f b refl

@@ -1,4 +1,4 @@
-use Rattle.std.proofs.Common.{rules, ◌≡◌, Option, None, Some, map, string_bytes, ap, sym, subst}
+use Rattle.std.proofs.Common.{rules, ◌≡◌, Option, None, Some, map, string_bytes, ap, refl, sym, subst, true≢false}
 use Rattle.std.specs.Prelude.{option_map, IfSome, IsSome}
 use Rattle.lin_words.specs.Commands.{Asked, asked_by, further_asked, NeedsFurther}
 use Rattle.lin_words.specs.declared.command.Command.{Command}
@@ -10,7 +10,7 @@ use Rattle.lin_run.proofs.top.answer.Goals as goal
 
 pub answer_with-requires-clause-needs : goal.answer_with-requires-clause-needs
 answer_with-requires-clause-needs g c =
-    subst (λ (o : Option Command). IfSome o (λ (x : Command). IsSome x.further → NeedsFurther x.task)) c.in_ok-command.ensures.ok_part c.in_ok-command_of.ensures.needs (subst IsSome (sym c.in-Some.is) tt)
+    subst (λ (o : Option Command). IfSome o (λ (x : Command). IsSome x.further → NeedsFurther x.task)) c.in_ok-command.ensures.ok_part c.in_ok-command_of.ensures.needs (subst IsSome (sym c.in-Some.is) refl)
 
 pub answer_with-requires-clause-short : goal.answer_with-requires-clause-short
 answer_with-requires-clause-short g c = search rules
@@ -18,7 +18,7 @@ answer_with-requires-clause-short g c = search rules
 pub answer_to-requires : goal.answer_to-requires
 answer_to-requires g c = λ needs.
     let some : IsSome c.in_ok-command.command.further = subst (λ (o : Option Command). IfSome o (λ (x : Command). NeedsFurther x.task → IsSome x.further)) c.in_ok-command.ensures.ok_part c.in_ok-command_of.ensures.further needs in
-    let never : IsSome None = subst IsSome c.in_default.is some in absurd never
+    true≢false (sym (subst IsSome c.in_default.is some))
 
 pub returns-in-Some-clause-words : goal.returns-in-Some-clause-words
 returns-in-Some-clause-words g c = λ is. absurd (no_words _ c.answer_with.result c.answer_with.ensures.cause is)
@@ -33,7 +33,7 @@ returns-in-Some-clause-shelf_kept g c =
     let a : Asked = record { task = command.task; file = command.file.now; further = option_map (λ s. s.now) command.further } in
     let asked : asked_by (map string_bytes c.args.words.now) ≡ Some a = search rules in
     let needs : NeedsFurther command.task =
-    subst (λ (o : Option Command). IfSome o (λ (x : Command). IsSome x.further → NeedsFurther x.task)) c.in_ok-command.ensures.ok_part c.in_ok-command_of.ensures.needs (subst IsSome (sym c.in-Some.is) tt) in
+    subst (λ (o : Option Command). IfSome o (λ (x : Command). IsSome x.further → NeedsFurther x.task)) c.in_ok-command.ensures.ok_part c.in_ok-command_of.ensures.needs (subst IsSome (sym c.in-Some.is) refl) in
     λ never. absurd (never (further_reads (map string_bytes c.args.words.now) a asked needs))
 
 pub returns-in-Some-clause-refused : goal.returns-in-Some-clause-refused
@@ -80,7 +80,7 @@ returns-in-Ok-clause-answered g c =
     let text_of = g.H.Shelf.text_of c.args.shelf.now in
     let none : ¬ (NeedsFurther a.task) = λ needs.
     let some : IsSome command.further = subst (λ (o : Option Command). IfSome o (λ (x : Command). NeedsFurther x.task → IsSome x.further)) c.in_ok-command.ensures.ok_part c.in_ok-command_of.ensures.further needs in
-    let never : IsSome None = subst IsSome c.in_default.is some in absurd never in
+    true≢false (sym (subst IsSome c.in_default.is some)) in
     let is = with_any_further a.task none c.in_ok-text.text.items (further_asked text_of a) c.in-Ok.answer.status c.in-Ok.answer.text.items (search rules) in (
       (has_its_status a.task c.in_ok-text.text.items (further_asked text_of a) c.in-Ok.answer.status c.in-Ok.answer.text.items is).answered,
       answers_question text_of (map string_bytes c.args.words.now) a c.in_ok-text.text.items c.in-Ok.answer.status c.in-Ok.answer.text.items asked (search rules) (search rules) is,
