@@ -152,11 +152,7 @@ fn command_with<'a>(
 }
 
 /// The further file that a task reads: the trace, or the choices.
-fn further_of<'a>(
-    task: Task,
-    trace: Option<&'a str>,
-    after: Option<&'a str>,
-) -> Option<&'a str>
+fn further_of<'a>(task: Task, trace: Option<&'a str>, after: Option<&'a str>) -> Option<&'a str>
     ensures named { option_map (λ s. s.now) result ≡ further_named task (option_map (λ s. s.now) trace.entry) (option_map (λ s. s.now) after.entry) }
     ensures needs { IsSome result → NeedsFurther task }
 {

@@ -24,13 +24,13 @@ text-requires c = subst (λ texts. c.args.name.0 < length texts) (sym c.names.en
 pub add_act-requires-clause-absent : goal.add_act-requires-clause-absent
 add_act-requires-clause-absent c =
     let named : slice_get c.args.sig.now.texts c.args.name.0 ≡ Some c.deref.result.now =
-        ap (λ texts. slice_get texts c.args.name.0) (sym c.names.ensures.texts) ∙ c.text.ensures ∙ ap Some (sym (c.deref.ensures ∙ c.in_ok-process.ensures.ok)) in
+    ap (λ texts. slice_get texts c.args.name.0) (sym c.names.ensures.texts) ∙ c.text.ensures ∙ ap Some (sym (c.deref.ensures ∙ c.in_ok-process.ensures.ok)) in
     absent c.args.sig.now c.args.name c.deref.result.now c.args.sorts.items c.signature_stands.ensures c.requires.name named
 
 pub push_label-requires : goal.push_label-requires
 push_label-requires c =
     let named : slice_get c.args.sig.now.texts c.args.name.0 ≡ Some c.deref.result.now =
-        ap (λ texts. slice_get texts c.args.name.0) (sym c.names.ensures.texts) ∙ c.text.ensures ∙ ap Some (sym (c.deref.ensures ∙ c.in_ok-process.ensures.ok)) in
+    ap (λ texts. slice_get texts c.args.name.0) (sym c.names.ensures.texts) ∙ c.text.ensures ∙ ap Some (sym (c.deref.ensures ∙ c.in_ok-process.ensures.ok)) in
     let items : c.push.new.self.items ≡ record { act = c.in_ok-act.act; args = c.in-Some.args } ∷ [] = c.in_ok-push.ensures.items ∙ ap (λ z. z ++ record { act = c.in_ok-act.act; args = c.in-Some.args } ∷ []) c.new-actions.ensures.items in
     let fit = subst (λ o. IfSome (plain_next o) (AreTermsOf c.args.sig.now c.args.pool.now.trees c.args.sorts.items)) c.in-Some.is c.requires.state in
     subst (λ as_. All (IsActionOf c.add_act.new.self c.args.pool.now.trees) (map plain_action as_)) (sym items)
@@ -42,7 +42,7 @@ returns c =
     let h = c.add_act.new.self in
     let ts = c.args.pool.now.trees in
     let named : slice_get c.args.sig.now.texts c.args.name.0 ≡ Some c.deref.result.now =
-        ap (λ texts. slice_get texts c.args.name.0) (sym c.names.ensures.texts) ∙ c.text.ensures ∙ ap Some (sym (c.deref.ensures ∙ c.in_ok-process.ensures.ok)) in
+    ap (λ texts. slice_get texts c.args.name.0) (sym c.names.ensures.texts) ∙ c.text.ensures ∙ ap Some (sym (c.deref.ensures ∙ c.in_ok-process.ensures.ok)) in
     let items : c.push.new.self.items ≡ record { act = c.in_ok-act.act; args = c.in-Some.args } ∷ [] = c.in_ok-push.ensures.items ∙ ap (λ z. z ++ record { act = c.in_ok-act.act; args = c.in-Some.args } ∷ []) c.new-actions.ensures.items in
     let fit = subst (λ o. IfSome (plain_next o) (AreTermsOf g ts c.args.sorts.items)) c.in-Some.is c.requires.state in
     c.in_ok-push_label.ensures ∙ ap (λ as_. c.in_ok-line.line.items ++ label_line h (label_of (entries_of h ts) (map plain_action as_))) items
