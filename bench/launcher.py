@@ -80,7 +80,7 @@ TOOLCHAIN = """#!/bin/bash
 kit=${0%/*}/..
 pause() {
     read -rt "${RT_SLOW-0}" <> <(:) # waits, in this process
-    [[ ! ${RT_HOLD-} ]] || until [[ -e $kit/go ]]; do sleep 0.1; done
+    [[ ! ${RT_HOLD-} ]] || until [[ -e $kit/go ]]; do read -rt 0.1 _ <> <(:); done
 }
 
 # (with a name it works on a copy)
