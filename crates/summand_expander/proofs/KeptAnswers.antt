@@ -14,7 +14,7 @@ use Rattle.std.proofs.lemmas.Option.{none-some, same_Some}
 use Rattle.std.proofs.lemmas.Slice.Eq.{bytes_eq-Decides}
 use Rattle.data_theory.specs.declared.ids.NameId.{NameId}
 use Rattle.action_filters.proofs.Ordered.{often_moved}
-use Rattle.summand_expander.specs.Answers.{name_numbers, answer_under, AreAnswers}
+use Rattle.summand_expander.specs.Answers.{name_numbers, answer_under, AreKnown}
 use Rattle.summand_expander.specs.PlainAllowed.{PlainAllowed, can_complete_ids}
 use Rattle.summand_expander.proofs.OpenedMembers.{alike_answers}
 
@@ -48,11 +48,11 @@ same_names : (ms ns : List NameId) → name_numbers ms ≡ name_numbers ns → m
 same_names ms ns e = sym (names_read ms) ∙ ap names_back e ∙ names_read ns
 
 -- ---- answers
-pub no_answers : (a : PlainAllowed) (m : BTreeMap (Vec ℕ) Bool) → IsEmpty m → AreAnswers a m
+pub no_answers : (a : PlainAllowed) (m : BTreeMap (Vec ℕ) Bool) → IsEmpty m → AreKnown a m
 no_answers a m empty ns can e = absurd (none-some can (sym (ap (lookup (is_at (λ (k : Vec ℕ). slice_cmp nat_cmp (name_numbers ns) k.items))) empty) ∙ e))
 
-one_answer_more : (a : PlainAllowed) (old new : BTreeMap (Vec ℕ) Bool) (names : List NameId) (code : List ℕ) (can : Bool) → AreAnswers a old → code ≡ name_numbers names → can ≡ can_complete_ids a names
-    → UpdatesBy (λ (x y : Vec ℕ). slice_cmp nat_cmp x.items y.items) (λ (k : Vec ℕ). slice_cmp nat_cmp code k.items) old new (Some can) → AreAnswers a new
+one_answer_more : (a : PlainAllowed) (old new : BTreeMap (Vec ℕ) Bool) (names : List NameId) (code : List ℕ) (can : Bool) → AreKnown a old → code ≡ name_numbers names → can ≡ can_complete_ids a names
+    → UpdatesBy (λ (x y : Vec ℕ). slice_cmp nat_cmp x.items y.items) (λ (k : Vec ℕ). slice_cmp nat_cmp code k.items) old new (Some can) → AreKnown a new
 one_answer_more a old new names code can are q is h ns other e = by (bytes_eq code (name_numbers ns)) refl (sym (updated_under old new code (Some can) h (name_numbers ns)) ∙ e)
   where
     by : (b : Bool) → bytes_eq code (name_numbers ns) ≡ b → cond b (Some can) (answer_under old (name_numbers ns)) ≡ Some other → other ≡ can_complete_ids a ns
@@ -70,10 +70,10 @@ unfolding names_back
 in_another_order names code p = subst (λ ns. IsPermutation ns (names_back code)) (names_read names) (IsPermutation-map (λ k. record { 0 = k }) (name_numbers names) code p)
 
 -- what is kept under the numbers of the same names is right
-pub right_answer : (a : PlainAllowed) (m : BTreeMap (Vec ℕ) Bool) (names : List NameId) (code : List ℕ) (can : Bool) → AreAnswers a m → IsPermutation (name_numbers names) code → answer_under m code ≡ Some can → can ≡ can_complete_ids a names
+pub right_answer : (a : PlainAllowed) (m : BTreeMap (Vec ℕ) Bool) (names : List NameId) (code : List ℕ) (can : Bool) → AreKnown a m → IsPermutation (name_numbers names) code → answer_under m code ≡ Some can → can ≡ can_complete_ids a names
 right_answer a m names code can are p e = are (names_back code) can (ap (answer_under m) (sym (numbers_read code)) ∙ e) ∙ sym (alike_answers a names (names_back code) (often_moved names (names_back code) (in_another_order names code p)))
 
-pub one_order_more : (a : PlainAllowed) (old new : BTreeMap (Vec ℕ) Bool) (names : List NameId) (code : List ℕ) (can : Bool) → AreAnswers a old → IsPermutation (name_numbers names) code → can ≡ can_complete_ids a names
-    → UpdatesBy (λ (x y : Vec ℕ). slice_cmp nat_cmp x.items y.items) (λ (k : Vec ℕ). slice_cmp nat_cmp code k.items) old new (Some can) → AreAnswers a new
+pub one_order_more : (a : PlainAllowed) (old new : BTreeMap (Vec ℕ) Bool) (names : List NameId) (code : List ℕ) (can : Bool) → AreKnown a old → IsPermutation (name_numbers names) code → can ≡ can_complete_ids a names
+    → UpdatesBy (λ (x y : Vec ℕ). slice_cmp nat_cmp x.items y.items) (λ (k : Vec ℕ). slice_cmp nat_cmp code k.items) old new (Some can) → AreKnown a new
 one_order_more a old new names code can are p is h =
     one_answer_more a old new (names_back code) code can are (numbers_read code) (is ∙ alike_answers a names (names_back code) (often_moved names (names_back code) (in_another_order names code p))) h

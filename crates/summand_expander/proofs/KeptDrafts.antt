@@ -82,7 +82,7 @@ module _ {A : Type 0} (one other ends : A → Bool) where
       by false true k = k false
       by false false k = k spare
 
-  keeps_same : (xs : List A) (spare left : Bool) (old new : List A) → ((x : A) → In x xs → other x ≡ one x) → Keeps one ends xs spare left old new → Keeps other ends xs spare left old new
+  pub keeps_same : (xs : List A) (spare left : Bool) (old new : List A) → ((x : A) → In x xs → other x ≡ one x) → Keeps one ends xs spare left old new → Keeps other ends xs spare left old new
   keeps_same xs spare left old new w h = record { added = h.added ∙ ap (λ z. old ++ z) (same_kept spare xs w); spares = h.spares ∙ same_spares spare xs w }
 
 -- ---- all stay, or none

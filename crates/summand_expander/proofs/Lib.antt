@@ -41,6 +41,7 @@ pub mod NearLabels
 pub mod AllowedStays
 pub mod KeptAnswers
 pub mod KeptDrafts
+pub mod NamedPartners
 pub mod WithinSummands
 pub mod MeantWithin
 pub mod KeptAlike

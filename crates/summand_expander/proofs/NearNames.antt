@@ -5,21 +5,22 @@ use Rattle.std.specs.List.{list_any}
 use Rattle.data_theory.specs.declared.ids.NameId.{NameId}
 use Rattle.process_terms.specs.Labels.{Inserted, at_front, further, Permuted, nothing_left, one_placed}
 use Rattle.lps_core.proofs.Members.{In, here, there, in_append, append_front, in_contains, contains_in}
-use Rattle.action_filters.specs.NameTests.{is_among, where_some}
+use Rattle.action_filters.specs.NameTests.{is_among, is_nothing, where_some}
 use Rattle.action_filters.specs.Filters.{same_name}
-use Rattle.action_filters.proofs.NamesTold.{Told, yes, no, among_told}
+use Rattle.action_filters.proofs.NamesTold.{Told, yes, no, among_told, some_told}
 use Rattle.communication.specs.Ways.{Joining}
+use Rattle.communication.proofs.Listed.{in_filter}
 use Rattle.summand_expander.specs.CompletableTests.{is_contained, all_opened, completes, is_completable}
 use Rattle.summand_expander.specs.ByFirst.{without_all, alone, gives, rules_with}
 use Rattle.summand_expander.specs.Nearby.{is_home, homes, has_result, near_rules, stands_in, AreNear}
 use Rattle.summand_expander.specs.PlainAllowed.{PlainAllowed, joinings, can_complete_ids}
 use Rattle.action_filters.proofs.Ordered.{same_name_told}
-use Rattle.summand_expander.proofs.FirstNames.{OpensAs, as_it_is, by_rule, OpenedAs, nothing_opened, one_opened, Covers, completes_told, first_tells}
-use Rattle.summand_expander.proofs.Multisets.{Within, with_others}
+use Rattle.summand_expander.proofs.FirstNames.{OpensAs, as_it_is, by_rule, OpenedAs, nothing_opened, one_opened, Covers, completes_told, first_tells, told_same}
+use Rattle.summand_expander.proofs.Multisets.{Within, with_others, nothing_within, within_first, within_then}
 use Rattle.summand_expander.proofs.TakenOut.{not_among}
 
 -- ---- tests over lists
-or_false : (b c : Bool) → (b || c) ≡ false → (b ≡ false) × (c ≡ false)
+pub or_false : (b c : Bool) → (b || c) ≡ false → (b ≡ false) × (c ≡ false)
 or_false true c e = absurd (true≢false e)
 or_false false c e = (refl, e)
 
@@ -51,6 +52,14 @@ some_passes f xs x i e = by (list_any f xs) refl
     by : (b : Bool) → list_any f xs ≡ b → b ≡ true
     by true q = refl
     by false q = absurd (true≢false (sym e ∙ none_passes f xs q x i))
+
+-- ---- one of some names
+one_within : {A : Type 0} {x : A} {zs : List A} → In x zs → Within (x ∷ []) zs
+one_within {A} {x} i = let r = placed i in within_first r.1 (nothing_within r.0)
+  where
+    placed : {zs : List A} → In x zs → (ys : List A) × Inserted x ys zs
+    placed (here {xs = xs}) = (xs, at_front)
+    placed (there {y = y} i) = let r = placed i in (y ∷ r.0, further r.1)
 
 module _ {N : Type 0} (same : N → N → Bool) (same_told : (x y : N) → Told (x ≡ y) (same x y)) where
   -- ---- members
@@ -146,6 +155,59 @@ module _ {N : Type 0} (same : N → N → Bool) (same_told : (x y : N) → Told 
       by true (yes h) f = absurd (f h)
       by false t f = refl
 
+  -- ---- a name alone
+  pub part_fails : (rules : List (Joining N)) (sets : List (List N)) (x : N) (ms : List N) → In x ms → is_completable same rules sets (x ∷ []) ≡ false → is_completable same rules sets ms ≡ false
+  part_fails rules sets x [] i e = elim i [ ]
+  part_fails rules sets x (m ∷ ms) i e =
+      any_fails (λ v. completes same rules (m ∷ ms) v) sets
+      (λ v j. by (completes same rules (m ∷ ms) v) (completes same rules (x ∷ []) v) (completes_told same same_told rules (m ∷ ms) v) (completes_told same same_told rules (x ∷ []) v) (none_passes (λ v. completes same rules (x ∷ []) v) sets e v j))
+    where
+      by : {v : List N} (b c : Bool) → Told (Covers rules v (m ∷ ms)) b → Told (Covers rules v (x ∷ [])) c → c ≡ false → b ≡ false
+      by false c s t q = refl
+      by true true s t q = absurd (true≢false q)
+      by true false (yes h) (no f) q = absurd (f (record { opened = h.opened; opens = h.opens; contains = within_then (one_within i) h.contains }))
+
+  all_closed : (rules : List (Joining N)) (v : List N) → OpenedAs rules v v
+  all_closed rules [] = nothing_opened
+  all_closed rules (n ∷ v) = one_opened as_it_is (all_closed rules v)
+
+  piece_covers : (rules : List (Joining N)) (x y : N) (piece : List N) → OpensAs rules y piece → In x piece → (v : List N) → In y v → Covers rules v (x ∷ [])
+  piece_covers rules x y piece o i v j = let r = opened_with v j in record { opened = r.0; opens = r.1.0; contains = one_within {zs = r.0} r.1.1 }
+    where
+      opened_with : (v : List N) → In y v → (os : List N) × (OpenedAs rules v os × In x os)
+      opened_with [] j = elim j [ ]
+      opened_with (m ∷ v) here = (piece ++ v, (one_opened o (all_closed rules v), append_front piece v i))
+      opened_with (m ∷ v) (there j) = let r = opened_with v j in (m ∷ r.0, (one_opened as_it_is r.1.0, there r.1.1))
+
+  abbrev SomeCovers : List (Joining N) → List (List N) → N → Type 0
+  SomeCovers rules sets x = (v : List N) × (Contains sets v × Covers rules v (x ∷ []))
+
+  alone_told : (rules : List (Joining N)) (sets : List (List N)) (x : N) → Told (SomeCovers rules sets x) (is_completable same rules sets (x ∷ []))
+  alone_told rules sets x = some_told (λ v. Covers rules v (x ∷ [])) (λ v. completes same rules (x ∷ []) v) (λ v. completes_told same same_told rules (x ∷ []) v) sets
+
+  stands_told : (rules : List (Joining N)) (sets : List (List N)) (x : N) → ((c : Joining N) → In c rules → (v : List N) × (Contains sets v × Contains v c.result)) → Told (SomeCovers rules sets x) (stands_in same rules sets x)
+  stands_told rules sets x w =
+      by (list_any (λ v. is_among same v x) sets) (list_any (λ c. is_among same c.left x) rules) (some_told (λ v. Contains v x) (λ v. is_among same v x) (λ v. among_told same same_told v x) sets)
+      (some_told (λ (c : Joining N). Contains c.left x) (λ c. is_among same c.left x) (λ c. among_told same same_told c.left x) rules)
+    where
+      by : (b c : Bool) → Told ((v : List N) × (Contains sets v × Contains v x)) b → Told ((d : Joining N) × (Contains rules d × Contains d.left x)) c → Told (SomeCovers rules sets x) (b || c)
+      by true c (yes h) t = yes (h.0, (h.1.0, piece_covers rules x x (x ∷ []) as_it_is here h.0 (contains_in h.0 h.1.1)))
+      by false true s (yes h) = let k = w h.0 (contains_in rules h.1.0) in yes (k.0, (k.1.0, piece_covers rules x h.0.result h.0.left (by_rule (contains_in rules h.1.0)) (contains_in h.0.left h.1.1) k.0 (contains_in k.0 k.1.1)))
+      by false false (no f) (no g) = no (λ h. ⊎_elim (λ i. f (h.0, (h.1.0, in_contains i))) (λ k. g (k.0, (in_contains k.1.0, in_contains k.1.1))) (in_opened h.1.1.opens (within_in h.1.1.contains x here)))
+
+  only_near : (rules : List (Joining N)) (sets : List (List N)) (ns : List N) → is_completable same (near_rules same rules sets) sets ns ≡ is_completable same rules sets ns
+  only_near rules sets ns = ap (λ b. is_nothing ns || b) (any_alike (λ v. completes same (near_rules same rules sets) ns v) (λ v. completes same rules ns v) sets (λ v i. near_alike rules sets ns v i))
+
+  result_there : (rules : List (Joining N)) (sets : List (List N)) (c : Joining N) → In c (near_rules same rules sets) → (v : List N) × (Contains sets v × Contains v c.result)
+  result_there rules sets c i =
+      (in_filter (λ (d : Joining N). (v : List N) × (Contains sets v × Contains v d.result)) (has_result same sets)
+      (λ d. some_told (λ v. Contains v d.result) (λ v. is_among same v d.result) (λ v. among_told same same_told v d.result) sets) rules i).0
+
+  -- a name can be completed alone exactly where it is in a set, or in the left side of a rule with its result in one
+  pub alone_completes : (rules : List (Joining N)) (sets : List (List N)) (x : N) → is_completable same rules sets (x ∷ []) ≡ stands_in same (near_rules same rules sets) sets x
+  alone_completes rules sets x =
+      sym (only_near rules sets (x ∷ [])) ∙ told_same (alone_told (near_rules same rules sets) sets x) (stands_told (near_rules same rules sets) sets x (λ c i. result_there rules sets c i))
+
 -- ---- in code
 pub all_near : (a b : PlainAllowed) (keys : List NameId) (n : NameId) → b.sets ≡ homes same_name (joinings a.rules) a.sets n → joinings b.rules ≡ near_rules same_name (joinings a.rules) b.sets
     → ((x : NameId) → is_among same_name keys x ≡ stands_in same_name (joinings b.rules) b.sets x) → (ns : List NameId) → AreNear a (n ∷ ns) b keys
@@ -168,3 +230,8 @@ all_near a b keys n e f g ns = record {
 pub near_first : (a b : PlainAllowed) (keys names : List NameId) (d : NameId) → (length names == 0) ≡ false → ((ns : List NameId) → AreNear a (slice_index_or names 0 d ∷ ns) b keys) → AreNear a names b keys
 near_first a b keys [] d e f = absurd (true≢false e)
 near_first a b keys (n ∷ names) d e f = f names
+
+-- the names of sets and of the left sides of near rules are those that can be completed alone
+pub known_alone : (a : PlainAllowed) (rules : List (Joining NameId)) (keys : List NameId) → rules ≡ near_rules same_name (joinings a.rules) a.sets → ((x : NameId) → is_among same_name keys x ≡ stands_in same_name rules a.sets x)
+    → (x : NameId) → is_among same_name keys x ≡ can_complete_ids a (x ∷ [])
+known_alone a rules keys e f x = f x ∙ ap (λ rs. stands_in same_name rs a.sets x) e ∙ sym (alone_completes same_name same_name_told (joinings a.rules) a.sets x)

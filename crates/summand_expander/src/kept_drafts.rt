@@ -1,33 +1,34 @@
 //! The summands of a product within what is allowed, in their order. Of a pair nothing is made before its names are tested.
 
 ghost use Rattle.std.specs.Prelude.{◌≡◌, ◌&&◌, ◌++◌, ◌∷◌, [], map, flat_map, IfOk, OnOk};
-ghost use Rattle.std.specs.List.{list_any};
+ghost use Rattle.std.specs.List.{list_any, All};
 ghost use Rattle.process_terms.specs.PlainProcesses.{plain_label};
 ghost use Rattle.action_filters.specs.Filters.{naming, AreActionsIn};
 ghost use Rattle.summand_expander.specs.Answers.{AreAnswers};
 ghost use Rattle.summand_expander.specs.Drafts.{all_drafts, both_moves, lone_drafts, plain_draft, plain_move, plain_side};
 ghost use Rattle.summand_expander.specs.KeptDrafts.{can_stop, draft_ends, draft_stays, is_last, step_ends, HasMovesIn, Keeps};
-ghost use Rattle.summand_expander.specs.Nearby.{AreNear};
+ghost use Rattle.summand_expander.specs.Nearby.{AreNear, IsPartnerOf};
 ghost use Rattle.summand_expander.specs.PlainAllowed.{plain_allowed, PlainAllowed};
 ghost use Rattle.summand_expander.specs.Pruned.{kept, pruned};
 ghost use Rattle.summand_expander.specs.WithinProducts.{label_stays};
 
 use crate::allowing::Allowed;
-use crate::answers::asked;
+use crate::answers::{KnownAnswers, answers_alone, asked};
 use crate::drafts::{add_alone, add_last, pair};
 use crate::nearby::{Nearby, near_to, stay_near};
+use crate::partners::{is_apart, partners_of};
 use crate::sides::{Draft, Move, Side};
 use action_filters::names_of;
 use data_theory::{NameId, NoMemory, Signature};
+use indexmap::IndexSet;
 use process_terms::Label;
 use std::alloc::Global;
-use std::collections::BTreeMap;
 
 /// Whether the names of a label can be completed.
 fn label_stays(
     alloc: Global,
     allowed: &Allowed,
-    answers: &mut BTreeMap<Vec<usize>, bool>,
+    answers: &mut KnownAnswers,
     sig: &Signature,
     label: &Label,
 ) -> Result<bool, NoMemory>
@@ -44,7 +45,7 @@ fn label_stays(
 fn both_stay(
     alloc: Global,
     allowed: &Allowed,
-    answers: &mut BTreeMap<Vec<usize>, bool>,
+    answers: &mut KnownAnswers,
     sig: &Signature,
     first: &Label,
     second: &Label,
@@ -88,7 +89,7 @@ fn add_alone_within(
 fn add_all_alone_within(
     alloc: Global,
     allowed: &Allowed,
-    answers: &mut BTreeMap<Vec<usize>, bool>,
+    answers: &mut KnownAnswers,
     sig: &Signature,
     own_first: bool,
     own: &Side,
@@ -142,7 +143,7 @@ fn add_pair_within(
 fn add_asked_pairs(
     alloc: Global,
     allowed: &Allowed,
-    answers: &mut BTreeMap<Vec<usize>, bool>,
+    answers: &mut KnownAnswers,
     sig: &Signature,
     left: &Side,
     right: &Side,
@@ -186,25 +187,30 @@ fn add_near_pairs(
     Ok(())
 }
 
-/// Adds the drafts of one left summand with each right one, without those whose names can't be completed. Where it has a name,
-/// only what is allowed near that is asked.
+/// Adds the drafts of one left summand with each right one, without those whose names can't be completed. Where it has a name that is no
+/// partner of the right side, there are none. Where it has a name, only what is allowed near that is asked.
 fn add_pairs_of_within(
     alloc: Global,
     allowed: &Allowed,
-    answers: &mut BTreeMap<Vec<usize>, bool>,
+    answers: &mut KnownAnswers,
     sig: &Signature,
     left: &Side,
     right: &Side,
+    partners: &IndexSet<NameId>,
     first: &Move,
     spare: &mut bool,
     drafts: &mut Vec<Draft>,
 ) -> Result<(), NoMemory>
     requires first { AreActionsIn sig.now (plain_move first.now).label }
     requires actions { HasMovesIn sig.now (plain_side right.now) }
+    requires partners { All (IsPartnerOf sig.now (plain_allowed allowed.now) partners.now.keys) (plain_side right.now).moves }
     requires answers { AreAnswers (plain_allowed allowed.now) answers.old }
     ensures kept { OnOk result (AreAnswers (plain_allowed allowed.now) answers.new) }
     ensures added { OnOk result (Keeps (draft_stays sig.now (plain_allowed allowed.now)) is_last (map (both_moves (plain_side left.now) (plain_side right.now) (plain_move first.now)) (map plain_move right.now.moves.items)) spare.old spare.new (map plain_draft drafts.old.items) (map plain_draft drafts.new.items)) }
 {
+    if is_apart(*spare, partners, sig, &first.label) {
+        return Ok(());
+    }
     let own = names_of(alloc, sig, &first.label)?;
     let names = own.as_slice();
     if names.is_empty() {
@@ -221,7 +227,7 @@ fn add_pairs_of_within(
 fn add_pairs_within(
     alloc: Global,
     allowed: &Allowed,
-    answers: &mut BTreeMap<Vec<usize>, bool>,
+    answers: &mut KnownAnswers,
     sig: &Signature,
     left: &Side,
     right: &Side,
@@ -234,9 +240,10 @@ fn add_pairs_within(
     ensures kept { OnOk result (AreAnswers (plain_allowed allowed.now) answers.new) }
     ensures added { OnOk result (Keeps (draft_stays sig.now (plain_allowed allowed.now)) is_last (flat_map (λ m. map (both_moves (plain_side left.now) (plain_side right.now) m) (map plain_move right.now.moves.items)) (map plain_move left.now.moves.items)) spare.old spare.new (map plain_draft drafts.old.items) (map plain_draft drafts.new.items)) }
 {
+    let partners = partners_of(alloc, allowed, answers, sig, right)?;
     for first in &left.moves {
         add_pairs_of_within(
-            alloc, allowed, answers, sig, left, right, first, spare, drafts,
+            alloc, allowed, answers, sig, left, right, &partners, first, spare, drafts,
         )?;
     }
     Ok(())
@@ -246,7 +253,7 @@ fn add_pairs_within(
 fn drafts_kept(
     alloc: Global,
     allowed: &Allowed,
-    answers: &mut BTreeMap<Vec<usize>, bool>,
+    answers: &mut KnownAnswers,
     sig: &Signature,
     left: &Side,
     right: &Side,
@@ -336,7 +343,7 @@ pub(crate) fn drafts_within(
     requires right { HasMovesIn sig.now (plain_side right.now) }
     ensures { IfOk result (λ drafts. map plain_draft drafts.items ≡ pruned (draft_stays sig.now (plain_allowed allowed.now)) is_last (all_drafts (plain_side left.now) (plain_side right.now))) }
 {
-    let mut answers = BTreeMap::new(alloc);
+    let mut answers = answers_alone(alloc, allowed)?;
     let drafts = drafts_kept(alloc, allowed, &mut answers, sig, left, right, false)?;
     if !can_stop(left) {
         return Ok(drafts);

@@ -13,6 +13,7 @@ mod frames;
 mod kept_drafts;
 pub mod laws;
 mod nearby;
+mod partners;
 mod products;
 mod renewal;
 mod renewed;

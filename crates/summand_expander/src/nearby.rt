@@ -57,7 +57,7 @@ fn has_result(sets: &[Vec<NameId>], rule: &CommRule) -> bool
 }
 
 /// The rules with results in these sets.
-fn near_rules(
+pub(crate) fn near_rules(
     alloc: Global,
     rules: &[CommRule],
     sets: &[Vec<NameId>],
@@ -97,7 +97,7 @@ fn add_left_sides(rules: &[CommRule], set: &mut IndexSet<NameId>) -> Result<(), 
 }
 
 /// All names of sets and left sides.
-fn all_names(
+pub(crate) fn all_names(
     alloc: Global,
     rules: &[CommRule],
     sets: &[Vec<NameId>],
@@ -139,13 +139,13 @@ fn name_of(sig: &Signature, action: &Action) -> NameId
     sig.acts()[action.act.0].name
 }
 
-/// Whether all names of a label are near.
-fn are_near(near: &Nearby, sig: &Signature, label: &Label) -> bool
+/// Whether all names of a label are among these.
+pub(crate) fn are_near(names: &IndexSet<NameId>, sig: &Signature, label: &Label) -> bool
     requires { AreActionsIn sig.now (plain_label label.now) }
-    ensures { result ≡ false → (x : NameId) × (Contains (map (naming sig.now).name (plain_label label.now)) x × (is_among same_name near.now.names.keys x ≡ false)) }
+    ensures { result ≡ false → (x : NameId) × (Contains (map (naming sig.now).name (plain_label label.now)) x × (is_among same_name names.now.keys x ≡ false)) }
 {
     for action in &label.actions {
-        if !is_in(&near.names, name_of(sig, action)) {
+        if !is_in(names, name_of(sig, action)) {
             return false;
         }
     }
@@ -167,7 +167,7 @@ pub(crate) fn stay_near(
     requires { AreActionsIn sig.now (plain_label label.now) }
     ensures { IfOk result (λ can. (a : PlainAllowed) → AreNear a names.now (plain_allowed near.now.allowed) near.now.names.keys → can ≡ can_complete_ids a (names.now ++ map (naming sig.now).name (plain_label label.now))) }
 {
-    if !are_near(near, sig, label) {
+    if !are_near(&near.names, sig, label) {
         return Ok(false);
     }
     let others = names_of(alloc, sig, label)?;
