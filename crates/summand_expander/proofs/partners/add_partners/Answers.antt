@@ -1,8 +1,8 @@
-use Rattle.std.proofs.Common.{◌≡◌, ◌||◌, [], map, sym, ap, ◌∙◌, subst}
+use Rattle.std.proofs.Common.{◌≡◌, ◌||◌, map, sym, ap, ◌∙◌, subst}
 use Rattle.process_terms.specs.PlainProcesses.{plain_label}
 use Rattle.action_filters.specs.Filters.{naming, same_name}
 use Rattle.action_filters.specs.NameTests.{is_among}
-use Rattle.summand_expander.specs.Nearby.{ArePartners, AreNear}
+use Rattle.summand_expander.specs.Nearby.{ArePartners}
 use Rattle.summand_expander.specs.PlainAllowed.{plain_allowed}
 use Rattle.summand_expander.proofs.NamedPartners.{added_absent, nothing_there, partners_alone, partners_near}
 use Rattle.summand_expander.proofs.NearNames.{near_first}
