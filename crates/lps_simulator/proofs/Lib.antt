@@ -12,3 +12,7 @@ pub mod TriedSummands
 pub mod OptionLaws
 pub mod SessionLemmas
 pub mod TriedSteps
+pub mod FalseChains
+pub mod Levels
+pub mod DroppedCombinations
+pub mod TriedOne

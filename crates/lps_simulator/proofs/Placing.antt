@@ -1,11 +1,12 @@
 -- Combinations from some places on.
-use Rattle.std.proofs.Common.{◌≡◌, ◌<◌, ◌≤◌, ◌+◌, ℕ, zero, suc, List, [], ◌∷◌, ◌++◌, map, length, drop, get_or, refl, sym, ap, ap₂, ◌∙◌, subst, arith, add-one, Option, Some, None, take, Bool, true, false, not, cond}
-use Rattle.std.proofs.lemmas.List.{take_all}
+use Rattle.std.proofs.Common.{◌≡◌, ◌<◌, ◌≤◌, ◌+◌, ℕ, zero, suc, List, [], ◌∷◌, ◌++◌, map, length, drop, get_or, refl, sym, ap, ap₂, ◌∙◌, subst, arith, add-one, Option, Some, None, take, Bool, true, false, not, cond, append_assoc, append-nil}
+use Rattle.std.proofs.lemmas.List.{take_all, take_more, map-append}
+use Rattle.std.proofs.lemmas.List.Elements.{All-nil, All-cons, All-head, All-tail}
 use Rattle.std.specs.Prelude.{slice_get, Vec}
 use Rattle.std.specs.Global.{Global}
-use Rattle.std.specs.List.{flat_map}
+use Rattle.std.specs.List.{flat_map, All}
 use Rattle.data_theory.specs.declared.ids.TermId.{TermId}
-use Rattle.lps_simulator.specs.Combinations.{combinations, rows, AreWithin, AreFilled, before_each, with_later, from_places, behind_places, read_before, places_read}
+use Rattle.lps_simulator.specs.Combinations.{combinations, rows, AreWithin, AreFilled, before_each, with_later, from_places, behind_places, read_before, places_read, LeavesOut}
 
 -- ---- lists of which one is empty
 none_before : {A : Type 0} (xs : List A) → flat_map (λ x. map (λ (c : List A). x ∷ c) []) xs ≡ []
@@ -230,3 +231,79 @@ gives_next lists items places filled read after over more value values view test
     turned : (b : Bool) → cond b (from_places (rows items) after) [] ≡ cond (not b) [] (from_places (rows items) after)
     turned true = refl
     turned false = refl
+
+-- ---- what begins with the values at some of the places
+begins_before : {A : Type 0} (xs : List A) (i : ℕ) (n : ℕ) (ys : List A) (cs : List (List A)) → All (λ (c : List A). take n c ≡ ys) cs → All (λ (c : List A). take (suc n) c ≡ read_before (slice_get xs i) ys) (before_each (slice_get xs i) cs)
+begins_before {A} xs i n ys cs h = by_value (slice_get xs i)
+  where
+    each : (x : A) (cs : List (List A)) → All (λ (c : List A). take n c ≡ ys) cs → All (λ (c : List A). take (suc n) c ≡ x ∷ ys) (map (λ c. x ∷ c) cs)
+    each x [] k = All-nil (λ (c : List A). take (suc n) c ≡ x ∷ ys)
+    each x (c ∷ cs) k = All-cons (λ (c : List A). take (suc n) c ≡ x ∷ ys) (x ∷ c) (map (λ c. x ∷ c) cs) (ap (λ zs. x ∷ zs) (All-head (λ (c : List A). take n c ≡ ys) c cs k)) (each x cs (All-tail (λ (c : List A). take n c ≡ ys) c cs k))
+
+    by_value : (o : Option A) → All (λ (c : List A). take (suc n) c ≡ read_before o ys) (before_each o cs)
+    by_value None = All-nil (λ (c : List A). take (suc n) c ≡ ys)
+    by_value (Some x) = each x cs h
+
+all_begin : {A : Type 0} (cs : List (List A)) → All (λ (c : List A). take 0 c ≡ []) cs
+all_begin {A} [] = All-nil (λ (c : List A). take 0 c ≡ [])
+all_begin {A} (c ∷ cs) = All-cons (λ (c : List A). take 0 c ≡ []) c cs refl (all_begin cs)
+
+before_both : {A : Type 0} (o : Option A) (cs ds : List (List A)) → before_each o (cs ++ ds) ≡ before_each o cs ++ before_each o ds
+before_both None cs ds = refl
+before_both (Some x) cs ds = map-append (λ c. x ∷ c) cs ds
+
+pub record PassesOver {A : Type 0} (xss : List (List A)) (is : List ℕ) (n : ℕ) : Type 0 where
+  pub passed : List (List A)
+  pub split : from_places xss is ≡ passed ++ behind_places xss (take n is)
+  pub begin : All (λ (c : List A). take n c ≡ places_read xss (take n is)) passed
+
+pub passes_over : {A : Type 0} (xss : List (List A)) (is : List ℕ) (n : ℕ) → n ≤ length is → AreWithin xss is → PassesOver xss is n
+passes_over xss is zero l w = record { passed = from_places xss is; split = sym (append-nil (from_places xss is)); begin = all_begin (from_places xss is) }
+passes_over xss [] (suc n) l w = absurd (omega (arith, l))
+passes_over [] (i ∷ is) (suc n) l w = absurd w
+passes_over {A} (xs ∷ xss) (i ∷ is) (suc n) l w =
+    let r = passes_over xss is n (omega (arith, l)) w.1 in
+    record {
+      passed = before_each (slice_get xs i) r.passed;
+      split =
+          ap (λ cs. before_each (slice_get xs i) cs ++ with_later xs xss i) r.split
+          ∙ ap (λ cs. cs ++ with_later xs xss i) (before_both (slice_get xs i) r.passed (behind_places xss (take n is)))
+          ∙ append_assoc (before_each (slice_get xs i) r.passed) (before_each (slice_get xs i) (behind_places xss (take n is))) (with_later xs xss i);
+      begin = begins_before xs i n (places_read xss (take n is)) r.passed r.begin;
+    }
+
+pub within_first : {A : Type 0} (xss : List (List A)) (is : List ℕ) (n : ℕ) → AreWithin xss is → AreWithin xss (take n is)
+within_first xss is zero w = tt
+within_first xss [] (suc n) w = tt
+within_first [] (i ∷ is) (suc n) w = absurd w
+within_first (xs ∷ xss) (i ∷ is) (suc n) w = (w.0, within_first xss is n w.1)
+
+turned_round : (b : Bool) (cs : List (List TermId)) → cond b cs [] ≡ cond (not b) [] cs
+turned_round true cs = refl
+turned_round false cs = refl
+
+pub leaves_out : (lists items : List (Vec TermId Global)) (places is first new : List ℕ) (level : ℕ) (values : List TermId) (over more : Bool) (value : List (List TermId)) → cond over [] (from_places (rows lists) places) ≡ value → over ≡ false → items ≡ lists → is ≡ places → AreWithin (rows lists) places
+    → (level ≤ length is) × (places_read (rows items) (take level is) ≡ take level values) → first ≡ take level is → cond more (from_places (rows items) new) [] ≡ behind_places (rows items) first → LeavesOut level values value (cond (not more) [] (from_places (rows lists) new))
+leaves_out lists items places is first new level values over more value view test same own within h q p =
+    let r = passes_over (rows lists) is level h.0 (subst (AreWithin (rows lists)) (sym own) within) in
+    let left : cond (not more) [] (from_places (rows lists) new) ≡ behind_places (rows lists) (take level is) =
+    sym (turned_round more (from_places (rows lists) new)) ∙ subst (λ (z : List (Vec TermId Global)). cond more (from_places (rows z) new) [] ≡ behind_places (rows z) first) same p ∙ ap (behind_places (rows lists)) q in
+    record {
+      left_out = r.passed;
+      split = sym view ∙ ap (λ b. cond b [] (from_places (rows lists) places)) test ∙ ap (from_places (rows lists)) (sym own) ∙ r.split ∙ ap (λ z. r.passed ++ z) (sym left);
+      alike = subst (λ z. All (λ (c : List TermId). take level c ≡ z) r.passed) (subst (λ (z : List (Vec TermId Global)). places_read (rows z) (take level is) ≡ take level values) same h.1) r.begin;
+    }
+
+pub leaves_none : (level : ℕ) (values : List TermId) (old new : List (List TermId)) → new ≡ old → LeavesOut level values old new
+leaves_none level values old new e = record { left_out = []; split = sym e; alike = All-nil (λ (c : List TermId). take level c ≡ take level values) }
+
+-- the first values are read one more
+pub begin_none : (lists : List (Vec TermId Global)) (is : List ℕ) (values : List TermId) → places_read (rows lists) (take 0 is) ≡ take 0 values
+begin_none lists is values = refl
+
+pub begin_more : (lists : List (Vec TermId Global)) (is : List ℕ) (n : ℕ) (list : Vec TermId Global) (items values : List TermId) (d : TermId) → AreWithin (rows lists) is → n < length is → n < length values → list ≡ get_or lists n list → items ≡ list.items
+    → get_or items (get_or is n 0) d ≡ get_or values n d → places_read (rows lists) (take n is) ≡ take n values → places_read (rows lists) (take (n + 1) is) ≡ take (n + 1) values
+begin_more lists is n list items values d w l k g q same h =
+    value_more lists is n list items d w l g q
+    ∙ ap₂ (λ (us : List TermId) u. us ++ u ∷ []) h same
+    ∙ sym (take_more values n d k)

@@ -1,6 +1,6 @@
 -- Combinations of one element of each list.
-use Rattle.std.specs.Prelude.{◌≡◌, ◌<◌, ◌++◌, ℕ, suc, List, [], ◌∷◌, map, length, drop, Option, Some, None, slice_get, Vec}
-use Rattle.std.specs.List.{flat_map}
+use Rattle.std.specs.Prelude.{◌≡◌, ◌<◌, ◌++◌, ℕ, suc, List, [], ◌∷◌, map, length, take, drop, Option, Some, None, slice_get, Vec}
+use Rattle.std.specs.List.{flat_map, All}
 use Rattle.std.specs.Global.{Global}
 use Rattle.data_theory.specs.declared.ids.TermId.{TermId}
 
@@ -52,3 +52,10 @@ abbrev pub places_read : {A : Type 0} → List (List A) → List ℕ → List A
 places_read xss [] = []
 places_read [] (i ∷ is) = []
 places_read (xs ∷ xss) (i ∷ is) = read_before (slice_get xs i) (places_read xss is)
+
+-- ---- what is left out
+-- some that begin with the same first values as these, and nothing else
+pub record LeavesOut (level : ℕ) (values : List TermId) (old new : List (List TermId)) : Type 0 where
+  pub left_out : List (List TermId)
+  pub split : old ≡ left_out ++ new
+  pub alike : All (λ (c : List TermId). take level c ≡ take level values) left_out

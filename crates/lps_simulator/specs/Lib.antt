@@ -2,6 +2,7 @@ pub mod Combinations
 pub mod Places
 pub mod SumValues
 pub mod Rewritten
+pub mod LeadingParts
 pub mod Options
 pub mod OptionsInCode
 pub mod Trying

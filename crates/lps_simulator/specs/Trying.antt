@@ -1,6 +1,7 @@
 -- What is made of a summand, step by step.
 use Rattle.std.specs.Prelude.{◌≡◌, ◌++◌, ℕ, Bool, List, [], ◌∷◌, map, Option, Some, None, IfSome}
-use Rattle.std.specs.List.{All, AllZip}
+use Rattle.std.specs.List.{All, AllZip, zip}
+use Rattle.data_theory.specs.declared.ids.VarId.{VarId}
 use Rattle.data_theory.specs.declared.ids.TermId.{TermId}
 use Rattle.data_theory.specs.Terms.{Term, put}
 use Rattle.data_theory.specs.Environments.{Environment, term_in}
@@ -12,7 +13,10 @@ use Rattle.data_theory.specs.IdTrees.{Tree}
 use Rattle.data_rewriter.specs.Standing.{IsTerm, term_at}
 use Rattle.process_terms.specs.SignatureEntries.{entries_of}
 use Rattle.lps_core.specs.PlainLinears.{PlainSummand, PlainLinear, summand_of, linear_of}
-use Rattle.lps_simulator.specs.Rewritten.{IsActionOver, IsRewrittenAction, IsRewrittenNext}
+use Rattle.term_pool.specs.HeadTrees.{tree_at, trees_at}
+use Rattle.lps_core.specs.TreeConditions.{conjunction_tree}
+use Rattle.lps_simulator.specs.LeadingParts.{GoesToFalse, instance_at}
+use Rattle.lps_simulator.specs.Rewritten.{environment_of, IsActionOver, IsRewrittenAction, IsRewrittenNext}
 use Rattle.lps_simulator.specs.Options.{Answer, IsAnswer, Tried, environment_at, moves_of, first_open, open_decision, open_with, cut_with}
 use Rattle.lps_simulator.specs.OptionsInCode.{PlainMove, PlainOptions, IsMove, meant_move, terms_at, IsTriedAt}
 
@@ -34,6 +38,18 @@ pub data TriesWith (g : Sig) (own : List Equation) (fuel : ℕ) (e : Environment
   with_move : {more : List PlainMove} (m : PlainMove) → IsDecided (data_meant g) own fuel (put (term_in e) (term_at g old s.condition)) yes_decided → IsMade g own fuel e old new number s m → more ≡ moves ++ m ∷ [] → TriesWith g own fuel e old new number s moves more None
   without_move : {more : List PlainMove} → IsDecided (data_meant g) own fuel (put (term_in e) (term_at g old s.condition)) no_decided → more ≡ moves → TriesWith g own fuel e old new number s moves more None
   left_open : {more : List PlainMove} (by_fuel : Bool) → IsDecided (data_meant g) own fuel (put (term_in e) (term_at g old s.condition)) (open_decision by_fuel) → more ≡ moves → TriesWith g own fuel e old new number s moves more (Some by_fuel)
+
+-- the condition is the chain of these parts
+pub record AreLeadingParts (g : Sig) (ts : List Tree) (condition : TermId) (parts : List TermId) : Type 0 where
+  pub chain : tree_at ts condition ≡ conjunction_tree (trees_at ts parts)
+  pub terms : All (IsTerm g ts) parts
+
+-- what is made of a combination, and the condition goes to `false` for those that are left out behind it
+pub record TriesOne (g : Sig) (own : List Equation) (fuel : ℕ) (old new : List Tree) (sums : List VarId) (rest : List (VarId × TermId)) (c : List TermId) (number : ℕ) (s : PlainSummand) (moves more : List PlainMove) (left next : List (List TermId)) (why : Option Bool) : Type 0 where
+  pub tries : TriesWith g own fuel (environment_of g old (zip sums c ++ rest)) old new number s moves more why
+  pub left_out : List (List TermId)
+  pub split : left ≡ left_out ++ next
+  pub all_false : All (λ (d : List TermId). GoesToFalse (data_meant g) own (instance_at g new (zip sums d ++ rest) s.condition)) left_out
 
 -- ---- some combinations of a summand, the others being left
 pub record SumsAreTried (g : Sig) (own : List Equation) (fuel : ℕ) (ts us : List Tree) (l : PlainLinear) (state : List TermId) (number : ℕ) (s : PlainSummand) (all left : List (List TermId)) (old new : List PlainMove) (why : Option Bool) : Type 0 where

@@ -1,7 +1,7 @@
 //! Combinations of values.
 
-ghost use Rattle.std.specs.Prelude.{◌≡◌, ◌<◌, ◌≤◌, List, [], ◌∷◌, cond, length, IfOk, OnOk, MatchOption, IsTrue, false};
-ghost use Rattle.lps_simulator.specs.Combinations.{combinations, rows, AreWithin, AreFilled, from_places, behind_places, places_read};
+ghost use Rattle.std.specs.Prelude.{◌≡◌, ◌<◌, ◌≤◌, List, [], ◌∷◌, cond, length, take, IfOk, OnErr, OnOk, MatchOption, IsTrue, false};
+ghost use Rattle.lps_simulator.specs.Combinations.{combinations, rows, AreWithin, AreFilled, LeavesOut, from_places, behind_places, places_read};
 
 use data_theory::{NoMemory, TermId};
 use std::alloc::Global;
@@ -48,7 +48,7 @@ fn fill(lists: &[Vec<TermId>], places: &mut Vec<usize>) -> Result<(), NoMemory>
     requires within { AreWithin (rows lists.now) places.old.items }
     requires filled { AreFilled (rows lists.now) }
     ensures within { AreWithin (rows lists.now) places.new.items }
-    ensures left { OnOk result (from_places (rows lists.now) places.new.items ≡ from_places (rows lists.now) places.old.items) }
+    ensures left { from_places (rows lists.now) places.new.items ≡ from_places (rows lists.now) places.old.items }
     ensures full { OnOk result (length places.new.items ≡ length lists.now) }
 {
     while places.len() < lists.len() {
@@ -90,6 +90,23 @@ fn values_at(
     Ok(values)
 }
 
+/// Whether what is at these places begins with the first `level` of these values.
+fn begin_with(lists: &[Vec<TermId>], places: &[usize], values: &[TermId], level: usize) -> bool
+    requires { AreWithin (rows lists.now) places.now }
+    ensures { IsTrue result → (level ≤ length places.now) × (places_read (rows lists.now) (take level places.now) ≡ take level values.now) }
+{
+    if places.len() < level || values.len() < level {
+        return false;
+    }
+    for number in 0..level {
+        let list = lists[number].as_slice();
+        if list[places[number]].0 != values[number].0 {
+            return false;
+        }
+    }
+    true
+}
+
 impl Combinations {
     /// All combinations of one value of each list. Of no list there is one, which is empty.
     pub fn new(alloc: Global, lists: Vec<Vec<TermId>>) -> Combinations
@@ -104,8 +121,13 @@ impl Combinations {
     }
 
     /// The next combination, where there is one.
+    ///
+    /// # Errors
+    ///
+    /// `NoMemory` where there is none for it. The same ones are still to come then.
     pub fn next(&mut self, alloc: Global) -> Result<Option<Vec<TermId>>, NoMemory>
-        ensures { IfOk result (λ next. MatchOption next (self.old ≡ []) (λ values. self.old ≡ values.items ∷ self.new)) }
+        ensures next { IfOk result (λ next. MatchOption next (self.old ≡ []) (λ values. self.old ≡ values.items ∷ self.new)) }
+        ensures unchanged { OnErr result (self.new ≡ self.old) }
     {
         if self.over {
             return Ok(None);
@@ -113,7 +135,38 @@ impl Combinations {
         let lists = self.lists.as_slice();
         fill(lists, &mut self.places)?;
         let values = values_at(alloc, lists, self.places.as_slice())?;
-        self.over = !pass(lists, &mut self.places)?;
+        let mut places = Vec::from_slice(alloc, self.places.as_slice())?;
+        let more = pass(lists, &mut places)?;
+        self.places = places;
+        self.over = !more;
         Ok(Some(values))
+    }
+
+    /// Leaves out the next ones as long as they begin with the first `level` of these values.
+    ///
+    /// # Errors
+    ///
+    /// `NoMemory` where there is none for the places. The same ones are still to come then.
+    pub fn leave_out(
+        &mut self,
+        alloc: Global,
+        values: &[TermId],
+        level: usize,
+    ) -> Result<(), NoMemory>
+        ensures left_out { OnOk result (LeavesOut level values.now self.old self.new) }
+        ensures unchanged { OnErr result (self.new ≡ self.old) }
+    {
+        if self.over {
+            return Ok(());
+        }
+        let lists = self.lists.as_slice();
+        if !begin_with(lists, self.places.as_slice(), values, level) {
+            return Ok(());
+        }
+        let mut places = Vec::from_slice(alloc, &self.places[..level])?;
+        let more = pass(lists, &mut places)?;
+        self.places = places;
+        self.over = !more;
+        Ok(())
     }
 }

@@ -5,6 +5,7 @@
 
 pub mod combinations;
 pub mod laws;
+pub mod leading_parts;
 mod options;
 pub mod rewriting;
 mod session;

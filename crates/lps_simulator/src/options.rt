@@ -1,7 +1,8 @@
 //! What a linear process can do in a state.
 
 ghost use Rattle.std.specs.Prelude.{◌≡◌, ◌++◌, [], List, map, IfOk, OnOk};
-ghost use Rattle.std.specs.List.{All, Contains};
+ghost use Rattle.std.specs.List.{All, Contains, zip};
+ghost use Rattle.data_theory.specs.declared.ids.TermId.{TermId};
 ghost use Rattle.data_theory.specs.Provable.{Equation};
 ghost use Rattle.number_rules.specs.Rule.{IsExact, rule_of};
 ghost use Rattle.term_pool.specs.Bindings.{listed_terms};
@@ -16,10 +17,13 @@ ghost use Rattle.lps_simulator.specs.Rewritten.{environment_of};
 ghost use Rattle.lps_simulator.specs.SumValues.{AreListsFor};
 ghost use Rattle.lps_simulator.specs.Options.{cut_with, open_with};
 ghost use Rattle.lps_simulator.specs.OptionsInCode.{no_options, plain_move, plain_options, AreOptions, IsMove, IsState};
-ghost use Rattle.lps_simulator.specs.Trying.{IsMade, IsSummandOver, ListsSummand, SumsAreTried, TriesWith};
+ghost use Rattle.lps_simulator.specs.Trying.{AreLeadingParts, IsMade, IsSummandOver, ListsSummand, SumsAreTried, TriesOne, TriesWith};
 
 use crate::combinations::Combinations;
-use crate::rewriting::{bindings, decide_with, rewrite_label_with, rewrite_next_with};
+use crate::leading_parts::{leading_parts, level_of};
+use crate::rewriting::{
+    bindings, decide_with, failing_part, rewrite_label_with, rewrite_next_with,
+};
 use crate::sum_values::{SumValues, sum_values};
 use data_rewriter::{Rewriter, Truth};
 use data_theory::{NoMemory, Num, Signature, TermId, VarId};
@@ -116,6 +120,47 @@ fn try_with<F: Fn(NumOp, Num, Num) -> Option<Num>>(
     }
 }
 
+/// Adds the move of a summand in a state for a combination of values of its sums, as `try_with`. Where some parts in front of the condition
+/// tell that it is false, the next combinations for which they tell it too are left out.
+fn try_combination<F: Fn(NumOp, Num, Num) -> Option<Num>>(
+    alloc: Global,
+    sig: &Signature,
+    pool: &mut Pool,
+    rewriter: &mut Rewriter<F>,
+    number: usize,
+    summand: &Summand,
+    parts: &[TermId],
+    params: &[VarId],
+    state: &[TermId],
+    combination: &[TermId],
+    left: &mut Combinations,
+    fuel: u64,
+    moves: &mut Vec<Move>,
+) -> Result<Option<bool>, NoMemory>
+    requires known { (own : List Equation) × FitsPool rewriter.old sig.now own pool.old.trees }
+    requires rules { IsExact (F.pre (rule_of (number_rules rewriter.old))) (F.post (rule_of (number_rules rewriter.old))) }
+    requires summand { IsSummandOver sig.now pool.old.trees (plain_summand summand.now) }
+    requires parts { AreLeadingParts sig.now pool.old.trees summand.now.cond parts.now }
+    requires listed { All (IsTerm sig.now pool.old.trees) (listed_terms (zip summand.now.sums.items combination.now ++ zip params.now state.now)) }
+    ensures kept { Extends pool.old.trees pool.new.trees }
+    ensures rules { number_rules rewriter.new ≡ number_rules rewriter.old }
+    ensures fits { (own : List Equation) → FitsPool rewriter.old sig.now own pool.old.trees → FitsPool rewriter.new sig.now own pool.new.trees }
+    ensures fewer { OnOk result ((before : List (List TermId)) × (left.old ≡ before ++ left.new)) }
+    ensures tried { IfOk result (λ why. (own : List Equation) → FitsPool rewriter.old sig.now own pool.old.trees → TriesOne sig.now own fuel pool.old.trees pool.new.trees summand.now.sums.items (zip params.now state.now) combination.now number (plain_summand summand.now) (map plain_move moves.old.items) (map plain_move moves.new.items) left.old left.new why) }
+{
+    signature_stands(sig);
+    let sums = summand.sums.as_slice();
+    let by = bindings(alloc, sums, combination, params, state)?;
+    let by = by.as_slice();
+    let Some(place) = failing_part(sig, pool, rewriter, parts, by, fuel)? else {
+        let why = try_with(alloc, sig, pool, rewriter, number, summand, by, fuel, moves)?;
+        return Ok(why);
+    };
+    let level = level_of(alloc, pool, &parts[..place + 1], sums)?;
+    left.leave_out(alloc, combination, level)?;
+    Ok(None)
+}
+
 /// Adds the moves of a summand in a state, for the combinations of these values of its sums. If it isn't decided for one of them, the
 /// answer says whether the fuel was spent for the first such one.
 fn try_summand<F: Fn(NumOp, Num, Num) -> Option<Num>>(
@@ -143,20 +188,25 @@ fn try_summand<F: Fn(NumOp, Num, Num) -> Option<Num>>(
     ensures tried { IfOk result (λ why. (own : List Equation) → FitsPool rewriter.old sig.now own pool.old.trees → AreWellFormed sig.now own → SumsAreTried sig.now own fuel pool.old.trees pool.new.trees (plain_linear lin.now) state.now number (plain_summand summand.now) (combinations (rows lists.items)) [] (map plain_move moves.old.items) (map plain_move moves.new.items) why) }
 {
     signature_stands(sig);
-    let sums = summand.sums.as_slice();
     let params = lin.params.as_slice();
+    let parts = leading_parts(alloc, pool, summand.cond)?;
+    let parts = parts.as_slice();
     let mut combinations = Combinations::new(alloc, lists);
     let mut why = None;
     while let Some(combination) = combinations.next(alloc)? {
-        let by = bindings(alloc, sums, combination.as_slice(), params, state)?;
-        let found = try_with(
+        let combination = combination.as_slice();
+        let found = try_combination(
             alloc,
             sig,
             pool,
             rewriter,
             number,
             summand,
-            by.as_slice(),
+            parts,
+            params,
+            state,
+            combination,
+            &mut combinations,
             fuel,
             moves,
         )?;

@@ -1,6 +1,6 @@
 //! Terms that are put in for variables, and then decided or rewritten.
 
-ghost use Rattle.std.specs.Prelude.{◌≡◌, ◌≤◌, ◌⊎◌, ◌++◌, List, IfOk, IfSome, OnOk};
+ghost use Rattle.std.specs.Prelude.{◌≡◌, ◌<◌, ◌≤◌, ◌+◌, ◌⊎◌, ◌++◌, List, length, map, take, IfOk, IfSome, OnOk};
 ghost use Rattle.std.specs.List.{All, AllZip, zip};
 ghost use Rattle.data_theory.specs.Provable.{Equation};
 ghost use Rattle.data_theory.specs.IdData.{data_meant};
@@ -14,6 +14,7 @@ ghost use Rattle.data_rewriter.specs.Rewriters.{Fits, number_rules};
 ghost use Rattle.data_rewriter.specs.Standing.{IsTerm, StandsFor, term_at};
 ghost use Rattle.process_terms.specs.PlainProcesses.{plain_label};
 ghost use Rattle.lps_core.specs.PlainLinears.{plain_next};
+ghost use Rattle.lps_simulator.specs.LeadingParts.{instance_at, FailInFront};
 ghost use Rattle.lps_simulator.specs.Rewritten.{environment_of, decision_of, IsActionOver, IsRewrittenTerm, IsRewrittenAction, IsRewrittenNext};
 
 use data_rewriter::{Normal, Rewriter, Truth};
@@ -92,6 +93,34 @@ pub fn put_in(
     Ok(made)
 }
 
+/// How a term of sort Bool is decided with the listed terms in place of variables, where this fuel is left, which falls.
+///
+/// # Errors
+///
+/// `NoMemory` where the rewriter has none, or there is none for the term.
+fn decide_left<F: Fn(NumOp, Num, Num) -> Option<Num>>(
+    sig: &Signature,
+    pool: &mut Pool,
+    rewriter: &mut Rewriter<F>,
+    term: TermId,
+    by: &[(VarId, TermId)],
+    left: &mut u64,
+) -> Result<Truth, NoMemory>
+    requires known { (own : List Equation) × Fits rewriter.old sig.now own pool.old.trees }
+    requires rules { IsExact (F.pre (rule_of (number_rules rewriter.old))) (F.post (rule_of (number_rules rewriter.old))) }
+    requires term { IsTerm sig.now pool.old.trees term }
+    requires listed { All (IsTerm sig.now pool.old.trees) (listed_terms by.now) }
+    ensures kept { Extends pool.old.trees pool.new.trees }
+    ensures rules { number_rules rewriter.new ≡ number_rules rewriter.old }
+    ensures fits { (own : List Equation) → Fits rewriter.old sig.now own pool.old.trees → Fits rewriter.new sig.now own pool.new.trees }
+    ensures decided { IfOk result (λ truth. (own : List Equation) → Fits rewriter.old sig.now own pool.old.trees → IsDecided (data_meant sig.now) own left.old (put (term_in (environment_of sig.now pool.old.trees by.now)) (term_at sig.now pool.old.trees term)) (decision_of truth)) }
+    ensures falls { left.new ≤ left.old }
+{
+    let made = put_in(sig, pool, term, by)?;
+    let truth = rewriter.decide(pool, made, left)?;
+    Ok(truth)
+}
+
 /// How a term of sort Bool is decided with the listed terms in place of variables, and with this fuel.
 ///
 /// # Errors
@@ -114,10 +143,49 @@ pub fn decide_with<F: Fn(NumOp, Num, Num) -> Option<Num>>(
     ensures fits { (own : List Equation) → Fits rewriter.old sig.now own pool.old.trees → Fits rewriter.new sig.now own pool.new.trees }
     ensures decided { IfOk result (λ truth. (own : List Equation) → Fits rewriter.old sig.now own pool.old.trees → IsDecided (data_meant sig.now) own fuel (put (term_in (environment_of sig.now pool.old.trees by.now)) (term_at sig.now pool.old.trees term)) (decision_of truth)) }
 {
-    let made = put_in(sig, pool, term, by)?;
     let mut left = fuel;
-    let truth = rewriter.decide(pool, made, &mut left)?;
+    let truth = decide_left(sig, pool, rewriter, term, by, &mut left)?;
     Ok(truth)
+}
+
+/// The place of the first of these parts of a condition that fails with the listed terms in place of variables, where those in front of it
+/// hold. The parts share this fuel, of which the `&&` behind each part takes one; where it doesn't suffice, the answer is `None`.
+///
+/// # Errors
+///
+/// `NoMemory` where the rewriter has none, or there is none for a term.
+pub fn failing_part<F: Fn(NumOp, Num, Num) -> Option<Num>>(
+    sig: &Signature,
+    pool: &mut Pool,
+    rewriter: &mut Rewriter<F>,
+    parts: &[TermId],
+    by: &[(VarId, TermId)],
+    fuel: u64,
+) -> Result<Option<usize>, NoMemory>
+    requires known { (own : List Equation) × Fits rewriter.old sig.now own pool.old.trees }
+    requires rules { IsExact (F.pre (rule_of (number_rules rewriter.old))) (F.post (rule_of (number_rules rewriter.old))) }
+    requires parts { All (IsTerm sig.now pool.old.trees) parts.now }
+    requires listed { All (IsTerm sig.now pool.old.trees) (listed_terms by.now) }
+    ensures kept { Extends pool.old.trees pool.new.trees }
+    ensures rules { number_rules rewriter.new ≡ number_rules rewriter.old }
+    ensures fits { (own : List Equation) → Fits rewriter.old sig.now own pool.old.trees → Fits rewriter.new sig.now own pool.new.trees }
+    ensures place { IfOk result (λ found. IfSome found (λ place. place < length parts.now)) }
+    ensures fails { IfOk result (λ found. IfSome found (λ place. (own : List Equation) → Fits rewriter.old sig.now own pool.old.trees → FailInFront (data_meant sig.now) own (map (instance_at sig.now pool.old.trees by.now) (take (place + 1) parts.now)))) }
+{
+    let mut left = fuel;
+    for place in 0..parts.len() {
+        let truth = decide_left(sig, pool, rewriter, parts[place], by, &mut left)?;
+        if left == 0 {
+            return Ok(None);
+        }
+        left -= 1;
+        match truth {
+            Truth::Yes => continue,
+            Truth::No => return Ok(Some(place)),
+            _ => return Ok(None),
+        }
+    }
+    Ok(None)
 }
 
 /// A term with the listed terms in place of variables, rewritten with this fuel: what it goes to, or the term itself, where the

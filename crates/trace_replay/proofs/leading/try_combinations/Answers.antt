@@ -40,7 +40,7 @@ try_with-requires-clause-next g c = next_stays_over c.args.sig.now c.args.pool.n
 
 pub try_with-requires-clause-listed : goal.try_with-requires-clause-listed
 try_with-requires-clause-listed g c =
-    let next = (subst (λ z. MatchOption z (c.loop-combinations.combinations ≡ []) (λ values. c.loop-combinations.combinations ≡ values.items ∷ c.next.new.self)) c.in-Some.is c.in_ok-combination.ensures) in
+    let next = (subst (λ z. MatchOption z (c.loop-combinations.combinations ≡ []) (λ values. c.loop-combinations.combinations ≡ values.items ∷ c.next.new.self)) c.in-Some.is c.in_ok-combination.ensures.next) in
     terms_stay c.args.sig.now c.args.pool.now.trees c.loop-combinations.pool.trees _ c.loop-combinations.invariant.kept.pool
     (listed_over c.args.sig.now c.signature_stands.ensures c.args.pool.now.trees c.args.summand.now.sums.items c.args.lin.now.params.items (rows c.args.lists.items) c.requires.lists c.args.state.now c.requires.state c.in-Some.combination.items
     (one_of_all (combinations (rows c.args.lists.items)) c.loop-combinations.invariant.done c.loop-combinations.combinations c.next.new.self c.in-Some.combination.items c.loop-combinations.invariant.left next)
@@ -56,11 +56,11 @@ pub same-combinations : goal.same-combinations
 same-combinations g c = refl
 
 pub loop-combinations-smaller : goal.loop-combinations-smaller
-loop-combinations-smaller g c = let e = ap length (subst (λ z. MatchOption z (c.loop-combinations.combinations ≡ []) (λ values. c.loop-combinations.combinations ≡ values.items ∷ c.next.new.self)) c.in-Some.is c.in_ok-combination.ensures) in omega (arith, e)
+loop-combinations-smaller g c = let e = ap length (subst (λ z. MatchOption z (c.loop-combinations.combinations ≡ []) (λ values. c.loop-combinations.combinations ≡ values.items ∷ c.next.new.self)) c.in-Some.is c.in_ok-combination.ensures.next) in omega (arith, e)
 
 pub loop-combinations-preserved : goal.loop-combinations-preserved
 loop-combinations-preserved g c =
-    let next = (subst (λ z. MatchOption z (c.loop-combinations.combinations ≡ []) (λ values. c.loop-combinations.combinations ≡ values.items ∷ c.next.new.self)) c.in-Some.is c.in_ok-combination.ensures) in
+    let next = (subst (λ z. MatchOption z (c.loop-combinations.combinations ≡ []) (λ values. c.loop-combinations.combinations ≡ values.items ∷ c.next.new.self)) c.in-Some.is c.in_ok-combination.ensures.next) in
     record {
       kept = keeps_then c.args.sig.now c.args.pool.now.trees c.loop-combinations.pool.trees c.try_with.new.pool.trees c.args.rewriter.now c.loop-combinations.rewriter c.try_with.new.rewriter c.loop-combinations.invariant.kept c.try_with.ensures.kept;
       states = c.in_ok-is_open.ensures.states;
@@ -76,7 +76,7 @@ loop-combinations-preserved g c =
 
 pub returns-clause-tried : goal.returns-clause-tried
 returns-clause-tried g c = λ own bound h.
-    let none : c.loop-combinations.combinations ≡ [] = ended c.loop-combinations.combinations c.next.new.self c.in_ok-combination.field-0 c.in_default.not-Some c.in_ok-combination.ensures in
+    let none : c.loop-combinations.combinations ≡ [] = ended c.loop-combinations.combinations c.next.new.self c.in_ok-combination.field-0 c.in_default.not-Some c.in_ok-combination.ensures.next in
     subst (λ (z : List (List TermId)). AreTried (setting c.args.sig.now own c.args.fuel bound) (OfCombinations (linear_of (entries_of c.args.sig.now c.args.pool.now.trees) (plain_linear c.args.lin.now)) (summand_of (entries_of c.args.sig.now c.args.pool.now.trees) (plain_summand c.args.summand.now)) (map (term_at c.args.sig.now c.args.pool.now.trees) c.args.state.now) (map (term_at c.args.sig.now c.args.pool.now.trees) c.args.conditions.now) (map (map (term_at c.args.sig.now c.args.pool.now.trees)) z)) (meant_states c.args.sig.now c.args.pool.now.trees c.args.to.now) (meant_states c.args.sig.now c.loop-combinations.pool.trees c.loop-combinations.to) c.loop-combinations.doubt)
     (all_done (combinations (rows c.args.lists.items)) c.loop-combinations.invariant.done c.loop-combinations.combinations c.loop-combinations.invariant.left none)
     (c.loop-combinations.invariant.tried own bound h)

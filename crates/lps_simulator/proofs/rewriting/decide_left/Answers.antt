@@ -1,7 +1,7 @@
 use Rattle.data_rewriter.proofs.Simple.{a_rewriter_stays}
 use Rattle.lps_core.proofs.PoolTrees.{extends_on}
 use Rattle.lps_simulator.proofs.RewrittenTerms.{decided_as}
-use Rattle.lps_simulator.proofs.rewriting.decide_with.Goals as goal
+use Rattle.lps_simulator.proofs.rewriting.decide_left.Goals as goal
 
 pub returns-in_err-made-clause-fits : goal.returns-in_err-made-clause-fits
 returns-in_err-made-clause-fits g c = λ own h. a_rewriter_stays c.args.rewriter.now c.args.sig.now own c.args.pool.now.trees c.put_in.new.pool.trees c.put_in.ensures.kept h
@@ -25,5 +25,5 @@ returns-clause-fits g c = λ own h. c.decide.ensures.fits c.args.sig.now own (a_
 
 pub returns-clause-decided : goal.returns-clause-decided
 returns-clause-decided g c = λ own h.
-    decided_as c.args.sig.now own c.put_in.new.pool.trees c.decide.new.pool.trees c.in_ok-made.made _ c.args.fuel c.decide.new.fuel c.in_ok-truth.truth c.in_ok-made.ensures.put.is
+    decided_as c.args.sig.now own c.put_in.new.pool.trees c.decide.new.pool.trees c.in_ok-made.made _ c.args.left.now c.decide.new.fuel c.in_ok-truth.truth c.in_ok-made.ensures.put.is
     (c.in_ok-truth.ensures.says c.args.sig.now own (a_rewriter_stays c.args.rewriter.now c.args.sig.now own c.args.pool.now.trees c.put_in.new.pool.trees c.put_in.ensures.kept h) c.in_ok-made.ensures.put.term)
