@@ -37,6 +37,7 @@ pub mod Outermosts
 pub mod CodeTerms
 pub mod NumeralPieces
 pub mod CodeForms
+mod PendingLemmas
 pub mod CodeLists
 pub mod CodeSorts
 pub mod CodeActions
@@ -53,6 +54,7 @@ pub mod SignatureNames
 pub mod NoConstants
 pub mod AddedConstants
 pub mod NeededConstants
+mod UnseenLemmas
 pub mod NeededTexts
 pub mod ConstantWording
 pub mod FittingParts

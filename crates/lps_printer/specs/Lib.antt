@@ -26,6 +26,7 @@ pub mod Wordings
 pub mod TermParts
 pub mod WordForms
 pub mod CodeWordings
+pub mod PendingParts
 pub mod TextWordings
 pub mod CodeProcesses
 pub mod TreeTokens
@@ -36,6 +37,7 @@ pub mod AddingSections
 pub mod SignatureNames
 pub mod AddedConstants
 pub mod NeededConstants
+pub mod UnseenTerms
 pub mod PrintedTexts
 pub mod NeedLaws
 pub mod AddedDeclarations

@@ -21,6 +21,7 @@ pub mod laws;
 mod needs;
 mod next_terms;
 mod numbers;
+mod parts;
 mod printing;
 mod process_writer;
 mod sorts;

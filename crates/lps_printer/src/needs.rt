@@ -1,6 +1,6 @@
 //! Which empty lists stand in open places.
 
-ghost use Rattle.std.specs.Prelude.{◌≡◌, ◌∷◌, [], cond, true, map, option_map, IfSome, OnOk, Vec};
+ghost use Rattle.std.specs.Prelude.{◌≡◌, ◌∷◌, ◌++◌, ◌+◌, [], cond, true, map, option_map, IfSome, OnOk, Vec};
 ghost use Rattle.std.specs.Global.{Global};
 ghost use Rattle.std.specs.List.{All, flat_map};
 ghost use Rattle.data_theory.specs.declared.ids.TermId.{TermId};
@@ -11,7 +11,9 @@ ghost use Rattle.process_terms.specs.PlainProcesses.{plain_action};
 ghost use Rattle.lps_core.specs.PlainLinears.{plain_next, plain_summand, summand_of};
 ghost use Rattle.lps_printer.specs.CodeProcesses.{entries_by, AreNextBy, IsActionBy, IsSummandBy};
 ghost use Rattle.lps_printer.specs.CodeWordings.{application_by, term_by, terms_by, HasWord, IsApplicationBy, IsTermBy};
-ghost use Rattle.lps_printer.specs.NeededConstants.{action_nils, all_nils, element_nils, label_nils, nil_sort, next_nils, nils, nils_of, summand_nils, FindsBy, FindsText};
+ghost use Rattle.lps_printer.specs.NeededConstants.{action_nils, all_nils, label_nils, nil_sort, next_nils, nils, nils_of, summand_nils, FindsBy, FindsText};
+ghost use Rattle.lps_printer.specs.PendingParts.{size, sizes};
+ghost use Rattle.lps_printer.specs.UnseenTerms.{nils_left, unseen_nils, unseen_weight, IsUnseen, LooksInto};
 
 use crate::forms::{is_element, is_empty_list};
 use crate::process_writer::ProcessWriter;
@@ -21,6 +23,31 @@ use indexmap::IndexSet;
 use lps_core::Summand;
 use process_terms::Action;
 use term_pool::Head;
+
+/// Terms that are still to be looked into: whether the first one stands in a place of declared sort, and whether the others do.
+#[derive(Clone, Copy)]
+pub(crate) struct Unseen<'p> {
+    pub(crate) ids: &'p [TermId],
+    pub(crate) first_placed: bool,
+    pub(crate) others_placed: bool,
+}
+
+/// Leaves these terms.
+fn leave<'p>(
+    ids: &'p [TermId],
+    first_placed: bool,
+    others_placed: bool,
+    left: &mut Vec<Unseen<'p>>,
+) -> Result<(), NoMemory>
+    ensures { OnOk result (left.new.items ≡ left.old.items ++ record { ids = ids.entry; first_placed = first_placed; others_placed = others_placed } ∷ []) }
+{
+    left.push(Unseen {
+        ids,
+        first_placed,
+        others_placed,
+    })?;
+    Ok(())
+}
 
 impl TermWriter<'_> {
     /// Notes a `[]` in an open place.
@@ -41,8 +68,87 @@ impl TermWriter<'_> {
         Ok(())
     }
 
+    /// Notes `[]` where a term is one in an open place. Its arguments are left.
+    fn look_into<'p>(
+        &'p self,
+        id: TermId,
+        placed: bool,
+        left: &mut Vec<Unseen<'p>>,
+        found: &mut IndexSet<FunId>,
+    ) -> Result<(), NoMemory>
+        requires { IsTermBy self.now id }
+        ensures { OnOk result (LooksInto self.now (size (term_by self.now id)) found.old.keys found.new.keys left.old.items left.new.items (λ w. nils w.names.once placed (term_by self.now id))) }
+    {
+        let _ = self.sig.names();
+        let node = self.pool.node(id);
+        match node.head {
+            Head::Fun(fun) => {
+                self.look_into_application(fun, node.args.as_slice(), placed, left, found)
+            }
+            Head::Var(_) => Ok(()),
+            Head::Num(_, _) => Ok(()),
+        }
+    }
+
+    /// The same of a function with its arguments.
+    fn look_into_application<'p>(
+        &'p self,
+        fun: FunId,
+        args: &'p [TermId],
+        placed: bool,
+        left: &mut Vec<Unseen<'p>>,
+        found: &mut IndexSet<FunId>,
+    ) -> Result<(), NoMemory>
+        requires { IsApplicationBy self.now fun args.now }
+        ensures { OnOk result (LooksInto self.now (4 + sizes (terms_by self.now args.now)) found.old.keys found.new.keys left.old.items left.new.items (λ w. nils w.names.once placed (application_by self.now fun args.now))) }
+    {
+        let _ = self.sig.names();
+        let Some(word) = self.sig.word_of(fun) else {
+            let once = self.is_once(fun);
+            return leave(args, once, once, left);
+        };
+        if is_empty_list(word) {
+            return self.note_empty(fun, placed, found);
+        }
+        if is_element(word) {
+            return leave(args, false, true, left);
+        }
+        leave(args, false, false, left)
+    }
+
+    /// Looks into the first of these terms. The others are left.
+    fn look_at_first<'p>(
+        &'p self,
+        unseen: Unseen<'p>,
+        left: &mut Vec<Unseen<'p>>,
+        found: &mut IndexSet<FunId>,
+    ) -> Result<(), NoMemory>
+        requires { All (IsTermBy self.now) unseen.ids.now }
+        ensures { OnOk result (LooksInto self.now (unseen_weight self.now unseen.entry) found.old.keys found.new.keys left.old.items left.new.items (λ w. unseen_nils self.now w.names.once unseen.entry)) }
+    {
+        let [first, others @ ..] = unseen.ids else {
+            return Ok(());
+        };
+        leave(others, unseen.others_placed, unseen.others_placed, left)?;
+        self.look_into(*first, unseen.first_placed, left, found)
+    }
+
+    /// Looks into all that is left.
+    fn look_at_all<'p>(
+        &'p self,
+        left: &mut Vec<Unseen<'p>>,
+        found: &mut IndexSet<FunId>,
+    ) -> Result<(), NoMemory>
+        requires { All (IsUnseen self.now) left.old.items }
+        ensures { OnOk result (FindsBy self.now found.old.keys found.new.keys (λ w. nils_left self.now w.names.once left.old.items)) }
+    {
+        while let Some(unseen) = left.pop() {
+            self.look_at_first(unseen, left, found)?;
+        }
+        Ok(())
+    }
+
     /// Notes each `[]` that stands in an open place of a term, which itself stands in a place of declared sort, or in an open one.
-    #[cycle(nils)]
     pub(crate) fn nils(
         &self,
         id: TermId,
@@ -52,89 +158,24 @@ impl TermWriter<'_> {
         requires { IsTermBy self.now id }
         ensures { OnOk result (FindsBy self.now found.old.keys found.new.keys (λ w. nils w.names.once placed (term_by self.now id))) }
     {
-        let mut rest = id;
-        let mut placed = placed;
-        while let Some((first, behind)) = self.element(rest) {
-            self.nils(first, false, found)?;
-            rest = behind;
-            placed = true;
-        }
-        self.last_nils(rest, placed, found)
-    }
-
-    /// Those of a term, as the last part of a chain of `|>`.
-    #[cycle(nils)]
-    fn last_nils(
-        &self,
-        id: TermId,
-        placed: bool,
-        found: &mut IndexSet<FunId>,
-    ) -> Result<(), NoMemory>
-        requires { IsTermBy self.now id }
-        ensures { OnOk result (FindsBy self.now found.old.keys found.new.keys (λ w. nils w.names.once placed (term_by self.now id))) }
-    {
-        let _ = self.sig.names();
-        let node = self.pool.node(id);
-        match node.head {
-            Head::Fun(fun) => self.application_nils(fun, node.args.as_slice(), placed, found),
-            Head::Var(_) => Ok(()),
-            Head::Num(_, _) => Ok(()),
-        }
-    }
-
-    /// Those of a function with its arguments.
-    #[cycle(nils)]
-    fn application_nils(
-        &self,
-        fun: FunId,
-        args: &[TermId],
-        placed: bool,
-        found: &mut IndexSet<FunId>,
-    ) -> Result<(), NoMemory>
-        requires { IsApplicationBy self.now fun args.now }
-        ensures { OnOk result (FindsBy self.now found.old.keys found.new.keys (λ w. nils w.names.once placed (application_by self.now fun args.now))) }
-    {
-        let _ = self.sig.names();
-        let Some(word) = self.sig.word_of(fun) else {
-            return self.all_nils(args, self.is_once(fun), found);
-        };
-        if is_empty_list(word) {
-            return self.note_empty(fun, placed, found);
-        }
-        if is_element(word) {
-            return self.element_nils(args, found);
-        }
-        self.all_nils(args, false, found)
-    }
-
-    /// Those of an element and of the rest behind it.
-    #[cycle(nils)]
-    fn element_nils(&self, ids: &[TermId], found: &mut IndexSet<FunId>) -> Result<(), NoMemory>
-        requires { All (IsTermBy self.now) ids.now }
-        ensures { OnOk result (FindsBy self.now found.old.keys found.new.keys (λ w. element_nils w.names.once (terms_by self.now ids.now))) }
-    {
-        let [first, others @ ..] = ids else {
-            return Ok(());
-        };
-        self.nils(*first, false, found)?;
-        self.all_nils(others, true, found)
+        let mut left = Vec::new(*found.allocator());
+        self.look_into(id, placed, &mut left, found)?;
+        self.look_at_all(&mut left, found)
     }
 
     /// Those of terms, in their order.
-    #[cycle(nils)]
-    fn all_nils(
-        &self,
-        ids: &[TermId],
+    fn all_nils<'p>(
+        &'p self,
+        ids: &'p [TermId],
         placed: bool,
         found: &mut IndexSet<FunId>,
     ) -> Result<(), NoMemory>
         requires { All (IsTermBy self.now) ids.now }
         ensures { OnOk result (FindsBy self.now found.old.keys found.new.keys (λ w. all_nils w.names.once placed (terms_by self.now ids.now))) }
     {
-        for id in ids {
-            self.nils(*id, placed, found)?;
-        }
-        Ok(())
+        let mut left = Vec::new(*found.allocator());
+        leave(ids, placed, placed, &mut left)?;
+        self.look_at_all(&mut left, found)
     }
 }
 
