@@ -6,7 +6,7 @@ mod real;
 use lin_answers::Status;
 use lin_run::run;
 use mcrl2_text::write_all;
-use real::{FileShelf, Stream};
+use real::{BehindName, FileShelf, Stream};
 use std::env;
 use std::io::{self, ErrorKind};
 use std::process::ExitCode;
@@ -28,6 +28,12 @@ fn main(rt: HostRuntime) -> ExitCode {
     ExitCode::from(status.number())
 }
 
+/// The words, with the program's own name in front. By which name it was started doesn't matter, since that may be no text.
 fn words(rt: &HostRuntime) -> io::Result<Vec<String>> {
-    Ok(env::args(rt)?.collect(rt.alloc())?)
+    let alloc = rt.alloc();
+    let mut words = vec![in alloc; String::from_str(alloc, "mcrl2lin")?]?;
+    for word in env::args(&(BehindName(rt), alloc))? {
+        words.push(word)?;
+    }
+    Ok(words)
 }

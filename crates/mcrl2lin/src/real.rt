@@ -1,7 +1,9 @@
-//! Files and standard streams as a shelf and sinks. They count their faults, and tell nothing of what they hold.
+//! Files and standard streams as a shelf and sinks, which count their faults and tell nothing of what they hold; and the words of the
+//! command line.
 ghost use Rattle.std.specs.Prelude.{◌≡◌, ◌<◌, ◌+◌, ◌-◌, ◌^◌, min, None};
 
 use mcrl2_text::{Failed, Shelf, Sink};
+use std::env::{Env, FillError};
 use std::fs::{self, File};
 use std::io::{Read, Write};
 
@@ -98,4 +100,25 @@ fn count_fault(faults: &mut u64) -> Failed
 {
     *faults = faults.saturating_add(1);
     Failed
+}
+
+/// The system's words and variables, but for the first word, which is the program's own name.
+#[derive(Drop)]
+pub struct BehindName<'a>(pub &'a HostRuntime);
+
+impl Env for BehindName<'_> {
+    fn arg(&self, i: usize, buf: &mut [u8]) -> Result<usize, FillError> {
+        match i.checked_add(1) {
+            Some(behind) => self.0.arg(behind, buf),
+            None => Err(FillError::NotPresent),
+        }
+    }
+
+    fn var(&self, name: &str, buf: &mut [u8]) -> Result<usize, FillError> {
+        self.0.var(name, buf)
+    }
+
+    fn var_at(&self, i: usize, buf: &mut [u8]) -> Result<usize, FillError> {
+        self.0.var_at(i, buf)
+    }
 }
