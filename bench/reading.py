@@ -1,7 +1,7 @@
 #!/usr/bin/env python3
 """How fast texts are read, beside `wc -w` on the same file, and refused, and how much stack deep ones take.
 
-Run it from the top of the repository, after a build: bench/reading.py [speed|refusals|brackets|names|stack|short] [PROGRAM WORD..]
+Run it from the top of the repository, after a build: bench/reading.py [speed|refusals|brackets|names|stack|chains|short] [PROGRAM WORD..]
 Programs run as the launcher starts them, with memory in large pages that is kept. `speed` builds a program that reads a text up to
 its tree, by `lex` and `parse`, and prints one line for each text: its kind, size, the processor's seconds, bytes a second, peak
 memory in all and for each byte of the text, how many times the time of `wc -w` that was, and how many times that of the text of a
@@ -12,7 +12,8 @@ time of 4 MiB, 80 bytes a byte. `refusals` prints the same lines, without bounds
 The peak is never less than that of this script, which starts the program. `brackets` prints how many times longer 16 MiB take with
 990 brackets around. `names` linearises systems of many actions, whose names collide in tables of std with their fixed seed, or
 don't: it builds a program that searches such names. `stack` prints for each kind of nesting the least `ulimit -s` that texts of
-some depths need, and how many bytes a level that is. `short` prints what the program says of texts that nest less than they seem
+some depths need, and how many bytes a level that is. `chains` prints the same for texts that hardly nest, with long chains of signs
+whose terms are as deep as the chains are long. `short` prints what the program says of texts that nest less than they seem
 to: none ends for want of memory. With no word all are printed. It is no part of the gate.
 """
 
@@ -60,6 +61,14 @@ KINDS = {
     "nested choices": (b"init " + b"(" * 990 + b"a", b" + a", b")" * 990 + b";"),
     "nested arrow": (b"init " + b"(" * 990 + b"a", b" + a", b" + b -> a" + b")" * 990 + b";"),
     "nested, no guards": (b"init " + b"(" * 990 + b"a", b" + a", b" -> b)" * 990 + b";"),
+}
+# Declarations that hardly nest: what stands in front, what is repeated, and what stands behind.
+CHAINS = {
+    "conjunctions": (b"act b: Bool; init b(true", b" && true", b");"),
+    "sums": (b"act b: Nat; init b(1", b" + 1", b");"),
+    "guards of &&": (b"act a; proc X(b: Bool) = (b", b" && b", b") -> a . X(b = b); init X(true);"),
+    "guards of ||": (b"act a; proc X(b: Bool) = (b", b" || b", b") -> a . X(b = b); init X(true);"),
+    "lists": (b"act a: List(Nat); init a([1", b", 1", b"]);"),
 }
 # Nestings: what stands in front, what opens a level, what stands inside, what closes a level, and what stands behind.
 NESTINGS = {
@@ -297,6 +306,16 @@ def stack(command, path):
         print(f"{kind:21} {shown} {each:6} bytes a level")
 
 
+def chains(command, path):
+    for kind, (front, part, behind) in CHAINS.items():
+        needs = {}
+        for count in (1_000, 10_000, 43_750):
+            path.write_bytes(front + part * count + behind)
+            needs[count] = least(command, path)
+        shown = " ".join(f"{count}: {kib:5} KiB" for count, kib in needs.items())
+        print(f"{kind:21} {shown}")
+
+
 def short(command, path):
     for kind, text in SHORT.items():
         path.write_text(text)
@@ -305,7 +324,7 @@ def short(command, path):
 
 
 def main():
-    parts = {"speed": speed, "refusals": refusals, "brackets": brackets, "names": names, "stack": stack, "short": short}
+    parts = {"speed": speed, "refusals": refusals, "brackets": brackets, "names": names, "stack": stack, "chains": chains, "short": short}
     wanted = sys.argv[1:2] if len(sys.argv) > 1 else list(parts)
     command = sys.argv[2:] if len(sys.argv) > 2 else [PROGRAM, "linearise"]
     with tempfile.TemporaryDirectory() as folder:

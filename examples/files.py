@@ -55,7 +55,7 @@ NAMES = [
 
 def ran(program, words, folder, **how):
     """What the program answers to words in a folder: its status, its output and its error output."""
-    how = {"stdout": subprocess.PIPE, "stderr": subprocess.PIPE, **how}
+    how = {"stdout": subprocess.PIPE, "stderr": subprocess.PIPE, "executable": program[0], **how}
     done = subprocess.run([*program, *words.split()], cwd=folder, stdin=subprocess.DEVNULL, check=False, **how)
     return done.returncode, done.stdout, done.stderr
 
@@ -79,10 +79,24 @@ def full(program, words, folder, stream):
         return ran(program, words, folder, **{stream: device})
 
 
+def under(program, name, words, folder):
+    """What the program answers where it is started under a name."""
+    return ran([name, *program[1:]], words, folder, executable=program[0])
+
+
 def runs(program, folder):
     """Each run by its name, with what is answered and what is to be answered."""
     for words, wanted in NAMES:
         yield words, ran(program, words, folder), wanted
+    # Whatever name it is started under, also one that is no text.
+    for name in (b"\xff", b"", b"linearise"):
+        yield f"linearise text, as {name}", under(program, name, "linearise text", folder), (0, PRINTED, b"")
+    # Terms as deep as a chain is long, in a text that hardly nests.
+    for sign in (b"&&", b"||"):
+        chain = (b" " + sign + b" ").join([b"b"] * 50_000)
+        pathlib.Path(folder, "chain").write_bytes(b"act a: Bool; proc X(b: Bool) = a(" + chain + b") . X(b = b); init X(true);")
+        status, output, error = ran(program, "linearise chain", folder)
+        yield f"linearise a chain of {sign}", (status, chain in output, error), (0, True, b"")
     # The output takes nothing, or ten bytes of the answer. The error output takes five bytes of its line, or none.
     for words in ("check text", "linearise text"):
         yield f"{words} > /dev/full", full(program, words, folder, "stdout"), (4, None, b"write fault\n")
