@@ -1,5 +1,5 @@
 -- The first values of a sort, listed weight by weight.
-use Rattle.std.proofs.Common.{◌≡◌, ◌⊎◌, ⊎_elim, inl, inr, ◌<◌, ◌≤◌, ◌+◌, ◌^◌, ◌++◌, ℕ, suc, Bool, true, false, List, [], ◌∷◌, take, length, refl, sym, ap, ◌∙◌, subst, arith}
+use Rattle.std.proofs.Common.{◌≡◌, ◌⊎◌, ⊎_elim, inl, inr, ◌<◌, ◌≤◌, ◌+◌, ◌^◌, ◌++◌, ℕ, zero, suc, Bool, true, false, List, [], ◌∷◌, take, length, get_or, refl, sym, ap, ◌∙◌, subst, arith}
 use Rattle.std.specs.List.{Contains}
 use Rattle.std.proofs.lemmas.List.{length-take, length-append}
 use Rattle.data_theory.specs.declared.ids.SortId.{SortId}
@@ -10,13 +10,13 @@ use Rattle.data_theory.specs.IdTrees.{Tree}
 use Rattle.data_theory.specs.WholeSignatures.{IsSignature}
 use Rattle.term_pool.specs.Pools.{Extends}
 use Rattle.term_pool.specs.ConstructorValues.{ConstructorValue, weight}
-use Rattle.term_pool.proofs.Lists.{contains_none}
+use Rattle.term_pool.proofs.Lists.{contains_none, contains_head}
 use Rattle.value_enum.specs.declared.shapes.Shapes.{Shapes}
 use Rattle.value_enum.specs.declared.levels.Levels.{Levels}
 use Rattle.value_enum.specs.declared.levels.TupleRow.{TupleRow}
 use Rattle.value_enum.specs.Values.{IsPlainValueOf, AreTermsOf, no_terms}
 use Rattle.value_enum.specs.Shapes.{list_at, functions_of, AreShapes}
-use Rattle.value_enum.specs.Levels.{Shape, shape_of, values_weighing, values_up_to, values_at, HaveTuples, AreLevels, AreHeaviest, HasNoneAbove}
+use Rattle.value_enum.specs.Levels.{Shape, shape_of, values_weighing, values_up_to, values_at, HaveTuples, AreLevels, AreHeaviest, AreWeightsOfValues, HasNoneAbove}
 use Rattle.value_enum.specs.Listing.{AreAllOrFirst, AreNoted}
 use Rattle.value_enum.proofs.Capped.{cut_right, not_cut}
 use Rattle.value_enum.proofs.TermLists.{terms_length, terms_append, terms_take, tuples_kept}
@@ -90,6 +90,9 @@ module _ (g : Sig) (stands : IsSignature g) (sh : Shapes) (shapes : AreShapes g 
 pub heaviest_none : (g : Sig) (sorts : List SortId) (heaviest : List ℕ) → AreHeaviest g sorts heaviest 0
 heaviest_none g sorts heaviest s v has is l = omega (arith, l)
 
+pub noted_none : (g : Sig) (sorts : List SortId) (heaviest : List ℕ) → ((k : ℕ) → get_or heaviest k 0 ≡ 0) → AreWeightsOfValues g sorts heaviest
+noted_none g sorts heaviest none s has some = absurd (let e = none s.0 in omega (arith, e, some))
+
 module _ (g : Sig) (stands : IsSignature g) (sh : Shapes) (shapes : AreShapes g sh) (bound w : ℕ) (small : w + 1 < 2 ^ 64) (ts : List Tree) (levels : Levels) (right : AreLevels g sh bound ts levels) (level : w + 1 < length levels.values.items) where
   abbrev D : SortId → List FunId
   D r = functions_of (list_at sh.constructors.items r.0)
@@ -125,6 +128,39 @@ module _ (g : Sig) (stands : IsSignature g) (sh : Shapes) (shapes : AreShapes g 
 
       less_or_same : (n : ℕ) → n ≤ w + 1 → (n ≤ w) ⊎ (n ≡ w + 1)
       less_or_same n l = grind arith
+
+  -- one of each weight that is noted
+  pub noted_more : (old new : List ℕ) → length old ≡ length sh.constructors.items → AreNoted levels.values.items (w + 1) old new → AreWeightsOfValues g sh.sorts.keys old → AreWeightsOfValues g sh.sorts.keys new
+  noted_more old new size noted before s among some =
+      let inside = shapes.within s among in
+      let count = shapes.count in
+      let k : s.0 < length old = omega (arith, inside, count, size) in
+      ⊎_elim
+      (λ none. (
+      let same = noted.others s.0 k none in
+      let v = before s among (omega (arith, same, some)) in
+      (v.0, v.1, v.2 ∙ sym same)
+      ))
+      (λ there. (
+      let v = one_there s among there in
+      (v.0, v.1.0, v.1.1 ∙ sym (noted.there s.0 k there))
+      ))
+      (empty_or_not (values_at levels.values.items (w + 1) s))
+    where
+      empty_or_not : (xs : List TermId) → (xs ≡ []) ⊎ ¬ (xs ≡ [])
+      empty_or_not [] = inl refl
+      empty_or_not (x ∷ xs) = inr (λ e. cc)
+
+      first_of : (ids : List TermId) (n : ℕ) (vs : List ConstructorValue) → ¬ (ids ≡ []) → AreTermsOf ts ids (take n vs) → (v : ConstructorValue) × Contains vs v
+      first_of [] n vs some terms = absurd (some refl)
+      first_of (id ∷ ids) zero vs some terms = elim terms [ ]
+      first_of (id ∷ ids) (suc n) [] some terms = elim terms [ ]
+      first_of (id ∷ ids) (suc n) (v ∷ vs) some terms = (v, contains_head v vs)
+
+      one_there : (s : SortId) → Contains sh.sorts.keys s → ¬ (values_at levels.values.items (w + 1) s ≡ []) → (v : ConstructorValue) × (IsPlainValueOf g s v × (weight v ≡ w + 1))
+      one_there s among some =
+          let v = first_of (values_at levels.values.items (w + 1) s) (bound + 1) (values_weighing (shape_of g sh) s (w + 1)) some (right.values (w + 1) s level among) in
+          (v.0, (weighing_right g stands D sh.sorts.keys shapes.constructors shapes.closed (w + 1) small s among).sound v.0 v.1)
 
 -- ---- lists of arguments in a pool that grows
 pub have_tuples_kept : (g : Sig) (sh : Shapes) (bound : ℕ) (old new : List Tree) (rows : List TupleRow) → Extends old new → HaveTuples (shape_of g sh) sh.arguments.items (bound + 1) old rows → HaveTuples (shape_of g sh) sh.arguments.items (bound + 1) new rows

@@ -1,6 +1,6 @@
 //! The first values of a sort.
 
-ghost use Rattle.std.specs.Prelude.{◌≡◌, ◌<◌, ◌↔◌, ◌&&◌, not, length, IfOk, IsTrue};
+ghost use Rattle.std.specs.Prelude.{◌≡◌, ◌<◌, ◌↔◌, ◌&&◌, not, ℕ, length, get_or, IfOk, IsTrue};
 ghost use Rattle.std.specs.List.{Contains};
 ghost use Rattle.data_theory.specs.declared.ids.SortId.{SortId};
 ghost use Rattle.data_theory.specs.Sorts.{IsBare};
@@ -114,7 +114,8 @@ fn first_values(
 
 /// No weight for each sort.
 fn no_weights(alloc: Global, count: usize) -> Result<Vec<usize>, NoMemory>
-    ensures { IfOk result (λ weights. length weights.items ≡ count) }
+    ensures count { IfOk result (λ weights. length weights.items ≡ count) }
+    ensures none { IfOk result (λ weights. (k : ℕ) → get_or weights.items k 0 ≡ 0) }
 {
     let mut weights = Vec::new(alloc);
     for _ in 0..count {

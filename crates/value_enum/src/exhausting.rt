@@ -1,11 +1,11 @@
 //! Whether a sort has heavier values than those that are known.
 
-ghost use Rattle.std.specs.Prelude.{◌≡◌, ◌<◌, ◌^◌, ◌-◌, ℕ, Some, length, false, true, get_or, IfOk, MatchOption};
+ghost use Rattle.std.specs.Prelude.{◌≡◌, ◌<◌, ◌↔◌, ◌^◌, ◌-◌, ℕ, Some, length, false, true, get_or, IfOk, IsTrue, MatchOption};
 ghost use Rattle.std.specs.List.{Contains};
 ghost use Rattle.data_theory.specs.declared.ids.SortId.{SortId};
 ghost use Rattle.data_theory.specs.WholeSignatures.{IsSignature};
 ghost use Rattle.value_enum.specs.Shapes.{AreShapes, arguments_at};
-ghost use Rattle.value_enum.specs.Levels.{limit_of, MakeHeavier, MakeNoHeavier, HasHeavier, HasNoHeavier, AreHeaviest, AreWeightsOfValues, HasNoneAbove, HasOneAbove};
+ghost use Rattle.value_enum.specs.Levels.{limit_of, MakeHeavier, MakeNoHeavier, HasHeavier, HasNoHeavier, AreHeaviest, AreWeightsOfValues, HasNoneAbove};
 
 use crate::levels::is_number;
 use crate::shapes::{Shapes, constructors_at};
@@ -15,7 +15,6 @@ use std::alloc::Global;
 /// Whether all values of a sort weigh no more than this, by the weights of the heaviest values up to it of all sorts.
 ///
 /// At first only Pos, Nat and Int are taken to have values without bound, and then each sort of which a constructor makes a value that is heavier.
-/// It is `false` only where there is a heavier value.
 pub fn is_exhausted(
     alloc: Global,
     sig: &Signature,
@@ -29,8 +28,9 @@ pub fn is_exhausted(
     requires count { length heaviest.now ≡ length shapes.now.constructors.items }
     requires sort { Contains shapes.now.sorts.keys sort }
     requires weight { weight < 2 ^ 64 - 1 }
-    ensures goes_on { IfOk result (λ exhausted. exhausted ≡ false → AreWeightsOfValues sig.now shapes.now.sorts.keys heaviest.now → HasOneAbove sig.now sort weight) }
-    ensures ends { IfOk result (λ exhausted. exhausted ≡ true → AreHeaviest sig.now shapes.now.sorts.keys heaviest.now weight → HasNoneAbove sig.now sort weight) }
+    requires heaviest { AreHeaviest sig.now shapes.now.sorts.keys heaviest.now weight }
+    requires noted { AreWeightsOfValues sig.now shapes.now.sorts.keys heaviest.now }
+    ensures { IfOk result (λ exhausted. IsTrue exhausted ↔ HasNoneAbove sig.now sort weight) }
 {
     let mut unbounded = Vec::new(alloc);
     for number in 0..heaviest.len() {

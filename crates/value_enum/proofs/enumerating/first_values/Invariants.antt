@@ -1,7 +1,7 @@
 use Rattle.std.proofs.Common.{◌≡◌, ◌+◌, ◌≤◌, length}
 use Rattle.term_pool.specs.Pools.{Extends}
 use Rattle.value_enum.specs.Values.{AreTermsOf}
-use Rattle.value_enum.specs.Levels.{shape_of, values_up_to, AreLevels, AreHeaviest}
+use Rattle.value_enum.specs.Levels.{shape_of, values_up_to, AreLevels, AreHeaviest, AreWeightsOfValues}
 use Rattle.value_enum.proofs.enumerating.first_values.Given as goal
 
 abbrev pub invariant-loop-lighter : goal.invariant-loop-lighter
@@ -15,4 +15,5 @@ invariant-loop-lighter l =
       room : length l.list.items ≤ l.bound;
       size : length l.heaviest.items ≡ length l.shapes.constructors.items;
       heaviest : AreHeaviest l.sig l.shapes.sorts.keys l.heaviest.items l.lighter;
+      noted : AreWeightsOfValues l.sig l.shapes.sorts.keys l.heaviest.items;
     }

@@ -1,4 +1,4 @@
-use Rattle.std.proofs.Common.{◌≡◌, ◌<◌, ◌+◌, ◌∙◌, ℕ, zero, suc, [], ◌∷◌, Bool, true, false, List, length, get_or, Option, Some, None, refl, sym, ap, subst, arith}
+use Rattle.std.proofs.Common.{◌≡◌, ◌<◌, ◌+◌, ◌∙◌, ℕ, zero, suc, [], ◌∷◌, Bool, true, false, List, length, get_or, Option, Some, None, refl, sym, ap, subst, true≢false, arith}
 use Rattle.std.specs.Prelude.{MatchOption}
 use Rattle.std.specs.List.{Contains}
 use Rattle.std.proofs.lemmas.List.{length-set}
@@ -26,7 +26,7 @@ loop-grows-init c =
     record {
       size = size;
       numbers = λ s l e. c.loop-number.invariant.numbers s (omega (arith, l)) ∙ e;
-      above = λ noted s among e.
+      above = λ s among e.
           let inside = c.requires.shapes.within s among in
           let count = c.requires.shapes.count in
           let same = c.requires.count in
@@ -61,7 +61,7 @@ loop-grows-preserved c =
     record {
       size = length-set c.loop-grows.unbounded.items c.in-Some.grows true ∙ c.loop-grows.invariant.size;
       numbers = λ s m is. marked_still c.loop-grows.unbounded.items c.in-Some.grows s.0 (omega (arith, l, e)) (c.loop-grows.invariant.numbers s m is);
-      above = λ noted. above_still c.args.sig.now c.requires.stands c.args.shapes.now c.requires.shapes c.args.heaviest.now noted c.loop-grows.unbounded.items c.args.weight (c.loop-grows.invariant.above noted) c.in-Some.grows (omega (arith, l, e))
+      above = above_still c.args.sig.now c.requires.stands c.args.shapes.now c.requires.shapes c.args.heaviest.now c.requires.noted c.loop-grows.unbounded.items c.args.weight c.loop-grows.invariant.above c.in-Some.grows (omega (arith, l, e))
           (subst (λ (ms : List Bool). HasHeavier c.args.shapes.now c.args.heaviest.now ms c.args.weight c.in-Some.grows) c.as_slice.ensures.value c.in-Some.ensures.2);
     }
 
@@ -81,16 +81,17 @@ read_true [] k b is e l = absurd (omega (arith, l))
 read_true (x ∷ xs) zero b is e l = sym is ∙ e
 read_true (x ∷ xs) (suc k) b is e l = read_true xs k b is e (omega (arith, l))
 
-pub returns-then-index-clause-goes_on : goal.returns-then-index-clause-goes_on
-returns-then-index-clause-goes_on c = λ e noted.
+pub returns-then-index : goal.returns-then-index
+returns-then-index c =
     let inside = c.requires.shapes.within c.args.sort c.requires.sort in
     let count = c.requires.shapes.count in
     let same = c.requires.count in
     let size = c.loop-grows.invariant.size in
-    c.loop-grows.invariant.above noted c.args.sort c.requires.sort (read_true c.loop-grows.unbounded.items c.args.sort.0 c.index.result.now c.index.ensures c.if-index.true (omega (arith, inside, count, same, size)))
+    let above = c.loop-grows.invariant.above c.args.sort c.requires.sort (read_true c.loop-grows.unbounded.items c.args.sort.0 c.index.result.now c.index.ensures c.if-index.true (omega (arith, inside, count, same, size))) in
+    (λ yes. absurd (true≢false (sym yes)), λ none. absurd (let heavy = above.2 in let light = none above.0 above.1 in omega (arith, heavy, light)))
 
-pub returns-clause-ends : goal.returns-clause-ends
-returns-clause-ends c =
+pub returns : goal.returns
+returns c =
     let count = c.requires.shapes.count in
     let same = c.requires.count in
     let size = c.loop-grows.invariant.size in
@@ -98,6 +99,8 @@ returns-clause-ends c =
     let inside : (s : SortId) → Contains c.args.shapes.now.sorts.keys s → s.0 < length marks = λ s has. (let l = c.requires.shapes.within s has in omega (arith, l, count, same, size)) in
     let all = by_none c.growing.result _ _ c.in_default.not-Some c.growing.ensures in
     let still : (s : SortId) → Contains c.args.shapes.now.sorts.keys s → get_or marks s.0 false ≡ false → HasNoHeavier c.args.shapes.now c.args.heaviest.now marks c.args.weight s.0 =
-    λ s has e. subst (λ (ms : List Bool). (k : ℕ) → k < length ms → get_or ms k false ≡ false → HasNoHeavier c.args.shapes.now c.args.heaviest.now ms c.args.weight k) c.as_slice.ensures.value all s.0 (inside s has) e in
-    λ e light. none_above c.args.heaviest.now marks c.args.sig.now c.requires.stands c.args.shapes.now c.requires.shapes c.args.weight c.requires.weight light
-    (λ s has is. c.loop-grows.invariant.numbers s (let l = inside s has in omega (arith, l, size)) is) still c.args.sort c.requires.sort (read_false marks c.args.sort.0 c.index.result.now c.index.ensures c.if-index.false)
+    λ s has e. subst (λ (ms : List Bool). (k : ℕ) → k < length ms → get_or ms k false ≡ false → HasNoHeavier c.args.shapes.now c.args.heaviest.now ms c.args.weight k) c.as_slice.ensures.value all s.0 (inside s has) e in (
+      λ yes. none_above c.args.heaviest.now marks c.args.sig.now c.requires.stands c.args.shapes.now c.requires.shapes c.args.weight c.requires.weight c.requires.heaviest
+          (λ s has is. c.loop-grows.invariant.numbers s (let l = inside s has in omega (arith, l, size)) is) still c.args.sort c.requires.sort (read_false marks c.args.sort.0 c.index.result.now c.index.ensures c.if-index.false),
+      λ none. refl,
+    )

@@ -1,7 +1,7 @@
 use Rattle.std.proofs.Common.{◌≡◌, ◌<◌, true, false, length, get_or}
 use Rattle.data_theory.specs.declared.ids.SortId.{SortId}
 use Rattle.term_pool.specs.Inhabited.{unmarked_count}
-use Rattle.value_enum.specs.Levels.{is_number_sort, AreWeightsOfValues}
+use Rattle.value_enum.specs.Levels.{is_number_sort}
 use Rattle.value_enum.proofs.HeavierValues.{AreAbove}
 use Rattle.value_enum.proofs.exhausting.is_exhausted.Given as goal
 
@@ -17,7 +17,7 @@ invariant-loop-grows l =
     record {
       size : length l.unbounded.items ≡ length l.heaviest;
       numbers : (s : SortId) → s.0 < length l.heaviest → is_number_sort s ≡ true → get_or l.unbounded.items s.0 false ≡ true;
-      above : AreWeightsOfValues l.sig l.shapes.sorts.keys l.heaviest → AreAbove l.sig l.shapes.sorts.keys l.unbounded.items l.weight;
+      above : AreAbove l.sig l.shapes.sorts.keys l.unbounded.items l.weight;
     }
 
 abbrev pub decreases-loop-grows : goal.decreases-loop-grows
