@@ -26,7 +26,9 @@ pub mod Actions
 pub mod Calls
 pub mod Operations
 pub mod Joins
+pub mod ReadableTexts
 pub mod LabelLines
+pub mod TermTexts
 pub mod LastParts
 pub mod Exits
 pub mod ConstructorCases

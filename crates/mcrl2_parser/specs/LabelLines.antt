@@ -1,8 +1,6 @@
 -- Lines that are labels.
 use Rattle.std.specs.Prelude.{ℕ, ◌≤◌, List, []}
 use Rattle.mcrl2_lexer.specs.declared.token.Token.{Token}
-use Rattle.mcrl2_lexer.specs.declared.token.LexFault.{LexFault}
-use Rattle.mcrl2_lexer.specs.declared.token.LexFault.TheVariants as lex_fault
 use Rattle.mcrl2_lexer.specs.Lexing.{HasTokens}
 use Rattle.mcrl2_syntax.specs.ProcessParts.{PlainLabel}
 use Rattle.mcrl2_syntax.specs.SpelledLabels.{SpellsLabel}
@@ -19,11 +17,7 @@ pub record IsLabelLine (line : List ℕ) (label : PlainLabel) : Type 0 where
   pub level : level_of tokens ≤ 1000
   pub spelled : SpellsLabel line label tokens []
 
--- a line that has no tokens is no label, and so is one whose tokens spell none
-abbrev pub of_lexing : LexFault → LabelFault
-of_lexing lex_fault.NoMemory = NoMemory
-of_lexing _ = NotALabel
-
+-- a line whose tokens spell none is no label
 abbrev pub of_reading : Fault → LabelFault
 of_reading fault.NoMemory = NoMemory
 of_reading fault.Syntax = NotALabel

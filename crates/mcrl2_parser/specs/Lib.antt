@@ -8,5 +8,7 @@ pub mod ProcessReading
 pub mod DeclarationParts
 pub mod Lists
 pub mod Operands
+pub mod ReadableTexts
 pub mod LabelLines
+pub mod TermTexts
 pub mod Arrows

@@ -2,15 +2,13 @@
 
 ghost use Rattle.std.specs.Prelude.{◌≡◌, IfOk, IsErrOf};
 ghost use Rattle.mcrl2_syntax.specs.ProcessParts.{PlainLabel, label_of};
-ghost use Rattle.mcrl2_parser.specs.LabelLines.{IsLabelLine, of_lexing, of_reading};
+ghost use Rattle.mcrl2_parser.specs.LabelLines.{IsLabelLine, of_reading};
 
-use crate::levels::{MAX_LEVEL, level};
 use crate::parts::label;
-use crate::stack::has_room;
-use crate::words::Fault;
-use mcrl2_lexer::{LexFault, lex};
+use crate::readable::readable_tokens;
+use crate::words::{Fault, end};
 use mcrl2_syntax::LabelTree;
-use std::alloc::{AllocError, Global};
+use std::alloc::Global;
 
 /// Why a line gives no label.
 #[derive(Clone, Copy, Debug, PartialEq, Eq)]
@@ -19,27 +17,6 @@ pub enum LabelFault {
     NotALabel,
     /// No memory was left.
     NoMemory,
-}
-
-impl From<LexFault> for LabelFault {
-    ghost from_gives = { λ fault given. given ≡ of_lexing fault };
-
-    fn from(fault: LexFault) -> Self {
-        match fault {
-            LexFault::NoMemory => LabelFault::NoMemory,
-            _ => LabelFault::NotALabel,
-        }
-    }
-}
-
-impl From<AllocError> for LabelFault {
-    ghost use Rattle.mcrl2_parser.specs.declared.label_line.LabelFault.TheVariants.{NoMemory};
-
-    ghost from_gives = { λ _ given. given ≡ NoMemory };
-
-    fn from(_: AllocError) -> Self {
-        LabelFault::NoMemory
-    }
 }
 
 impl From<Fault> for LabelFault {
@@ -64,16 +41,8 @@ pub fn parse_label(alloc: Global, line: &[u8]) -> Result<LabelTree, LabelFault>
     ensures single { IfOk result (λ tree. (label : PlainLabel) → IsLabelLine line.now label → label_of tree ≡ label) }
     ensures not_a_label { IsErrOf result LabelFault.NotALabel → (label : PlainLabel) → IsLabelLine line.now label → ⊥ }
 {
-    let tokens = lex(alloc, line)?;
-    if level(alloc, tokens.list())? > MAX_LEVEL {
-        return Err(LabelFault::NotALabel);
-    }
-    if !has_room(alloc, tokens.list())? {
-        return Err(LabelFault::NoMemory);
-    }
+    let tokens = readable_tokens(alloc, line)?;
     let (tree, rest) = label(alloc, line, tokens.list())?;
-    match rest {
-        [] => Ok(tree),
-        [_, ..] => Err(LabelFault::NotALabel),
-    }
+    end(rest)?;
+    Ok(tree)
 }
