@@ -62,7 +62,7 @@ TypingHangsOnItsWords = (m k : Name → Meaning) (e : Expression) → EachWord (
 abbrev pub StandsNotAmong : List (Name × ℕ) → Name → Type 0
 StandsNotAmong rs f = AllByRecursion (λ r. bytes_eq r.0 f ≡ false) rs
 
--- sorts, and functions under names that don't stand in an expression, change nothing in its typing
+-- sorts, actions, and functions under names that don't stand in an expression, change nothing in its typing
 abbrev pub OtherNamesChangeNothing : Type 0
 OtherNamesChangeNothing =
     (v : Vocabulary) (m : More) (scope : Scope) (e : Expression) → IsOverData v → EachWord (StandsNotAmong m.function_names) e → typing_in (with_more v m) scope e ≡ typing_in v scope e

@@ -63,9 +63,9 @@ pub record AddsOnly (own printed : PlainSpec) : Type 0 where
   pub new_names : AllByRecursion (λ x. ¬ (Contains first_names x) × ¬ (Contains (copied_identifiers own) x)) (flat_map names_of_addition declarations)
   pub each_equation : AllByRecursion (IsOfAnEmptyList (flat_map names_of_addition declarations)) equations
 
--- What was there has the number that it had: so no two functions of the same sorts change places.
+-- What was there has the number that it had: so no two functions of the same sorts change places. No action comes behind.
 abbrev pub KeepsNumbers : FullVocabulary → FullVocabulary → Type 0
-KeepsNumbers v w = (m : More) × (w.declared ≡ with_more v.declared m)
+KeepsNumbers v w = (m : More) × (w.declared ≡ with_more v.declared m) × (m.actions ≡ [])
 
 -- ---- when the printed text stands for the text
 -- Both are read over the data of the printed text. It is linear, and where its data are consistent, a named relation pairs both

@@ -1,6 +1,6 @@
 -- A linear process in code that was made of a text and stands for it, what is printed for it, and that the printed text then stands for the
 -- text.
-use Rattle.std.specs.Prelude.{◌≡◌, ◌↔◌, ◌⊎◌, ℕ, List}
+use Rattle.std.specs.Prelude.{◌≡◌, ◌↔◌, ◌⊎◌, ℕ, List, []}
 use Rattle.std.specs.List.{Contains}
 use Rattle.data_theory.specs.declared.ids.NameId.{NameId}
 use Rattle.data_theory.specs.Terms.{Sort, Term}
@@ -62,7 +62,7 @@ pub record IsMadeOf (text : List ℕ) (spec : PlainSpec) (h : Sig) (us : List Tr
   pub made : IsMadeFor spec h us equations x l
 
 -- ---- what it is to the text
--- The text has this specification. The signature has its vocabulary and more behind it, and a link leads from the text's process to
+-- The text has this specification. The signature has its vocabulary and more behind it, but no actions, and a link leads from the text's process to
 -- the linear process, over every theory that goes on from the signature.
 pub record IsLinearised (text : List ℕ) (spec : PlainSpec) (g : Sig) (ts : List Tree) (l : PlainLinear) : Type 0 where
   pub vocabulary : FullVocabulary
@@ -71,7 +71,7 @@ pub record IsLinearised (text : List ℕ) (spec : PlainSpec) (g : Sig) (ts : Lis
   pub specifies : Specifies text vocabulary theory process
   pub spec_is : specifies.spec ≡ spec
   pub stands : IsSignature g
-  pub numbers : (m : More) × (vocabulary_of g ≡ with_more vocabulary.declared m)
+  pub numbers : (m : More) × (vocabulary_of g ≡ with_more vocabulary.declared m) × (m.actions ≡ [])
   pub fits : Fits g ts l
   pub link : Link
   pub bisimilar : IsGoodOver g link process (linear_state (entries_of g ts) l)

@@ -1,4 +1,5 @@
 -- What comes behind a vocabulary changes nothing in what elaborates.
+use Rattle.std.specs.Prelude.{◌≡◌, []}
 use Rattle.data_theory.specs.Provable.{Equation}
 use Rattle.process_terms.specs.Processes.{Body, Definition}
 use Rattle.sort_table.specs.BareProcesses.{Process}
@@ -10,7 +11,7 @@ use Rattle.sort_checker.specs.FullVocabularies.{FullVocabulary, Written}
 use Rattle.sort_checker.specs.Elaborations.{Elaborates, ElaboratesDefinition, WrittenEquation, ElaboratesEquation}
 use Rattle.sort_checker.specs.FittingBodies.{EachExpression, EachOption}
 
--- sorts and functions behind those that there are
+-- sorts, functions and actions behind those that there are
 abbrev pub fuller : FullVocabulary → More → FullVocabulary
 fuller v m = record { declared = with_more v.declared m; processes = v.processes }
 
@@ -18,13 +19,14 @@ fuller v m = record { declared = with_more v.declared m; processes = v.processes
 abbrev pub HasNoneOf : More → Expression → Type 0
 HasNoneOf m e = EachWord (StandsNotAmong m.function_names) e
 
+-- where no action comes behind
 abbrev pub ProcessesStayAlike : Type 0
 ProcessesStayAlike =
-    (v : FullVocabulary) (m : More) → IsOverData v.declared → (scope : Scope) (p : Process) (b : Body) → EachExpression (HasNoneOf m) p → Elaborates v scope p b → Elaborates (fuller v m) scope p b
+    (v : FullVocabulary) (m : More) → m.actions ≡ [] → IsOverData v.declared → (scope : Scope) (p : Process) (b : Body) → EachExpression (HasNoneOf m) p → Elaborates v scope p b → Elaborates (fuller v m) scope p b
 
 abbrev pub DefinitionsStayAlike : Type 0
 DefinitionsStayAlike =
-    (v : FullVocabulary) (m : More) → IsOverData v.declared → (w : Written) (d : Definition) → EachExpression (HasNoneOf m) w.body → ElaboratesDefinition v w d → ElaboratesDefinition (fuller v m) w d
+    (v : FullVocabulary) (m : More) → m.actions ≡ [] → IsOverData v.declared → (w : Written) (d : Definition) → EachExpression (HasNoneOf m) w.body → ElaboratesDefinition v w d → ElaboratesDefinition (fuller v m) w d
 
 abbrev pub EquationsStayAlike : Type 0
 EquationsStayAlike =

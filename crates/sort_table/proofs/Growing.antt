@@ -155,10 +155,10 @@ has_stood u v is (lists_of e) s h = through (has_stood u v is e) (sort_in v.sort
 has_stood u v is (a_name n) s h = (is.named n).0 (s, h)
 
 -- ---- growth
-module _ (u : UnderNames) (sort : Name → Option Kind) (more : Name → List TextFunction) (v : Vocabulary) (m : More)
-    (is : IsVocabularyOf u v) (stand : AllStand u) (g : IsMore u (with_declared u sort more) v (with_more v m) m more) where
+module _ (u : UnderNames) (sort : Name → Option Kind) (more : Name → List TextFunction) (acts : Name → List (List SortExpression)) (v : Vocabulary) (m : More)
+    (is : IsVocabularyOf u v) (stand : AllStand u) (g : IsMore u (with_declared u sort more acts) v (with_more v m) m more acts) where
   abbrev w : UnderNames
-  w = with_declared u sort more
+  w = with_declared u sort more acts
 
   abbrev x : Vocabulary
   x = with_more v m
@@ -337,11 +337,14 @@ module _ (u : UnderNames) (sort : Name → Option Kind) (more : Name → List Te
       side (inr far) = let f : (f : Name) × Contains m.function_names (f, k) = g.functions_used k far h in (f.0, contains_after v.function_names m.function_names (f.0, k) f.1)
 
   -- ---- actions
-  actions_now : (a : Name) → EachPair (AreSortsOf x) (u.actions a) (all_named a v.actions)
-  actions_now a = pairs_with (AreSortsOf v) (AreSortsOf x) (λ es ss h. sorts_behind v.sort_names m.sort_names es ss h) (u.actions a) (all_named a v.actions) (is.actions a)
+  actions_now : (a : Name) → EachPair (AreSortsOf x) (w.actions a) (all_named a x.actions)
+  actions_now a =
+      subst (EachPair (AreSortsOf x) (w.actions a)) (sym (all_behind a v.actions m.actions))
+      (pairs_behind (AreSortsOf x) (u.actions a) (acts a) (all_named a v.actions) (all_named a m.actions)
+      (pairs_with (AreSortsOf v) (AreSortsOf x) (λ es ss h. sorts_behind v.sort_names m.sort_names es ss h) (u.actions a) (all_named a v.actions) (is.actions a)) (g.actions a))
 
   grown : IsVocabularyOf w x
   grown = record { sorts = sorts_grow; functions = record { each = each_now; no_more = functions_used_now; once = g.once }; actions = actions_now }
 
 pub vocabularies_grow : VocabulariesGrow
-vocabularies_grow u sort more v m is stand g = grown u sort more v m is stand g
+vocabularies_grow u sort more acts v m is stand g = grown u sort more acts v m is stand g

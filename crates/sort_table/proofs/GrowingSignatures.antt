@@ -87,16 +87,18 @@ module _ (g h : Sig) (complete : IsComplete g) (grown : IsGrown g h) where
       λ j. (n j, k) ∷ rest j
 
 pub grown_signatures_have_more : GrownSignaturesHaveMore
-grown_signatures_have_more g h complete table roles roles_after grown actions =
+grown_signatures_have_more g h complete table roles roles_after grown =
     let grows : Grows (data_meant g) (data_meant h) = growth_keeps_meant_data g h table roles roles_after grown in
     let more_names : List (Name × Sort) = map (sort_name_under h) grown.new_sort_names in
     let more_functions : List (Name × ℕ) = function_names_from h (count_on 0 g.declared) grown.new_declared in
-    let m : More = record { sorts = grows.new_sorts; functions = grows.new_functions; sort_names = more_names; function_names = more_functions } in
+    let more_actions : List (Name × List Sort) = map (action_under h) grown.new_actions in
+    let m : More = record { sorts = grows.new_sorts; functions = grows.new_functions; sort_names = more_names; function_names = more_functions; actions = more_actions } in
     let s : map (sort_name_under h) h.sort_names ≡ map (sort_name_under g) g.sort_names ++ more_names =
     ap (map (sort_name_under h)) grown.sort_names ∙ map_behind (sort_name_under h) g.sort_names grown.new_sort_names
     ∙ ap (λ rs. rs ++ more_names) (map_as (λ e. (e.0.0 < length g.texts) × (e.1.0 < length g.sorts)) (sort_name_under h) (sort_name_under g) (same_sort_name g h complete grown) g.sort_names complete.within.sort_names) in
     let f : function_names_from h 0 h.declared ≡ function_names_from g 0 g.declared ++ more_functions =
     ap (function_names_from h 0) grown.declared ∙ names_behind h 0 g.declared grown.new_declared ∙ ap (λ rs. rs ++ more_functions) (same_names g h complete grown 0 g.declared complete.within.declared) in
-    let a : map (action_under h) h.actions ≡ map (action_under g) g.actions =
-    ap (map (action_under h)) actions ∙ map_as (IsActionWithin (length g.texts) (length g.sorts)) (action_under h) (action_under g) (same_action g h complete grown) g.actions complete.within.actions in
-    (m, λ j. record { tables = record { sorts = grows.sorts j; functions = grows.functions j }; sort_names = s j; function_names = f j; actions = a j })
+    let a : map (action_under h) h.actions ≡ map (action_under g) g.actions ++ more_actions =
+    ap (map (action_under h)) grown.actions ∙ map_behind (action_under h) g.actions grown.new_actions
+    ∙ ap (λ as_. as_ ++ more_actions) (map_as (IsActionWithin (length g.texts) (length g.sorts)) (action_under h) (action_under g) (same_action g h complete grown) g.actions complete.within.actions) in
+    (m, (λ j. record { tables = record { sorts = grows.sorts j; functions = grows.functions j }; sort_names = s j; function_names = f j; actions = a j }), refl)

@@ -16,13 +16,10 @@ pub flat_behind : {A B : Type 0} (h : A → List B) (xs ys : List A) → flat_ma
 flat_behind h [] ys = refl
 flat_behind h (x ∷ xs) ys = ap (λ qs. h x ++ qs) (flat_behind h xs ys) ∙ appended (h x) (flat_map h xs) (flat_map h ys)
 
-pub nothing_behind : {A : Type 0} (xs : List A) → xs ++ [] ≡ xs
-nothing_behind [] = refl
-nothing_behind (x ∷ xs) = ap (λ qs. x ∷ qs) (nothing_behind xs)
-
 pub texts_grow : TextsGrow
-texts_grow ds new none =
+texts_grow ds new =
     let functions : (f : Name) → all_named f (functions_in (ds ++ new)) ≡ all_named f (functions_in ds) ++ all_named f (functions_in new) =
     λ f. ap (all_named f) (flat_behind functions_by ds new) ∙ all_behind f (functions_in ds) (functions_in new) in
-    let actions : actions_in (ds ++ new) ≡ actions_in ds = flat_behind actions_by ds new ∙ ap (λ as_. actions_in ds ++ as_) none ∙ nothing_behind (actions_in ds) in
-    λ i. record { sort = (under_names (ds ++ new)).sort; functions = λ f. functions f i; actions = λ a. all_named a (actions i) }
+    let actions : (a : Name) → all_named a (actions_in (ds ++ new)) ≡ all_named a (actions_in ds) ++ all_named a (actions_in new) =
+    λ a. ap (all_named a) (flat_behind actions_by ds new) ∙ all_behind a (actions_in ds) (actions_in new) in
+    λ i. record { sort = (under_names (ds ++ new)).sort; functions = λ f. functions f i; actions = λ a. actions a i }
