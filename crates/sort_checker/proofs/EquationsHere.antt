@@ -121,14 +121,18 @@ numbers_hold : (bounds others : List processes.Bound) → ((n : ℕ) → Contain
 numbers_hold [] others f = tt
 numbers_hold (b ∷ bounds) others f = (f b.var (contains_first b.var (map (λ (c : processes.Bound). c.var) bounds)), numbers_hold bounds others (λ n among. f n (contains_later b.var n (map (λ (c : processes.Bound). c.var) bounds) among)))
 
+-- what holds of the numbers in scope holds of each variable of a term that was read
+pub variables_in_scope : (v : Vocabulary) (scope : Scope) (e : Expression) (t : Term) → Reads (meaning v scope) e t → (P : ℕ → Type 0) → AllByRecursion (λ (b : Bound). P b.number) scope → (n : ℕ) → Contains (variables_of t) n → P n
+variables_in_scope v scope e t reads P all n among =
+    let w = variable_is_word reads n among in
+    let found = word_in_scope v scope w.word n w.sort w.meant in
+    subst P found.2 (first_named_is (λ (b : Bound). P b.number) w.word (map bound_row scope) (rows_hold (λ (b : Bound). P b.number) scope all) found.0 found.1)
+
 pub left_is_over : (v : FullVocabulary) (e : WrittenEquation) (scope : Scope) (bounds : List processes.Bound) → Binds v.declared [] e.variables scope bounds → (i : Inferred) → left_side (typing_in v.declared scope e.left) (typing_in v.declared scope e.right) ≡ Some i
     → (n : ℕ) → Contains (variables_of i.term) n → Contains (map (λ (b : processes.Bound). b.var) bounds) n
 left_is_over v e scope bounds binds i is n among =
-    let w = variable_is_word (left_reads (meaning v.declared scope) e.left e.right i is) n among in
-    let found = word_in_scope v.declared scope w.word n w.sort w.meant in
     let numbers : List ℕ = map (λ (b : processes.Bound). b.var) bounds in
-    let all : AllByRecursion (λ (b : Bound). Contains numbers b.number) scope = inside (λ k s. Contains numbers k) tt (numbers_hold bounds bounds (λ k c. c)) binds in
-    subst (λ (k : ℕ). Contains numbers k) found.2 (first_named_is (λ (b : Bound). Contains numbers b.number) w.word (map bound_row scope) (rows_hold (λ (b : Bound). Contains numbers b.number) scope all) found.0 found.1)
+    variables_in_scope v.declared scope e.left i.term (left_reads (meaning v.declared scope) e.left e.right i is) (Contains numbers) (inside (λ k s. Contains numbers k) tt (numbers_hold bounds bounds (λ k c. c)) binds) n among
 
 -- ---- a term is over the variables that it has
 mutual

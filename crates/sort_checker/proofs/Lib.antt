@@ -89,4 +89,5 @@ pub mod SmallNumerals
 pub mod OverSignatures
 pub mod SignatureSorts
 pub mod LabelsOver
+pub mod DataOver
 pub mod WellTypedBack

@@ -31,7 +31,7 @@ module _ (g : Sig) (sg : IsSignature g) where
   abbrev d : Data
   d = data_meant g
 
-  is_sort : (s : SortId) → s.0 < length g.sorts → IsSort d (sort_under g s)
+  pub is_sort : (s : SortId) → s.0 < length g.sorts → IsSort d (sort_under g s)
   is_sort s l = meant_is_sort d g.sorts sg.table.sorts refl (sort_under g s) s l refl
 
   -- ---- the tables

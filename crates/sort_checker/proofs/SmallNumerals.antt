@@ -20,7 +20,7 @@ use Rattle.sort_checker.specs.Systems.{initial_by}
 use Rattle.sort_checker.specs.FittingBodies.{EachExpression, EachExpressionOf, EachArgument, EachValue}
 
 mutual
-  small_data : (d : PlainData) → IsDataOfWords d → HasSmallNumerals (bare_data d)
+  pub small_data : (d : PlainData) → IsDataOfWords d → HasSmallNumerals (bare_data d)
   small_data (datas.named w) h = (tt, tt)
   small_data (datas.numeral w) h = h.fits
   small_data (datas.true_data span) h = (tt, tt)

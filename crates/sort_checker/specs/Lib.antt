@@ -50,5 +50,6 @@ pub mod FaultNames
 pub mod TextModels
 pub mod SortedTrees
 pub mod TypedLabels
+pub mod TypedData
 pub mod WellTypedTexts
 pub mod FormTrees

@@ -1,7 +1,8 @@
 //! Elaboration: which theory and which process a specification stands for, and when it is ill typed.
 //!
 //! The definitions stand in `specs/`, and in plain words in `docs/definitions/elaboration.md`. The functions of `laws` have empty
-//! bodies: the contract of each is a law of these definitions, so that the crates above can cite it.
+//! bodies: the contract of each is a law of these definitions, so that the crates above can cite it. `elaborate` takes a whole text, and
+//! `elaborate_label` and `elaborate_data` a label and a data term alone, over a signature to which they add nothing.
 #![tactic(auto)]
 
 mod action_tables;
@@ -35,6 +36,7 @@ mod stops;
 mod table_building;
 mod text_contexts;
 mod type_faults;
+mod typed_data;
 mod typed_parts;
 mod unknown_names;
 mod untyped_parts;
@@ -51,5 +53,6 @@ pub use free_variables::free_variable;
 pub use left_sides::variable_left;
 pub use renamings::renamed_twice;
 pub use type_faults::{FoundFault, ill_typed};
+pub use typed_data::elaborate_data;
 pub use unknown_names::unknown_name;
 pub use untyped_parts::untyped;
