@@ -12,8 +12,8 @@ use Rattle.mcrl2_syntax.specs.Declarations.{PlainConstructor, PlainDecl, PlainSp
 use Rattle.data_theory.specs.Signature.{Sig}
 use Rattle.lps_printer.specs.AddedDeclarations.{behind_name, behind_all, behind_field, behind_constructor, behind_declaration, behind_section, added_functions, is_constant, constants_among}
 
-module _ {A B : Type 0} (behind : B → List FunId → List FunId) (to : A → B) (xs : List A) (i : ℕ) (rest all : List FunId) where
-  pub behind_step : (x : A) → i < length xs → x ≡ get_or xs i x → (next : List FunId) → next ≡ behind (to x) rest → behind_all behind (map to (drop i xs)) rest ≡ all → behind_all behind (map to (drop (i + 1) xs)) next ≡ all
+module _ {A B C : Type 0} (behind : B → List C → List C) (to : A → B) (xs : List A) (i : ℕ) (rest all : List C) where
+  pub behind_step : (x : A) → i < length xs → x ≡ get_or xs i x → (next : List C) → next ≡ behind (to x) rest → behind_all behind (map to (drop i xs)) rest ≡ all → behind_all behind (map to (drop (i + 1) xs)) next ≡ all
   behind_step x below is next e h =
       ap (behind_all behind (map to (drop (i + 1) xs))) e ∙ ap (λ ys. behind_all behind (map to ys) rest) (sym (drop_more xs i x below ∙ ap (λ y. y ∷ drop (i + 1) xs) (sym is))) ∙ h
 

@@ -6,6 +6,7 @@ use Rattle.std.proofs.lemmas.Option.{get_or_from_slice_get}
 use Rattle.std.proofs.Math.Seq.{drop-length}
 use Rattle.mcrl2_lexer.specs.declared.kind.Kind.{Kind}
 use Rattle.mcrl2_lexer.specs.declared.kind.Kind.TheVariants as kind_
+use Rattle.mcrl2_syntax.specs.declared.declaration.SectionWord.{SectionWord}
 use Rattle.data_theory.specs.declared.ids.SortId.{SortId}
 use Rattle.data_theory.specs.declared.ids.FunId.{FunId}
 use Rattle.data_theory.specs.Functions.{Function, arguments_of}
@@ -14,7 +15,6 @@ use Rattle.data_theory.specs.IdTerms.{sort_under}
 use Rattle.data_theory.specs.Complete.{IsComplete, IsFunctionWithin}
 use Rattle.data_theory.proofs.IdSortLemmas.{read_within}
 use Rattle.sort_table.specs.BareSorts.{a_name}
-use Rattle.lps_printer.specs.declared.added_sections.Line.{Line}
 use Rattle.lps_printer.specs.Pieces.{Piece, bytes_of}
 use Rattle.lps_printer.specs.DataLayout.{piece, space}
 use Rattle.lps_printer.specs.SummandLayout.{print_sort, print_variable}
@@ -23,7 +23,7 @@ use Rattle.lps_printer.specs.WrittenProcesses.{TextNames, sort_written}
 use Rattle.lps_printer.specs.TextWordings.{sort_place}
 use Rattle.lps_printer.specs.Adding.{Adds}
 use Rattle.lps_printer.specs.CopiedSections.{further_line}
-use Rattle.lps_printer.specs.AddedDeclarations.{no_function, function_at, name_at, field_with, fields_with, print_line, print_field, print_fields, print_further_fields, print_recogniser, print_constructor, print_further_constructors, print_struct, some_name, constructor_with, lines_with, line_sections, line_word}
+use Rattle.lps_printer.specs.AddedDeclarations.{no_function, function_at, name_at, field_with, fields_with, print_field, print_fields, print_further_fields, print_recogniser, print_constructor, print_further_constructors, print_struct, some_name, constructor_with, lines_with, sections_with}
 use Rattle.lps_printer.proofs.AddingPieces.{adds_none, adds_both}
 use Rattle.lps_printer.proofs.AddingSections.{section_with}
 use Rattle.lps_printer.proofs.CodeActions.{none_of, some_of}
@@ -55,25 +55,38 @@ sorted_added {c = c} {d = d} g n gap x s u e p q r = adds_both (p kind_.Identifi
 pub ended : {a b c : List ℕ} (f : List Piece → List Piece) → Adds a b f → Adds b c semicolon → Adds a c (λ rest. f [] ++ semicolon rest)
 ended {a = a} f h k = record { bytes = λ rest end. ap (λ x. a ++ x) (bytes_both (f []) (semicolon rest) end) ∙ h.bytes [] (bytes_of (semicolon rest) end) ∙ k.bytes rest end }
 
-module _ (g : Sig) (n : TextNames) (line : Line) where
+module _ {A : Type 0} (printed : A → List ℕ → List Piece → List Piece) where
   lines_of : {a b : List ℕ} {ps qs : List (List Piece)} → ps ≡ qs → Adds a b (λ rest. print_declarations ps rest) → Adds a b (λ rest. print_declarations qs rest)
   lines_of {a = a} {b = b} e h = subst (λ pss. Adds a b (λ rest. print_declarations pss rest)) e h
 
-  pub line_step : (gap : List ℕ) (fs : List FunId) (i : ℕ) (d : FunId) → i < length fs → {a b c : List ℕ} → Adds a b (λ rest. print_line g n line (get_or fs i d) gap [] ++ semicolon rest)
-      → Adds b c (λ rest. print_declarations (lines_with g n line further_line (drop (i + 1) fs)) rest) → Adds a c (λ rest. print_declarations (lines_with g n line gap (drop i fs)) rest)
-  line_step gap fs i d below {a = a} {c = c} h k =
-      let both : Adds a c (λ rest. print_declarations (lines_with g n line gap (get_or fs i d ∷ drop (i + 1) fs)) rest) = adds_both h k in
-      lines_of (ap (lines_with g n line gap) (sym (drop_more fs i d below))) both
+  pub line_step : (gap : List ℕ) (xs : List A) (i : ℕ) (d : A) → i < length xs → {a b c : List ℕ} → Adds a b (λ rest. printed (get_or xs i d) gap [] ++ semicolon rest)
+      → Adds b c (λ rest. print_declarations (lines_with printed further_line (drop (i + 1) xs)) rest) → Adds a c (λ rest. print_declarations (lines_with printed gap (drop i xs)) rest)
+  line_step gap xs i d below {a = a} {c = c} h k =
+      let both : Adds a c (λ rest. print_declarations (lines_with printed gap (get_or xs i d ∷ drop (i + 1) xs)) rest) = adds_both h k in
+      lines_of (ap (lines_with printed gap) (sym (drop_more xs i d below))) both
 
-  pub line_end : (gap : List ℕ) (fs : List FunId) (i : ℕ) → length fs ≤ i → i ≤ length fs → (a : List ℕ) → Adds a a (λ rest. print_declarations (lines_with g n line gap (drop i fs)) rest)
-  line_end gap fs i above below a = let end : i ≡ length fs = omega arith in lines_of (ap (lines_with g n line gap) (sym (ap (λ k. drop k fs) end ∙ drop-length fs))) (adds_none a)
+  pub line_of : {a b : List ℕ} (gap : List ℕ) (x y : A) → x ≡ y → Adds a b (λ rest. printed x gap [] ++ semicolon rest) → Adds a b (λ rest. printed y gap [] ++ semicolon rest)
+  line_of {a = a} {b = b} gap x y e h = subst (λ z. Adds a b (λ rest. printed z gap [] ++ semicolon rest)) e h
 
-  pub no_lines : (fs : List FunId) → eqb (length fs) 0 ≡ true → [] ≡ line_sections g n line fs
-  no_lines fs e = ap (λ xs. line_sections g n line xs) (sym (none_of fs e))
+  pub line_end : (gap : List ℕ) (xs : List A) (i : ℕ) → length xs ≤ i → i ≤ length xs → (a : List ℕ) → Adds a a (λ rest. print_declarations (lines_with printed gap (drop i xs)) rest)
+  line_end gap xs i above below a = let end : i ≡ length xs = omega arith in lines_of (ap (lines_with printed gap) (sym (ap (λ k. drop k xs) end ∙ drop-length xs))) (adds_none a)
 
-  pub some_lines : (fs : List FunId) → eqb (length fs) 0 ≡ false → section_with (line_word line) (lines_with g n line space fs) ∷ [] ≡ line_sections g n line fs
-  some_lines [] e = absurd cc
-  some_lines (f ∷ fs) e = refl
+  pub no_lines : (word : SectionWord) (xs : List A) → eqb (length xs) 0 ≡ true → [] ≡ sections_with word printed xs
+  no_lines word xs e = ap (λ ys. sections_with word printed ys) (sym (none_of xs e))
+
+  pub some_lines : (word : SectionWord) (xs : List A) → eqb (length xs) 0 ≡ false → section_with word (lines_with printed space xs) ∷ [] ≡ sections_with word printed xs
+  some_lines word [] e = absurd cc
+  some_lines word (x ∷ xs) e = refl
+
+-- of what is printed for others
+module _ {A B : Type 0} (printed : B → List ℕ → List Piece → List Piece) (f : A → B) where
+  lines_mapped : (gap : List ℕ) (xs : List A) → lines_with (λ x. printed (f x)) gap xs ≡ lines_with printed gap (map f xs)
+  lines_mapped gap [] = refl
+  lines_mapped gap (x ∷ xs) = ap (λ pss. printed (f x) gap [] ∷ pss) (lines_mapped further_line xs)
+
+  pub sections_mapped : (word : SectionWord) (xs : List A) → sections_with word (λ x. printed (f x)) xs ≡ sections_with word printed (map f xs)
+  sections_mapped word [] = refl
+  sections_mapped word (x ∷ xs) = ap (λ pss. section_with word pss ∷ []) (lines_mapped space (x ∷ xs))
 
 -- ---- fields
 pub field_named : {a b c d : List ℕ} (g : Sig) (n : TextNames) (p : Option FunId) (f : FunId) (s : SortId) (gap : List ℕ) → p ≡ Some f → ((kind : Kind) → Adds a b (λ rest. piece gap kind (name_at g f) ∷ rest)) → ((kind : Kind) → Adds b c (λ rest. piece [] kind (codes ":") ∷ rest))

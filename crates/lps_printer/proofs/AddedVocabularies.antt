@@ -1,4 +1,4 @@
--- The vocabulary of a signature that has grown by structs and by constants, one behind the other.
+-- The vocabulary of a signature that has grown by structs, by constants and by actions, one behind the other.
 use Rattle.std.proofs.Common.{◌≡◌, ◌+◌, ◌<◌, ◌≤◌, ◌⊎◌, inl, inr, ⊎_elim, ℕ, List, [], ◌∷◌, ◌++◌, length, map, get_or, refl, sym, ap, ◌∙◌, subst, append-nil, append_assoc, length-append, arith}
 use Rattle.std.specs.Prelude.{Option, Some, None, IfSome, option_map, slice_get}
 use Rattle.std.specs.List.{All, AllByRecursion, Contains, flat_map}
@@ -28,12 +28,15 @@ use Rattle.sort_table.specs.Vocabularies.{sort_in, EachPair, IsVocabularyOf}
 use Rattle.sort_table.specs.EnteredFunctions.{IsFieldOf, IsOptionalId, IsConOf}
 use Rattle.sort_table.proofs.Growing.{first_behind, first_of_two, all_behind, stands_after}
 use Rattle.sort_table.proofs.GrowingTexts.{flat_behind}
+use Rattle.lps_printer.specs.AddedDeclarations.{action_declared}
 use Rattle.lps_printer.specs.DeclaredAdditions.{field_declared, constructor_declared, declaration_of}
+use Rattle.lps_printer.specs.GrowingByActions.{GrowsByAction}
 use Rattle.lps_printer.specs.GrowingByConstants.{GrowsByConstants}
-use Rattle.lps_printer.specs.GrowingByAdditions.{Struct, GrowsByStruct, GrowsByAdditions, nothing_added, then_constants, then_struct, added_structs, added_constants}
+use Rattle.lps_printer.specs.GrowingByAdditions.{Struct, GrowsByStruct, GrowsByAdditions, nothing_added, then_constants, then_struct, then_action, added_structs, added_constants}
 use Rattle.lps_printer.specs.GrownTexts.{mapping_declared}
 use Rattle.lps_printer.specs.SignatureNames.{text_names_under}
 use Rattle.lps_printer.specs.WrittenProcesses.{TextNames, sort_written}
+use Rattle.lps_printer.proofs.ActionVocabularies.{action_within, action_has_vocabulary}
 use Rattle.lps_printer.proofs.ConstantVocabularies.{constants_have_vocabulary}
 use Rattle.lps_printer.proofs.GrowingByAdditions.{still_stands}
 use Rattle.lps_printer.proofs.GrownIdentifiers.{constant_there}
@@ -107,6 +110,7 @@ module _ (g : Sig) (stands : IsSignature g) (h : Sig) (x : Name) where
   in_growth nothing_added = []
   in_growth (then_constants before by after) = in_growth before ++ map (mapping_declared h m) by.constants
   in_growth (then_struct before by after) = in_growth before ++ declaration_of h m by.declared ∷ []
+  in_growth (then_action before by after) = in_growth before ++ action_declared h by.name ∷ []
 
   -- one step each
   module _ (D : List Declaration) (j k : Sig) (before : IsSignature j) (after : IsSignature k) (grown : IsGrown k h) (is : IsVocabularyOf (under_names D) (vocabulary_of j)) (stand : AllStand (under_names D)) where
@@ -137,11 +141,11 @@ module _ (g : Sig) (stands : IsSignature g) (h : Sig) (x : Name) where
         more : Name → List TextFunction
         more f = all_named f (map written w.constants)
 
-        have : IsVocabularyOf (with_declared u u.sort more) (vocabulary_of k)
+        have : IsVocabularyOf (with_declared u u.sort more (λ a. [])) (vocabulary_of k)
         have = constants_have_vocabulary j k before after w u to reads is stand
 
-        all_stand : AllStand (with_declared u u.sort more)
-        all_stand y z q = let s = stand y z q in (s.0, stands_after u (with_declared u u.sort more) (λ l r e. e) (a_name y) s.0 s.1)
+        all_stand : AllStand (with_declared u u.sort more (λ a. []))
+        all_stand y z q = let s = stand y z q in (s.0, stands_after u (with_declared u u.sort more (λ a. [])) (λ l r e. e) (a_name y) s.0 s.1)
 
         M : List Declaration
         M = map (mapping_declared h m) w.constants
@@ -151,13 +155,14 @@ module _ (g : Sig) (stands : IsSignature g) (h : Sig) (x : Name) where
             flat_ones functions_by (mapping_declared h m) (λ (c : NameId × SortId). (text_under h c.0, record { arguments = []; result = to c; role = mapping })) (λ c. refl) w.constants
             ∙ map_within (λ (c : NameId × SortId). (c.0.0 < length k.texts) × (c.1.0 < length k.sorts)) (λ (c : NameId × SortId). (text_under h c.0, record { arguments = []; result = to c; role = mapping })) written (λ c l. (let e = text_still k h after grown x c.0 l.0 in λ i. (e i, record { arguments = []; result = to c; role = mapping }))) w.constants all_there
 
-        same : under_names (D ++ M) ≡ with_declared u u.sort more
+        same : under_names (D ++ M) ≡ with_declared u u.sort more (λ a. [])
         same =
             let kinds : kinds_in (D ++ M) ≡ kinds_in D = flat_behind kinds_by D M ∙ ap (λ ks. kinds_in D ++ ks) (flat_none kinds_by (mapping_declared h m) (λ c. refl) w.constants) ∙ append-nil (kinds_in D) in
             let acts : actions_in (D ++ M) ≡ actions_in D = flat_behind actions_by D M ∙ ap (λ ks. actions_in D ++ ks) (flat_none actions_by (mapping_declared h m) (λ c. refl) w.constants) ∙ append-nil (actions_in D) in
+            let none : (a : Name) → all_named a (actions_in (D ++ M)) ≡ all_named a (actions_in D) ++ [] = λ a. ap (all_named a) acts ∙ sym (append-nil (all_named a (actions_in D))) in
             let each : (f : Name) → all_named f (functions_in (D ++ M)) ≡ all_named f (functions_in D) ++ more f =
             λ f. ap (all_named f) (flat_behind functions_by D M) ∙ all_behind f (functions_in D) (functions_in M) ∙ ap (λ fs. all_named f (functions_in D) ++ all_named f fs) functions in
-            λ i. record { sort = λ n. first_named n (kinds i); functions = λ f. each f i; actions = λ a. all_named a (acts i) }
+            λ i. record { sort = λ n. first_named n (kinds i); functions = λ f. each f i; actions = λ a. none a i }
 
     with_struct : (w : GrowsByStruct j k) → HasBoth (D ++ declaration_of h m w.declared ∷ [])
     with_struct w = subst (λ v. IsVocabularyOf v (vocabulary_of k) × AllStand v) (sym same) (
@@ -196,14 +201,45 @@ module _ (g : Sig) (stands : IsSignature g) (h : Sig) (x : Name) where
         S : List Declaration
         S = declaration_of h m w.declared ∷ []
 
-        same : under_names (D ++ S) ≡ with_declared u sort (λ f. all_named f (functions_by (struct t cs)))
+        same : under_names (D ++ S) ≡ with_declared u sort (λ f. all_named f (functions_by (struct t cs))) (λ a. [])
         same =
             let kinds : kinds_in (D ++ S) ≡ kinds_in D ++ (t, a_struct) ∷ [] = flat_behind kinds_by D S ∙ (λ i. kinds_in D ++ (name i, a_struct) ∷ []) in
             let acts : actions_in (D ++ S) ≡ actions_in D = flat_behind actions_by D S ∙ append-nil (actions_in D) in
+            let none : (a : Name) → all_named a (actions_in (D ++ S)) ≡ all_named a (actions_in D) ++ [] = λ a. ap (all_named a) acts ∙ sym (append-nil (all_named a (actions_in D))) in
             let each : (f : Name) → all_named f (functions_in (D ++ S)) ≡ all_named f (functions_in D) ++ all_named f (functions_by (struct t cs)) =
             λ f. ap (all_named f) (flat_behind functions_by D S) ∙ all_behind f (functions_in D) (functions_in S)
             ∙ ap (λ fs. all_named f (functions_in D) ++ all_named f fs) (append-nil (functions_by (declaration_of h m w.declared)) ∙ ap (λ y. functions_by (struct y cs)) name) in
-            λ i. record { sort = λ n. first_named n (kinds i); functions = λ f. each f i; actions = λ a. all_named a (acts i) }
+            λ i. record { sort = λ n. first_named n (kinds i); functions = λ f. each f i; actions = λ a. none a i }
+
+    with_action : (w : GrowsByAction j k) → HasBoth (D ++ action_declared h w.name ∷ [])
+    with_action w = subst (λ v. IsVocabularyOf v (vocabulary_of k) × AllStand v) (sym same) (have, all_stand)
+      where
+        t : Name
+        t = text_under k w.name
+
+        acts : Name → List (List SortExpression)
+        acts a = all_named a ((t, []) ∷ [])
+
+        have : IsVocabularyOf (with_declared u u.sort (λ f. []) acts) (vocabulary_of k)
+        have = action_has_vocabulary j k before after w u is stand
+
+        all_stand : AllStand (with_declared u u.sort (λ f. []) acts)
+        all_stand y z q = let s = stand y z q in (s.0, stands_after u (with_declared u u.sort (λ f. []) acts) (λ l r e. e) (a_name y) s.0 s.1)
+
+        name : text_under h w.name ≡ t
+        name = text_still k h after grown x w.name (action_within j k after w)
+
+        A : List Declaration
+        A = action_declared h w.name ∷ []
+
+        same : under_names (D ++ A) ≡ with_declared u u.sort (λ f. []) acts
+        same =
+            let kinds : kinds_in (D ++ A) ≡ kinds_in D = flat_behind kinds_by D A ∙ append-nil (kinds_in D) in
+            let none : (f : Name) → all_named f (functions_in (D ++ A)) ≡ all_named f (functions_in D) ++ [] =
+            λ f. ap (all_named f) (flat_behind functions_by D A) ∙ all_behind f (functions_in D) (functions_in A) in
+            let each : (a : Name) → all_named a (actions_in (D ++ A)) ≡ all_named a (actions_in D) ++ acts a =
+            λ a. ap (all_named a) (flat_behind actions_by D A) ∙ all_behind a (actions_in D) (actions_in A) ∙ ap (λ (y : Name). all_named a (actions_in D) ++ all_named a ((y, []) ∷ [])) name in
+            λ i. record { sort = λ n. first_named n (kinds i); functions = λ f. none f i; actions = λ a. each a i }
 
   -- any number of them
   pub additions_have_vocabulary : (D : List Declaration) → IsVocabularyOf (under_names D) (vocabulary_of g) → AllStand (under_names D) → {k : Sig} (w : GrowsByAdditions g k) → IsGrown k h
@@ -218,6 +254,10 @@ module _ (g : Sig) (stands : IsSignature g) (h : Sig) (x : Name) where
       let rest = additions_have_vocabulary D is stand before (growth_after_growth_is_growth j k h (it_is_grown j k its by) grown) in
       subst (λ E. IsVocabularyOf (under_names E) (vocabulary_of k) × AllStand (under_names E)) (append_assoc D (in_growth before) (declaration_of h m by.declared ∷ []))
       (with_struct (D ++ in_growth before) j k its after grown rest.0 rest.1 by)
+  additions_have_vocabulary D is stand (then_action {h = j} {k = k} before by after) grown =
+      let rest = additions_have_vocabulary D is stand before (growth_after_growth_is_growth j k h by.grown grown) in
+      subst (λ E. IsVocabularyOf (under_names E) (vocabulary_of k) × AllStand (under_names E)) (append_assoc D (in_growth before) (action_declared h by.name ∷ []))
+      (with_action (D ++ in_growth before) j k (still_stands g stands before) after grown rest.0 rest.1 by)
 
 -- ---- the sorts of what is added
 abbrev pub HasSortsBelow : ℕ → Con → Type 0
@@ -241,6 +281,7 @@ module _ (g : Sig) (stands : IsSignature g) (h : Sig) where
             (λ c is. All-weaker (λ (f : Option NameId × SortId). (f.1.0 < length k.sorts) × IfSome f.0 (λ (i : NameId). i.0 < length k.texts)) (λ (f : Option NameId × SortId). f.1.0 < length k.sorts) (λ f l. l.0) c.fields is.over) by.declared.1 (struct_within j k its by)),
         tt,
       )
+  structs_below (then_action {h = j} {k = k} before by after) grown = structs_below before (growth_after_growth_is_growth j k h by.grown grown)
 
   pub constants_below : {k : Sig} (w : GrowsByAdditions g k) → IsGrown k h → AllByRecursion (λ (c : NameId × SortId). c.1.0 < length h.sorts) (added_constants w)
   constants_below nothing_added grown = tt
@@ -249,3 +290,4 @@ module _ (g : Sig) (stands : IsSignature g) (h : Sig) where
       all_both (λ (c : NameId × SortId). c.1.0 < length h.sorts) (added_constants before) by.constants (constants_below before (growth_after_growth_is_growth j k h by.grown grown))
       (all_from (λ (c : NameId × SortId). c.1.0 < length h.sorts) by.constants (λ c i. (let l = (constant_within j k after by c i).1 in omega (arith, l, long))))
   constants_below (then_struct {h = j} {k = k} before by after) grown = constants_below before (growth_after_growth_is_growth j k h (it_is_grown j k (still_stands g stands before) by) grown)
+  constants_below (then_action {h = j} {k = k} before by after) grown = constants_below before (growth_after_growth_is_growth j k h by.grown grown)

@@ -1,4 +1,4 @@
--- The names of what is added differ, and weren't taken. So structs may stand in front of constants, whatever came first.
+-- The names of what is added differ, and weren't taken. So actions may stand in front of structs, and structs in front of constants, whatever came first.
 use Rattle.std.proofs.Common.{◌≡◌, ◌≢◌, ◌⊎◌, inl, inr, ⊎_elim, zero, suc, ◌<◌, Bool, true, false, cond, List, [], ◌∷◌, ◌++◌, length, map, refl, sym, ap, ap₂, ◌∙◌, subst, arith, append-nil, append_assoc}
 use Rattle.std.specs.Prelude.{Some, bytes_eq}
 use Rattle.std.specs.List.{AllByRecursion, Contains, flat_map}
@@ -28,12 +28,14 @@ use Rattle.sort_table.proofs.AddedStructs.{all_contained}
 use Rattle.sort_table.proofs.Growing.{in_either, all_behind}
 use Rattle.sort_table.proofs.GrowingTexts.{flat_behind}
 use Rattle.sort_table.proofs.NamedSignatures.{text_of_id}
+use Rattle.lps_printer.specs.AddedDeclarations.{action_declared}
 use Rattle.lps_printer.specs.DeclaredAdditions.{constructor_declared, declaration_of}
-use Rattle.lps_printer.specs.GrowingByAdditions.{Struct, functions_of_struct, names_of_struct, GrowsByStruct, GrowsByAdditions, nothing_added, then_constants, then_struct, added_structs, added_constants}
+use Rattle.lps_printer.specs.GrowingByAdditions.{Struct, functions_of_struct, names_of_struct, GrowsByStruct, GrowsByAdditions, nothing_added, then_constants, then_struct, then_action, added_structs, added_constants, added_actions}
 use Rattle.lps_printer.specs.GrownTexts.{mapping_declared}
 use Rattle.lps_printer.specs.LinearBack.{EachTwo}
 use Rattle.lps_printer.specs.SignatureNames.{text_names_under}
 use Rattle.lps_printer.specs.WrittenProcesses.{TextNames, sort_written}
+use Rattle.lps_printer.proofs.ActionVocabularies.{action_within}
 use Rattle.lps_printer.proofs.AddedVocabularies.{flat_ones, flat_none, constant_within, constructors_at, struct_within, in_growth}
 use Rattle.lps_printer.proofs.GrowingByAdditions.{still_stands, additions_grow}
 use Rattle.lps_printer.proofs.GrowingByConstants.{two_by, still_taken, constants_are_taken}
@@ -132,6 +134,11 @@ pub record Apart (g k : Sig) (structs constants : List Name) : Type 0 where
   pub constants_differ : EachTwo Other constants
   pub across : (a b : Name) → Contains structs a → Contains constants b → a ≢ b
 
+pub record ActionsApart (g k : Sig) (names : List Name) : Type 0 where
+  pub taken : AllByRecursion (IsTaken k) names
+  pub new : AllByRecursion (λ (t : Name). ¬ (IsTaken g t)) names
+  pub differ : EachTwo Other names
+
 module _ (g : Sig) (stands : IsSignature g) (h : Sig) (x : Name) where
   abbrev m : TextNames
   m = text_names_under h x
@@ -150,6 +157,12 @@ module _ (g : Sig) (stands : IsSignature g) (h : Sig) (x : Name) where
 
   abbrev pub constant_names : {k : Sig} → GrowsByAdditions g k → List Name
   constant_names w = map name (added_constants w)
+
+  abbrev pub acts_in : {k : Sig} → GrowsByAdditions g k → List Declaration
+  acts_in w = map (action_declared h) (added_actions w)
+
+  abbrev pub action_names : {k : Sig} → GrowsByAdditions g k → List Name
+  action_names w = map (text_under h) (added_actions w)
 
   -- what was taken and what wasn't
   not_both : (P : Name → Type 0) (xs ys : List Name) → AllByRecursion P xs → AllByRecursion (λ (t : Name). ¬ (P t)) ys → (a b : Name) → Contains xs a → Contains ys b → a ≢ b
@@ -201,8 +214,43 @@ module _ (g : Sig) (stands : IsSignature g) (h : Sig) (x : Name) where
         constants_differ = r.constants_differ;
         across = λ a b c d. ⊎_elim (λ old. r.across a b old d) (λ late e. not_both (IsTaken j) (constant_names before) news r.constants_taken new b a d late (sym e)) (in_either olds news a c);
       })
+  names_apart (then_action {h = j} {k = k} before by after) grown =
+      let r = names_apart before (growth_after_growth_is_growth j k h by.grown grown) in
+      let still : (ts : List Name) → AllByRecursion (IsTaken j) ts → AllByRecursion (IsTaken k) ts = all_weaker (IsTaken j) (IsTaken k) (λ t l. still_taken j k t by.grown l) in
+      record {
+        structs_taken = still (struct_names before) r.structs_taken;
+        constants_taken = still (constant_names before) r.constants_taken;
+        structs_new = r.structs_new;
+        constants_new = r.constants_new;
+        structs_differ = r.structs_differ;
+        constants_differ = r.constants_differ;
+        across = r.across;
+      }
 
-  -- ---- structs in front
+  pub actions_apart : {k : Sig} (w : GrowsByAdditions g k) → IsGrown k h → ActionsApart g k (action_names w)
+  actions_apart nothing_added grown = record { taken = tt; new = tt; differ = tt }
+  actions_apart (then_constants {h = j} {k = k} before by after) grown =
+      let r = actions_apart before (growth_after_growth_is_growth j k h by.grown grown) in
+      record { taken = all_weaker (IsTaken j) (IsTaken k) (λ t l. still_taken j k t by.grown l) (action_names before) r.taken; new = r.new; differ = r.differ }
+  actions_apart (then_struct {h = j} {k = k} before by after) grown =
+      let step = it_is_grown j k (still_stands g stands before) by in
+      let r = actions_apart before (growth_after_growth_is_growth j k h step grown) in
+      record { taken = all_weaker (IsTaken j) (IsTaken k) (λ t l. still_taken j k t step l) (action_names before) r.taken; new = r.new; differ = r.differ }
+  actions_apart (then_action {h = j} {k = k} before by after) grown =
+      let r = actions_apart before (growth_after_growth_is_growth j k h by.grown grown) in
+      let olds = action_names before in
+      let n = text_under h by.name in
+      let text : n ≡ text_under k by.name = text_still k h after grown x by.name (action_within j k after by) in
+      let both : action_names (then_action before by after) ≡ olds ++ n ∷ [] = map-append (text_under h) (added_actions before) (by.name ∷ []) in
+      let new : ¬ (IsTaken j n) = λ t. by.taken (subst (IsTaken j) text t) in
+      subst (ActionsApart g k) (sym both)
+      (record {
+        taken = all_both (IsTaken k) olds (n ∷ []) (all_weaker (IsTaken j) (IsTaken k) (λ t l. still_taken j k t by.grown l) olds r.taken) (subst (IsTaken k) (sym text) by.taken_now, tt);
+        new = all_both (λ (t : Name). ¬ (IsTaken g t)) olds (n ∷ []) r.new ((λ t. new (still_taken g j n (additions_grow g stands before) t)), tt);
+        differ = two_both Other olds (n ∷ []) r.differ (tt, tt) (not_both (IsTaken j) olds (n ∷ []) r.taken (new, tt));
+      })
+
+  -- ---- actions in front, and structs behind them
   same_kinds : {k : Sig} (w : GrowsByAdditions g k) → kinds_in (in_growth g stands h x w) ≡ kinds_in (structs_in w)
   same_kinds nothing_added = refl
   same_kinds (then_constants before by after) =
@@ -210,6 +258,7 @@ module _ (g : Sig) (stands : IsSignature g) (h : Sig) (x : Name) where
   same_kinds (then_struct before by after) =
       flat_behind kinds_by (in_growth g stands h x before) (declaration_of h m by.declared ∷ []) ∙ ap (λ xs. xs ++ kinds_in (declaration_of h m by.declared ∷ [])) (same_kinds before)
       ∙ sym (ap kinds_in (map-append (declaration_of h m) (added_structs before) (by.declared ∷ [])) ∙ flat_behind kinds_by (structs_in before) (declaration_of h m by.declared ∷ []))
+  same_kinds (then_action before by after) = flat_behind kinds_by (in_growth g stands h x before) (action_declared h by.name ∷ []) ∙ append-nil (kinds_in (in_growth g stands h x before)) ∙ same_kinds before
 
   none_in_structs : (ss : List Struct) → actions_in (map (declaration_of h m) ss) ≡ []
   none_in_structs ss = flat_none actions_by (declaration_of h m) (λ s. refl) ss
@@ -217,10 +266,16 @@ module _ (g : Sig) (stands : IsSignature g) (h : Sig) (x : Name) where
   none_in_mappings : (cs : List (NameId × SortId)) → actions_in (map (mapping_declared h m) cs) ≡ []
   none_in_mappings cs = flat_none actions_by (mapping_declared h m) (λ c. refl) cs
 
-  no_actions : {k : Sig} (w : GrowsByAdditions g k) → actions_in (in_growth g stands h x w) ≡ []
-  no_actions nothing_added = refl
-  no_actions (then_constants before by after) = flat_behind actions_by (in_growth g stands h x before) (map (mapping_declared h m) by.constants) ∙ ap₂ (λ xs ys. xs ++ ys) (no_actions before) (none_in_mappings by.constants)
-  no_actions (then_struct before by after) = flat_behind actions_by (in_growth g stands h x before) (declaration_of h m by.declared ∷ []) ∙ ap (λ xs. xs ++ []) (no_actions before)
+  same_actions : {k : Sig} (w : GrowsByAdditions g k) → actions_in (in_growth g stands h x w) ≡ actions_in (acts_in w)
+  same_actions nothing_added = refl
+  same_actions (then_constants before by after) =
+      flat_behind actions_by (in_growth g stands h x before) (map (mapping_declared h m) by.constants) ∙ ap₂ (λ xs ys. xs ++ ys) (same_actions before) (none_in_mappings by.constants) ∙ append-nil (actions_in (acts_in before))
+  same_actions (then_struct before by after) =
+      flat_behind actions_by (in_growth g stands h x before) (declaration_of h m by.declared ∷ []) ∙ ap (λ xs. xs ++ []) (same_actions before) ∙ append-nil (actions_in (acts_in before))
+  same_actions (then_action before by after) =
+      let own = action_declared h by.name ∷ [] in
+      flat_behind actions_by (in_growth g stands h x before) own ∙ ap (λ xs. xs ++ actions_in own) (same_actions before)
+      ∙ sym (ap actions_in (map-append (action_declared h) (added_actions before) (by.name ∷ [])) ∙ flat_behind actions_by (acts_in before) own)
 
   abbrev A : Name → List Declaration → List TextFunction
   A f ds = all_named f (functions_in ds)
@@ -254,17 +309,25 @@ module _ (g : Sig) (stands : IsSignature g) (h : Sig) (x : Name) where
     where
       named_mapping : NameId × SortId → Named
       named_mapping c = (text_under h c.0, record { arguments = []; result = sort_written m (sort_under h c.1); role = mapping })
+  same_functions f (then_action {h = j} {k = k} before by after) grown =
+      behind f (in_growth g stands h x before) (action_declared h by.name ∷ []) ∙ append-nil (A f (in_growth g stands h x before)) ∙ same_functions f before (growth_after_growth_is_growth j k h by.grown grown)
 
   -- under their names the declarations stand in either order
-  pub structs_in_front : (D : List Declaration) {k : Sig} (w : GrowsByAdditions g k) → IsGrown k h → under_names (D ++ in_growth g stands h x w) ≡ under_names (D ++ (structs_in w ++ mappings_in w))
+  pub structs_in_front : (D : List Declaration) {k : Sig} (w : GrowsByAdditions g k) → IsGrown k h → under_names (D ++ in_growth g stands h x w) ≡ under_names (D ++ (acts_in w ++ (structs_in w ++ mappings_in w)))
   structs_in_front D w grown =
       let G = in_growth g stands h x w in
+      let N = acts_in w in
       let S = structs_in w in
       let M = mappings_in w in
-      let kinds : kinds_in (D ++ G) ≡ kinds_in (D ++ (S ++ M)) =
-      flat_behind kinds_by D G ∙ ap (λ ks. kinds_in D ++ ks) (same_kinds w ∙ sym (flat_behind kinds_by S M ∙ ap (λ ks. kinds_in S ++ ks) (flat_none kinds_by (mapping_declared h m) (λ c. refl) (added_constants w)) ∙ append-nil (kinds_in S))) ∙ sym (flat_behind kinds_by D (S ++ M)) in
-      let acts : actions_in (D ++ G) ≡ actions_in (D ++ (S ++ M)) =
-      flat_behind actions_by D G ∙ ap (λ ks. actions_in D ++ ks) (no_actions w ∙ sym (flat_behind actions_by S M ∙ ap₂ (λ ks ls. ks ++ ls) (none_in_structs (added_structs w)) (none_in_mappings (added_constants w)))) ∙ sym (flat_behind actions_by D (S ++ M)) in
-      let each : (f : Name) → A f (D ++ G) ≡ A f (D ++ (S ++ M)) =
-      λ f. behind f D G ∙ ap (λ xs. A f D ++ xs) (same_functions f w grown ∙ sym (behind f S M)) ∙ sym (behind f D (S ++ M)) in
+      let kinds_behind : kinds_in (N ++ (S ++ M)) ≡ kinds_in S =
+      flat_behind kinds_by N (S ++ M) ∙ ap₂ (λ ks ls. ks ++ ls) (flat_none kinds_by (action_declared h) (λ a. refl) (added_actions w))
+      (flat_behind kinds_by S M ∙ ap (λ ks. kinds_in S ++ ks) (flat_none kinds_by (mapping_declared h m) (λ c. refl) (added_constants w)) ∙ append-nil (kinds_in S)) in
+      let kinds : kinds_in (D ++ G) ≡ kinds_in (D ++ (N ++ (S ++ M))) = flat_behind kinds_by D G ∙ ap (λ ks. kinds_in D ++ ks) (same_kinds w ∙ sym kinds_behind) ∙ sym (flat_behind kinds_by D (N ++ (S ++ M))) in
+      let acts_behind : actions_in (N ++ (S ++ M)) ≡ actions_in N =
+      flat_behind actions_by N (S ++ M) ∙ ap (λ ks. actions_in N ++ ks) (flat_behind actions_by S M ∙ ap₂ (λ ks ls. ks ++ ls) (none_in_structs (added_structs w)) (none_in_mappings (added_constants w))) ∙ append-nil (actions_in N) in
+      let acts : actions_in (D ++ G) ≡ actions_in (D ++ (N ++ (S ++ M))) = flat_behind actions_by D G ∙ ap (λ ks. actions_in D ++ ks) (same_actions w ∙ sym acts_behind) ∙ sym (flat_behind actions_by D (N ++ (S ++ M))) in
+      let functions_behind : (f : Name) → A f (N ++ (S ++ M)) ≡ A f S ++ A f M =
+      λ f. behind f N (S ++ M) ∙ ap₂ (λ xs ys. xs ++ ys) (ap (all_named f) (flat_none functions_by (action_declared h) (λ a. refl) (added_actions w))) (behind f S M) in
+      let each : (f : Name) → A f (D ++ G) ≡ A f (D ++ (N ++ (S ++ M))) =
+      λ f. behind f D G ∙ ap (λ xs. A f D ++ xs) (same_functions f w grown ∙ sym (functions_behind f)) ∙ sym (behind f D (N ++ (S ++ M))) in
       λ i. record { sort = λ n_. first_named n_ (kinds i); functions = λ f. each f i; actions = λ a. all_named a (acts i) }

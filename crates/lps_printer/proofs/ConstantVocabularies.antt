@@ -32,9 +32,9 @@ use Rattle.sort_table.specs.BareSorts.{SortExpression}
 use Rattle.sort_table.specs.SortMeanings.{a_struct, UnderNames}
 use Rattle.sort_table.specs.TextFunctions as text
 use Rattle.sort_table.specs.TextFunctions.{TextFunction, Named, declared_constructor}
-use Rattle.sort_table.specs.Vocabularies.{Vocabulary, sort_in, EachPair, IsRole, of_map, IsFunction, IsVocabularyOf}
-use Rattle.sort_table.specs.SignatureVocabularies.{text_under, function_name_of, function_names_from, sort_name_under, vocabulary_of}
-use Rattle.sort_table.specs.Growth.{with_declared, AllStand, IsMore}
+use Rattle.sort_table.specs.Vocabularies.{Vocabulary, sort_in, EachPair, AreSortsOf, IsRole, of_map, IsFunction, IsVocabularyOf}
+use Rattle.sort_table.specs.SignatureVocabularies.{text_under, function_name_of, function_names_from, sort_name_under, action_under, vocabulary_of}
+use Rattle.sort_table.specs.Growth.{More, with_more, with_declared, AllStand, IsMore}
 use Rattle.sort_table.proofs.Growing.{vocabularies_grow}
 use Rattle.sort_table.proofs.GrowingSignatures.{grown_signatures_have_more}
 use Rattle.sort_table.proofs.NothingTwice.{mapped_at}
@@ -49,6 +49,13 @@ same_rest [] [] ys vs e l = e
 same_rest [] (u ∷ us) ys vs e l = absurd (omega (arith, l))
 same_rest (x ∷ xs) [] ys vs e l = absurd (omega (arith, l))
 same_rest (x ∷ xs) (u ∷ us) ys vs e l = same_rest xs us ys vs (let t : xs ++ ys ≡ us ++ vs = cc in t) (omega (arith, l))
+
+-- a signature with the same actions has none behind its vocabulary
+pub no_actions_behind : (g h : Sig) (m : More) → vocabulary_of h ≡ with_more (vocabulary_of g) m → h.actions ≡ g.actions → m.actions ≡ []
+no_actions_behind g h m is same =
+    let own = map (action_under g) g.actions in
+    let now = map (action_under h) g.actions in
+    same_rest own now m.actions [] (sym (ap (λ (v : Vocabulary). v.actions) is) ∙ (ap (map (action_under h)) same ∙ sym (append-nil now))) (length-map g.actions (action_under g) ∙ sym (length-map g.actions (action_under h)))
 
 pub numbers_at : (n m i : ℕ) → i < m → slice_get (numbers_from n m) i ≡ Some (record { 0 = n + i })
 numbers_at n zero i l = absurd (omega (arith, l))
@@ -147,7 +154,7 @@ module _ (g h : Sig) (stands : IsSignature g) (later : IsSignature h) (w : Grows
   -- ---- what is added
   pub has_constants_more : HasConstantsMore g h cs
   has_constants_more =
-      let m = grown_signatures_have_more g h stands.complete stands.table stands.roles later.roles w.grown w.actions in
+      let m = grown_signatures_have_more g h stands.complete stands.table stands.roles later.roles w.grown in
       let own_sorts = constructions g.sorts in
       let own_names = map (sort_name_under g) g.sort_names in
       let now_names = map (sort_name_under h) g.sort_names in
@@ -164,6 +171,7 @@ module _ (g h : Sig) (stands : IsSignature g) (later : IsSignature h) (w : Grows
         is = m.1;
         sorts = sort_rest;
         sort_names = name_rest;
+        actions = no_actions_behind g h m.0 m.1 w.actions;
         function_names = function_rest ∙ (ap (λ n. function_names_from h n (numbers_from (length g.functions) (length cs))) z ∙ names_numbered h K (length g.functions) cs entry_at);
       }
 
@@ -222,7 +230,7 @@ module _ (g h : Sig) (stands : IsSignature g) (later : IsSignature h) (w : Grows
     more f = all_named f (map written cs)
 
     abbrev v : UnderNames
-    v = with_declared u u.sort more
+    v = with_declared u u.sort more (λ a. [])
 
     its_function : (i : ℕ) (c : NameId × SortId) → slice_get cs i ≡ Some c → IsFunction v (vocabulary_of h) (written c).1 (K + i)
     its_function i c at =
@@ -270,7 +278,7 @@ module _ (g h : Sig) (stands : IsSignature g) (later : IsSignature h) (w : Grows
         let there : Contains (numbered_constants h K cs) (text_under h c.0.0, K + i) = constant_numbered h K cs i c.0 c.1 in
         (text_under h c.0.0, subst (λ rs. Contains rs (text_under h c.0.0, k)) (sym has_constants_more.function_names) (subst (λ n. Contains (numbered_constants h K cs) (text_under h c.0.0, n)) z there))
 
-    is_more : IsMore u v (vocabulary_of g) (vocabulary_of h) has_constants_more.more more
+    is_more : IsMore u v (vocabulary_of g) (vocabulary_of h) has_constants_more.more more (λ a. [])
     is_more = record {
       kept = λ n k q. q;
       new_names = λ n k q. inl q;
@@ -281,12 +289,13 @@ module _ (g h : Sig) (stands : IsSignature g) (later : IsSignature h) (w : Grows
       each = λ f. subst (λ rs. EachPair (IsFunction v (vocabulary_of h)) (more f) (all_named f rs)) (sym has_constants_more.function_names) (pairs f K cs its_function);
       functions_used = used;
       once = numbers_once h h.declared;
+      actions = λ a. subst (λ as_. EachPair (AreSortsOf (vocabulary_of h)) [] (all_named a as_)) (sym has_constants_more.actions) tt;
     }
 
     pub constants_have_vocabulary : IsVocabularyOf u (vocabulary_of g) → AllStand u → IsVocabularyOf v (vocabulary_of h)
     constants_have_vocabulary is stand =
         let added = has_constants_more in
-        subst (IsVocabularyOf v) (sym added.is) (vocabularies_grow u u.sort more (vocabulary_of g) added.more is stand (subst (λ x. IsMore u v (vocabulary_of g) x added.more more) added.is is_more))
+        subst (IsVocabularyOf v) (sym added.is) (vocabularies_grow u u.sort more (λ a. []) (vocabulary_of g) added.more is stand (subst (λ x. IsMore u v (vocabulary_of g) x added.more more (λ a. [])) added.is is_more))
 
 pub growth_by_constants_is_more : GrowthByConstantsIsMore
 growth_by_constants_is_more g h stands later w = has_constants_more g h stands later w

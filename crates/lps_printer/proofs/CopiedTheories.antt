@@ -1,4 +1,4 @@
--- What is copied of a text elaborates over the vocabulary of a signature that has grown by structs and constants as it did.
+-- What is copied of a text elaborates over the vocabulary of a signature that has grown by structs, constants and actions as it did.
 use Rattle.std.proofs.Common.{◌≡◌, ◌<◌, ℕ, Bool, true, false, cond, List, [], ◌∷◌, ◌++◌, length, map, refl, sym, ap, ◌∙◌, subst}
 use Rattle.std.specs.Prelude.{Option, Some, None, option_map}
 use Rattle.std.specs.List.{AllByRecursion, Contains}

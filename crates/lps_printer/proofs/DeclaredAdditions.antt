@@ -1,4 +1,4 @@
--- What is added where a signature grows by structs and by constants, one behind the other.
+-- What is added where a signature grows by structs, by constants and by actions, one behind the other.
 use Rattle.std.proofs.Common.{◌≡◌, ◌+◌, ◌-◌, ◌<◌, ◌≤◌, ◌&&◌, ◌||◌, ⊎_elim, ℕ, zero, suc, Bool, true, false, cond, nat_eq, List, [], ◌∷◌, ◌++◌, length, map, get_or, not, codes, refl, sym, ap, ap₂, ◌∙◌, subst, arith, append_assoc, append-nil, length-append}
 use Rattle.std.specs.Prelude.{Option, Some, None, option_map, slice_get}
 use Rattle.std.specs.List.{All, AllByRecursion, Contains, flat_map, list_any}
@@ -13,6 +13,7 @@ use Rattle.data_theory.specs.declared.ids.NameId.{NameId}
 use Rattle.data_theory.specs.declared.ids.SortId.{SortId}
 use Rattle.data_theory.specs.Complete.{IsComplete, IsSortWithin}
 use Rattle.data_theory.specs.Functions.{Function, arguments_of, declared_function}
+use Rattle.data_theory.specs.Keys.{Key, key}
 use Rattle.data_theory.specs.Signature.{Sig}
 use Rattle.data_theory.specs.Sorts as kinds
 use Rattle.data_theory.specs.Sorts.{SortInfo, abstract_sort}
@@ -32,16 +33,16 @@ use Rattle.sort_table.specs.BareDeclarations.{Declaration, struct, Section, decl
 use Rattle.sort_table.specs.SignatureVocabularies.{text_under}
 use Rattle.sort_table.proofs.Growing.{front_entry, near_or_far}
 use Rattle.lps_printer.specs.declared.added_sections.Line.TheVariants as lines
-use Rattle.lps_printer.specs.AddedDeclarations.{no_function, function_at, name_at, kind_at, constructors_in, begun_by, struct_begun, is_constant, constants_among, some_name, fields_with, constructor_with, added_functions, struct_declared, structs_declared, line_declared, lines_declared, added_declared}
+use Rattle.lps_printer.specs.AddedDeclarations.{no_function, function_at, name_at, kind_at, constructors_in, begun_by, struct_begun, is_constant, constants_among, some_name, fields_with, constructor_with, added_functions, added_actions_of, struct_declared, structs_declared, line_declared, lines_declared, action_declared, actions_declared, added_declared}
 use Rattle.lps_printer.specs.DeclaredAdditions.{field_declared, constructor_declared, declaration_of, section_of, WhatIsAddedIsPrinted, EmptyListsAreAdded}
 use Rattle.lps_printer.specs.GrowingByConstants.{GrowsByConstants}
-use Rattle.lps_printer.specs.GrowingByAdditions.{Struct, GrowsByStruct, GrowsByAdditions, nothing_added, then_constants, then_struct, added_structs, added_constants}
+use Rattle.lps_printer.specs.GrowingByAdditions.{Struct, GrowsByStruct, GrowsByAdditions, nothing_added, then_constants, then_struct, then_action, added_structs, added_constants, added_actions}
 use Rattle.lps_printer.specs.GrownTexts.{mapping_declared, mappings_declared}
 use Rattle.lps_printer.specs.SignatureNames.{text_names_under}
 use Rattle.lps_printer.specs.TextWordings.{sort_place}
 use Rattle.lps_printer.specs.WrittenProcesses.{TextNames, sort_written}
-use Rattle.lps_printer.proofs.DeclaredCounts.{added_are}
-use Rattle.lps_printer.proofs.GrowingByAdditions.{still_stands, added_numbers, numbers_are}
+use Rattle.lps_printer.proofs.DeclaredCounts.{added_are, added_actions_are}
+use Rattle.lps_printer.proofs.GrowingByAdditions.{still_stands, actions_grow, added_numbers, numbers_are}
 use Rattle.lps_printer.proofs.GrownStructs.{bare, first, fs, it_is_grown, sorts_are}
 use Rattle.lps_printer.proofs.GrownTexts.{kind_below, other_number, begins_none, AreConstantsAt, at_their_numbers, all_below, is_one, begin_none, as_many_constants, each_declared, no_structs_declared, mappings_are, equations_are}
 use Rattle.lps_printer.proofs.SignatureNames.{sort_named_at}
@@ -479,6 +480,7 @@ module _ (g : Sig) (stands : IsSignature g) (h : Sig) (x : Name) where
       subst (λ cs. Chunk h n (added_numbers g stands before ++ own) (added_structs before ++ by.declared ∷ []) cs) (append-nil (added_constants before))
       (chunks h n (added_numbers g stands before) own (added_structs before) (by.declared ∷ []) (added_constants before) [] (added_chunk before (growth_after_growth_is_growth j k h (it_is_grown j k its by) grown))
       (struct_chunk j k h its after grown x by))
+  added_chunk (then_action {h = j} {k = k} before by after) grown = added_chunk before (growth_after_growth_is_growth j k h by.grown grown)
 
 lines_of : (h : Sig) (n : TextNames) (gs : List FunId) (cs : List (NameId × SortId)) → map (line_declared h n lines.Constant) gs ≡ map (mapping_declared h n) cs → lines_declared h n lines.Constant gs ≡ mappings_declared h n cs
 lines_of h n [] [] e = refl
@@ -490,24 +492,37 @@ declared_sections : (h : Sig) (n : TextNames) (ss : List Struct) → declaration
 declared_sections h n [] = refl
 declared_sections h n (s ∷ ss) = ap (λ (ds : List Declaration). declaration_of h n s ∷ ds) (declared_sections h n ss)
 
+declared_actions : (h : Sig) (as_ : List NameId) → declarations_in (actions_declared h as_) ≡ map (action_declared h) as_
+declared_actions h [] = refl
+declared_actions h (a ∷ as_) = append-nil (map (action_declared h) (a ∷ as_))
+
+names_of_keys : (as_ : List NameId) → map (λ (a : Key). a.name) (map (λ (n : NameId). key n []) as_) ≡ as_
+names_of_keys [] = refl
+names_of_keys (a ∷ as_) = ap (λ (bs : List NameId). a ∷ bs) (names_of_keys as_)
+
 pub what_is_added_is_printed : WhatIsAddedIsPrinted
 what_is_added_is_printed spec g h stands is w =
     let numbers = added_numbers g stands w in
     let same : added_functions spec h ≡ numbers = added_are spec g h numbers is (numbers_are g stands w) in
     let chunk : (x : Name) → Chunk h (text_names_under h x) numbers (added_structs w) (added_constants w) = λ x. added_chunk g stands h x w (grown_itself h) in
+    let acts : added_actions_of spec h ≡ added_actions w = added_actions_are spec g h (map (λ (a : NameId). key a []) (added_actions w)) is (actions_grow g stands w) ∙ names_of_keys (added_actions w) in
     let declared_ : (x : Name) (empty_lists : List FunId) → added_declared spec h (text_names_under h x) empty_lists
-    ≡ map (section_of h (text_names_under h x)) (added_structs w) ++ (mappings_declared h (text_names_under h x) (added_constants w) ++ lines_declared h (text_names_under h x) lines.EmptyList empty_lists)
+    ≡ actions_declared h (added_actions w)
+    ++ (map (section_of h (text_names_under h x)) (added_structs w) ++ (mappings_declared h (text_names_under h x) (added_constants w) ++ lines_declared h (text_names_under h x) lines.EmptyList empty_lists))
     = λ x empty_lists. (let n = text_names_under h x in
-    ap (λ (fs : List FunId). flat_map (structs_declared h n) fs ++ (lines_declared h n lines.Constant (constants_among h fs) ++ lines_declared h n lines.EmptyList empty_lists)) same
-    ∙ ap₂ (λ (xs ys : List Section). xs ++ (ys ++ lines_declared h n lines.EmptyList empty_lists)) (chunk x).structs_are (lines_of h n (constants_among h numbers) (added_constants w) (chunk x).lines_are)) in
+    ap₂ (λ (as_ : List NameId) (fs : List FunId). actions_declared h as_ ++ (flat_map (structs_declared h n) fs ++ (lines_declared h n lines.Constant (constants_among h fs) ++ lines_declared h n lines.EmptyList empty_lists))) acts same
+    ∙ ap₂ (λ (xs ys : List Section). actions_declared h (added_actions w) ++ (xs ++ (ys ++ lines_declared h n lines.EmptyList empty_lists))) (chunk x).structs_are (lines_of h n (constants_among h numbers) (added_constants w) (chunk x).lines_are)) in
     record {
+      actions = acts;
       constants = ap (λ (fs : List FunId). map (name_at h) (constants_among h fs)) same ∙ (chunk []).names_are;
       declared = declared_;
       declarations = λ x empty_lists. (let n = text_names_under h x in
           ap declarations_in (declared_ x empty_lists)
-          ∙ flat_map-append (λ (s : Section). s.declarations) (map (section_of h n) (added_structs w)) (mappings_declared h n (added_constants w) ++ lines_declared h n lines.EmptyList empty_lists)
+          ∙ flat_map-append (λ (s : Section). s.declarations) (actions_declared h (added_actions w)) (map (section_of h n) (added_structs w) ++ (mappings_declared h n (added_constants w) ++ lines_declared h n lines.EmptyList empty_lists))
+          ∙ ap₂ (λ (xs ys : List Declaration). xs ++ ys) (declared_actions h (added_actions w))
+          (flat_map-append (λ (s : Section). s.declarations) (map (section_of h n) (added_structs w)) (mappings_declared h n (added_constants w) ++ lines_declared h n lines.EmptyList empty_lists)
           ∙ ap₂ (λ (xs ys : List Declaration). xs ++ ys) (declared_sections h n (added_structs w))
-          (flat_map-append (λ (s : Section). s.declarations) (mappings_declared h n (added_constants w)) (lines_declared h n lines.EmptyList empty_lists) ∙ ap₂ (λ (xs ys : List Declaration). xs ++ ys) (mappings_are h n (added_constants w)) (equations_are h n empty_lists)));
+          (flat_map-append (λ (s : Section). s.declarations) (mappings_declared h n (added_constants w)) (lines_declared h n lines.EmptyList empty_lists) ∙ ap₂ (λ (xs ys : List Declaration). xs ++ ys) (mappings_are h n (added_constants w)) (equations_are h n empty_lists))));
     }
 
 -- ---- the constants for empty lists

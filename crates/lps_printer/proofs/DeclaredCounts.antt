@@ -1,16 +1,17 @@
--- As many functions are in a vocabulary as its text declares.
+-- As many functions and actions are in a vocabulary as its text declares.
 use Rattle.std.proofs.Common.{◌≡◌, ◌+◌, ◌<◌, ℕ, zero, suc, Bool, true, false, cond, List, [], ◌∷◌, ◌++◌, length, map, drop, Option, Some, None, refl, sym, ap, ap₂, ◌∙◌, subst, arith, length-append}
 use Rattle.std.specs.Prelude.{bytes_eq}
-use Rattle.std.specs.List.{Contains, flat_map}
-use Rattle.std.proofs.lemmas.List.Elements.{Contains-append_right}
+use Rattle.std.specs.List.{All, Contains, flat_map}
+use Rattle.std.proofs.lemmas.List.Elements.{All-drop, Contains-append_right}
 use Rattle.std.proofs.Math.Seq.{drop-append_seam}
-use Rattle.std.proofs.lemmas.List.{drop-drop, length-map}
+use Rattle.std.proofs.lemmas.List.{drop-drop, drop-map, length-map}
 use Rattle.std.proofs.lemmas.Grind.{flat_map-append}
 use Rattle.std.proofs.lemmas.Slice.Eq.{bytes_eq-Decides}
 use Rattle.mcrl2_syntax.specs.Words.{PlainWord}
 use Rattle.mcrl2_syntax.specs.Declarations as trees
 use Rattle.mcrl2_syntax.specs.Declarations.{PlainField, PlainConstructor, PlainDecl, PlainSection, PlainSpec}
 use Rattle.data_theory.specs.declared.ids.FunId.{FunId}
+use Rattle.data_theory.specs.Keys.{Key}
 use Rattle.data_theory.specs.Signature.{Sig}
 use Rattle.sort_table.specs.Expressions.{Name}
 use Rattle.sort_table.specs.NamedLists.{all_named}
@@ -19,31 +20,31 @@ use Rattle.sort_table.specs.BareSorts.{SortExpression, truth_values, a_name, bar
 use Rattle.sort_table.specs.BareDeclarations.{Constructor, Declaration, bare_word, bare_field, bare_constructor, bare_declaration, bare_section, bare_sections, declarations_in}
 use Rattle.sort_table.specs.TextFunctions.{TextRole, Named, recogniser, where_named, fields_of, projections_from, functions_by, functions_in}
 use Rattle.sort_table.specs.TextFunctions as text
-use Rattle.sort_table.specs.SignatureVocabularies.{function_names_from, vocabulary_of}
-use Rattle.sort_table.specs.SortMeanings.{under_names}
-use Rattle.sort_table.specs.Vocabularies.{IsFunction, IsVocabularyOf}
+use Rattle.sort_table.specs.SignatureVocabularies.{function_names_from, action_under, vocabulary_of}
+use Rattle.sort_table.specs.SortMeanings.{actions_by, actions_in, under_names}
+use Rattle.sort_table.specs.Vocabularies.{IsFunction, AreSortsOf, IsVocabularyOf}
 use Rattle.sort_table.proofs.EnteringStructs.{as_many}
-use Rattle.lps_printer.specs.AddedDeclarations.{behind_name, behind_all, behind_field, behind_constructor, behind_declaration, behind_section, added_functions}
+use Rattle.lps_printer.specs.AddedDeclarations.{behind_name, behind_all, behind_field, behind_constructor, behind_declaration, behind_section, added_functions, behind_acts, behind_acts_of, added_actions_of}
 
 -- ---- how many functions a declaration passes
 -- a list without so many in front
-record Drops (behind : List FunId → List FunId) (k : ℕ) : Type 0 where
-  is : (fs : List FunId) → behind fs ≡ drop k fs
+record Drops {B : Type 0} (behind : List B → List B) (k : ℕ) : Type 0 where
+  is : (ys : List B) → behind ys ≡ drop k ys
 
-drops_none : Drops (λ fs. fs) 0
-drops_none = record { is = λ fs. refl }
+drops_none : {B : Type 0} → Drops {B = B} (λ ys. ys) 0
+drops_none = record { is = λ ys. refl }
 
-drops_both : (f g : List FunId → List FunId) (j k : ℕ) → Drops f j → Drops g k → Drops (λ fs. g (f fs)) (j + k)
-drops_both f g j k p q = record { is = λ fs. q.is (f fs) ∙ ap (drop k) (p.is fs) ∙ drop-drop k j fs }
+drops_both : {B : Type 0} (f g : List B → List B) (j k : ℕ) → Drops f j → Drops g k → Drops (λ ys. g (f ys)) (j + k)
+drops_both f g j k p q = record { is = λ ys. q.is (f ys) ∙ ap (drop k) (p.is ys) ∙ drop-drop k j ys }
 
-drops_as_many : (f : List FunId → List FunId) (j k : ℕ) → j ≡ k → Drops f j → Drops f k
-drops_as_many f j k e p = record { is = λ fs. p.is fs ∙ ap (λ (n : ℕ). drop n fs) e }
+drops_as_many : {B : Type 0} (f : List B → List B) (j k : ℕ) → j ≡ k → Drops f j → Drops f k
+drops_as_many f j k e p = record { is = λ ys. p.is ys ∙ ap (λ (n : ℕ). drop n ys) e }
 
 abbrev total : {A : Type 0} → (A → ℕ) → List A → ℕ
 total count [] = 0
 total count (x ∷ xs) = count x + total count xs
 
-drops_all : {A : Type 0} (behind : A → List FunId → List FunId) (count : A → ℕ) → ((x : A) → Drops (behind x) (count x)) → (xs : List A) → Drops (behind_all behind xs) (total count xs)
+drops_all : {A B : Type 0} (behind : A → List B → List B) (count : A → ℕ) → ((x : A) → Drops (behind x) (count x)) → (xs : List A) → Drops (behind_all behind xs) (total count xs)
 drops_all behind count each [] = drops_none
 drops_all behind count each (x ∷ xs) = drops_both (behind x) (behind_all behind xs) (count x) (total count xs) (each x) (drops_all behind count each xs)
 
@@ -98,7 +99,7 @@ constructors_long e (c ∷ cs) =
     put_together : (l a b p r f n t : ℕ) → a ≡ f + p → b ≡ n + r → l + (p + r) ≡ t → suc l + (a + b) ≡ ((1 + f) + n) + t
     put_together l a b p r f n t h k m = omega arith
 
-plain_drops : (to : Name → Named) (ws : List PlainWord) → Drops (λ fs. drop (length ws) fs) (length (map to (bare_names ws)))
+plain_drops : (to : Name → Named) (ws : List PlainWord) → Drops {B = FunId} (λ fs. drop (length ws) fs) (length (map to (bare_names ws)))
 plain_drops to ws = record { is = λ fs. ap (λ (n : ℕ). drop n fs) (sym (length-map (bare_names ws) to ∙ length-map ws bare_name)) }
 
 declaration_drops : (d : PlainDecl) → Drops (behind_declaration d) (length (functions_by (bare_declaration d)))
@@ -137,6 +138,47 @@ sections_drop (s ∷ ss) =
     let long : length (functions_in (own ++ others)) ≡ length (functions_in own) + length (functions_in others) = ap length (flat_map-append functions_by own others) ∙ length-append (functions_in own) (functions_in others) in
     drops_as_many (λ fs. behind_all behind_section ss (behind_section s fs)) (length (functions_in own) + length (functions_in others)) (length (functions_in (own ++ others))) (sym long)
     (drops_both (behind_section s) (behind_all behind_section ss) (length (functions_in own)) (length (functions_in others)) (declarations_drop s.declarations) (sections_drop ss))
+
+-- ---- and how many actions
+acts_drop : {B : Type 0} (d : PlainDecl) → Drops {B = B} (behind_acts d) (length (actions_by (bare_declaration d)))
+acts_drop (trees.sorts_decl span ws) = drops_none
+acts_drop (trees.alias_decl span w s) = drops_none
+acts_drop (trees.struct_decl span w cs) = drops_none
+acts_drop (trees.cons_decl span ws ss to) = drops_none
+acts_drop (trees.map_decl span ws ss to) = drops_none
+acts_drop (trees.vars_decl span gs) = drops_none
+acts_drop (trees.equation_decl span c l r) = drops_none
+acts_drop (trees.act_decl span ws ss) = record { is = λ ys. ap (λ (n : ℕ). drop n ys) (sym (length-map (bare_names ws) (λ (a : Name). (a, map bare_sort ss)) ∙ length-map ws bare_name)) }
+acts_drop (trees.proc_decl span w gs p) = drops_none
+acts_drop (trees.init_decl span p) = drops_none
+
+declared_acts_drop : {B : Type 0} (ds : List PlainDecl) → Drops {B = B} (behind_all behind_acts ds) (length (actions_in (map bare_declaration ds)))
+declared_acts_drop [] = drops_none
+declared_acts_drop (d ∷ ds) =
+    let one = actions_by (bare_declaration d) in
+    let more = actions_in (map bare_declaration ds) in
+    drops_as_many (λ ys. behind_all behind_acts ds (behind_acts d ys)) (length one + length more) (length (one ++ more)) (sym (length-append one more))
+    (drops_both (behind_acts d) (behind_all behind_acts ds) (length one) (length more) (acts_drop d) (declared_acts_drop ds))
+
+all_acts_drop : {B : Type 0} (ss : List PlainSection) → Drops {B = B} (behind_all behind_acts_of ss) (length (actions_in (declarations_in (map bare_section ss))))
+all_acts_drop [] = drops_none
+all_acts_drop (s ∷ ss) =
+    let own : List Declaration = map bare_declaration s.declarations in
+    let others : List Declaration = declarations_in (map bare_section ss) in
+    let long : length (actions_in (own ++ others)) ≡ length (actions_in own) + length (actions_in others) = ap length (flat_map-append actions_by own others) ∙ length-append (actions_in own) (actions_in others) in
+    drops_as_many (λ ys. behind_all behind_acts_of ss (behind_acts_of s ys)) (length (actions_in own) + length (actions_in others)) (length (actions_in (own ++ others))) (sym long)
+    (drops_both (behind_acts_of s) (behind_all behind_acts_of ss) (length (actions_in own)) (length (actions_in others)) (declared_acts_drop s.declarations) (all_acts_drop ss))
+
+-- what holds of all of them holds of those behind
+pub acts_behind : {B : Type 0} (P : B → Type 0) (ss : List PlainSection) (ys : List B) → All P ys → All P (behind_all behind_acts_of ss ys)
+acts_behind P ss ys all = let d = all_acts_drop ss in subst (All P) (sym (d.is ys)) (All-drop P (length (actions_in (declarations_in (map bare_section ss)))) ys all)
+
+-- they may be mapped first
+pub acts_mapped : {A B : Type 0} (f : A → B) (ss : List PlainSection) (xs : List A) → behind_all behind_acts_of ss (map f xs) ≡ map f (behind_all behind_acts_of ss xs)
+acts_mapped f ss xs =
+    let d = all_acts_drop ss in
+    let e = all_acts_drop ss in
+    d.is (map f xs) ∙ drop-map f (length (actions_in (declarations_in (map bare_section ss)))) xs ∙ sym (ap (map f) (e.is xs))
 
 -- ---- lists that have as many under each name
 abbrev hit : Bool → ℕ
@@ -211,6 +253,18 @@ pub added_are : (spec : PlainSpec) (g h : Sig) (new : List FunId) → IsVocabula
 added_are spec g h new is e =
     let d = sections_drop spec.sections in
     d.is h.declared ∙ ap₂ (λ (n : ℕ) (fs : List FunId). drop n fs) (declared_long spec g is) e ∙ drop-append_seam g.declared new
+
+-- and the actions
+actions_long : (spec : PlainSpec) (g : Sig) → IsVocabularyOf (under_names (declarations_in (bare_sections spec))) (vocabulary_of g) → length (actions_in (declarations_in (bare_sections spec))) ≡ length g.actions
+actions_long spec g is =
+    let ds = declarations_in (bare_sections spec) in
+    let own = map (action_under g) g.actions in
+    same_length (actions_in ds) own (λ a. as_many (AreSortsOf (vocabulary_of g)) (all_named a (actions_in ds)) (all_named a own) (is.actions a)) ∙ length-map g.actions (action_under g)
+
+pub added_actions_are : (spec : PlainSpec) (g h : Sig) (new : List Key) → IsVocabularyOf (under_names (declarations_in (bare_sections spec))) (vocabulary_of g) → h.actions ≡ g.actions ++ new → added_actions_of spec h ≡ map (λ (a : Key). a.name) new
+added_actions_are spec g h new is e =
+    let d = all_acts_drop spec.sections in
+    ap (map (λ (a : Key). a.name)) (d.is h.actions ∙ ap₂ (λ (n : ℕ) (as_ : List Key). drop n as_) (actions_long spec g is) e ∙ drop-append_seam g.actions new)
 
 in_dropped : {A : Type 0} (k : ℕ) (xs : List A) (x : A) → Contains (drop k xs) x → Contains xs x
 in_dropped zero xs x c = c

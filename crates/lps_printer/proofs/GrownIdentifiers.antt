@@ -1,4 +1,4 @@
--- Names stay identifiers as structs and constants are added.
+-- Names stay identifiers as structs, constants and actions are added.
 use Rattle.std.proofs.Common.{◌≡◌, ◌<◌, ◌+◌, ℕ, zero, suc, List, [], ◌∷◌, ◌++◌, length, map, get_or, sym, ap, ◌∙◌, subst, arith, Option, Some}
 use Rattle.std.specs.Prelude.{slice_get, option_map}
 use Rattle.std.specs.List.{All}
@@ -12,7 +12,7 @@ use Rattle.data_theory.specs.declared.signature.Variable.{Variable}
 use Rattle.data_theory.specs.Complete.{IsFunctionWithin}
 use Rattle.data_theory.specs.Functions.{Function, declared_function}
 use Rattle.data_theory.specs.IdTerms.{IsGrown}
-use Rattle.data_theory.specs.Keys.{Key}
+use Rattle.data_theory.specs.Keys.{Key, key}
 use Rattle.data_theory.specs.Signature.{Sig}
 use Rattle.data_theory.specs.Structs.{numbers_from}
 use Rattle.data_theory.specs.Terms.{Sort, boolean, positive, natural, integer, list, named as declared_sort}
@@ -28,9 +28,10 @@ use Rattle.lps_core.specs.Naming.{name_of}
 use Rattle.lps_printer.specs.DataLayout.{IsIdentifier}
 use Rattle.lps_printer.specs.FittingLinears.{HasIdentifier}
 use Rattle.lps_printer.specs.GrownIdentifiers.{FunctionNamed, DeclaresIdentifiers, DeclaredStayIdentifiers, NamesStayIdentifiers, WrittenSortsRead}
-use Rattle.lps_printer.specs.GrowingByAdditions.{GrowsByStruct, nothing_added, then_constants, then_struct}
+use Rattle.lps_printer.specs.GrowingByAdditions.{GrowsByStruct, nothing_added, then_constants, then_struct, then_action}
 use Rattle.lps_printer.proofs.GrowingByAdditions.{still_stands, additions_grow}
 use Rattle.lps_printer.proofs.GrownStructs.{bare, first, fs, it_is_grown, declared_are, actions_are}
+use Rattle.lps_printer.specs.GrowingByActions.{GrowsByAction}
 use Rattle.lps_printer.specs.GrowingByConstants.{SortsAreNamed, GrowsByConstants}
 use Rattle.lps_printer.specs.NamedSummands.{IsNamed}
 use Rattle.lps_printer.specs.WrittenProcesses.{TextNames, sort_written}
@@ -128,10 +129,25 @@ with_struct g h before b named =
           (λ i d k. identifier_still g h before w (get_or g.actions i d).name (before.complete.within.actions i d k).named (named.actions i d k));
     }
 
+-- where an action is added
+with_action : (g h : Sig) → IsSignature g → GrowsByAction g h → DeclaresIdentifiers g → DeclaresIdentifiers h
+with_action g h before b named =
+    let w = b.grown in
+    let HasName = λ (a : Key). IsIdentifier (text_under h a.name) in
+    record {
+      functions = subst (All (FunctionNamed h)) (sym b.declared) (λ i d k. function_still g h before w (get_or g.declared i d) (before.complete.within.declared i d k) (named.functions i d k));
+      sorts = subst (All (λ (e : NameId × SortId). IsIdentifier (text_under h e.0))) (sym b.sort_names)
+          (λ i d k. identifier_still g h before w (get_or g.sort_names i d).0 (before.complete.within.sort_names i d k).0 (named.sorts i d k));
+      actions = subst (All HasName) (sym b.actions)
+          (All-append HasName g.actions (key b.name [] ∷ []) (λ i d k. identifier_still g h before w (get_or g.actions i d).name (before.complete.within.actions i d k).named (named.actions i d k))
+          (All-cons HasName (key b.name []) [] b.identifier (All-nil HasName)));
+    }
+
 pub declared_still : DeclaredStayIdentifiers
 declared_still g _ before nothing_added named = named
 declared_still g k before (then_constants {h = j} earlier by after) named = with_constants j k (still_stands g before earlier) by (declared_still g j before earlier named)
 declared_still g k before (then_struct {h = j} earlier by after) named = with_struct j k (still_stands g before earlier) by (declared_still g j before earlier named)
+declared_still g k before (then_action {h = j} earlier by after) named = with_action j k (still_stands g before earlier) by (declared_still g j before earlier named)
 
 pub names_still : NamesStayIdentifiers
 names_still g h ts l before fits b named =

@@ -1,4 +1,4 @@
--- The vocabulary of a signature that has grown by structs and constants has names behind the old ones that weren't taken.
+-- The vocabulary of a signature that has grown by structs, constants and actions has names of functions behind the old ones that weren't taken.
 use Rattle.std.proofs.Common.{◌≡◌, ◌+◌, ◌<◌, ℕ, suc, List, [], ◌∷◌, length, map, sym, ap, ◌∙◌, subst, Some}
 use Rattle.std.specs.Prelude.{option_map, slice_get}
 use Rattle.std.specs.List.{AllByRecursion}
@@ -24,11 +24,11 @@ use Rattle.sort_table.specs.Growth.{More, with_more}
 use Rattle.sort_table.specs.SignatureVocabularies.{text_under, function_name_of, function_names_from, vocabulary_of}
 use Rattle.sort_table.proofs.GrowingSignatures.{grown_signatures_have_more}
 use Rattle.lps_printer.specs.GrowingByConstants.{GrowsByConstants}
-use Rattle.lps_printer.specs.GrowingByAdditions.{GrowsByStruct, GrowsByAdditions, nothing_added, then_constants, then_struct}
+use Rattle.lps_printer.specs.GrowingByAdditions.{GrowsByStruct, GrowsByAdditions, nothing_added, then_constants, then_struct, then_action}
 use Rattle.lps_printer.proofs.AddedVocabularies.{constant_within}
 use Rattle.lps_printer.proofs.ConstantVocabularies.{same_rest, names_long, names_after}
 use Rattle.lps_printer.proofs.DeclaredAdditions.{all_numbers}
-use Rattle.lps_printer.proofs.GrowingByAdditions.{still_stands, additions_grow, same_actions, added_numbers, numbers_are}
+use Rattle.lps_printer.proofs.GrowingByAdditions.{still_stands, additions_grow, added_numbers, numbers_are}
 use Rattle.lps_printer.proofs.GrowingByConstants.{still_taken}
 use Rattle.lps_printer.proofs.GrownIdentifiers.{constant_there}
 use Rattle.lps_printer.proofs.GrownSorts.{text_still}
@@ -84,10 +84,11 @@ all_newly g h stands (then_struct {h = j} {k = k} earlier by after) grown =
     let own = numbers_from (first j k its by) (length (fs j k its by)) in
     let since : (f : FunId) → NamedNewly j h f → NamedNewly g h f = λ f new taken. new (still_taken g j _ (additions_grow g stands earlier) taken) in
     all_both (NamedNewly g h) (added_numbers g stands earlier) own (all_newly g h stands earlier (growth_after_growth_is_growth j k h (it_is_grown j k its by) grown)) (all_weaker (NamedNewly j h) (NamedNewly g h) since own (by_struct j k h grown after its by))
+all_newly g h stands (then_action {h = j} {k = k} earlier by after) grown = all_newly g h stands earlier (growth_after_growth_is_growth j k h by.grown grown)
 
 pub grown_vocabulary : (g h : Sig) → IsSignature g → IsSignature h → GrowsByAdditions g h → GrownVocabulary g h
 grown_vocabulary g h before after w =
-    let m = grown_signatures_have_more g h before.complete before.table before.roles after.roles (additions_grow g before w) (same_actions g before w) in
+    let m = grown_signatures_have_more g h before.complete before.table before.roles after.roles (additions_grow g before w) in
     let numbers = added_numbers g before w in
     let rest = function_names_from h (0 + length g.declared) numbers in
     let functions : m.0.function_names ≡ rest =

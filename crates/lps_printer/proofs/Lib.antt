@@ -62,6 +62,7 @@ pub mod PrintedTexts
 pub mod NilsAmong
 pub mod ConstantNils
 mod AddedFunctions
+mod AddedActions
 mod AddedSections
 mod AddedStructs
 pub mod PrintedLinears
@@ -107,6 +108,7 @@ pub mod GrownSorts
 pub mod GrownStructs
 pub mod GrowingByAdditions
 pub mod StructVocabularies
+pub mod ActionVocabularies
 pub mod AddedVocabularies
 pub mod ApartAdditions
 pub mod DeclaredAdditions

@@ -5,8 +5,10 @@ use Rattle.std.specs.List.{All, AllByRecursion, Contains}
 use Rattle.std.proofs.lemmas.List.Elements.{All-nil, All-contains, Contains-append_right}
 use Rattle.std.proofs.lemmas.Option.{get_or_from_slice_get, none-some}
 use Rattle.data_theory.specs.declared.ids.FunId.{FunId}
+use Rattle.data_theory.specs.declared.ids.NameId.{NameId}
 use Rattle.data_theory.specs.declared.ids.SortId.{SortId}
 use Rattle.data_theory.specs.Functions.{Function, arguments_of}
+use Rattle.data_theory.specs.Keys.{Key}
 use Rattle.data_theory.specs.Signature.{Sig}
 use Rattle.data_theory.specs.Sorts as kinds
 use Rattle.data_theory.specs.Sorts.{SortInfo}
@@ -16,8 +18,8 @@ use Rattle.data_theory.specs.IdTerms.{sort_under}
 use Rattle.data_theory.specs.WholeSignatures.{IsSignature, HasDeclaredConstructors}
 use Rattle.data_theory.proofs.IdSortLemmas.{read_within}
 use Rattle.data_theory.proofs.PlaceLemmas.{contains_read}
-use Rattle.sort_table.specs.SignatureVocabularies.{function_name_of}
-use Rattle.lps_printer.specs.AddedDeclarations.{no_function, function_at, name_at, kind_at, constructors_in, begun_by, struct_begun, is_constant, constants_among, constant_with, some_name, fields_with, constructor_with, added_functions}
+use Rattle.sort_table.specs.SignatureVocabularies.{text_under, function_name_of}
+use Rattle.lps_printer.specs.AddedDeclarations.{no_function, function_at, name_at, kind_at, constructors_in, begun_by, struct_begun, is_constant, constants_among, constant_with, some_name, fields_with, constructor_with, added_functions, behind_all, behind_acts_of}
 use Rattle.lps_printer.specs.DataLayout.{IsIdentifier}
 use Rattle.lps_printer.specs.GrownIdentifiers.{FunctionNamed, WhatIsAddedIsNamed}
 use Rattle.lps_printer.specs.NamedStructs.{IsNamedOption, IsNamedField, IsNamedConstructor, IsNamedStruct, BeginsNamedStruct}
@@ -26,7 +28,7 @@ use Rattle.lps_printer.specs.WrittenProcesses.{TextNames}
 use Rattle.lps_printer.specs.TextWordings.{sort_place}
 use Rattle.data_theory.specs.Table.{bool_sort}
 use Rattle.lps_printer.proofs.DeclaredAdditions.{get_all}
-use Rattle.lps_printer.proofs.DeclaredCounts.{added_are_declared}
+use Rattle.lps_printer.proofs.DeclaredCounts.{acts_behind, added_are_declared}
 use Rattle.lps_printer.proofs.GrownIdentifiers.{sort_named}
 use Rattle.lps_printer.proofs.SignatureNames.{declared_there}
 use Rattle.lps_printer.proofs.TwoOfLists.{all_from, all_mapped}
@@ -113,10 +115,13 @@ module _ (h : Sig) (n : TextNames) (stands : IsSignature h) (functions : All (Fu
   constant_named f c = (name_of f c, sort_named n sorts (sort_under h (function_at h f).result))
 
 pub what_is_added_is_named : WhatIsAddedIsNamed
-what_is_added_is_named spec h n empty_lists stands functions sorts among =
+what_is_added_is_named spec h n empty_lists stands functions acts sorts among =
     let added = added_functions spec h in
     let constants = constants_among h added in
     record {
+      actions = all_mapped (λ (a : NameId). IsIdentifier (text_under h a)) (λ (k : Key). k.name) (behind_all behind_acts_of spec.sections h.actions)
+          (all_from (λ (k : Key). IsIdentifier (text_under h k.name)) (behind_all behind_acts_of spec.sections h.actions)
+          (λ k c. All-contains (λ (j : Key). IsIdentifier (text_under h j.name)) (behind_all behind_acts_of spec.sections h.actions) k (acts_behind (λ (j : Key). IsIdentifier (text_under h j.name)) spec.sections h.actions acts) c));
       structs = all_from (BeginsNamedStruct h n) added (λ f c. begins_named h n stands functions sorts f);
       constants = all_from (λ (f : FunId). IsNamedVariable (constant_with h n f)) constants (λ f c. constant_named h n stands functions sorts f (added_are_declared spec h f (in_constants h added f c)));
       lists = all_from (λ (f : FunId). IsIdentifier (name_at h f)) empty_lists (λ f c. name_of h n stands functions sorts f (added_are_declared spec h f (in_constants h added f (All-contains (Contains constants) empty_lists f among c))));

@@ -45,9 +45,9 @@ use Rattle.sort_table.proofs.StandingNames.{declared_names_stand}
 use Rattle.lps_printer.specs.WrittenProcesses.{TextNames, sort_written, start_written}
 use Rattle.lps_printer.specs.CopiedSections.{kept_sections}
 use Rattle.lps_printer.specs.LinearBack.{EachTwo}
-use Rattle.lps_printer.specs.AddedDeclarations.{name_at, empty_list_declared}
+use Rattle.lps_printer.specs.AddedDeclarations.{name_at, empty_list_declared, action_declared}
 use Rattle.lps_printer.specs.DeclaredAdditions.{field_declared, constructor_declared, declaration_of}
-use Rattle.lps_printer.specs.GrowingByAdditions.{Struct, added_structs, added_constants}
+use Rattle.lps_printer.specs.GrowingByAdditions.{Struct, added_structs, added_constants, added_actions}
 use Rattle.lps_printer.specs.GrownTexts.{mapping_declared}
 use Rattle.lps_printer.specs.SignatureNames.{text_names_under}
 use Rattle.lps_printer.specs.PrintedDeclarations.{IsEquation, WhatIsAddedIsDeclared, CanBeListed, process_declared, DeclaresMore, printed_declared, AreSoundOver, PrintedDeclarationsAreSound}
@@ -55,7 +55,7 @@ use Rattle.lps_printer.proofs.TwoOfLists.{in_front, behind_one, in_nothing, in_m
 use Rattle.lps_printer.proofs.TextItems.{fixed_by, vars_by, name_of, again_name, NotAgain, HasOtherVariables, AreOthers, ItemsDiffer, items_differ, fixed_stands, nothing_again}
 use Rattle.lps_printer.proofs.KeptDeclarations.{kept_within, kept_names, kept_kinds, kept_functions, kept_actions}
 use Rattle.lps_printer.proofs.AddedVocabularies.{flat_ones, HasSortsBelow, structs_below, constants_below, additions_have_vocabulary}
-use Rattle.lps_printer.proofs.ApartAdditions.{Other, Apart, structs_in, mappings_in, struct_names, constant_names, names_apart, structs_in_front}
+use Rattle.lps_printer.proofs.ApartAdditions.{Other, Apart, ActionsApart, acts_in, structs_in, mappings_in, action_names, struct_names, constant_names, names_apart, actions_apart, structs_in_front}
 use Rattle.lps_printer.proofs.GrowingByConstants.{two_by}
 use Rattle.lps_printer.proofs.GrownSorts.{read_still}
 use Rattle.term_pool.proofs.DeclaredConstants.{grown_itself}
@@ -286,6 +286,9 @@ module _ (spec : PlainSpec) (g h : Sig) (added : List Section) (x : Name) (l : L
   abbrev C : List Declaration
   C = declarations_in copied
 
+  abbrev N : List Declaration
+  N = acts_in g m.stands h x m.grows
+
   abbrev S : List Declaration
   S = structs_in g m.stands h x m.grows
 
@@ -314,39 +317,41 @@ module _ (spec : PlainSpec) (g h : Sig) (added : List Section) (x : Name) (l : L
   w = under_names ds
 
   abbrev behind : List Declaration
-  behind = S ++ (M ++ (E ++ (P ∷ I ∷ [])))
+  behind = N ++ (S ++ (M ++ (E ++ (P ∷ I ∷ []))))
 
   its_declarations : ds ≡ C ++ behind
   its_declarations =
       flat_behind (λ (s : Section). s.declarations) (copied ++ added) _
       ∙ (ap (λ xs. xs ++ (P ∷ I ∷ [])) (flat_behind (λ (s : Section). s.declarations) copied added ∙ ap (λ xs. C ++ xs) m.additions.declared)
-      ∙ (append_assoc C (S ++ (M ++ E)) (P ∷ I ∷ []) ∙ ap (λ xs. C ++ xs) (append_assoc S (M ++ E) (P ∷ I ∷ []) ∙ ap (λ xs. S ++ xs) (append_assoc M E (P ∷ I ∷ [])))))
+      ∙ (append_assoc C (N ++ (S ++ (M ++ E))) (P ∷ I ∷ [])
+      ∙ ap (λ xs. C ++ xs) (append_assoc N (S ++ (M ++ E)) (P ∷ I ∷ []) ∙ ap (λ xs. N ++ xs) (append_assoc S (M ++ E) (P ∷ I ∷ []) ∙ ap (λ xs. S ++ xs) (append_assoc M E (P ∷ I ∷ []))))))
 
   -- what declarations give, where equations give nothing
   module _ {B : Type 0} (by : Declaration → List B) (none : (c : _) (f r : _) → by (equation c f r) ≡ []) where
-    in_parts : flat_map by ds ≡ flat_map by C ++ (flat_map by S ++ (flat_map by M ++ (by P ++ (by I ++ []))))
+    in_parts : flat_map by ds ≡ flat_map by C ++ (flat_map by N ++ (flat_map by S ++ (flat_map by M ++ (by P ++ (by I ++ [])))))
     in_parts =
         ap (flat_map by) its_declarations
-        ∙ (flat_behind by C behind ∙ ap (λ xs. flat_map by C ++ xs) (flat_behind by S (M ++ (E ++ (P ∷ I ∷ []))) ∙ ap (λ xs. flat_map by S ++ xs) (flat_behind by M (E ++ (P ∷ I ∷ []))
-        ∙ ap (λ xs. flat_map by M ++ xs) (flat_behind by E (P ∷ I ∷ []) ∙ ap (λ xs. xs ++ flat_map by (P ∷ I ∷ [])) (no_equations by none E m.additions.others)))))
+        ∙ (flat_behind by C behind ∙ ap (λ xs. flat_map by C ++ xs) (flat_behind by N (S ++ (M ++ (E ++ (P ∷ I ∷ [])))) ∙ ap (λ xs. flat_map by N ++ xs) (flat_behind by S (M ++ (E ++ (P ∷ I ∷ [])))
+        ∙ ap (λ xs. flat_map by S ++ xs) (flat_behind by M (E ++ (P ∷ I ∷ []))
+        ∙ ap (λ xs. flat_map by M ++ xs) (flat_behind by E (P ∷ I ∷ []) ∙ ap (λ xs. xs ++ flat_map by (P ∷ I ∷ [])) (no_equations by none E m.additions.others))))))
 
-  in_both : {B : Type 0} (by : Declaration → List B) → flat_map by (O ++ (S ++ M)) ≡ flat_map by O ++ (flat_map by S ++ flat_map by M)
-  in_both by = flat_behind by O (S ++ M) ∙ ap (λ xs. flat_map by O ++ xs) (flat_behind by S M)
+  in_both : {B : Type 0} (by : Declaration → List B) → flat_map by (O ++ (N ++ (S ++ M))) ≡ flat_map by O ++ (flat_map by N ++ (flat_map by S ++ flat_map by M))
+  in_both by = flat_behind by O (N ++ (S ++ M)) ∙ ap (λ xs. flat_map by O ++ xs) (flat_behind by N (S ++ M) ∙ ap (λ xs. flat_map by N ++ xs) (flat_behind by S M))
 
   -- ---- what stands under its names
-  same_kinds : kinds_in ds ≡ kinds_in (O ++ (S ++ M))
+  same_kinds : kinds_in ds ≡ kinds_in (O ++ (N ++ (S ++ M)))
   same_kinds =
-      in_parts kinds_by (λ c f r. refl) ∙ ap₂ (λ xs ys. xs ++ ys) (kept_kinds spec.sections m.placed) (ap (λ xs. kinds_in S ++ xs) (append-nil (kinds_in M))) ∙ sym (in_both kinds_by)
+      in_parts kinds_by (λ c f r. refl) ∙ ap₂ (λ xs ys. xs ++ ys) (kept_kinds spec.sections m.placed) (ap (λ xs. kinds_in N ++ (kinds_in S ++ xs)) (append-nil (kinds_in M))) ∙ sym (in_both kinds_by)
 
-  same_actions : actions_in ds ≡ actions_in (O ++ (S ++ M))
+  same_actions : actions_in ds ≡ actions_in (O ++ (N ++ (S ++ M)))
   same_actions =
-      in_parts actions_by (λ c f r. refl) ∙ ap₂ (λ xs ys. xs ++ ys) (kept_actions spec.sections m.placed) (ap (λ xs. actions_in S ++ xs) (append-nil (actions_in M))) ∙ sym (in_both actions_by)
+      in_parts actions_by (λ c f r. refl) ∙ ap₂ (λ xs ys. xs ++ ys) (kept_actions spec.sections m.placed) (ap (λ xs. actions_in N ++ (actions_in S ++ xs)) (append-nil (actions_in M))) ∙ sym (in_both actions_by)
 
-  same_functions : functions_in ds ≡ functions_in (O ++ (S ++ M))
+  same_functions : functions_in ds ≡ functions_in (O ++ (N ++ (S ++ M)))
   same_functions =
-      in_parts functions_by (λ c f r. refl) ∙ ap₂ (λ xs ys. xs ++ ys) (kept_functions spec.sections m.placed) (ap (λ xs. functions_in S ++ xs) (append-nil (functions_in M))) ∙ sym (in_both functions_by)
+      in_parts functions_by (λ c f r. refl) ∙ ap₂ (λ xs ys. xs ++ ys) (kept_functions spec.sections m.placed) (ap (λ xs. functions_in N ++ (functions_in S ++ xs)) (append-nil (functions_in M))) ∙ sym (in_both functions_by)
 
-  under_printed : w ≡ under_names (O ++ (S ++ M))
+  under_printed : w ≡ under_names (O ++ (N ++ (S ++ M)))
   under_printed = λ i. record { sort = λ y. first_named y (same_kinds i); functions = λ f. all_named f (same_functions i); actions = λ a. all_named a (same_actions i) }
 
   its_vocabulary : IsVocabularyOf w (vocabulary_of h)
@@ -355,7 +360,7 @@ module _ (spec : PlainSpec) (g h : Sig) (added : List Section) (x : Name) (l : L
       (additions_have_vocabulary g m.stands h x O m.vocabulary (declared_names_stand O m.sound.known m.sound.no_cycle) m.grows (grown_itself h)).0
 
   kept : (y : Name) (k : Kind) → u.sort y ≡ Some k → w.sort y ≡ Some k
-  kept y k q = ap (first_named y) (same_kinds ∙ flat_behind kinds_by O (S ++ M)) ∙ first_behind y (kinds_in O) (kinds_in (S ++ M)) k q
+  kept y k q = ap (first_named y) (same_kinds ∙ flat_behind kinds_by O (N ++ (S ++ M))) ∙ first_behind y (kinds_in O) (kinds_in (N ++ (S ++ M))) k q
 
   -- ---- sort names
   has_known : (e : SortExpression) (s : Sort) → sort_in (vocabulary_of h).sort_names e ≡ Some s → AllByRecursion (IsKnown (kinds_in ds)) (name_in e)
@@ -379,6 +384,9 @@ module _ (spec : PlainSpec) (g h : Sig) (added : List Section) (x : Name) (l : L
   known_constructors (c ∷ cs) all =
       all_both (IsKnown (kinds_in ds)) (flat_map (λ (y : Field). name_in y.sort) (map (field_declared h n) c.fields)) (flat_map names_of_fields (map (constructor_declared h n) cs))
       (known_fields c.fields (All-head (HasSortsBelow (length h.sorts)) c cs all)) (known_constructors cs (All-tail (HasSortsBelow (length h.sorts)) c cs all))
+
+  known_actions : AllByRecursion (UsesKnown (kinds_in ds)) N
+  known_actions = all_mapped (UsesKnown (kinds_in ds)) (action_declared h) (added_actions m.grows) (all_from (λ a. UsesKnown (kinds_in ds) (action_declared h a)) (added_actions m.grows) (λ a c. refl))
 
   known_structs : AllByRecursion (UsesKnown (kinds_in ds)) S
   known_structs = all_mapped (UsesKnown (kinds_in ds)) (declaration_of h n) (added_structs m.grows)
@@ -407,23 +415,25 @@ module _ (spec : PlainSpec) (g h : Sig) (added : List Section) (x : Name) (l : L
       subst (AllByRecursion uses) (sym its_declarations)
       (all_both uses C behind
       (all_weaker (UsesKnown (kinds_in O)) uses (λ d k. none_unknown (kinds_in ds) (sorts_used d) (still_known (kinds_in O) (kinds_in ds) was_known (sorts_used d) k)) C (within_all (UsesKnown (kinds_in O)) declarations_within m.sound.known))
+      (all_both uses N (S ++ (M ++ (E ++ (P ∷ I ∷ [])))) known_actions
       (all_both uses S (M ++ (E ++ (P ∷ I ∷ []))) known_structs
       (all_both uses M (E ++ (P ∷ I ∷ [])) known_mappings
-      (all_both uses E (P ∷ I ∷ []) (all_weaker IsEquation uses (of_equation uses (λ c f r. refl)) E m.additions.others) (known_process, (refl, tt))))))
+      (all_both uses E (P ∷ I ∷ []) (all_weaker IsEquation uses (of_equation uses (λ c f r. refl)) E m.additions.others) (known_process, (refl, tt)))))))
 
   -- what holds of each declaration behind the copied ones
-  all_behind : (Q : Declaration → Type 0) → ((s : Struct) → Q (declaration_of h n s)) → ((c : NameId × SortId) → Q (mapping_declared h n c)) → ((c : _) (f r : _) → Q (equation c f r)) → Q P → Q I → AllByRecursion Q behind
-  all_behind Q a b c p i =
-      all_both Q S (M ++ (E ++ (P ∷ I ∷ []))) (all_mapped Q (declaration_of h n) (added_structs m.grows) (all_from (λ s. Q (declaration_of h n s)) (added_structs m.grows) (λ s k. a s)))
+  all_behind : (Q : Declaration → Type 0) → ((k : NameId) → Q (action_declared h k)) → ((s : Struct) → Q (declaration_of h n s)) → ((c : NameId × SortId) → Q (mapping_declared h n c)) → ((c : _) (f r : _) → Q (equation c f r)) → Q P → Q I → AllByRecursion Q behind
+  all_behind Q act a b c p i =
+      all_both Q N (S ++ (M ++ (E ++ (P ∷ I ∷ [])))) (all_mapped Q (action_declared h) (added_actions m.grows) (all_from (λ k. Q (action_declared h k)) (added_actions m.grows) (λ k j. act k)))
+      (all_both Q S (M ++ (E ++ (P ∷ I ∷ []))) (all_mapped Q (declaration_of h n) (added_structs m.grows) (all_from (λ s. Q (declaration_of h n s)) (added_structs m.grows) (λ s k. a s)))
       (all_both Q M (E ++ (P ∷ I ∷ [])) (all_mapped Q (mapping_declared h n) (added_constants m.grows) (all_from (λ y. Q (mapping_declared h n y)) (added_constants m.grows) (λ y k. b y)))
-      (all_both Q E (P ∷ I ∷ []) (all_weaker IsEquation Q (of_equation Q c) E m.additions.others) (p, (i, tt))))
+      (all_both Q E (P ∷ I ∷ []) (all_weaker IsEquation Q (of_equation Q c) E m.additions.others) (p, (i, tt)))))
 
   -- ---- cycles
   abbrev IsNoAlias : Declaration → Type 0
   IsNoAlias d = is_alias d ≡ false
 
   no_alias_behind : AllByRecursion IsNoAlias behind
-  no_alias_behind = all_behind IsNoAlias (λ s. refl) (λ c. refl) (λ c f r. refl) refl refl
+  no_alias_behind = all_behind IsNoAlias (λ k. refl) (λ s. refl) (λ c. refl) (λ c f r. refl) refl refl
 
   its_alias : (y : Name) (e : SortExpression) → Contains ds (alias y e) → Contains O (alias y e)
   its_alias y e c = ⊎_elim (λ here. within_contains (alias y e) declarations_within here) (λ there. (let never : true ≡ false = all_contained IsNoAlias behind (alias y e) no_alias_behind there in absurd cc))
@@ -441,6 +451,9 @@ module _ (spec : PlainSpec) (g h : Sig) (added : List Section) (x : Name) (l : L
   its_no_cycle (a ∷ ns) is = m.sound.no_cycle (a ∷ ns) (refer_then a a ns is)
 
   -- ---- what is declared once
+  abbrev action_items : List Item
+  action_items = flat_map fixed_by N
+
   abbrev struct_items : List Item
   struct_items = flat_map fixed_by S
 
@@ -448,13 +461,22 @@ module _ (spec : PlainSpec) (g h : Sig) (added : List Section) (x : Name) (l : L
   mapping_items = flat_map fixed_by M
 
   abbrev more_items : List Item
-  more_items = struct_items ++ (mapping_items ++ (a_process x ∷ []))
+  more_items = action_items ++ (struct_items ++ (mapping_items ++ (a_process x ∷ [])))
 
   its_items : flat_map fixed_by ds ≡ flat_map fixed_by C ++ more_items
   its_items = in_parts fixed_by (λ c f r. refl)
 
   apart : Apart g h (struct_names g m.stands h x m.grows) (constant_names g m.stands h x m.grows)
   apart = names_apart g m.stands h x m.grows (grown_itself h)
+
+  acts_apart : ActionsApart g h (action_names g m.stands h x m.grows)
+  acts_apart = actions_apart g m.stands h x m.grows (grown_itself h)
+
+  action_items_are : action_items ≡ map (λ (a : NameId). an_action (text_under h a) []) (added_actions m.grows)
+  action_items_are = flat_ones fixed_by (action_declared h) (λ (a : NameId). an_action (text_under h a) []) (λ a. refl) (added_actions m.grows)
+
+  action_items_named : map name_of action_items ≡ action_names g m.stands h x m.grows
+  action_items_named = ap (map name_of) action_items_are ∙ sym (map_map (λ (a : NameId). an_action (text_under h a) []) name_of (added_actions m.grows))
 
   struct_items_named : map name_of struct_items ≡ struct_names g m.stands h x m.grows
   struct_items_named = map_flat name_of fixed_by S
@@ -464,6 +486,9 @@ module _ (spec : PlainSpec) (g h : Sig) (added : List Section) (x : Name) (l : L
       ap (map name_of) (flat_ones fixed_by (mapping_declared h n) (λ (c : NameId × SortId). a_function (text_under h c.0) []) (λ c. refl) (added_constants m.grows))
       ∙ sym (map_map (λ (c : NameId × SortId). a_function (text_under h c.0) []) name_of (added_constants m.grows))
 
+  new_actions : AllByRecursion (λ (y : Item). ¬ (IsTaken g (name_of y))) action_items
+  new_actions = all_unmapped (λ (t : Name). ¬ (IsTaken g t)) name_of action_items (subst (AllByRecursion (λ (t : Name). ¬ (IsTaken g t))) (sym action_items_named) acts_apart.new)
+
   new_structs : AllByRecursion (λ (y : Item). ¬ (IsTaken g (name_of y))) struct_items
   new_structs = all_unmapped (λ (t : Name). ¬ (IsTaken g t)) name_of struct_items (subst (AllByRecursion (λ (t : Name). ¬ (IsTaken g t))) (sym struct_items_named) apart.structs_new)
 
@@ -471,7 +496,10 @@ module _ (spec : PlainSpec) (g h : Sig) (added : List Section) (x : Name) (l : L
   new_mappings = all_unmapped (λ (t : Name). ¬ (IsTaken g t)) name_of mapping_items (subst (AllByRecursion (λ (t : Name). ¬ (IsTaken g t))) (sym mapping_items_named) apart.constants_new)
 
   new_names : AllByRecursion (λ (y : Item). ¬ (IsTaken g (name_of y))) more_items
-  new_names = all_both (λ (y : Item). ¬ (IsTaken g (name_of y))) struct_items (mapping_items ++ (a_process x ∷ [])) new_structs (all_both (λ (y : Item). ¬ (IsTaken g (name_of y))) mapping_items (a_process x ∷ []) new_mappings (m.new_process, tt))
+  new_names =
+      let IsNew = λ (y : Item). ¬ (IsTaken g (name_of y)) in
+      all_both IsNew action_items (struct_items ++ (mapping_items ++ (a_process x ∷ []))) new_actions
+      (all_both IsNew struct_items (mapping_items ++ (a_process x ∷ [])) new_structs (all_both IsNew mapping_items (a_process x ∷ []) new_mappings (m.new_process, tt)))
 
   old_names : AllByRecursion (λ (y : Item). IsTaken g (name_of y)) (flat_map fixed_by C)
   old_names = kept_names (IsTaken g) spec.sections (all_from (IsTaken g) (copied_identifiers spec) m.taken)
@@ -508,14 +536,38 @@ module _ (spec : PlainSpec) (g h : Sig) (added : List Section) (x : Name) (l : L
   named_there : (xs : List Item) (names : List Name) → map name_of xs ≡ names → (y : Item) → Contains xs y → Contains names (name_of y)
   named_there xs names e y c = subst (λ ns. Contains ns (name_of y)) e (map_contains name_of xs y c)
 
-  new_differ : EachTwo (NotAgain w) more_items
-  new_differ =
+  -- actions are neither data nor the process
+  no_data_actions : AllByRecursion (λ (y : Item). is_datum y ≡ false) action_items
+  no_data_actions = subst (AllByRecursion (λ (y : Item). is_datum y ≡ false)) (sym action_items_are)
+      (all_mapped (λ (y : Item). is_datum y ≡ false) (λ (a : NameId). an_action (text_under h a) []) (added_actions m.grows) (all_from (λ a. is_datum (an_action (text_under h a) []) ≡ false) (added_actions m.grows) (λ a c. refl)))
+
+  no_datum : (xs : List Item) → AllByRecursion (λ (y : Item). is_datum y ≡ true) xs → (y z : Item) → Contains action_items y → Contains xs z → NotAgain w y z
+  no_datum xs all y z c d again =
+      let never : true ≡ false =
+      sym (all_contained (λ (k : Item). is_datum k ≡ true) xs z all d) ∙ (sym (again_datum y z again) ∙ all_contained (λ (k : Item). is_datum k ≡ false) action_items y no_data_actions c) in absurd cc
+
+  other_names : AllByRecursion (λ (y : Item). name_of y ≢ x) action_items
+  other_names = all_unmapped (λ (t : Name). t ≢ x) name_of action_items (subst (AllByRecursion (λ (t : Name). t ≢ x)) (sym action_items_named) (all_mapped (λ (t : Name). t ≢ x) (text_under h) (added_actions m.grows) m.no_action))
+
+  not_the_process : (y z : Item) → Contains action_items y → Contains (a_process x ∷ []) z → NotAgain w y z
+  not_the_process y z c d again =
+      all_contained (λ (k : Item). name_of k ≢ x) action_items y other_names c (again_name y z again ∙ all_contained (λ (k : Item). name_of k ≡ x) (a_process x ∷ []) z (refl, tt) d)
+
+  data_differ : EachTwo (NotAgain w) (struct_items ++ (mapping_items ++ (a_process x ∷ [])))
+  data_differ =
       two_both (NotAgain w) struct_items (mapping_items ++ (a_process x ∷ [])) (by_names struct_items _ struct_items_named apart.structs_differ)
       (two_both (NotAgain w) mapping_items (a_process x ∷ []) (by_names mapping_items _ mapping_items_named apart.constants_differ) (tt, tt) (no_process mapping_items data_mappings))
       (λ y z c d. ⊎_elim
       (λ mapping. (λ again. apart.across (name_of y) (name_of z) (named_there struct_items _ struct_items_named y c) (named_there mapping_items _ mapping_items_named z mapping) (again_name y z again)))
       (λ process_. no_process struct_items data_structs y z c process_)
       (in_either mapping_items (a_process x ∷ []) z d))
+
+  new_differ : EachTwo (NotAgain w) more_items
+  new_differ =
+      two_both (NotAgain w) action_items (struct_items ++ (mapping_items ++ (a_process x ∷ []))) (by_names action_items _ action_items_named acts_apart.differ) data_differ
+      (λ y z c d. ⊎_elim (λ struct_. no_datum struct_items data_structs y z c struct_)
+      (λ rest. ⊎_elim (λ mapping. no_datum mapping_items data_mappings y z c mapping) (λ process_. not_the_process y z c process_) (in_either mapping_items (a_process x ∷ []) z rest))
+      (in_either struct_items (mapping_items ++ (a_process x ∷ [])) z d))
 
   abbrev HasNone : Declaration → Type 0
   HasNone d = vars_by d ≡ []
@@ -530,9 +582,10 @@ module _ (spec : PlainSpec) (g h : Sig) (added : List Section) (x : Name) (l : L
     where
       none_added : AllByRecursion HasNone (declarations_in added)
       none_added = subst (AllByRecursion HasNone) (sym m.additions.declared)
+          (all_both HasNone N (S ++ (M ++ E)) (all_mapped HasNone (action_declared h) (added_actions m.grows) (all_from (λ a. HasNone (action_declared h a)) (added_actions m.grows) (λ a k. refl)))
           (all_both HasNone S (M ++ E) (all_mapped HasNone (declaration_of h n) (added_structs m.grows) (all_from (λ s. HasNone (declaration_of h n s)) (added_structs m.grows) (λ s k. refl)))
           (all_both HasNone M E (all_mapped HasNone (mapping_declared h n) (added_constants m.grows) (all_from (λ c. HasNone (mapping_declared h n c)) (added_constants m.grows) (λ c k. refl)))
-          (all_weaker IsEquation HasNone (of_equation HasNone (λ c f r. refl)) E m.additions.others)))
+          (all_weaker IsEquation HasNone (of_equation HasNone (λ c f r. refl)) E m.additions.others))))
 
       added_variables : AllByRecursion HasOtherVariables added
       added_variables = in_sections HasNone HasOtherVariables (λ s all. subst AreOthers (sym (no_variables s.declarations all)) tt) added none_added
@@ -553,7 +606,7 @@ module _ (spec : PlainSpec) (g h : Sig) (added : List Section) (x : Name) (l : L
 
   none_twice_behind : AllByRecursion HasNoneTwice behind
   none_twice_behind =
-      all_behind HasNoneTwice (λ s. tt) (λ c. tt) (λ c f r. tt) (all_weaker (CanBeListed (vocabulary_of h).sort_names) (λ (vs : Variables). ¬ (StandsTwice vs)) (λ vs can. not_twice vs can.differ) (variable_lists P) m.listed) tt
+      all_behind HasNoneTwice (λ k. tt) (λ s. tt) (λ c. tt) (λ c f r. tt) (all_weaker (CanBeListed (vocabulary_of h).sort_names) (λ (vs : Variables). ¬ (StandsTwice vs)) (λ vs can. not_twice vs can.differ) (variable_lists P) m.listed) tt
 
   none_twice : (d : Declaration) (vs : Variables) → Contains ds d → Contains (variable_lists d) vs → ¬ (StandsTwice vs)
   none_twice d vs c k twice = ⊎_elim

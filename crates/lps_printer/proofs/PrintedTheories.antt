@@ -29,11 +29,11 @@ use Rattle.sort_checker.specs.WellTypedTexts.{GivesPlainSort}
 use Rattle.sort_checker.proofs.WellTypedBack.{what_elaborates_is_well_typed}
 use Rattle.lps_printer.specs.declared.added_sections.Line.TheVariants as lines
 use Rattle.lps_printer.specs.AddedConstants.{AddsConstants, AreConstants}
-use Rattle.lps_printer.specs.AddedDeclarations.{name_at, line_declared, lines_declared, added_declared}
+use Rattle.lps_printer.specs.AddedDeclarations.{name_at, line_declared, lines_declared, action_declared, actions_declared, added_declared}
 use Rattle.lps_printer.specs.EmptyEquations.{written_empty, empty_equations}
 use Rattle.lps_printer.specs.FilledLinears.{Constants}
 use Rattle.lps_printer.specs.DeclaredAdditions.{section_of, AddsThem}
-use Rattle.lps_printer.specs.GrowingByAdditions.{Struct, GrowsByAdditions, added_structs, added_constants}
+use Rattle.lps_printer.specs.GrowingByAdditions.{Struct, GrowsByAdditions, added_structs, added_constants, added_actions}
 use Rattle.lps_printer.specs.GrownTexts.{mapping_declared, mappings_declared}
 use Rattle.lps_printer.specs.LinearBack.{CanBind, parameters_of, LinearReads}
 use Rattle.lps_printer.specs.PrintedDeclarations.{AreSoundOver}
@@ -42,6 +42,7 @@ use Rattle.lps_printer.specs.PrintedTheories.{printed_sections, printed_vocabula
 use Rattle.lps_printer.specs.SignatureNames.{text_names_under}
 use Rattle.lps_printer.specs.SpelledSections.{copied_declared}
 use Rattle.lps_printer.specs.WrittenProcesses.{TextNames, parameters_written, bound_named}
+use Rattle.lps_printer.proofs.AddedVocabularies.{flat_none}
 use Rattle.lps_printer.proofs.CopiedParts.{flat_append, under}
 use Rattle.lps_printer.proofs.CopiedTheories.{pairs_both, pairs_hold, copied_equations, copied_plain}
 use Rattle.lps_printer.proofs.DeclaredAdditions.{what_is_added_is_printed}
@@ -71,6 +72,17 @@ lists_equate : (h : Sig) (n : TextNames) (fs : List FunId) → eqs [] (lines_dec
 lists_equate h n [] = refl
 lists_equate h n (f ∷ fs) = flat_append under (map (λ (d : Declaration). record { variables = []; declaration = d }) (map (line_declared h n lines.EmptyList) (f ∷ fs))) [] ∙ append-nil _ ∙ written_there h n (f ∷ fs)
 
+actions_equate : (h : Sig) (as_ : List NameId) → flat_map under (map (λ (d : Declaration). record { variables = []; declaration = d }) (map (action_declared h) as_)) ≡ []
+actions_equate h [] = refl
+actions_equate h (a ∷ as_) = actions_equate h as_
+
+actions_have_none : (h : Sig) (as_ : List NameId) → (eqs [] (actions_declared h as_) ≡ []) × (last_vars [] (actions_declared h as_) ≡ [])
+actions_have_none h [] = (refl, refl)
+actions_have_none h (a ∷ as_) = (
+  flat_append under (map (λ (d : Declaration). record { variables = []; declaration = d }) (map (action_declared h) (a ∷ as_))) [] ∙ append-nil _ ∙ actions_equate h (a ∷ as_),
+  flat_none variables_by (action_declared h) (λ b. refl) (a ∷ as_),
+)
+
 structs_have_none : (h : Sig) (n : TextNames) (ss : List Struct) → (eqs [] (map (section_of h n) ss) ≡ []) × (last_vars [] (map (section_of h n) ss) ≡ [])
 structs_have_none h n [] = (refl, refl)
 structs_have_none h n (s ∷ ss) = structs_have_none h n ss
@@ -85,13 +97,23 @@ added_equations spec {h = h} w adds x fs =
     let lists = lines_declared h n lines.EmptyList fs in
     let one = structs_have_none h n (added_structs w) in
     let two = mappings_have_none h n (added_constants w) in
-    ap equations_in (adds.declared x fs) ∙ eqs_append [] structs (mappings ++ lists) ∙ ap₂ (λ (es : List WrittenEquation) (xs : Variables). es ++ eqs xs (mappings ++ lists)) one.0 one.1
+    let zero_ = actions_have_none h (added_actions w) in
+    ap equations_in (adds.declared x fs) ∙ eqs_append [] (actions_declared h (added_actions w)) (structs ++ (mappings ++ lists))
+    ∙ ap₂ (λ (es : List WrittenEquation) (xs : Variables). es ++ eqs xs (structs ++ (mappings ++ lists))) zero_.0 zero_.1 ∙ eqs_append [] structs (mappings ++ lists) ∙ ap₂ (λ (es : List WrittenEquation) (xs : Variables). es ++ eqs xs (mappings ++ lists)) one.0 one.1
     ∙ eqs_append [] mappings lists ∙ ap₂ (λ (es : List WrittenEquation) (xs : Variables). es ++ eqs xs lists) two.0 two.1 ∙ lists_equate h n fs
 
 module _ (w : FullVocabulary) (h : Sig) (n : TextNames) where
   structs_plain : (ss : List Struct) → AllByRecursion (GivesPlainSort w) (declarations_in (map (section_of h n) ss))
   structs_plain [] = tt
   structs_plain (s ∷ ss) = (tt, structs_plain ss)
+
+  actions_plain : (as_ : List NameId) → AllByRecursion (GivesPlainSort w) (map (action_declared h) as_)
+  actions_plain [] = tt
+  actions_plain (a ∷ as_) = (tt, actions_plain as_)
+
+  action_sections_plain : (as_ : List NameId) → AllByRecursion (GivesPlainSort w) (declarations_in (actions_declared h as_))
+  action_sections_plain [] = tt
+  action_sections_plain (a ∷ as_) = all_both (GivesPlainSort w) (map (action_declared h) (a ∷ as_)) [] (actions_plain (a ∷ as_)) tt
 
   mappings_plain : (cs : List (NameId × SortId)) → AllByRecursion (GivesPlainSort w) (map (mapping_declared h n) cs)
   mappings_plain [] = tt
@@ -158,14 +180,17 @@ module _ (spec : PlainSpec) (g k h : Sig) (own : ElaboratesOver spec g) (before 
 
   added_plain : AllByRecursion (GivesPlainSort v) (declarations_in (added_declared spec h n fs))
   added_plain =
+      let acts = actions_declared h (added_actions grown) in
       let structs = map (section_of h n) (added_structs grown) in
       let mappings = mappings_declared h n (added_constants grown) in
       let lists = lines_declared h n lines.EmptyList fs in
       subst (λ bs. AllByRecursion (GivesPlainSort v) (declarations_in bs)) (sym (adds.declared x fs))
+      (subst (AllByRecursion (GivesPlainSort v)) (sym (declarations_append acts (structs ++ (mappings ++ lists))))
+      (all_both (GivesPlainSort v) (declarations_in acts) (declarations_in (structs ++ (mappings ++ lists))) (action_sections_plain v h n (added_actions grown))
       (subst (AllByRecursion (GivesPlainSort v)) (sym (declarations_append structs (mappings ++ lists)))
       (all_both (GivesPlainSort v) (declarations_in structs) (declarations_in (mappings ++ lists)) (structs_plain v h n (added_structs grown))
       (subst (AllByRecursion (GivesPlainSort v)) (sym (declarations_append mappings lists))
-      (all_both (GivesPlainSort v) (declarations_in mappings) (declarations_in lists) (mapping_sections_plain v h n (added_constants grown)) (list_sections_plain v h n fs)))))
+      (all_both (GivesPlainSort v) (declarations_in mappings) (declarations_in lists) (mapping_sections_plain v h n (added_constants grown)) (list_sections_plain v h n fs)))))))
 
   all_plain : AllByRecursion (GivesPlainSort v) (declarations_in ss)
   all_plain =

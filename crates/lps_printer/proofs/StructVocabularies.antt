@@ -39,7 +39,7 @@ use Rattle.sort_table.specs.NamedSorts.{sort_names_of, sort_count}
 use Rattle.sort_table.specs.TextFunctions as text
 use Rattle.sort_table.specs.TextFunctions.{TextRole, TextFunction, Named, struct_constructor, declared_constructor, declared, where_named, fields_of, projections_from, functions_by}
 use Rattle.sort_table.specs.Vocabularies as vocabulary
-use Rattle.sort_table.specs.Vocabularies.{Vocabulary, sorts_in, IsConstruction, by_struct, HasNumber, IsRole, IsFunction, IsSortNamed, EachPair, IsVocabularyOf}
+use Rattle.sort_table.specs.Vocabularies.{Vocabulary, sorts_in, IsConstruction, by_struct, HasNumber, IsRole, IsFunction, IsSortNamed, EachPair, AreSortsOf, IsVocabularyOf}
 use Rattle.sort_table.specs.EnteredFunctions as entered
 use Rattle.sort_table.specs.EnteredFunctions.{HasTextRole, IsConstructorAt, IsConOf, IsEntered}
 use Rattle.sort_table.proofs.AddedStructs.{all_contained}
@@ -50,7 +50,7 @@ use Rattle.sort_table.proofs.ListedFunctions.{listed_place, within_listed, place
 use Rattle.sort_table.proofs.NamedSignatures.{text_of_id}
 use Rattle.sort_table.proofs.NewFunctions.{sorts_meant}
 use Rattle.lps_printer.specs.GrowingByAdditions.{GrowsByStruct}
-use Rattle.lps_printer.proofs.ConstantVocabularies.{same_rest, all_of_name, numbers_at, numbers_long, names_long, names_after, numbers_once}
+use Rattle.lps_printer.proofs.ConstantVocabularies.{same_rest, no_actions_behind, all_of_name, numbers_at, numbers_long, names_long, names_after, numbers_once}
 use Rattle.lps_printer.proofs.TwoOfLists.{all_mapped, all_flat, all_from}
 use Rattle.lps_printer.proofs.GrownStructs.{first, fs, none_yet, it_is_grown, sorts_are, declared_are, actions_are, sort_names_are, struct_entered}
 
@@ -204,13 +204,16 @@ module _ (g h : Sig) (stands : IsSignature g) (later : IsSignature h) (w : Grows
   numbers = numbers_from (first g h stands w) (length (fs g h stands w))
 
   abbrev v : UnderNames
-  v = with_declared u sort more
+  v = with_declared u sort more (λ a. [])
 
   abbrev y : Vocabulary
   y = vocabulary_of h
 
   has_more : (m : More) × (y ≡ with_more (vocabulary_of g) m)
-  has_more = grown_signatures_have_more g h stands.complete stands.table stands.roles later.roles (it_is_grown g h stands w) (actions_are g h stands w)
+  has_more = let m = grown_signatures_have_more g h stands.complete stands.table stands.roles later.roles (it_is_grown g h stands w) in (m.0, m.1)
+
+  action_rest : has_more.0.actions ≡ []
+  action_rest = no_actions_behind g h has_more.0 has_more.1 (actions_are g h stands w)
 
   sort_rest : has_more.0.sort_names ≡ (t, named d) ∷ []
   sort_rest = same_rest (sort_names_of g) (sort_names_of g) has_more.0.sort_names ((t, named d) ∷ []) (sym (ap (λ (x : Vocabulary). x.sort_names) has_more.1) ∙ sort_names_are g h stands w) refl
@@ -278,7 +281,7 @@ module _ (g h : Sig) (stands : IsSignature g) (later : IsSignature h) (w : Grows
       let there : Contains (function_names_from h K numbers) (name, K + i) = name_listed h numbers K i id (numbers_at (first g h stands w) (length (fs g h stands w)) i l) in
       (name, subst (λ rs. Contains rs (name, k)) (sym function_rest) (subst (λ n. Contains (function_names_from h K numbers) (name, n)) z there))
 
-  is_more : IsMore u v (vocabulary_of g) y has_more.0 more
+  is_more : IsMore u v (vocabulary_of g) y has_more.0 more (λ a. [])
   is_more = record {
     kept = old;
     new_names = λ n k q. ⊎_elim (λ a. inl a) (λ b. inr (b.0, (d, omega arith, subst (λ (m : Name). IsSortNamed v y m d) (sym b.1) its_sort))) (only n k q);
@@ -289,11 +292,12 @@ module _ (g h : Sig) (stands : IsSignature g) (later : IsSignature h) (w : Grows
     each = λ f. subst (λ rs. EachPair (IsFunction v y) (more f) (all_named f rs)) (sym function_rest) (each_named (IsFunction v y) new (function_names_from h K numbers) same_names f);
     functions_used = used;
     once = numbers_once h h.declared;
+    actions = λ a. subst (λ as_. EachPair (AreSortsOf y) [] (all_named a as_)) (sym action_rest) tt;
   }
 
   pub struct_has_vocabulary : IsVocabularyOf v y
   struct_has_vocabulary =
-      subst (IsVocabularyOf v) (sym has_more.1) (vocabularies_grow u sort more (vocabulary_of g) has_more.0 is stand (subst (λ x. IsMore u v (vocabulary_of g) x has_more.0 more) has_more.1 is_more))
+      subst (IsVocabularyOf v) (sym has_more.1) (vocabularies_grow u sort more (λ a. []) (vocabulary_of g) has_more.0 is stand (subst (λ x. IsMore u v (vocabulary_of g) x has_more.0 more (λ a. [])) has_more.1 is_more))
 
   pub struct_stands : AllStand v
   struct_stands n k q = ⊎_elim

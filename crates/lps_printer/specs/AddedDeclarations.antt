@@ -7,16 +7,19 @@ use Rattle.mcrl2_syntax.specs.Declarations as trees
 use Rattle.mcrl2_syntax.specs.Declarations.{PlainField, PlainConstructor, PlainDecl, PlainSection, PlainSpec}
 use Rattle.mcrl2_syntax.specs.declared.declaration.SectionWord.{SectionWord}
 use Rattle.mcrl2_syntax.specs.declared.declaration.SectionWord.TheVariants as sections
+use Rattle.data_theory.specs.declared.ids.NameId.{NameId}
 use Rattle.data_theory.specs.declared.ids.SortId.{SortId}
 use Rattle.data_theory.specs.declared.ids.FunId.{FunId}
 use Rattle.data_theory.specs.Sorts as kinds
 use Rattle.data_theory.specs.Functions.{Function, arguments_of, declared_function}
+use Rattle.data_theory.specs.Keys.{Key}
 use Rattle.data_theory.specs.Table.{bool_sort}
 use Rattle.data_theory.specs.Signature.{Sig}
 use Rattle.data_theory.specs.IdTerms.{sort_under}
 use Rattle.sort_table.specs.Expressions.{Name, word, listed, none}
 use Rattle.sort_table.specs.BareSorts.{SortExpression}
-use Rattle.sort_table.specs.BareDeclarations.{Field, Constructor, Declaration, struct, mappings, equation, Section}
+use Rattle.sort_table.specs.SignatureVocabularies.{text_under}
+use Rattle.sort_table.specs.BareDeclarations.{Field, Constructor, Declaration, struct, mappings, equation, actions, Section}
 use Rattle.lps_printer.specs.declared.added_sections.Line.{Line}
 use Rattle.lps_printer.specs.declared.added_sections.Line.TheVariants as lines
 use Rattle.lps_printer.specs.Pieces.{Piece}
@@ -34,9 +37,9 @@ behind_name None fs = fs
 behind_name (Some w) fs = drop 1 fs
 
 -- behind those of one after the other
-abbrev pub behind_all : {A : Type 0} → (A → List FunId → List FunId) → List A → List FunId → List FunId
-behind_all behind [] fs = fs
-behind_all behind (x ∷ xs) fs = behind_all behind xs (behind x fs)
+abbrev pub behind_all : {A B : Type 0} → (A → List B → List B) → List A → List B → List B
+behind_all behind [] ys = ys
+behind_all behind (x ∷ xs) ys = behind_all behind xs (behind x ys)
 
 abbrev pub behind_field : PlainField → List FunId → List FunId
 behind_field f fs = behind_name f.name fs
@@ -61,6 +64,17 @@ behind_section s fs = behind_all behind_declaration s.declarations fs
 
 abbrev pub added_functions : PlainSpec → Sig → List FunId
 added_functions spec g = behind_all behind_section spec.sections g.declared
+
+-- ---- which actions it doesn't declare: those behind as many as it declares, of which the names are printed
+abbrev pub behind_acts : {A : Type 0} → PlainDecl → List A → List A
+behind_acts (trees.act_decl span ws ss) xs = drop (length ws) xs
+behind_acts _ xs = xs
+
+abbrev pub behind_acts_of : {A : Type 0} → PlainSection → List A → List A
+behind_acts_of s xs = behind_all behind_acts s.declarations xs
+
+abbrev pub added_actions_of : PlainSpec → Sig → List NameId
+added_actions_of spec g = map (λ (a : Key). a.name) (behind_all behind_acts_of spec.sections g.actions)
 
 -- ---- what they are
 abbrev pub no_function : Function
@@ -174,19 +188,30 @@ line_word lines.Constant = sections.Map
 line_word lines.EmptyList = sections.Eqn
 
 -- the first one stands on the line of the word, each further one on a line of its own
-abbrev pub lines_with : Sig → TextNames → Line → List ℕ → List FunId → List (List Piece)
-lines_with g n line gap [] = []
-lines_with g n line gap (f ∷ fs) = print_line g n line f gap [] ∷ lines_with g n line further_line fs
+abbrev pub lines_with : {A : Type 0} → (A → List ℕ → List Piece → List Piece) → List ℕ → List A → List (List Piece)
+lines_with print gap [] = []
+lines_with print gap (x ∷ xs) = print x gap [] ∷ lines_with print further_line xs
 
 -- no section where there are none
-abbrev pub line_sections : Sig → TextNames → Line → List FunId → List PrintedSection
-line_sections g n line [] = []
-line_sections g n line (f ∷ fs) = record { word = line_word line; declarations = lines_with g n line space (f ∷ fs) } ∷ []
+abbrev pub sections_with : {A : Type 0} → SectionWord → (A → List ℕ → List Piece → List Piece) → List A → List PrintedSection
+sections_with w print [] = []
+sections_with w print (x ∷ xs) = record { word = w; declarations = lines_with print space (x ∷ xs) } ∷ []
 
--- structs, constants, and equations of those for empty lists
+abbrev pub line_sections : Sig → TextNames → Line → List FunId → List PrintedSection
+line_sections g n line fs = sections_with (line_word line) (print_line g n line) fs
+
+-- the name of an action
+abbrev pub print_name : Sig → NameId → List ℕ → List Piece → List Piece
+print_name g a gap rest = piece gap kind_.Identifier (text_under g a) ∷ rest
+
+abbrev pub action_sections : Sig → List NameId → List PrintedSection
+action_sections g as_ = sections_with sections.Act (print_name g) as_
+
+-- actions, structs, constants, and equations of those for empty lists
 abbrev pub added_sections : PlainSpec → Sig → TextNames → List FunId → List PrintedSection
 added_sections spec g n empty_lists =
-    flat_map (struct_sections g n) (added_functions spec g) ++ (line_sections g n lines.Constant (constants_among g (added_functions spec g)) ++ line_sections g n lines.EmptyList empty_lists)
+    action_sections g (added_actions_of spec g)
+    ++ (flat_map (struct_sections g n) (added_functions spec g) ++ (line_sections g n lines.Constant (constants_among g (added_functions spec g)) ++ line_sections g n lines.EmptyList empty_lists))
 
 -- ---- what the added sections declare
 abbrev pub struct_declared : Sig → TextNames → SortId → List FunId → List Section
@@ -208,10 +233,22 @@ abbrev pub line_declared : Sig → TextNames → Line → FunId → Declaration
 line_declared g n lines.Constant f = constant_declared (constant_with g n f)
 line_declared g n lines.EmptyList f = empty_list_declared (name_at g f)
 
+-- no section where there are none
+abbrev pub declared_with : {A : Type 0} → SectionWord → (A → Declaration) → List A → List Section
+declared_with w declared [] = []
+declared_with w declared (x ∷ xs) = record { word = w; declarations = map declared (x ∷ xs) } ∷ []
+
 abbrev pub lines_declared : Sig → TextNames → Line → List FunId → List Section
-lines_declared g n line [] = []
-lines_declared g n line (f ∷ fs) = record { word = line_word line; declarations = map (line_declared g n line) (f ∷ fs) } ∷ []
+lines_declared g n line fs = declared_with (line_word line) (line_declared g n line) fs
+
+-- an action without arguments
+abbrev pub action_declared : Sig → NameId → Declaration
+action_declared g a = actions (text_under g a ∷ []) []
+
+abbrev pub actions_declared : Sig → List NameId → List Section
+actions_declared g as_ = declared_with sections.Act (action_declared g) as_
 
 abbrev pub added_declared : PlainSpec → Sig → TextNames → List FunId → List Section
 added_declared spec g n empty_lists =
-    flat_map (structs_declared g n) (added_functions spec g) ++ (lines_declared g n lines.Constant (constants_among g (added_functions spec g)) ++ lines_declared g n lines.EmptyList empty_lists)
+    actions_declared g (added_actions_of spec g)
+    ++ (flat_map (structs_declared g n) (added_functions spec g) ++ (lines_declared g n lines.Constant (constants_among g (added_functions spec g)) ++ lines_declared g n lines.EmptyList empty_lists))

@@ -1,4 +1,4 @@
--- What is added to a text where its signature grows by structs and by constants.
+-- What is added to a text where its signature grows by structs, by constants and by actions.
 use Rattle.std.specs.Prelude.{◌≡◌, List, [], ◌∷◌, ◌++◌, length, map, Option, option_map}
 use Rattle.std.specs.List.{All, Contains}
 use Rattle.mcrl2_syntax.specs.Declarations.{PlainSpec}
@@ -19,10 +19,10 @@ use Rattle.sort_table.specs.Vocabularies.{IsVocabularyOf}
 use Rattle.lps_printer.specs.declared.added_sections.Line.TheVariants as lines
 use Rattle.lps_printer.specs.WrittenProcesses.{TextNames, sort_written}
 use Rattle.lps_printer.specs.AddedConstants.{AddsConstants}
-use Rattle.lps_printer.specs.AddedDeclarations.{added_functions, constants_among, name_at, empty_list_declared, lines_declared, added_declared}
+use Rattle.lps_printer.specs.AddedDeclarations.{added_functions, added_actions_of, constants_among, name_at, empty_list_declared, lines_declared, action_declared, actions_declared, added_declared}
 use Rattle.lps_printer.specs.GrownTexts.{mapping_declared, mappings_declared}
 use Rattle.lps_printer.specs.GrowingByConstants.{GrowsByConstants}
-use Rattle.lps_printer.specs.GrowingByAdditions.{Struct, GrowsByAdditions, added_structs, added_constants}
+use Rattle.lps_printer.specs.GrowingByAdditions.{Struct, GrowsByAdditions, added_structs, added_constants, added_actions}
 use Rattle.lps_printer.specs.SignatureNames.{text_names_under}
 
 -- ---- structs
@@ -43,16 +43,19 @@ abbrev pub section_of : Sig → TextNames → Struct → Section
 section_of h n s = record { word = sections.Sort; declarations = declaration_of h n s ∷ [] }
 
 -- ---- what is added
--- The constants among the functions that the text doesn't declare are those by which the signature grew. What is added are the structs, mappings
--- of the constants, and the equations of empty lists.
+-- The actions that the text doesn't declare, and the constants among the functions that it doesn't, are those by which the signature grew. What is
+-- added are the actions, the structs, mappings of the constants, and the equations of empty lists.
 pub record AddsThem {g h : Sig} (spec : PlainSpec) (w : GrowsByAdditions g h) : Type 0 where
+  pub actions : added_actions_of spec h ≡ added_actions w
   pub constants : map (name_at h) (constants_among h (added_functions spec h)) ≡ map (λ (c : NameId × SortId). text_under h c.0) (added_constants w)
   pub declared : (x : Name) (empty_lists : List FunId) → added_declared spec h (text_names_under h x) empty_lists
-      ≡ map (section_of h (text_names_under h x)) (added_structs w) ++ (mappings_declared h (text_names_under h x) (added_constants w) ++ lines_declared h (text_names_under h x) lines.EmptyList empty_lists)
+      ≡ actions_declared h (added_actions w)
+      ++ (map (section_of h (text_names_under h x)) (added_structs w) ++ (mappings_declared h (text_names_under h x) (added_constants w) ++ lines_declared h (text_names_under h x) lines.EmptyList empty_lists))
   pub declarations : (x : Name) (empty_lists : List FunId) → declarations_in (added_declared spec h (text_names_under h x) empty_lists)
-      ≡ map (declaration_of h (text_names_under h x)) (added_structs w) ++ (map (mapping_declared h (text_names_under h x)) (added_constants w) ++ map (λ (f : FunId). empty_list_declared (name_at h f)) empty_lists)
+      ≡ map (action_declared h) (added_actions w)
+      ++ (map (declaration_of h (text_names_under h x)) (added_structs w) ++ (map (mapping_declared h (text_names_under h x)) (added_constants w) ++ map (λ (f : FunId). empty_list_declared (name_at h f)) empty_lists))
 
--- The signature g has what the text declares, and h has structs and constants more.
+-- The signature g has what the text declares, and h has structs, constants and actions more.
 abbrev pub WhatIsAddedIsPrinted : Type 0
 WhatIsAddedIsPrinted =
     (spec : PlainSpec) (g h : Sig) → IsSignature g → IsVocabularyOf (under_names (declarations_in (bare_sections spec))) (vocabulary_of g) → (w : GrowsByAdditions g h) → AddsThem spec w

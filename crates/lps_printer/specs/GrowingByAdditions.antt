@@ -1,4 +1,4 @@
--- Signatures that grow by structs and by constants.
+-- Signatures that grow by structs, by constants and by actions.
 use Rattle.std.specs.Prelude.{◌≡◌, ◌≢◌, ◌+◌, ◌<◌, List, [], ◌∷◌, ◌++◌, map, length}
 use Rattle.std.specs.List.{All, Contains}
 use Rattle.data_theory.specs.declared.ids.NameId.{NameId}
@@ -10,6 +10,7 @@ use Rattle.data_theory.specs.WholeSignatures.{IsSignature}
 use Rattle.lps_core.specs.Naming.{GrowsByNames}
 use Rattle.sort_table.specs.SignatureVocabularies.{text_under}
 use Rattle.lps_printer.specs.DataLayout.{IsIdentifier}
+use Rattle.lps_printer.specs.GrowingByActions.{GrowsByAction}
 use Rattle.lps_printer.specs.GrowingByConstants.{GrowsByConstants}
 use Rattle.lps_printer.specs.LinearBack.{EachTwo}
 
@@ -42,22 +43,31 @@ pub record GrowsByStruct (g h : Sig) : Type 0 where
   pub identifiers : All (λ (n : NameId). IsIdentifier (text_under h n)) (names_of_struct named declared)
 
 -- ---- any number of them
--- Constants and structs are declared one behind the other, in any order.
+-- Constants, structs and actions are declared one behind the other, in any order.
 pub data GrowsByAdditions (g : Sig) : Sig → Type 0 where
   nothing_added : GrowsByAdditions g g
   then_constants : {h k : Sig} → GrowsByAdditions g h → GrowsByConstants h k → IsSignature k → GrowsByAdditions g k
   then_struct : {h k : Sig} → GrowsByAdditions g h → GrowsByStruct h k → IsSignature k → GrowsByAdditions g k
+  then_action : {h k : Sig} → GrowsByAdditions g h → GrowsByAction h k → IsSignature k → GrowsByAdditions g k
 
--- the structs among them, and the constants, each in their order
+-- the structs among them, the constants, and the names of the actions, each in their order
 abbrev pub added_structs : {g h : Sig} → GrowsByAdditions g h → List Struct
 added_structs nothing_added = []
 added_structs (then_constants before by stands) = added_structs before
 added_structs (then_struct before by stands) = added_structs before ++ by.declared ∷ []
+added_structs (then_action before by stands) = added_structs before
 
 abbrev pub added_constants : {g h : Sig} → GrowsByAdditions g h → List (NameId × SortId)
 added_constants nothing_added = []
 added_constants (then_constants before by stands) = added_constants before ++ by.constants
 added_constants (then_struct before by stands) = added_constants before
+added_constants (then_action before by stands) = added_constants before
+
+abbrev pub added_actions : {g h : Sig} → GrowsByAdditions g h → List NameId
+added_actions nothing_added = []
+added_actions (then_constants before by stands) = added_actions before
+added_actions (then_struct before by stands) = added_actions before
+added_actions (then_action before by stands) = added_actions before ++ by.name ∷ []
 
 -- What is added one behind the other is added, and constants are.
 abbrev pub AdditionsFollowEachOther : Type 0

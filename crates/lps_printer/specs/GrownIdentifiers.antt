@@ -1,4 +1,4 @@
--- Names stay identifiers as structs and constants are added, and what is added has names that are identifiers.
+-- Names stay identifiers as structs, constants and actions are added, and what is added has names that are identifiers.
 use Rattle.std.specs.List.{All, Contains}
 use Rattle.std.specs.Prelude.{◌≡◌, ℕ, List, slice_get, Some}
 use Rattle.mcrl2_syntax.specs.Declarations.{PlainSpec}
@@ -40,10 +40,11 @@ DeclaredStayIdentifiers = (g h : Sig) → IsSignature g → GrowsByAdditions g h
 abbrev pub NamesStayIdentifiers : Type 0
 NamesStayIdentifiers = (g h : Sig) (ts : List Tree) (l : PlainLinear) → IsSignature g → Fits g ts l → GrowsByAdditions g h → NamesAreIdentifiers g l → NamesAreIdentifiers h l
 
--- What is added to a text has names that are identifiers, where the functions of the signature have, and those with which sorts are written are.
+-- What is added to a text has names that are identifiers, where the functions and the actions of the signature have, and those with which sorts are
+-- written are.
 abbrev pub WhatIsAddedIsNamed : Type 0
 WhatIsAddedIsNamed =
-    (spec : PlainSpec) (h : Sig) (n : TextNames) (empty_lists : List FunId) → IsSignature h → All (FunctionNamed h) h.declared → ((d : ℕ) → IsIdentifier (n.sort d))
+    (spec : PlainSpec) (h : Sig) (n : TextNames) (empty_lists : List FunId) → IsSignature h → All (FunctionNamed h) h.declared → All (λ (a : Key). IsIdentifier (text_under h a.name)) h.actions → ((d : ℕ) → IsIdentifier (n.sort d))
     → All (Contains (constants_among h (added_functions spec h))) empty_lists → AddsNamedDeclarations spec h n empty_lists
 
 -- what is written for a sort has that sort

@@ -43,6 +43,7 @@ pub mod NeedLaws
 pub mod AddedDeclarations
 pub mod PrintedLinears
 pub mod GrowingByConstants
+pub mod GrowingByActions
 pub mod NamedStructs
 pub mod SpelledSections
 pub mod GrownTexts

@@ -28,9 +28,9 @@ use Rattle.lps_printer.specs.WrittenProcesses.{TextNames, parameters_written, bo
 use Rattle.lps_printer.specs.LinearBack.{EachTwo, LinearReads}
 use Rattle.lps_printer.specs.CopiedSections.{kept_sections}
 use Rattle.lps_printer.specs.WholeTexts.{linear_declared}
-use Rattle.lps_printer.specs.AddedDeclarations.{added_declared}
+use Rattle.lps_printer.specs.AddedDeclarations.{action_declared, added_declared}
 use Rattle.lps_printer.specs.GrowingByConstants.{GrowsByConstants}
-use Rattle.lps_printer.specs.GrowingByAdditions.{Struct, GrowsByAdditions, added_structs, added_constants}
+use Rattle.lps_printer.specs.GrowingByAdditions.{Struct, GrowsByAdditions, added_structs, added_constants, added_actions}
 use Rattle.lps_printer.specs.GrownTexts.{mapping_declared}
 use Rattle.lps_printer.specs.DeclaredAdditions.{declaration_of, AddsThem}
 use Rattle.lps_printer.specs.SignatureNames.{text_names_under}
@@ -41,12 +41,13 @@ abbrev pub numbered_constants : Sig → ℕ → List (NameId × SortId) → List
 numbered_constants h k [] = []
 numbered_constants h k (c ∷ cs) = (text_under h c.0, k) ∷ numbered_constants h (suc k) cs
 
--- it has these constants behind the functions, and no further sorts and names of sorts
+-- it has these constants behind the functions, and no further sorts, names of sorts and actions
 pub record HasConstantsMore (g h : Sig) (constants : List (NameId × SortId)) : Type 0 where
   pub more : More
   pub is : vocabulary_of h ≡ with_more (vocabulary_of g) more
   pub sorts : more.sorts ≡ []
   pub sort_names : more.sort_names ≡ []
+  pub actions : more.actions ≡ []
   pub function_names : more.function_names ≡ numbered_constants h (length g.declared) constants
 
 abbrev pub GrowthByConstantsIsMore : Type 0
@@ -57,17 +58,17 @@ abbrev pub IsEquation : Declaration → Type 0
 IsEquation (equation c l r) = Unit {0}
 IsEquation _ = ⊥
 
--- sections that declare these structs and these constants, and have equations and nothing else behind them
-pub record DeclareAdditions (h : Sig) (n : TextNames) (structs : List Struct) (constants : List (NameId × SortId)) (added : List Section) : Type 0 where
+-- sections that declare these actions, structs and constants, and have equations and nothing else behind them
+pub record DeclareAdditions (h : Sig) (n : TextNames) (acts : List NameId) (structs : List Struct) (constants : List (NameId × SortId)) (added : List Section) : Type 0 where
   pub equations : List Declaration
-  pub declared : declarations_in added ≡ map (declaration_of h n) structs ++ (map (mapping_declared h n) constants ++ equations)
+  pub declared : declarations_in added ≡ map (action_declared h) acts ++ (map (declaration_of h n) structs ++ (map (mapping_declared h n) constants ++ equations))
   pub others : AllByRecursion IsEquation equations
 
 -- the sections that are added to a text declare so
 abbrev pub WhatIsAddedIsDeclared : Type 0
 WhatIsAddedIsDeclared =
     (spec : PlainSpec) (g h : Sig) (w : GrowsByAdditions g h) → AddsThem spec w → (x : Name) (empty_lists : List FunId)
-    → DeclareAdditions h (text_names_under h x) (added_structs w) (added_constants w) (added_declared spec h (text_names_under h x) empty_lists)
+    → DeclareAdditions h (text_names_under h x) (added_actions w) (added_structs w) (added_constants w) (added_declared spec h (text_names_under h x) empty_lists)
 
 -- variables that can stand in one list: their names differ, and each has a sort
 pub record CanBeListed (ns : List (Name × Sort)) (vs : Variables) : Type 0 where
@@ -78,8 +79,8 @@ pub record CanBeListed (ns : List (Name × Sort)) (vs : Variables) : Type 0 wher
 abbrev pub process_declared : TextNames → Linear → Declaration
 process_declared n l = process n.process (parameters_written n l.params) (plain_process (body_written n l))
 
--- A text's declarations are sound, and a signature has their vocabulary and its names as taken ones. It has grown by structs and constants, which the
--- added sections declare; the process has a name that wasn't taken, and lists of variables that can be.
+-- A text's declarations are sound, and a signature has their vocabulary and its names as taken ones. It has grown by structs, constants and actions,
+-- which the added sections declare; the process has a name that wasn't taken and that no added action has, and lists of variables that can be.
 pub record DeclaresMore (spec : PlainSpec) (g h : Sig) (added : List Section) (x : Name) (l : Linear) : Type 0 where
   pub placed : IsPlaced spec
   pub sound : IsSoundlyDeclared (bare_sections spec)
@@ -89,8 +90,9 @@ pub record DeclaresMore (spec : PlainSpec) (g h : Sig) (added : List Section) (x
   pub grows : GrowsByAdditions g h
   pub stands_later : IsSignature h
   pub inhabited : NoSortIsEmpty (data_meant h)
-  pub additions : DeclareAdditions h (text_names_under h x) (added_structs grows) (added_constants grows) added
+  pub additions : DeclareAdditions h (text_names_under h x) (added_actions grows) (added_structs grows) (added_constants grows) added
   pub new_process : ¬ (IsTaken g x)
+  pub no_action : AllByRecursion (λ (a : NameId). text_under h a ≢ x) (added_actions grows)
   pub listed : AllByRecursion (CanBeListed (vocabulary_of h).sort_names) (variable_lists (process_declared (text_names_under h x) l))
 
 -- the copied sections, the added ones, and the process with its start

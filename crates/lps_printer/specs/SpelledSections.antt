@@ -6,10 +6,12 @@ use Rattle.mcrl2_lexer.specs.Lexing.{HasTokens}
 use Rattle.mcrl2_syntax.specs.Declarations.{PlainSpec}
 use Rattle.mcrl2_syntax.specs.SpelledDeclarations.{SpellsSpec}
 use Rattle.data_theory.specs.declared.ids.FunId.{FunId}
+use Rattle.data_theory.specs.declared.ids.NameId.{NameId}
 use Rattle.data_theory.specs.Signature.{Sig}
 use Rattle.data_theory.specs.Terms.{Term}
 use Rattle.bisim_laws.specs.LinearProcesses.{Linear}
 use Rattle.sort_table.specs.BareDeclarations.{Section, bare_section}
+use Rattle.sort_table.specs.SignatureVocabularies.{text_under}
 use Rattle.sort_checker.specs.FullVocabularies.{FullVocabulary}
 use Rattle.lps_printer.specs.DataLayout.{IsIdentifier}
 use Rattle.lps_printer.specs.NamedSummands.{IsNamedVariable}
@@ -18,7 +20,7 @@ use Rattle.lps_printer.specs.LinearBack.{LinearReads}
 use Rattle.lps_printer.specs.SummandTexts.{AreNamed}
 use Rattle.lps_printer.specs.TextSections.{PrintedSection, AreSections}
 use Rattle.lps_printer.specs.CopiedSections.{kept_sections, copied_sections}
-use Rattle.lps_printer.specs.AddedDeclarations.{added_functions, constants_among, name_at, constant_with, added_sections, added_declared}
+use Rattle.lps_printer.specs.AddedDeclarations.{added_functions, added_actions_of, constants_among, name_at, constant_with, added_sections, added_declared}
 use Rattle.lps_printer.specs.NamedStructs.{BeginsNamedStruct}
 use Rattle.lps_printer.specs.WholeTexts.{HaveNoProcess, IsWholeText}
 
@@ -37,11 +39,12 @@ CopiedSectionsSpellBack = (text : List ℕ) (spec : PlainSpec) (tokens : List To
 
 -- The names of what is added are identifiers.
 pub record AddsNamedDeclarations (spec : PlainSpec) (g : Sig) (n : TextNames) (empty_lists : List FunId) : Type 0 where
+  pub actions : AllByRecursion (λ (a : NameId). IsIdentifier (text_under g a)) (added_actions_of spec g)
   pub structs : AllByRecursion (BeginsNamedStruct g n) (added_functions spec g)
   pub constants : AllByRecursion (λ (f : FunId). IsNamedVariable (constant_with g n f)) (constants_among g (added_functions spec g))
   pub lists : AllByRecursion (λ (f : FunId). IsIdentifier (name_at g f)) empty_lists
 
--- The added sections spell structs, mappings and equations.
+-- The added sections spell actions, structs, mappings and equations.
 abbrev pub AddedSectionsSpellBack : Type 0
 AddedSectionsSpellBack = (spec : PlainSpec) (g : Sig) (n : TextNames) (empty_lists : List FunId) → AddsNamedDeclarations spec g n empty_lists → DeclareData (added_sections spec g n empty_lists) (added_declared spec g n empty_lists)
 

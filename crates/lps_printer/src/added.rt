@@ -9,6 +9,7 @@ ghost use Rattle.lps_printer.specs.AddingSections.{AddsSections};
 ghost use Rattle.lps_printer.specs.TextWordings.{NamesSorts};
 ghost use Rattle.lps_printer.specs.WrittenProcesses.{TextNames};
 
+use crate::added_actions::push_actions;
 use crate::added_functions::added_functions;
 use crate::added_sections::{Line, push_line_section};
 use crate::added_structs::{constants, push_structs};
@@ -16,7 +17,7 @@ use data_theory::{FunId, NoMemory, Signature};
 use mcrl2_syntax::Spec;
 use std::alloc::Global;
 
-/// The added declarations: structs, constants, and an equation for each of these constants for empty lists. Gives the white space in
+/// The added declarations: actions, structs, constants, and an equation for each of these constants for empty lists. Gives the white space in
 /// front of what comes behind them.
 ///
 /// # Errors
@@ -36,6 +37,7 @@ pub(crate) fn push_added(
     let _ = sig.names();
     let added = added_functions(spec, sig);
     let constants = constants(alloc, sig, added)?;
+    let gap = push_actions(spec, sig, gap, out)?;
     let gap = push_structs(sig, added, gap, out)?;
     let gap = push_line_section(sig, Line::Constant, constants.as_slice(), gap, out)?;
     push_line_section(sig, Line::EmptyList, empty_lists, gap, out)

@@ -110,7 +110,7 @@ fn push_lines(
     out: &mut Vec<u8>,
 ) -> Result<(), NoMemory>
     requires { All (λ (f : FunId). f.0 < length sig.now.functions) funs.now }
-    ensures { OnOk result ((n : TextNames) → NamesSorts sig.now n → Adds out.old.items out.new.items (λ rest. print_declarations (lines_with sig.now n line space funs.now) rest)) }
+    ensures { OnOk result ((n : TextNames) → NamesSorts sig.now n → Adds out.old.items out.new.items (λ rest. print_declarations (lines_with (print_line sig.now n line) space funs.now) rest)) }
 {
     let mut gap: &'static [u8] = b" ";
     for fun in funs {

@@ -121,7 +121,7 @@ pub fn copied_sections_spell_back()
     ensures { CopiedSectionsSpellBack }
 {}
 
-/// The added sections spell structs, mappings and the equations of empty lists, where their names are identifiers.
+/// The added sections spell actions, structs, mappings and the equations of empty lists, where their names are identifiers.
 pub fn added_sections_spell_back()
     ensures { AddedSectionsSpellBack }
 {}
@@ -137,8 +137,8 @@ pub fn additions_follow_each_other()
     ensures constants { ConstantsAreAdditions }
 {}
 
-/// Where the signature of a text grows by structs and constants, what is printed are these structs, mappings of the constants, and the
-/// equations of empty lists. Its names are identifiers where those of the signature are.
+/// Where the signature of a text grows by structs, constants and actions, what is printed are these actions, these structs, mappings of the
+/// constants, and the equations of empty lists. Its names are identifiers where those of the signature are.
 pub fn what_is_added_is_printed()
     ensures printed { WhatIsAddedIsPrinted }
     ensures empty_lists { EmptyListsAreAdded }
@@ -189,7 +189,7 @@ pub fn growth_by_constants_is_more()
 {}
 
 /// Where the declarations of a text are sound and a signature has their vocabulary, those of a text that is printed for it are sound, too,
-/// and the signature that has grown by the added structs and constants has their vocabulary. The added sections declare these, and the
+/// and the signature that has grown by the added structs, constants and actions has their vocabulary. The added sections declare these, and the
 /// variables of a linear process that reads back can be listed.
 pub fn printed_declarations_are_sound()
     ensures sound { PrintedDeclarationsAreSound }
@@ -202,7 +202,7 @@ pub fn fitting_linears_read()
     ensures { FittingLinearsRead }
 {}
 
-/// Names stay identifiers as structs and constants are added, and what is written for a sort has that sort.
+/// Names stay identifiers as structs, constants and actions are added, and what is written for a sort has that sort.
 pub fn names_stay_identifiers()
     ensures stay { NamesStayIdentifiers }
     ensures declared { DeclaredStayIdentifiers }

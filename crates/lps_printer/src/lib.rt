@@ -5,6 +5,7 @@
 #![tactic(auto)]
 
 mod added;
+mod added_actions;
 mod added_functions;
 mod added_sections;
 mod added_structs;
