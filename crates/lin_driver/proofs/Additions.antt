@@ -19,7 +19,7 @@ use Rattle.sort_table.specs.SignatureVocabularies.{text_under}
 use Rattle.sort_checker.specs.Parts.{ScopedDeclaration, variables_by, scoped_behind}
 use Rattle.sort_checker.specs.Systems.{equation_under, equations_in}
 use Rattle.lps_printer.specs.WrittenProcesses.{TextNames}
-use Rattle.lps_printer.specs.AddedDeclarations.{name_at, added_functions, constants_among, empty_list_declared, added_declared}
+use Rattle.lps_printer.specs.AddedDeclarations.{name_at, added_functions, constants_among, empty_list_declared, action_declared, added_declared}
 use Rattle.lps_printer.specs.DeclaredAdditions.{constructor_declared, declaration_of}
 use Rattle.lps_printer.specs.GrowingByAdditions.{Struct, added_structs, added_constants}
 use Rattle.lps_printer.specs.CopiedParts.{data_by, data_in}
@@ -157,7 +157,7 @@ module _ (h : Sig) (n : TextNames) where
       ((λ xs. (record { name = name_at h f; added = its_name; condition = refl; left = refl; right = refl }, tt)), empty_lists_give names added named fs (All-tail (Contains added) f fs among))
 
 pub additions_may_be_added : AdditionsMayBeAdded
-additions_may_be_added spec g h x empty_lists stands is taken w among =
+additions_may_be_added spec g h x empty_lists stands is taken w none among =
     let n = text_names_under h x in
     let adds = what_is_added_is_printed spec g h stands is w in
     let added = added_declared spec h n empty_lists in
@@ -168,7 +168,8 @@ additions_may_be_added spec g h x empty_lists stands is taken w among =
     let apart = names_apart g stands h x w (grown_itself h) in
     let New = λ (t : Name). ¬ (Contains first_names t) × ¬ (Contains (copied_identifiers spec) t) in
     let new : (ts : List Name) → AllByRecursion (λ (t : Name). ¬ (IsTaken g t)) ts → AllByRecursion New ts = all_weaker (λ (t : Name). ¬ (IsTaken g t)) New (λ t free. (λ there. free (All-contains (IsTaken g) first_names t stands.words_taken there), λ there. free (taken t there))) in
-    let declared_ : declarations_in added ≡ structs ++ (mappings ++ equations) = adds.declarations x empty_lists in
+    let declared_ : declarations_in added ≡ structs ++ (mappings ++ equations)
+    = adds.declarations x empty_lists ∙ ap (λ (as_ : List NameId). map (action_declared h) as_ ++ (structs ++ (mappings ++ equations))) none in
     let data_is : data_in added ≡ structs ++ mappings
     = ap (flat_map data_by) declared_ ∙ flat_append data_by structs (mappings ++ equations)
     ∙ ap₂ (λ (xs ys : List Declaration). xs ++ ys) (struct_data h n (added_structs w)) (flat_append data_by mappings equations ∙ ap₂ (λ (xs ys : List Declaration). xs ++ ys) (mapping_data h n (added_constants w)) (no_data h n empty_lists) ∙ append-nil mappings) in

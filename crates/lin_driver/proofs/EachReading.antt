@@ -1,7 +1,7 @@
 -- What is printed for a text stands for it in each reading of both texts.
 use Rattle.std.proofs.Common.{◌≡◌, ℕ, List, [], ◌∷◌, ◌++◌, map, refl, sym, ap, ap₂, ◌∙◌, subst}
 use Rattle.std.specs.Prelude.{Some, option_map}
-use Rattle.std.proofs.lemmas.List.{map-append}
+use Rattle.std.proofs.lemmas.List.{append-nil, map-append}
 use Rattle.data_theory.specs.Terms.{Sort, boolean, positive, natural, integer, list, named, Symbol, truth, falsity, negation, conjunction, disjunction, implication, equality, inequality, conditional, comparison, arithmetic, minus, upcast, empty, cons, snoc, concatenation, size, element_at, head, rhead, tail, rtail, membership, function, Term, Terms, variable, numeral, unknown, application, none, more}
 use Rattle.data_theory.specs.Equations.{trueᵗ, falseᵗ}
 use Rattle.data_theory.specs.Environments.{Environment, bound}
@@ -211,8 +211,8 @@ lists_then : (r t : Renumbering) (sss : List (List Sort)) → map (map (new_sort
 lists_then r t [] = refl
 lists_then r t (ss ∷ sss) = ap₂ (λ (x : List Sort) (xs : List (List Sort)). x ∷ xs) (sym (sorts_then r t ss)) (lists_then r t sss)
 
-found : (r t : Renumbering) (v x y w : Vocabulary) (m : More) → TakesVocabulary r v x → y ≡ with_more x m → TakesVocabulary t y w → FindsVocabulary (and_then r t) v w
-found r t v x y w m first grown second = record {
+found : (r t : Renumbering) (v x y w : Vocabulary) (m : More) → TakesVocabulary r v x → y ≡ with_more x m → m.actions ≡ [] → TakesVocabulary t y w → FindsVocabulary (and_then r t) v w
+found r t v x y w m first grown no_more second = record {
   sorts = λ n s h. (
       let one : first_named n x.sort_names ≡ Some (new_sort r s) = first.sorts n ∙ ap (option_map (new_sort r)) h in
       let two : first_named n y.sort_names ≡ Some (new_sort r s) = ap (λ (z : Vocabulary). first_named n z.sort_names) grown ∙ first_behind n x.sort_names m.sort_names (new_sort r s) one in
@@ -224,7 +224,7 @@ found r t v x y w m first grown second = record {
         ∙ map-append t.functions (all_named f x.function_names) (all_named f m.function_names)
         ∙ ap (λ ks. ks ++ map t.functions (all_named f m.function_names)) (ap (map t.functions) (first.functions f) ∙ numbers_then r t (all_named f v.function_names)),
   );
-  actions = λ a. second.actions a ∙ ap (map (map (new_sort t))) (ap (λ (z : Vocabulary). all_named a z.actions) grown ∙ first.actions a) ∙ lists_then r t (all_named a v.actions);
+  actions = λ a. second.actions a ∙ ap (map (map (new_sort t))) (ap (λ (z : Vocabulary). all_named a z.actions) grown ∙ ap (all_named a) (ap (λ as_. x.actions ++ as_) no_more ∙ append-nil x.actions) ∙ first.actions a) ∙ lists_then r t (all_named a v.actions);
 }
 
 -- ---- the law
@@ -236,7 +236,7 @@ each_reading_stands text printed one v w th ti p q own its =
     let good : IsConsistent ti → IsGood one.theory one.link one.process one.linear = λ c. one.bisimilar (consistent_under second.0 one.theory ti takes c) in
     record {
       numbers = and_then first.0 second.0;
-      found = found first.0 second.0 v.declared one.vocabulary.declared one.printed_vocabulary.declared w.declared one.numbers.0 first.1.vocabulary.declared one.numbers.1 second.1.vocabulary.declared;
+      found = found first.0 second.0 v.declared one.vocabulary.declared one.printed_vocabulary.declared w.declared one.numbers.0 first.1.vocabulary.declared one.numbers.1 one.numbers.2 second.1.vocabulary.declared;
       link_numbers = second.0;
       starts = λ c. under (subst (λ (x : Process). SameProcess x (new_process second.0 one.process)) (sym (process_then first.0 second.0 p)) (process_stays second.0 first.1.process)) (good c).starts second.1.process;
       follows = λ c. bisimulation_under second.0 one.theory ti takes (Pairs one.theory one.link) (good c).follows;

@@ -1,4 +1,4 @@
--- No name that was taken becomes a function's as structs and constants are added.
+-- No name that was taken becomes a function's as structs, constants and actions are added.
 use Rattle.std.proofs.Common.{◌<◌, ⊎_elim, [], ◌++◌, map, length, Some, sym, ap, ◌∙◌, subst}
 use Rattle.std.specs.List.{Contains}
 use Rattle.std.proofs.lemmas.Option.{slice_get-get_or}
@@ -14,12 +14,12 @@ use Rattle.data_theory.specs.IdTerms.{IsGrown}
 use Rattle.data_theory.proofs.PlaceLemmas.{read_contained}
 use Rattle.process_terms.proofs.MeaningLemmas.{entry_stays}
 use Rattle.lps_core.specs.Naming.{list_names, table_names, function_names}
-use Rattle.lps_core.proofs.FunctionNames.{list_names_stay}
+use Rattle.lps_core.proofs.FunctionNames.{list_names_stay, function_names_stay}
 use Rattle.lps_core.proofs.Members.{contains_map, map_contains}
 use Rattle.sort_table.specs.SignatureVocabularies.{text_under}
 use Rattle.stack_encoder.proofs.FreshWords.{over_sort_taken}
 use Rattle.lps_printer.specs.GrowingByConstants.{GrowsByConstants}
-use Rattle.lps_printer.specs.GrowingByAdditions.{functions_of_struct, GrowsByStruct, GrowsByAdditions, nothing_added, then_constants, then_struct}
+use Rattle.lps_printer.specs.GrowingByAdditions.{functions_of_struct, GrowsByStruct, GrowsByAdditions, nothing_added, then_constants, then_struct, then_action}
 use Rattle.lps_printer.proofs.GrowingByAdditions.{still_stands, additions_grow}
 use Rattle.lps_printer.proofs.GrownStructs.{it_is_grown}
 
@@ -77,3 +77,5 @@ pub fresh_by_additions : (g : Sig) → IsSignature g → {h : Sig} → GrowsByAd
 fresh_by_additions g s nothing_added n t i = i
 fresh_by_additions g s (then_constants {h = j} {k = k} before by after) n t i = fresh_by_additions g s before n t (fresh_by_constants j k (still_stands g s before) by n (still_taken g j (additions_grow g s before) n t) i)
 fresh_by_additions g s (then_struct {h = j} {k = k} before by after) n t i = fresh_by_additions g s before n t (fresh_by_struct j k (still_stands g s before) by n (still_taken g j (additions_grow g s before) n t) i)
+fresh_by_additions g s (then_action {h = j} {k = k} before by after) n t i =
+    fresh_by_additions g s before n t (subst (λ ns. Contains ns n) (function_names_stay j k (still_stands g s before) by.grown by.functions) i)

@@ -55,6 +55,7 @@ mod ReadTexts
 mod SomeOf
 mod FewerVariables
 pub mod RewritableEquations
+pub mod LeftTexts
 mod EliminatedTexts
 mod LeftInCode
 mod PlainlyConjoined

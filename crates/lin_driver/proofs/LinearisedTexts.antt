@@ -1,5 +1,5 @@
 -- From a specification in code to the text that is printed for it.
-use Rattle.std.proofs.Common.{◌≡◌, ℕ, List, [], ◌++◌, map, refl, sym, ap, subst, ◌∙◌, append_assoc, append-nil}
+use Rattle.std.proofs.Common.{◌≡◌, ℕ, List, [], ◌++◌, map, refl, sym, ap, ap₂, subst, ◌∙◌, append_assoc, append-nil}
 use Rattle.data_theory.specs.Declarations.{Data, IsData, NoSortIsEmpty}
 use Rattle.data_theory.specs.Environments.{terms_of}
 use Rattle.data_theory.specs.Signature.{Sig}
@@ -28,6 +28,7 @@ use Rattle.lps_core.specs.Fitting.{Fits}
 use Rattle.lps_core.specs.PlainLinears.{PlainLinear, linear_of, initial_of, linear_state}
 use Rattle.lps_core.proofs.GrowingData.{goes_back, linear_grown, terms_grown}
 use Rattle.lps_core.proofs.Staying.{what_fits_is_sorted}
+use Rattle.lps_printer.proofs.ConstantVocabularies.{no_actions_behind}
 use Rattle.lps_printer.proofs.GrowingByAdditions.{additions_grow, same_actions}
 use Rattle.lin_driver.specs.Headline.{Specifies, AddsOnly, StandsFor}
 use Rattle.lin_driver.specs.Linearised.{IsMadeOf, IsLinearised, ReadsBack, WhatIsLedToStandsForTheText, WhatIsMadeStandsForTheText, WhatIsPrintedStandsForTheText}
@@ -36,7 +37,7 @@ use Rattle.lin_driver.proofs.GrownModels.{model_stays}
 
 -- ---- more behind more
 both_more : More → More → More
-both_more m n = record { sorts = m.sorts ++ n.sorts; functions = m.functions ++ n.functions; sort_names = m.sort_names ++ n.sort_names; function_names = m.function_names ++ n.function_names }
+both_more m n = record { sorts = m.sorts ++ n.sorts; functions = m.functions ++ n.functions; sort_names = m.sort_names ++ n.sort_names; function_names = m.function_names ++ n.function_names; actions = m.actions ++ n.actions }
 
 more_twice : (v : Vocabulary) (m n : More) → with_more (with_more v m) n ≡ with_more v (both_more m n)
 unfolding both_more
@@ -45,7 +46,12 @@ more_twice v m n =
     let b = append_assoc v.tables.functions m.functions n.functions in
     let c = append_assoc v.sort_names m.sort_names n.sort_names in
     let d = append_assoc v.function_names m.function_names n.function_names in
-    (λ i. record { tables = record { sorts = a i; functions = b i }; sort_names = c i; function_names = d i; actions = v.actions })
+    let e = append_assoc v.actions m.actions n.actions in
+    (λ i. record { tables = record { sorts = a i; functions = b i }; sort_names = c i; function_names = d i; actions = e i })
+
+no_more_twice : (m n : More) → m.actions ≡ [] → n.actions ≡ [] → (both_more m n).actions ≡ []
+unfolding both_more
+no_more_twice m n one other = ap₂ (λ xs ys. xs ++ ys) one other
 
 -- ---- theories
 -- the data of a text over the vocabulary of a signature are those of the signature
@@ -55,7 +61,7 @@ text_has_data text w th p h s same = s.system.data_of ∙ ap (λ (v : Vocabulary
 -- ---- from a specification in code
 pub led_to_stands_for : WhatIsLedToStandsForTheText
 led_to_stands_for text v th g h ts us m l s same sg fits grow leads =
-    let grown = grown_signatures_have_more g h sg.complete sg.table sg.roles leads.stands.roles (additions_grow g sg leads.grows) (same_actions g sg leads.grows) in
+    let grown = grown_signatures_have_more g h sg.complete sg.table sg.roles leads.stands.roles (additions_grow g sg leads.grows) in
     record {
       vocabulary = v;
       theory = th;
@@ -63,7 +69,7 @@ led_to_stands_for text v th g h ts us m l s same sg fits grow leads =
       specifies = s;
       spec_is = refl;
       stands = leads.stands;
-      numbers = (grown.0, subst (λ z. vocabulary_of h ≡ with_more z grown.0) (sym same) grown.1);
+      numbers = (grown.0, subst (λ z. vocabulary_of h ≡ with_more z grown.0) (sym same) grown.1, no_actions_behind g h grown.0 grown.1 (same_actions g sg leads.grows leads.no_actions));
       fits = leads.fits;
       link = leads.link;
       bisimilar = subst (λ q. IsGoodOver h leads.link q (linear_state (entries_of h us) l)) (model_stays g h ts us sg grow m fits) leads.bisimilar;
@@ -98,7 +104,7 @@ led_on_stands_for text printed spec g ts us l k a b fits link good =
       inhabited = subst NoSortIsEmpty (sym own_data) b.inhabited;
     } in
     let from_g : GoesOn g b.theory = goes_back g h a.stands.table a.stands.roles b.stands.roles b.grown b.theory on in
-    let more = grown_signatures_have_more g h a.stands.complete a.stands.table a.stands.roles b.stands.roles b.grown b.actions in
+    let more = grown_signatures_have_more g h a.stands.complete a.stands.table a.stands.roles b.stands.roles b.grown in
     let sorted = linear_grown (data_meant g) b.theory.declared from_g.grows (variable_sorts g) K (what_fits_is_sorted g us k a.stands.table a.stands.complete fits) in
     let from : AreOfSorts b.theory (sorts K.params) (initial_of (entries_of g us) k) = terms_grown (data_meant g) b.theory.declared from_g.grows [] (terms_of (initial_of (entries_of g us) k)) (sorts K.params) fits.closed in
     let to : AreOfSorts b.theory (sorts K.params) b.initial = subst (λ ps. AreOfSorts b.theory (sorts ps) b.initial) b.equal.params b.of_sorts in
@@ -112,7 +118,7 @@ led_on_stands_for text printed spec g ts us l k a b fits link good =
       linear = state_of b.linear b.initial;
       printed_specifies = b.specifies;
       adds_only = subst (λ s. AddsOnly s b.specifies.spec) (sym a.spec_is) b.adds_only;
-      numbers = (both_more a.numbers.0 more.0, b.declared ∙ more.1 ∙ ap (λ v. with_more v more.0) a.numbers.1 ∙ more_twice a.vocabulary.declared a.numbers.0 more.0);
+      numbers = (both_more a.numbers.0 more.0, b.declared ∙ more.1 ∙ ap (λ v. with_more v more.0) a.numbers.1 ∙ more_twice a.vocabulary.declared a.numbers.0 more.0, no_more_twice a.numbers.0 more.0 a.numbers.2 (no_actions_behind g h more.0 more.1 b.actions));
       is_linear = b.is_linear_text;
       link = Then link (Dropped (all_kept K.params) K b.linear);
       bisimilar = λ con. then_good b.theory link (Dropped (all_kept K.params) K b.linear) a.process (linear_state (entries_of g us) k) (state_of b.linear b.initial) (good from_g con)

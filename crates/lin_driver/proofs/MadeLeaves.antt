@@ -37,7 +37,7 @@ use Rattle.greibach.proofs.StayingForms.{forms_stay}
 use Rattle.regular_encoder.specs.declared.faults.EncodeFault.{EncodeFault}
 use Rattle.regular_encoder.specs.declared.faults.EncodeFault.TheVariants as encode
 use Rattle.lps_printer.specs.GrowingByAdditions.{nothing_added}
-use Rattle.lps_printer.proofs.GrowingByAdditions.{additions_follow, additions_grow}
+use Rattle.lps_printer.proofs.GrowingByAdditions.{additions_follow, no_actions_follow, additions_grow}
 use Rattle.lin_driver.specs.Faults.{fault_of_encode, IsModelFaultBy}
 use Rattle.lin_driver.specs.LinearLeaves.{IsReady, IsLeafOf, HasTailForm, IsLeafMade, AreLeavesMade, IsLeafFaultOf, IsLeavesFaultOf}
 use Rattle.lin_driver.specs.MethodForms.{LeadsFromForm, IsMethodFaultOf, IsTailFor}
@@ -48,7 +48,7 @@ use Rattle.lin_driver.specs.declared.fault.ModelFault.{ModelFault}
 use Rattle.lin_driver.specs.declared.fault.ModelFault.TheVariants.{Net, Guard, NotTail, NoMemory}
 use Rattle.lin_driver.proofs.Links.{then_over}
 use Rattle.lin_driver.proofs.GrownModels.{model_grows, component_grows, table_stays, component_stays}
-use Rattle.lin_driver.proofs.StayingLinears.{both_additions, names_are_additions, linear_stays, zip_weaker}
+use Rattle.lin_driver.proofs.StayingLinears.{both_additions, names_are_additions, names_add_no_actions, linear_stays, zip_weaker}
 
 -- ---- a component over a later signature
 component_kept : (g h : Sig) (ts us : List Tree) (m : PlainModel) (c : PlainComponent) → IsSignature g → BothGrow g h ts us → ModelFits g ts m → ComponentFits g ts m.definitions c
@@ -90,6 +90,7 @@ leaf_made method g d h p q r m c f l ready leaf w kept form_fits form good sh in
     let links = component_linked g d h p.trees q.trees r.trees m c f l ready.stands w.stands sh gd dh ready.fits leaf.fits form_fits good leads in
     record {
       grows = additions_follow g d h (names_are_additions g d ready.stands w) leads.grows;
+      no_actions = no_actions_follow g d h (names_are_additions g d ready.stands w) leads.grows (names_add_no_actions g d ready.stands w) leads.no_actions;
       ready = record { stands = sh; fits = model_grows g h p.trees r.trees ready.stands gh m ready.fits; inhabited = inhabited; constants = constants; names = leads.names };
       tail = λ regular. record { signature = d; trees = q.trees; form = f; is = form; tails = tails regular };
       linear = record { fits = leads.fits; params = leads.params; link = links.link; bisimilar = links.good };
@@ -97,7 +98,7 @@ leaf_made method g d h p q r m c f l ready leaf w kept form_fits form good sh in
 
 -- ---- one after another
 pub none_made : (method : Method) (g : Sig) (p : PoolContents) (m : PlainModel) → IsReady g p m → AreLeavesMade method g p g p m [] []
-none_made method g p m ready = record { grows = nothing_added; ready = ready; tails = λ regular. All-nil (HasTailForm m); linears = tt }
+none_made method g p m ready = record { grows = nothing_added; no_actions = refl; ready = ready; tails = λ regular. All-nil (HasTailForm m); linears = tt }
 
 pub zip_push : {A B : Type 0} (R : A → B → Type 0) (xs : List A) (ys : List B) (x : A) (y : B) → AllZip R xs ys → R x y → AllZip R (xs ++ x ∷ []) (ys ++ y ∷ [])
 zip_push R [] [] x y k r = (r, tt)
@@ -115,6 +116,7 @@ one_more_made method g h i p q r m cs ls c l ready leaf kept kept' so_far made =
     let IsFor = λ (c : PlainComponent) (l : PlainLinear). IsLinearFor i r.trees (component_in before c) l in
     record {
       grows = additions_follow g h i so_far.grows made.grows;
+      no_actions = no_actions_follow g h i so_far.grows made.grows so_far.no_actions made.no_actions;
       ready = made.ready;
       tails = λ regular. All-push (HasTailForm m) cs c (so_far.tails regular) (made.tail regular);
       linears = zip_push IsFor cs ls c l

@@ -44,6 +44,7 @@ made_can_be_printed text spec h us equations x l made =
         system = is.system;
       };
       grown = leads.grows;
+      no_actions = leads.no_actions;
       stands = leads.stands;
       inhabited = leads.inhabited;
       fits = leads.fits;

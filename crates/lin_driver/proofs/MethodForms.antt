@@ -21,20 +21,21 @@ use Rattle.regular_encoder.specs.declared.faults.EncodeFault.{EncodeFault}
 use Rattle.regular_encoder.specs.declared.faults.EncodeFault.TheVariants.{NotTail, NoMemory}
 use Rattle.regular_encoder.specs.EncodedForms.{IsEncodedForm, EncodingIsGood}
 use Rattle.stack_encoder.specs.StackedForms.{IsStackedForm, StackingIsGood}
-use Rattle.lps_printer.proofs.GrowingByAdditions.{additions_grow, constants_are_additions}
+use Rattle.lps_printer.proofs.GrowingByAdditions.{additions_grow, constants_are_additions, constants_add_no_actions}
 use Rattle.lin_driver.specs.MethodForms.{UsesStack, LeadsFromForm, IsMethodFaultOf}
 use Rattle.lin_driver.specs.declared.methods.Method.{Method}
 use Rattle.lin_driver.specs.declared.methods.Method.TheVariants as method
 use Rattle.lin_driver.proofs.ColumnNames.{encoding_has_own_names}
 use Rattle.lin_driver.proofs.ConstantGrowth.{encoding_grows}
 use Rattle.lin_driver.proofs.NamedVariables.{encoding_named, usable_named}
-use Rattle.lin_driver.proofs.StackedForms.{stack_grows, stack_or_old, stack_identifiers, stack_has_own_name}
+use Rattle.lin_driver.proofs.StackedForms.{stack_grows, stack_adds_no_actions, stack_or_old, stack_identifiers, stack_has_own_name}
 use Rattle.lin_driver.proofs.TakenColumns.{param_or_old, usable_still}
 
 module _ (g h : Sig) (p q : PoolContents) (f : PlainForm) (l : PlainLinear) (sg : IsSignature g) (sh : IsSignature h) (fits : FormFits g p.trees f) (names : HasUsableNames g) (made_fits : Fits h q.trees l) where
   pub columns_lead : length f.equations < 340282366920938463463374607431768211456 → IsEncodedForm g p h q f l → EncodingIsGood h q.trees f l → LeadsFromForm g h q.trees f l
   columns_lead few e good = record {
     grows = constants_are_additions g h (encoding_grows g h p q f l e).grows sh;
+    no_actions = constants_add_no_actions g h (encoding_grows g h p q f l e).grows sh;
     fits = made_fits;
     names = usable_still g h l.params (encoding_grows g h p q f l e).grows.grown (param_or_old g h p q f l e) made_fits.taken (encoding_named g h p q f l fits e (usable_named g names)) names;
     params = encoding_has_own_names g h p q f l sg sh fits few e;
@@ -48,6 +49,7 @@ module _ (g h : Sig) (p q : PoolContents) (f : PlainForm) (l : PlainLinear) (sg 
       let grows = stack_grows g h p q f l sg sh fits named e in
       record {
         grows = grows;
+        no_actions = stack_adds_no_actions g h p q f l sg sh fits named e;
         fits = made_fits;
         names = usable_still g h l.params (additions_grow g sg grows) (stack_or_old g h p q f l sg sh fits named e) made_fits.taken (stack_identifiers g h p q f l sg sh fits named e) names;
         params = stack_has_own_name g h p q f l sg sh fits named e;

@@ -39,7 +39,7 @@ use Rattle.greibach.specs.Surroundings.{HasUsableNames}
 use Rattle.greibach.proofs.GrownFits.{both_by_names}
 use Rattle.greibach.proofs.WhateverStands.{sequential_bodies, bound_once}
 use Rattle.regular_encoder.proofs.InhabitedColumns.{still_inhabited}
-use Rattle.lps_printer.proofs.GrowingByAdditions.{additions_follow, additions_grow, same_actions}
+use Rattle.lps_printer.proofs.GrowingByAdditions.{additions_follow, no_actions_follow, additions_grow, same_actions}
 use Rattle.lin_driver.specs.Faults.{fault_of_guard, fault_of_net}
 use Rattle.lin_driver.specs.Leaves.{leaves}
 use Rattle.lin_driver.specs.LinearLeaves.{IsLeafOf, AreLeavesMade, IsLeavesFaultOf}
@@ -55,7 +55,7 @@ use Rattle.lin_driver.proofs.NamedVariables.{usable_named, summands_named, sums_
 use Rattle.lin_driver.proofs.NetworkLeaves.{all_leaves, both_hold}
 use Rattle.lin_driver.proofs.OpenedComponents.{opened_binds}
 use Rattle.lin_driver.proofs.OpenedOperators.{opened_operators_fit, network_fits_still}
-use Rattle.lin_driver.proofs.StayingLinears.{both_named, names_are_additions, fresh_by_names, own_names_stay, state_stays, linear_for_all}
+use Rattle.lin_driver.proofs.StayingLinears.{both_named, names_are_additions, names_add_no_actions, fresh_by_names, own_names_stay, state_stays, linear_for_all}
 
 -- ---- the leaves
 delta_is_leaf : (g : Sig) (ts : List Tree) (m : PlainModel) → ((e : Entries) → HaveOwnVariables (table_of e m.definitions) (body_of e m.init)) → IsLeafOf g ts m (term_of delta)
@@ -94,7 +94,7 @@ network_can_be_linear g b p q m n can w names kept same opened components = reco
 pub network_can_be_composed : (method : Method) (g d : Sig) (p q : PoolContents) (m : PlainModel) (n : PlainNetwork) (ls : List PlainLinear) → CanBeLinearFrom g p m n → AreLeavesMade method g p d q m (leaves n) ls
     → CanBeComposed (record { signature = g; trees = p.trees; model = m }) everything d q.trees n ls []
 network_can_be_composed method g d p q m n ls can made = record {
-  since = record { stands = can.ready.stands; grown = additions_grow g can.ready.stands made.grows; actions = same_actions g can.ready.stands made.grows };
+  since = record { stands = can.ready.stands; grown = additions_grow g can.ready.stands made.grows; actions = same_actions g can.ready.stands made.grows made.no_actions };
   identifiers = usable_named d made.ready.names;
   operators = can.operators;
   scope = tt;
@@ -116,6 +116,7 @@ network_leads method g d e h p q ws us m n ls left l named made de eh kept compo
       stands = eh.stands;
       inhabited = still_inhabited d h made.ready.stands eh.stands dh.grown dh.sorts made.ready.inhabited;
       grows = additions_follow g d h made.grows (names_are_additions d h made.ready.stands dh);
+      no_actions = no_actions_follow g d h made.grows (names_are_additions d h made.ready.stands dh) made.no_actions (names_add_no_actions d h made.ready.stands dh);
       fits = fits;
       identifiers = summands_named sums.names (sums_there e ws l own.fits) composed.identifiers;
       params = subst (ParamsHaveOwnNames h) (sym sums.params) (own_names_stay e h l.params eh.grown (fresh_by_names e h de.stands eh) own.fits.params own.fits.taken own.params);
@@ -136,6 +137,7 @@ from_the_network g b h ts us m n l sg w grow fits same leads =
       stands = leads.stands;
       inhabited = leads.inhabited;
       grows = additions_follow g b h (names_are_additions g b sg w) leads.grows;
+      no_actions = no_actions_follow g b h (names_are_additions g b sg w) leads.grows (names_add_no_actions g b sg w) leads.no_actions;
       fits = leads.fits;
       identifiers = leads.identifiers;
       params = leads.params;

@@ -1,6 +1,6 @@
 -- What is printed for a linear process reads back.
-use Rattle.std.proofs.Common.{◌≡◌, ◌++◌, Bool, true, cond, ℕ, zero, List, [], length, refl, sym, ap, ◌∙◌, subst, append-nil, Some, None, get_or}
-use Rattle.std.specs.List.{All, Contains}
+use Rattle.std.proofs.Common.{◌≡◌, ◌≢◌, ◌++◌, Bool, true, cond, ℕ, zero, List, [], length, refl, sym, ap, ◌∙◌, subst, append-nil, Some, None, get_or}
+use Rattle.std.specs.List.{All, AllByRecursion, Contains}
 use Rattle.std.proofs.lemmas.Slice.Eq.{bytes_eq-Decides}
 use Rattle.mcrl2_syntax.specs.Declarations.{PlainSpec}
 use Rattle.data_theory.specs.declared.ids.FunId.{FunId}
@@ -39,7 +39,7 @@ use Rattle.lps_printer.specs.FilledLinears.{Constants, filled_linear, filled_ter
 use Rattle.lps_printer.specs.FittingLinears.{NamesAreIdentifiers, CanBeRead}
 use Rattle.lps_printer.specs.FoundConstants.{constant_among}
 use Rattle.lps_printer.specs.GrowingByConstants.{GrowsByConstants}
-use Rattle.lps_printer.specs.GrowingByAdditions.{GrowsByAdditions, then_constants}
+use Rattle.lps_printer.specs.GrowingByAdditions.{GrowsByAdditions, then_constants, added_actions}
 use Rattle.lps_printer.specs.LinearBack.{parameters_of}
 use Rattle.lps_printer.specs.PrintedDeclarations.{AreSoundOver}
 use Rattle.lps_printer.specs.PrintedLinears.{IsPrinted}
@@ -112,6 +112,10 @@ module _ (spec : PlainSpec) (g h : Sig) (ts : List Tree) (x : NameId) (l : Plain
   both : GrowsByAdditions can.own_signature h
   both = then_constants can.grown grows after
 
+  no_actions : added_actions both ≡ []
+  unfolding both
+  no_actions = can.no_actions
+
   its_vocabulary : IsVocabularyOf (under_names (declarations_in (bare_sections spec))) (vocabulary_of can.own_signature)
   its_vocabulary = subst (IsVocabularyOf (under_names (declarations_in (bare_sections spec)))) can.own.declared can.own.system.well_typed.vocabulary.declared
 
@@ -143,7 +147,7 @@ module _ (spec : PlainSpec) (g h : Sig) (ts : List Tree) (x : NameId) (l : Plain
   whole : IsWholeText (copied_sections spec.sections ++ added_sections spec h n fs) (copied_declared spec ++ added) n M J
   whole =
       printed_texts_spell_back can.text spec can.tokens can.cut can.spelled v h n M J fs read.reads read.named
-      (what_is_added_is_named spec h n fs after identifiers_later.functions read.named.sorts lists_added)
+      (what_is_added_is_named spec h n fs after identifiers_later.functions identifiers_later.actions read.named.sorts lists_added)
 
   spelled : SpellsSections printed ss
   spelled = subst (λ (t : List ℕ). SpellsSections t ss) (sym (is.written c constants_are)) whole.spelled
@@ -162,6 +166,7 @@ module _ (spec : PlainSpec) (g h : Sig) (ts : List Tree) (x : NameId) (l : Plain
         inhabited = inhabited_later;
         additions = what_is_added_is_declared spec can.own_signature h both (what_is_added_is_printed spec can.own_signature h can.own.stands its_vocabulary both) name fs;
         new_process = subst (λ (t : Name). ¬ (IsTaken can.own_signature t)) same_name can.process_new;
+        no_action = subst (AllByRecursion (λ (a : NameId). text_under h a ≢ name)) (sym no_actions) tt;
         listed = variables_that_read_can_be_listed v n M J read.reads;
       })
 
@@ -205,7 +210,7 @@ module _ (spec : PlainSpec) (g h : Sig) (ts : List Tree) (x : NameId) (l : Plain
     linear = M;
     initial = J;
     specifies = record { tokens = spelled.tokens; cut = spelled.cut; spec = spelled.spec; spelled = spelled.spells; system = subst (λ bs. IsSystem bs v th (state_of M J)) (sym spelled.is) system.0 };
-    adds_only = what_may_be_added_adds_only spec spelled.spec added n M J can.own.placed spelled.is (additions_may_be_added spec can.own_signature h name fs can.own.stands its_vocabulary can.own.taken both lists_added);
+    adds_only = what_may_be_added_adds_only spec spelled.spec added n M J can.own.placed spelled.is (additions_may_be_added spec can.own_signature h name fs can.own.stands its_vocabulary can.own.taken both no_actions lists_added);
     is_linear_text = system.1;
     is_linear = read.linear;
     variable_sorts = variable_sorts h;

@@ -34,7 +34,7 @@ use Rattle.regular_encoder.proofs.LayingOut.{kinds_in}
 use Rattle.stack_encoder.specs.AddedSort.{AreFreshNames, no_name, one_more_name, DeclaresStack}
 use Rattle.stack_encoder.specs.StackColumns.{AreClosedTerms, no_closed_term, one_more_closed_term}
 use Rattle.stack_encoder.specs.StackedForms.{IsStackedForm}
-use Rattle.lps_printer.specs.GrowingByAdditions.{GrowsByStruct, GrowsByAdditions, nothing_added, then_constants, then_struct}
+use Rattle.lps_printer.specs.GrowingByAdditions.{GrowsByStruct, GrowsByAdditions, nothing_added, then_constants, then_struct, added_actions}
 use Rattle.lps_printer.proofs.GrowingByConstants.{GrowsOn, on_then}
 use Rattle.lps_printer.proofs.GrownStructs.{it_is_grown}
 use Rattle.lin_driver.specs.TakenNames.{HaveIdentifiers}
@@ -96,6 +96,10 @@ module _ (g h : Sig) (p q : PoolContents) (f : PlainForm) (l : PlainLinear) (sg 
   -- a struct, and then constants
   pub stack_grows : GrowsByAdditions g h
   stack_grows = then_constants (then_struct nothing_added struct s1_stands) rest.grows sh
+
+  pub stack_adds_no_actions : added_actions stack_grows ≡ []
+  unfolding stack_grows
+  stack_adds_no_actions = refl
 
   -- ---- its parameter is the one new variable
   sort_variables : s1.variables ≡ g.variables

@@ -23,8 +23,8 @@ use Rattle.lps_core.proofs.Members.{all_from}
 use Rattle.lps_core.proofs.NamedSums.{name_kept, names_kept, taken_name}
 use Rattle.lps_core.proofs.Staying.{what_fits_stays}
 use Rattle.lps_core.proofs.StayingFits.{what_fits_fits_still}
-use Rattle.lps_printer.specs.GrowingByAdditions.{GrowsByAdditions}
-use Rattle.lps_printer.proofs.GrowingByAdditions.{still_stands, constants_are_additions}
+use Rattle.lps_printer.specs.GrowingByAdditions.{GrowsByAdditions, added_actions}
+use Rattle.lps_printer.proofs.GrowingByAdditions.{still_stands, constants_are_additions, constants_add_no_actions}
 use Rattle.lps_printer.proofs.GrowingByConstants.{on_names}
 use Rattle.lin_driver.specs.Parts.{IsLinearFor, IsLinearWithin}
 use Rattle.lin_driver.proofs.FreshFunctions.{NewNamesAreFresh, fresh_by_additions}
@@ -48,6 +48,10 @@ both_additions g h ts us s w both = record { old = s; new = still_stands g s w; 
 -- names alone are no additions
 pub names_are_additions : (g h : Sig) → IsSignature g → GrowsByNames g h → GrowsByAdditions g h
 names_are_additions g h s w = constants_are_additions g h (on_names g h s w).grows w.stands
+
+pub names_add_no_actions : (g h : Sig) (s : IsSignature g) (w : GrowsByNames g h) → added_actions (names_are_additions g h s w) ≡ []
+unfolding names_are_additions
+names_add_no_actions g h s w = constants_add_no_actions g h (on_names g h s w).grows w.stands
 
 -- ---- what stays
 pub own_names_stay : (g h : Sig) (xs : List VarId) → IsGrown g h → NewNamesAreFresh g h → All (IsVariable g) xs → All (HasTakenName g) xs → ParamsHaveOwnNames g xs → ParamsHaveOwnNames h xs

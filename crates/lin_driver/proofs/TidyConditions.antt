@@ -94,6 +94,7 @@ tidying_leads g h p ts us l k kept t w =
       stands = w.stands;
       inhabited = w.inhabited;
       grows = w.grows;
+      no_actions = w.no_actions;
       fits = tidied_fits h w.stands ts us kept l k w.fits t;
       identifiers = w.identifiers;
       params = subst (ParamsHaveOwnNames h) (sym t.params) w.params;

@@ -1,5 +1,5 @@
 -- Structs and constants that a text doesn't declare may be added to it.
-use Rattle.std.specs.Prelude.{List}
+use Rattle.std.specs.Prelude.{◌≡◌, List, []}
 use Rattle.std.specs.List.{All, Contains}
 use Rattle.data_theory.specs.declared.ids.FunId.{FunId}
 use Rattle.data_theory.specs.Signature.{Sig, IsTaken}
@@ -12,14 +12,14 @@ use Rattle.sort_table.specs.SignatureVocabularies.{vocabulary_of}
 use Rattle.sort_table.specs.SortMeanings.{under_names}
 use Rattle.sort_table.specs.Vocabularies.{IsVocabularyOf}
 use Rattle.lps_printer.specs.AddedDeclarations.{added_functions, constants_among, added_declared}
-use Rattle.lps_printer.specs.GrowingByAdditions.{GrowsByAdditions}
+use Rattle.lps_printer.specs.GrowingByAdditions.{GrowsByAdditions, added_actions}
 use Rattle.lps_printer.specs.SignatureNames.{text_names_under}
 use Rattle.lin_driver.specs.AddedParts.{MayBeAdded}
 
--- The signature g has what the text declares, all identifiers that are copied are taken in it, and h has structs and constants more. The
+-- The signature g has what the text declares, all identifiers that are copied are taken in it, and h has structs and constants more, but no actions. The
 -- constants for empty lists are among these.
 abbrev pub AdditionsMayBeAdded : Type 0
 AdditionsMayBeAdded =
     (spec : PlainSpec) (g h : Sig) (x : Name) (empty_lists : List FunId) → IsSignature g → IsVocabularyOf (under_names (declarations_in (bare_sections spec))) (vocabulary_of g)
-    → ((t : Name) → Contains (copied_identifiers spec) t → IsTaken g t) → GrowsByAdditions g h → All (Contains (constants_among h (added_functions spec h))) empty_lists
+    → ((t : Name) → Contains (copied_identifiers spec) t → IsTaken g t) → (w : GrowsByAdditions g h) → added_actions w ≡ [] → All (Contains (constants_among h (added_functions spec h))) empty_lists
     → MayBeAdded spec (added_declared spec h (text_names_under h x) empty_lists)

@@ -1,5 +1,5 @@
 -- The linear processes of the leaves of a network.
-use Rattle.std.specs.Prelude.{◌≡◌, ◌≤◌, ◌-◌, ℕ, List, Some, slice_get, take}
+use Rattle.std.specs.Prelude.{◌≡◌, ◌≤◌, ◌-◌, ℕ, List, Some, slice_get, take, []}
 use Rattle.std.specs.List.{All, AllZip}
 use Rattle.data_theory.specs.Declarations.{NoSortIsEmpty}
 use Rattle.data_theory.specs.Signature.{Sig}
@@ -17,7 +17,7 @@ use Rattle.greibach.specs.Scopes.{HasSequentialBodies, BindsItsVariablesOnce}
 use Rattle.greibach.specs.Surroundings.{HasUsableNames}
 use Rattle.greibach.specs.Tails.{HasTails}
 use Rattle.regular_encoder.specs.Refusals.{IsFirstWithTwoCalls}
-use Rattle.lps_printer.specs.GrowingByAdditions.{GrowsByAdditions}
+use Rattle.lps_printer.specs.GrowingByAdditions.{GrowsByAdditions, added_actions}
 use Rattle.lin_driver.specs.Parts.{component_in, IsLinearFor}
 use Rattle.lin_driver.specs.declared.methods.Method.{Method}
 use Rattle.lin_driver.specs.declared.methods.Method.TheVariants.{Regular}
@@ -69,6 +69,7 @@ pub record HasLeafWithTwoCalls (m : PlainModel) (cs : List PlainComponent) (numb
 -- `Regular` it has a tail form.
 pub record IsLeafMade (method : Method) (g : Sig) (p : PoolContents) (h : Sig) (q : PoolContents) (m : PlainModel) (c : PlainComponent) (l : PlainLinear) : Type 0 where
   pub grows : GrowsByAdditions g h
+  pub no_actions : added_actions grows ≡ []
   pub ready : IsReady h q m
   pub tail : method ≡ Regular → HasTailForm m c
   pub linear : IsLinearFor h q.trees (component_in (record { signature = g; trees = p.trees; model = m }) c) l
@@ -76,6 +77,7 @@ pub record IsLeafMade (method : Method) (g : Sig) (p : PoolContents) (h : Sig) (
 -- the same for components one after another
 pub record AreLeavesMade (method : Method) (g : Sig) (p : PoolContents) (h : Sig) (q : PoolContents) (m : PlainModel) (cs : List PlainComponent) (ls : List PlainLinear) : Type 0 where
   pub grows : GrowsByAdditions g h
+  pub no_actions : added_actions grows ≡ []
   pub ready : IsReady h q m
   pub tails : method ≡ Regular → All (HasTailForm m) cs
   pub linears : AllZip (λ c l. IsLinearFor h q.trees (component_in (record { signature = g; trees = p.trees; model = m }) c) l) cs ls

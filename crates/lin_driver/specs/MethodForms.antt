@@ -1,5 +1,5 @@
 -- How a method encodes a form.
-use Rattle.std.specs.Prelude.{◌≡◌, List, map}
+use Rattle.std.specs.Prelude.{◌≡◌, List, map, []}
 use Rattle.data_theory.specs.Signature.{Sig}
 use Rattle.data_theory.specs.IdTrees.{Tree}
 use Rattle.term_pool.specs.Pools.{PoolContents}
@@ -20,7 +20,7 @@ use Rattle.regular_encoder.specs.Refusals.{IsFirstWithTwoCalls}
 use Rattle.regular_encoder.specs.declared.faults.EncodeFault.{EncodeFault}
 use Rattle.regular_encoder.specs.declared.faults.EncodeFault.TheVariants.{NotTail, NoMemory}
 use Rattle.stack_encoder.specs.StackedForms.{IsStackedForm}
-use Rattle.lps_printer.specs.GrowingByAdditions.{GrowsByAdditions}
+use Rattle.lps_printer.specs.GrowingByAdditions.{GrowsByAdditions, added_actions}
 use Rattle.lin_driver.specs.declared.methods.Method.{Method}
 use Rattle.lin_driver.specs.declared.methods.Method.TheVariants.{Auto, Regular, Stack}
 
@@ -43,6 +43,7 @@ pub data IsEncodedBy (m : Method) (g : Sig) (p : PoolContents) (h : Sig) (q : Po
 -- constants were declared meanwhile. The names of variables are taken and are identifiers, and the parameters have names of their own.
 pub record LeadsFromForm (g h : Sig) (us : List Tree) (f : PlainForm) (l : PlainLinear) : Type 0 where
   pub grows : GrowsByAdditions g h
+  pub no_actions : added_actions grows ≡ []
   pub fits : Fits h us l
   pub names : HasUsableNames h
   pub params : ParamsHaveOwnNames h l.params

@@ -1,5 +1,5 @@
 -- The linear process of a specification in code.
-use Rattle.std.specs.Prelude.{◌≡◌, ◌≢◌, ℕ, List, codes, slice_get, Some}
+use Rattle.std.specs.Prelude.{◌≡◌, ◌≢◌, ℕ, List, codes, slice_get, Some, []}
 use Rattle.std.specs.List.{All, Contains}
 use Rattle.data_theory.specs.declared.ids.NameId.{NameId}
 use Rattle.data_theory.specs.Declarations.{NoSortIsEmpty}
@@ -26,7 +26,7 @@ use Rattle.proc_unfold.specs.Networks.{PlainNetwork}
 use Rattle.proc_unfold.specs.Parallelism.{IsNetFaultOf, StandsOutsideRecursion}
 use Rattle.proc_unfold.specs.Unfolded.{IsOpened}
 use Rattle.greibach.specs.Scopes.{HaveOwnVariables}
-use Rattle.lps_printer.specs.GrowingByAdditions.{GrowsByAdditions}
+use Rattle.lps_printer.specs.GrowingByAdditions.{GrowsByAdditions, added_actions}
 use Rattle.lin_driver.specs.FittingOperators.{OperatorsFit, NetworkFits}
 use Rattle.lin_driver.specs.Leaves.{leaves}
 use Rattle.lin_driver.specs.LinearLeaves.{IsReady, IsLeafOf, HasLeafWithTwoCalls}
@@ -59,6 +59,7 @@ pub record LeadsToLinear (g : Sig) (p : Process) (h : Sig) (us : List Tree) (l :
   pub stands : IsSignature h
   pub inhabited : NoSortIsEmpty (data_meant h)
   pub grows : GrowsByAdditions g h
+  pub no_actions : added_actions grows ≡ []
   pub fits : Fits h us l
   pub identifiers : HaveIdentifiers h
   pub params : ParamsHaveOwnNames h l.params

@@ -1,5 +1,5 @@
 -- What is printed for a linear process reads back.
-use Rattle.std.specs.Prelude.{◌<◌, ℕ, List, length}
+use Rattle.std.specs.Prelude.{◌≡◌, ◌<◌, ℕ, List, length, []}
 use Rattle.mcrl2_lexer.specs.declared.token.Token.{Token}
 use Rattle.mcrl2_lexer.specs.Lexing.{HasTokens}
 use Rattle.mcrl2_syntax.specs.Declarations.{PlainSpec}
@@ -15,7 +15,7 @@ use Rattle.lps_core.specs.Fitting.{Fits}
 use Rattle.lps_core.specs.PlainLinears.{PlainLinear}
 use Rattle.lps_printer.specs.DataLayout.{IsIdentifier}
 use Rattle.lps_printer.specs.FittingLinears.{VariablesHaveOwnNames, NamesAreIdentifiers}
-use Rattle.lps_printer.specs.GrowingByAdditions.{GrowsByAdditions}
+use Rattle.lps_printer.specs.GrowingByAdditions.{GrowsByAdditions, added_actions}
 use Rattle.lps_printer.specs.PrintedLinears.{IsPrinted}
 use Rattle.lps_printer.specs.PrintedTheories.{ElaboratesOver}
 use Rattle.lin_driver.specs.Linearised.{ReadsBack}
@@ -30,6 +30,7 @@ pub record CanBePrinted (spec : PlainSpec) (g : Sig) (ts : List Tree) (x : NameI
   pub own_signature : Sig
   pub own : ElaboratesOver spec own_signature
   pub grown : GrowsByAdditions own_signature g
+  pub no_actions : added_actions grown ≡ []
   pub stands : IsSignature g
   pub inhabited : NoSortIsEmpty (data_meant g)
   pub fits : Fits g ts l

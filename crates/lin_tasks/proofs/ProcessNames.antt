@@ -36,8 +36,8 @@ use Rattle.bisim_laws.proofs.Firing.{contains_cases, contains_first, contains_la
 use Rattle.lps_core.specs.PlainLinears.{PlainLinear}
 use Rattle.lps_core.proofs.Members.{all_from, map_contains}
 use Rattle.lps_printer.specs.CopiedSections.{kept_sections}
-use Rattle.lps_printer.specs.GrowingByAdditions.{GrowsByAdditions, nothing_added, then_constants, then_struct}
 use Rattle.lps_printer.specs.SignatureNames.{is_free}
+use Rattle.lps_printer.proofs.GrowingByAdditions.{same_actions}
 use Rattle.lps_printer.proofs.KeptDeclarations.{kept_actions, kept_names}
 use Rattle.lps_printer.proofs.TextItems.{fixed_by, name_of}
 use Rattle.lps_printer.proofs.TwoOfLists as lists
@@ -118,12 +118,6 @@ module _ (spec : PlainSpec) (g : Sig) (placed : IsPlaced spec) (vocabulary : IsV
       all_contained Q [] x all c = absurd (contains_none x c)
       all_contained Q (y ∷ xs) x all c = elim (contains_cases y x xs c) [ inl here ↦ subst Q here all.0 | inr there ↦ all_contained Q xs x all.1 there ]
 
--- ---- growth
-same_actions : {g h : Sig} → GrowsByAdditions g h → h.actions ≡ g.actions
-same_actions nothing_added = refl
-same_actions (then_constants before by stands) = by.actions ∙ same_actions before
-same_actions (then_struct before by stands) = ap (λ (k : Sig). k.actions) by.is ∙ by.by_names.actions ∙ same_actions before
-
 -- ---- fresh names
 -- none of these is the name of a built-in function
 candidates_are_free : (n : ℕ) → is_free (candidate (codes "P") n) ≡ true
@@ -150,6 +144,6 @@ new_process text spec g ts equations x l made =
     record {
       text = n.text;
       named = n.named;
-      no_action = no_action_has_it m.signature g x n.text m.stands m.grow.signature (same_actions m.leads.grows) (action_is_taken spec m.signature placed m.declares.vocabulary (λ t i. (m.taken t).1 (inr i))) n.named n.fresh.free;
+      no_action = no_action_has_it m.signature g x n.text m.stands m.grow.signature (same_actions m.signature m.stands m.leads.grows m.leads.no_actions) (action_is_taken spec m.signature placed m.declares.vocabulary (λ t i. (m.taken t).1 (inr i))) n.named n.fresh.free;
       free = ap is_free n.fresh.named ∙ candidates_are_free n.fresh.number;
     }
