@@ -91,18 +91,18 @@ module _ (ts us : List Tree) (ids : List TermId) (k : ℕ) (many : length ids �
 -- ---- lines
 -- an action over terms of the first pool has a number for each of its arguments, and is the same over the second one
 module _ (g : Sig) (ts us : List Tree) (ids : List TermId) (h : AreEntered ts us ids) where
-  places_of : (terms : List TermId) → All (IsTerm g ts) terms → HavePlaces ids terms
+  pub places_of : (terms : List TermId) → All (IsTerm g ts) terms → HavePlaces ids terms
   places_of terms over = All-weaker (IsTerm g ts) (λ (term : TermId). term.0 < length ids) (λ term t. subst (λ (n : ℕ). term.0 < n) (sym (as_many ts us ids h)) t.inside) terms over
 
-  entered_term : (term : TermId) → IsTerm g ts term → IsTerm g us (number_in ids term)
+  pub entered_term : (term : TermId) → IsTerm g ts term → IsTerm g us (number_in ids term)
   entered_term term t =
       let l : term.0 < length ids = subst (λ (n : ℕ). term.0 < n) (sym (as_many ts us ids h)) t.inside in
       record { inside = number_within ts us ids h term l; within = subst (IsTreeWithin g) (sym (number_stands ts us ids h term l)) t.within }
 
-  entered_terms : (terms : List TermId) → All (IsTerm g ts) terms → All (IsTerm g us) (map (number_in ids) terms)
+  pub entered_terms : (terms : List TermId) → All (IsTerm g ts) terms → All (IsTerm g us) (map (number_in ids) terms)
   entered_terms terms over = All-map (IsTerm g us) (number_in ids) terms (All-weaker (IsTerm g ts) (λ (term : TermId). IsTerm g us (number_in ids term)) entered_term terms over)
 
-  same_terms : (terms : List TermId) → All (IsTerm g ts) terms → map (term_at g us) (map (number_in ids) terms) ≡ map (term_at g ts) terms
+  pub same_terms : (terms : List TermId) → All (IsTerm g ts) terms → map (term_at g us) (map (number_in ids) terms) ≡ map (term_at g ts) terms
   same_terms [] over = refl
   same_terms (term ∷ terms) over =
       let t = All-head (IsTerm g ts) term terms over in
@@ -112,13 +112,13 @@ module _ (g : Sig) (ts us : List Tree) (ids : List TermId) (h : AreEntered ts us
   action_entered : (x : PlainAction) (a : Action) → ActionIs g ts x a → ActionIs g us (entered_action ids x) a
   action_entered x a is = record { key = is.key; stands = is.stands; name = is.name; sorts = is.sorts; over = entered_terms x.args is.over; args = same_terms x.args is.over ∙ is.args }
 
-  label_entered : (xs : List PlainAction) (m : Label) → LabelIs g ts xs m → LabelIs g us (map (entered_action ids) xs) m
+  pub label_entered : (xs : List PlainAction) (m : Label) → LabelIs g ts xs m → LabelIs g us (map (entered_action ids) xs) m
   label_entered [] [] is = tt
   label_entered [] (a ∷ m) is = absurd is
   label_entered (x ∷ xs) [] is = absurd is
   label_entered (x ∷ xs) (a ∷ m) is = (action_entered x a is.0, label_entered xs m is.1)
 
-  label_places : (xs : List PlainAction) (m : Label) → LabelIs g ts xs m → All (ActionHasPlaces ids) xs
+  pub label_places : (xs : List PlainAction) (m : Label) → LabelIs g ts xs m → All (ActionHasPlaces ids) xs
   label_places [] [] is = All-nil (ActionHasPlaces ids)
   label_places [] (a ∷ m) is = absurd is
   label_places (x ∷ xs) [] is = absurd is

@@ -2,6 +2,7 @@ pub mod Attempted
 pub mod BegunWays
 pub mod BlankLemmas
 pub mod ConditionLemmas
+pub mod DataWords
 pub mod DecidedTerms
 pub mod EnteredTerms
 pub mod EqualityTerms

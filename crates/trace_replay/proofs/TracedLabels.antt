@@ -59,7 +59,7 @@ module _ (g : Sig) (ts : List Tree) (within : All (IsTreeWithin g) ts) where
         args = terms_meant g ts x.args over;
       }
 
-  label_there : (xs : List PlainAction) → HasLabel (entries_of g ts) xs → LabelIs g ts xs (label_of (entries_of g ts) xs)
+  pub label_there : (xs : List PlainAction) → HasLabel (entries_of g ts) xs → LabelIs g ts xs (label_of (entries_of g ts) xs)
   label_there [] h = tt
   label_there (x ∷ xs) h = (action_there x (All-head (HasAction (entries_of g ts)) x xs h), label_there xs (All-tail (HasAction (entries_of g ts)) x xs h))
 

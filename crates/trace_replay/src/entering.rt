@@ -28,7 +28,11 @@ fn number_in(ids: &[TermId], term: TermId) -> TermId
 }
 
 /// The numbers that stand at the places of terms.
-fn numbers_in(alloc: Global, ids: &[TermId], terms: &[TermId]) -> Result<Vec<TermId>, NoMemory>
+///
+/// # Errors
+///
+/// `NoMemory` where there is none for them.
+pub fn numbers_in(alloc: Global, ids: &[TermId], terms: &[TermId]) -> Result<Vec<TermId>, NoMemory>
     requires { HavePlaces ids.now terms.now }
     ensures { IfOk result (λ numbers. numbers.items ≡ map (number_in ids.now) terms.now) }
 {
@@ -59,7 +63,11 @@ fn enter_one(
 }
 
 /// Enters the terms of one pool into another. Each has its number there at its own place.
-fn enter_all(alloc: Global, from: &Pool, to: &mut Pool) -> Result<Vec<TermId>, NoMemory>
+///
+/// # Errors
+///
+/// `NoMemory` where there is none for the terms or their numbers.
+pub fn enter_all(alloc: Global, from: &Pool, to: &mut Pool) -> Result<Vec<TermId>, NoMemory>
     ensures kept { Extends to.old.trees to.new.trees }
     ensures entered { IfOk result (λ ids. AreEntered from.now.trees to.new.trees ids.items) }
 {
@@ -84,7 +92,11 @@ fn entered_action(alloc: Global, ids: &[TermId], action: &Action) -> Result<Acti
 }
 
 /// A label over these numbers.
-fn entered_label(alloc: Global, ids: &[TermId], label: &Label) -> Result<Label, NoMemory>
+///
+/// # Errors
+///
+/// `NoMemory` where there is none for it.
+pub fn entered_label(alloc: Global, ids: &[TermId], label: &Label) -> Result<Label, NoMemory>
     requires { All (ActionHasPlaces ids.now) (plain_label label.now) }
     ensures { IfOk result (λ made. plain_label made ≡ map (entered_action ids.now) (plain_label label.now)) }
 {

@@ -17,8 +17,9 @@ mod traces;
 mod ways;
 
 pub use deciding::{Answer, decide_all};
+pub use entering::{enter_all, entered_label, numbers_in};
 pub use lines::split_line;
-pub use reading::{Line, read_trace};
+pub use reading::{Line, label_of_line, read_trace};
 pub use replaying::{ReplayFault, Verdict};
 pub use traces::replay;
 pub use ways::{add_term_equalities, sorts_of};

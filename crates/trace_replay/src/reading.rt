@@ -28,7 +28,11 @@ pub struct Line {
 }
 
 /// The label that a line spells, as [`parse_label`] and [`elaborate_label`] read it.
-fn label_of_line(
+///
+/// # Errors
+///
+/// `NotALabel` where the line spells no closed, typed label. `NoMemory` comes only where memory runs out.
+pub fn label_of_line(
     alloc: Global,
     sig: &Signature,
     pool: &mut Pool,
