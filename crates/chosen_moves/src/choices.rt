@@ -4,10 +4,10 @@ ghost use Rattle.std.specs.Prelude.{◌≡◌, [], IfOk};
 ghost use Rattle.trace_replay.specs.Lines.{lines_of};
 ghost use Rattle.chosen_moves.specs.Choices.{HaveChoices, IsReadLine};
 
-use crate::lines::split_line;
 use crate::saying::{Said, said_by};
 use data_theory::NoMemory;
 use std::alloc::Global;
+use trace_replay::split_line;
 
 /// The number of a move, counted from 1, that a line of a text chooses, with the number of that line.
 #[derive(Clone, Copy, Debug, PartialEq, Eq)]

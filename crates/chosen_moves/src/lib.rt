@@ -5,7 +5,6 @@
 
 mod choices;
 mod following;
-mod lines;
 mod saying;
 
 pub use choices::Choice;
