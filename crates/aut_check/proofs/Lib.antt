@@ -20,3 +20,8 @@ pub mod JudgedStates
 pub mod ComparedStates
 pub mod RunningStates
 pub mod SystemChecks
+pub mod PartLemmas
+pub mod ReadEdges
+pub mod ReadStates
+pub mod EnteredSystems
+pub mod ReadingLaws

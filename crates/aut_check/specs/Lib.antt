@@ -9,3 +9,7 @@ pub mod Comparing
 pub mod SystemLaws
 pub mod SystemChecks
 pub mod SystemTexts
+pub mod LineParts
+pub mod ReadSystems
+pub mod EnteredSystems
+pub mod ReadingLaws

@@ -10,10 +10,16 @@ use Rattle.mcrl2_lexer.specs.Words.{is_space, is_digit, decimal}
 abbrev pub IsWhite : List ℕ → Type 0
 IsWhite line = All (λ b. is_space b ≡ true) line
 
+-- the line begins with this part, with white space in front of it, and the rest stands behind it
+pub record IsFirstPart (line part rest : List ℕ) : Type 0 where
+  pub white : List ℕ
+  pub is_white : IsWhite white
+  pub whole : line ≡ white ++ (part ++ rest)
+
 -- the line is these parts in order, with white space in front of, between and behind them
 pub data AreParts : List ℕ → List (List ℕ) → Type 0 where
   no_part : {line : List ℕ} → IsWhite line → AreParts line []
-  part_then : {line part rest : List ℕ} {parts : List (List ℕ)} (white : List ℕ) → IsWhite white → line ≡ white ++ part ++ rest → AreParts rest parts → AreParts line (part ∷ parts)
+  part_then : {line part rest : List ℕ} {parts : List (List ℕ)} → IsFirstPart line part rest → AreParts rest parts → AreParts line (part ∷ parts)
 
 -- a decimal number below 2^64, without further zeros in front
 pub data IsNumber : List ℕ → ℕ → Type 0 where
@@ -43,16 +49,20 @@ pub record IsHeaderLine (line : List ℕ) (c : Counts) : Type 0 where
   pub states_are : IsNumber states c.states
   pub within : c.first < c.states
 
+-- `(I,"LABEL",J)`
+pub record IsEdgeText (line label : List ℕ) (i j : ℕ) : Type 0 where
+  pub from : List ℕ
+  pub to : List ℕ
+  pub parts : AreParts line (codes "(" ∷ from ∷ codes "," ∷ quoted label ∷ codes "," ∷ to ∷ codes ")" ∷ [])
+  pub plain : IsPlain label
+  pub from_is : IsNumber from i
+  pub to_is : IsNumber to j
+
 module _ (Spells : List ℕ → Label → Type 0) where
-  -- `(I,"LABEL",J)`
+  -- the text of an edge between two of the states, with a label
   pub record IsEdgeLine (c : Counts) (line : List ℕ) (e : Edge) : Type 0 where
-    pub from : List ℕ
     pub label : List ℕ
-    pub to : List ℕ
-    pub parts : AreParts line (codes "(" ∷ from ∷ codes "," ∷ quoted label ∷ codes "," ∷ to ∷ codes ")" ∷ [])
-    pub plain : IsPlain label
-    pub from_is : IsNumber from e.from
-    pub to_is : IsNumber to e.to
+    pub text : IsEdgeText line label e.from e.to
     pub spelled : Spells label e.label
     pub from_within : e.from < c.states
     pub to_within : e.to < c.states
@@ -90,10 +100,14 @@ module _ (Spells : List ℕ → Label → Type 0) where
   IsBadAut text k = IsBadAutLine 1 (lines_of text) k
 
 -- ---- the states
+-- `-`
+abbrev pub IsEndLine : List ℕ → Type 0
+IsEndLine line = AreParts line (codes "-" ∷ [])
+
 module _ (AreTerms : List ℕ → List Term → Type 0) where
   -- `-`, or terms in brackets
   pub data IsStateLine : List ℕ → FileState → Type 0 where
-    after_all : {line : List ℕ} → AreParts line (codes "-" ∷ []) → IsStateLine line None
+    after_all : {line : List ℕ} → IsEndLine line → IsStateLine line None
     with_terms : {line : List ℕ} {ts : List Term} → IsPlain line → AreTerms line ts → IsStateLine line (Some ts)
 
   pub data AreStateLines : ℕ → List (List ℕ) → List FileState → Type 0 where
