@@ -66,7 +66,6 @@ CASES = [
     ("walk", ["walk", "TEXT", "--depth", "3"], COUNTER, ""),
     ("replay", ["replay", "TEXT", "--trace", "FURTHER"], COUNTER, "up(0)\nup(1)\n"),
     ("equations", ["equations", "TEXT"], "map f: Nat -> Nat; var n: Nat; eqn f(0) = 0; n > 0 -> f(n) = f(Int2Nat(n - 1)); init delta;", ""),
-    ("invariant", ["invariant", "TEXT", "--invariant", "FURTHER"], COUNTER, "n <= 2"),
     ("generate", ["generate", "2"], "", ""),
     ("refused", ["linearise", "TEXT"], "act a; proc X = X + a; init X;", ""),
 ]
