@@ -1,20 +1,26 @@
--- The names of what is added differ, and weren't taken. So actions may stand in front of structs, and structs in front of constants, whatever came first.
+-- The names of the structs and constants that are added differ, and weren't taken. Those of the actions differ, and no action had them. So actions may
+-- stand in front of structs, and structs in front of constants, whatever came first.
 use Rattle.std.proofs.Common.{◌≡◌, ◌≢◌, ◌⊎◌, inl, inr, ⊎_elim, zero, suc, ◌<◌, Bool, true, false, cond, List, [], ◌∷◌, ◌++◌, length, map, refl, sym, ap, ap₂, ◌∙◌, subst, arith, append-nil, append_assoc}
-use Rattle.std.specs.Prelude.{Some, bytes_eq}
+use Rattle.std.specs.Prelude.{Some, bytes_eq, slice_get}
 use Rattle.std.specs.List.{AllByRecursion, Contains, flat_map}
 use Rattle.std.proofs.lemmas.List.{map-append}
-use Rattle.std.proofs.lemmas.List.Elements.{All-contains}
+use Rattle.std.proofs.lemmas.List.Elements.{All-contains, Contains-append_left, Contains-append_right}
 use Rattle.std.proofs.lemmas.Option.{slice_get-get_or}
 use Rattle.std.proofs.lemmas.Slice.Eq.{bytes_eq-Decides}
 use Rattle.mcrl2_syntax.proofs.Lists.{all_both}
 use Rattle.data_theory.specs.declared.ids.NameId.{NameId}
 use Rattle.data_theory.specs.declared.ids.SortId.{SortId}
+use Rattle.data_theory.specs.Complete.{IsActionWithin}
 use Rattle.data_theory.specs.Functions.{Function}
+use Rattle.data_theory.specs.Keys.{Key, key}
 use Rattle.data_theory.specs.Signature.{Sig, IsTaken}
 use Rattle.data_theory.specs.IdTerms.{sort_under, IsGrown}
 use Rattle.data_theory.specs.WholeSignatures.{IsSignature}
 use Rattle.data_theory.proofs.IdGrowthLemmas.{growth_after_growth_is_growth}
+use Rattle.data_theory.proofs.PlaceLemmas.{read_front}
 use Rattle.data_theory.proofs.StructGrowthLemmas.{with_a_struct_sort_it_is_grown}
+use Rattle.lps_core.specs.SealedTrees.{IsNoAction}
+use Rattle.lps_core.proofs.Members.{map_contains}
 use Rattle.sort_table.specs.Expressions.{Name}
 use Rattle.sort_table.specs.NamedLists.{all_named, first_named}
 use Rattle.sort_table.specs.BareDeclarations.{Declaration, struct}
@@ -37,7 +43,7 @@ use Rattle.lps_printer.specs.SignatureNames.{text_names_under}
 use Rattle.lps_printer.specs.WrittenProcesses.{TextNames, sort_written}
 use Rattle.lps_printer.proofs.ActionVocabularies.{action_within}
 use Rattle.lps_printer.proofs.AddedVocabularies.{flat_ones, flat_none, constant_within, constructors_at, struct_within, in_growth}
-use Rattle.lps_printer.proofs.GrowingByAdditions.{still_stands, additions_grow}
+use Rattle.lps_printer.proofs.GrowingByAdditions.{still_stands, additions_grow, actions_grow}
 use Rattle.lps_printer.proofs.GrowingByConstants.{two_by, still_taken, constants_are_taken}
 use Rattle.lps_printer.proofs.GrownSorts.{text_still}
 use Rattle.lps_printer.proofs.GrownStructs.{name_within, it_is_grown, text_is, struct_entries_are}
@@ -134,10 +140,14 @@ pub record Apart (g k : Sig) (structs constants : List Name) : Type 0 where
   pub constants_differ : EachTwo Other constants
   pub across : (a b : Name) → Contains structs a → Contains constants b → a ≢ b
 
-pub record ActionsApart (g k : Sig) (names : List Name) : Type 0 where
-  pub taken : AllByRecursion (IsTaken k) names
-  pub new : AllByRecursion (λ (t : Name). ¬ (IsTaken g t)) names
+pub record ActionsApart (g : Sig) (names : List Name) : Type 0 where
+  pub new : AllByRecursion (IsNoAction g) names
   pub differ : EachTwo Other names
+
+-- what is no action of a signature was none before it grew
+no_action_before : (g j : Sig) → IsGrown g j → (t : Name) → IsNoAction j t → IsNoAction g t
+no_action_before g j w t absent i k text among named =
+    absent i k (ap (λ ts. slice_get ts i.0) w.texts ∙ read_front g.texts w.new_texts i.0 t text) (subst (λ ks. Contains ks k) (sym w.actions) (Contains-append_left g.actions w.new_actions k among)) named
 
 module _ (g : Sig) (stands : IsSignature g) (h : Sig) (x : Name) where
   abbrev m : TextNames
@@ -227,27 +237,33 @@ module _ (g : Sig) (stands : IsSignature g) (h : Sig) (x : Name) where
         across = r.across;
       }
 
-  pub actions_apart : {k : Sig} (w : GrowsByAdditions g k) → IsGrown k h → ActionsApart g k (action_names w)
-  actions_apart nothing_added grown = record { taken = tt; new = tt; differ = tt }
-  actions_apart (then_constants {h = j} {k = k} before by after) grown =
-      let r = actions_apart before (growth_after_growth_is_growth j k h by.grown grown) in
-      record { taken = all_weaker (IsTaken j) (IsTaken k) (λ t l. still_taken j k t by.grown l) (action_names before) r.taken; new = r.new; differ = r.differ }
-  actions_apart (then_struct {h = j} {k = k} before by after) grown =
-      let step = it_is_grown j k (still_stands g stands before) by in
-      let r = actions_apart before (growth_after_growth_is_growth j k h step grown) in
-      record { taken = all_weaker (IsTaken j) (IsTaken k) (λ t l. still_taken j k t step l) (action_names before) r.taken; new = r.new; differ = r.differ }
+  -- the actions that were added are actions
+  never_added : {j : Sig} (w : GrowsByAdditions g j) → IsGrown j h → (t : Name) → IsNoAction j t → (a : Name) → Contains (action_names w) a → a ≢ t
+  never_added {j = j} w grown t absent a c e =
+      let its = still_stands g stands w in
+      let r = in_mapped (text_under h) (added_actions w) a c in
+      let own = key r.0 [] in
+      let among : Contains j.actions own = subst (λ (ks : List Key). Contains ks own) (sym (actions_grow g stands w))
+      (Contains-append_right g.actions (map (λ (i : NameId). key i []) (added_actions w)) own (map_contains (λ (i : NameId). key i []) (added_actions w) r.0 r.1)) in
+      let low : r.0.0 < length j.texts = (All-contains (IsActionWithin (length j.texts) (length j.sorts)) j.actions own its.complete.within.actions among).named in
+      absent r.0 own (slice_get-get_or j.texts r.0.0 [] low ∙ ap Some (sym (text_still j h its grown x r.0 low) ∙ r.2 ∙ e)) among refl
+
+  pub actions_apart : {k : Sig} (w : GrowsByAdditions g k) → IsGrown k h → ActionsApart g (action_names w)
+  actions_apart nothing_added grown = record { new = tt; differ = tt }
+  actions_apart (then_constants {h = j} {k = k} before by after) grown = actions_apart before (growth_after_growth_is_growth j k h by.grown grown)
+  actions_apart (then_struct {h = j} {k = k} before by after) grown = actions_apart before (growth_after_growth_is_growth j k h (it_is_grown j k (still_stands g stands before) by) grown)
   actions_apart (then_action {h = j} {k = k} before by after) grown =
-      let r = actions_apart before (growth_after_growth_is_growth j k h by.grown grown) in
+      let earlier = growth_after_growth_is_growth j k h by.grown grown in
+      let r = actions_apart before earlier in
       let olds = action_names before in
       let n = text_under h by.name in
       let text : n ≡ text_under k by.name = text_still k h after grown x by.name (action_within j k after by) in
       let both : action_names (then_action before by after) ≡ olds ++ n ∷ [] = map-append (text_under h) (added_actions before) (by.name ∷ []) in
-      let new : ¬ (IsTaken j n) = λ t. by.taken (subst (IsTaken j) text t) in
-      subst (ActionsApart g k) (sym both)
+      let new : IsNoAction j n = subst (IsNoAction j) (sym text) by.new in
+      subst (ActionsApart g) (sym both)
       (record {
-        taken = all_both (IsTaken k) olds (n ∷ []) (all_weaker (IsTaken j) (IsTaken k) (λ t l. still_taken j k t by.grown l) olds r.taken) (subst (IsTaken k) (sym text) by.taken_now, tt);
-        new = all_both (λ (t : Name). ¬ (IsTaken g t)) olds (n ∷ []) r.new ((λ t. new (still_taken g j n (additions_grow g stands before) t)), tt);
-        differ = two_both Other olds (n ∷ []) r.differ (tt, tt) (not_both (IsTaken j) olds (n ∷ []) r.taken (new, tt));
+        new = all_both (IsNoAction g) olds (n ∷ []) r.new (no_action_before g j (additions_grow g stands before) n new, tt);
+        differ = two_both Other olds (n ∷ []) r.differ (tt, tt) (λ a b c d e. never_added before earlier n new a c (e ∙ all_contained (λ (t : Name). t ≡ n) (n ∷ []) b (refl, tt) d));
       })
 
   -- ---- actions in front, and structs behind them

@@ -113,7 +113,7 @@ pub record Dropped (w : SectionWord) (ds : List PlainDecl) (behind : List PlainS
   pub no_vars_there : gives_scope behind ≡ true → vars_of ds ≡ []
   pub no_scope : (is_equations w && is_some_list ds) ≡ true → ⊥
 
-second_true : (a b : Bool) → (a && b) ≡ true → b ≡ true
+pub second_true : (a b : Bool) → (a && b) ≡ true → b ≡ true
 second_true true b h = h
 second_true false b h = cc
 

@@ -4,7 +4,8 @@ use Rattle.std.specs.Prelude.{Option, Some, None}
 use Rattle.std.specs.List.{AllByRecursion, flat_map}
 use Rattle.std.proofs.lemmas.List.{append-nil}
 use Rattle.mcrl2_syntax.specs.Words.{PlainWord}
-use Rattle.mcrl2_syntax.specs.Copied.{is_copied}
+use Rattle.mcrl2_syntax.specs.declared.declaration.SectionWord.{SectionWord}
+use Rattle.mcrl2_syntax.specs.Copied.{has_declarations, word_is_copied, is_copied}
 use Rattle.mcrl2_syntax.specs.Declarations as trees
 use Rattle.mcrl2_syntax.specs.Declarations.{PlainField, PlainConstructor, PlainDecl, PlainSection}
 use Rattle.mcrl2_syntax.proofs.Lists.{all_front, all_back, all_both}
@@ -16,13 +17,13 @@ use Rattle.sort_table.specs.SortMeanings.{alone, kinds_by, actions_by}
 use Rattle.sort_table.specs.TextFunctions.{TextRole, Named, struct_constructor, declared_constructor, mapping, projection, recogniser, declared, where_named, fields_of, projections_from, functions_by}
 use Rattle.sort_table.specs.Duplicates.{Item, a_sort, an_action, function_item}
 use Rattle.sort_table.specs.Identifiers.{name_where, in_sort, in_sorts, in_field, in_constructor, in_declaration, in_section, copied_in}
-use Rattle.sort_table.specs.PlacedSections.{IsPlacedSection}
+use Rattle.sort_table.specs.PlacedSections.{word_of_declaration, IsPlacedSection}
 use Rattle.sort_table.proofs.GrowingTexts.{flat_behind}
 use Rattle.lps_printer.specs.CopiedSections.{kept_sections}
 use Rattle.lps_printer.specs.CopiedParts.{data_by}
-use Rattle.lps_printer.proofs.CopiedParts.{what_is_copied_has_all_parts}
-use Rattle.lps_printer.proofs.TwoOfLists.{all_mapped, Within, nothing_left, stays, left_out}
-use Rattle.lps_printer.proofs.TextItems.{fixed_by, name_of}
+use Rattle.lps_printer.proofs.CopiedParts.{Placed, second_true, what_is_copied_has_all_parts}
+use Rattle.lps_printer.proofs.TwoOfLists.{all_from, all_mapped, Within, nothing_left, stays, left_out}
+use Rattle.lps_printer.proofs.TextItems.{fixed_by, is_process, name_of}
 
 -- ---- the copied sections are some of the text's
 pub kept_within : (ss : List PlainSection) → Within (map bare_section (kept_sections ss)) (map bare_section ss)
@@ -119,6 +120,43 @@ module _ (P : Name → Type 0) where
           (all_both (λ (x : Item). P (name_of x)) (flat_map fixed_by (map bare_declaration s.declarations)) (flat_map fixed_by (declarations_in (map bare_section (kept_sections ss))))
           (of_declarations s.declarations (all_front P (in_section s) (copied_in ss) k)) (later (all_back P (in_section s) (copied_in ss) k)))
       by_test false k later = later k
+
+-- ---- none of their items is a process
+abbrev pub IsNoProcess : Item → Type 0
+IsNoProcess x = is_process x ≡ false
+
+no_process_among : {A : Type 0} (f : A → Item) → ((x : A) → IsNoProcess (f x)) → (xs : List A) → AllByRecursion IsNoProcess (map f xs)
+no_process_among f each xs = all_mapped IsNoProcess f xs (all_from (λ x. IsNoProcess (f x)) xs (λ x c. each x))
+
+no_process_by : (d : PlainDecl) (behind : List PlainSection) → word_is_copied (word_of_declaration d) behind ≡ true → AllByRecursion IsNoProcess (fixed_by (bare_declaration d))
+no_process_by (trees.sorts_decl span ns) behind h = no_process_among a_sort (λ n. refl) (bare_names ns)
+no_process_by (trees.alias_decl span n s) behind h = (refl, tt)
+no_process_by (trees.struct_decl span n cs) behind h = (refl, no_process_among function_item (λ f. refl) (functions_by (struct n.bytes (map bare_constructor cs))))
+no_process_by (trees.cons_decl span ns ss to) behind h = no_process_among function_item (λ f. refl) (functions_by (constructors (bare_names ns) (map bare_sort ss) (bare_sort to)))
+no_process_by (trees.map_decl span ns ss to) behind h = no_process_among function_item (λ f. refl) (functions_by (mappings (bare_names ns) (map bare_sort ss) (bare_sort to)))
+no_process_by (trees.vars_decl span gs) behind h = tt
+no_process_by (trees.equation_decl span c l r) behind h = tt
+no_process_by (trees.act_decl span ns ss) behind h = no_process_among (λ (a : Name). an_action a (map bare_sort ss)) (λ a. refl) (bare_names ns)
+no_process_by (trees.proc_decl span p gs body) behind h = absurd cc
+no_process_by (trees.init_decl span body) behind h = tt
+
+no_process_in : (word : SectionWord) (ds : List PlainDecl) (behind : List PlainSection) → word_is_copied word behind ≡ true → Placed word ds → AllByRecursion IsNoProcess (flat_map fixed_by (map bare_declaration ds))
+no_process_in word [] behind h placed = tt
+no_process_in word (d ∷ ds) behind h placed =
+    all_both IsNoProcess (fixed_by (bare_declaration d)) (flat_map fixed_by (map bare_declaration ds)) (no_process_by d behind (ap (λ v. word_is_copied v behind) placed.0 ∙ h)) (no_process_in word ds behind h placed.1)
+
+pub kept_without_processes : (ss : List PlainSection) → AllByRecursion IsPlacedSection ss → AllByRecursion IsNoProcess (flat_map fixed_by (declarations_in (map bare_section (kept_sections ss))))
+kept_without_processes [] placed = tt
+kept_without_processes (s ∷ ss) placed = by_test (is_copied (s ∷ ss)) refl (kept_without_processes ss placed.1)
+  where
+    by_test : (b : Bool) → is_copied (s ∷ ss) ≡ b → AllByRecursion IsNoProcess (flat_map fixed_by (declarations_in (map bare_section (kept_sections ss))))
+        → AllByRecursion IsNoProcess (flat_map fixed_by (declarations_in (map bare_section (cond b (s ∷ kept_sections ss) (kept_sections ss)))))
+    by_test true is later =
+        let own = flat_map fixed_by (map bare_declaration s.declarations) in
+        let rest = declarations_in (map bare_section (kept_sections ss)) in
+        subst (AllByRecursion IsNoProcess) (sym (flat_behind fixed_by (map bare_declaration s.declarations) rest))
+        (all_both IsNoProcess own (flat_map fixed_by rest) (no_process_in s.word s.declarations ss (second_true (has_declarations s) (word_is_copied s.word ss) is) placed.0) later)
+    by_test false is later = later
 
 -- ---- they have all sort names, functions and actions
 module _ {B : Type 0} (by : Declaration → List B) (only : (d : Declaration) → flat_map by (data_by d) ≡ by d) where

@@ -4,13 +4,14 @@ use Rattle.std.specs.Prelude.{Option, Some, None, not, is_some, bytes_eq, option
 use Rattle.std.specs.List.{All, AllByRecursion, Contains, find, flat_map}
 use Rattle.std.proofs.lemmas.List.{append-nil, map-append}
 use Rattle.std.proofs.lemmas.List.Elements.{All-contains, All-head, All-tail}
-use Rattle.std.proofs.lemmas.Option.{none-some}
+use Rattle.std.proofs.lemmas.Option.{none-some, slice_get-get_or}
 use Rattle.std.proofs.lemmas.Slice.Eq.{bytes_eq-Decides}
 use Rattle.mcrl2_syntax.specs.Declarations.{PlainSpec}
 use Rattle.mcrl2_syntax.proofs.Lists.{all_both}
 use Rattle.data_theory.specs.declared.ids.FunId.{FunId}
 use Rattle.data_theory.specs.declared.ids.NameId.{NameId}
 use Rattle.data_theory.specs.declared.ids.SortId.{SortId}
+use Rattle.data_theory.specs.Complete.{IsActionWithin}
 use Rattle.data_theory.specs.Terms.{Sort, Term}
 use Rattle.data_theory.specs.FirstNames.{first_names}
 use Rattle.data_theory.specs.Rows.{row_word}
@@ -21,6 +22,7 @@ use Rattle.data_theory.specs.Structs.{Con}
 use Rattle.data_theory.proofs.PlaceLemmas.{read_contained}
 use Rattle.data_theory.proofs.TableLemmas.{is_first_name}
 use Rattle.bisim_laws.specs.LinearProcesses.{Linear}
+use Rattle.lps_core.specs.SealedTrees.{IsNoAction}
 use Rattle.sort_table.specs.Expressions.{Name}
 use Rattle.sort_table.specs.BareSorts.{SortExpression}
 use Rattle.sort_table.specs.BareProcesses.{Variables}
@@ -32,8 +34,8 @@ use Rattle.sort_table.specs.Duplicates.{Item, a_sort, a_function, an_action, a_p
 use Rattle.sort_table.specs.UnknownSorts.{name_in, names_of_variables, names_of_fields, sorts_used, AllAreKnown}
 use Rattle.sort_table.specs.SortCycles.{Refers, ReferOn, NoCycle}
 use Rattle.sort_table.specs.EmptySorts.{NoEmptySort}
-use Rattle.sort_table.specs.Vocabularies.{Vocabulary, sort_in, sorts_in, HasSorts, IsFunction, AreSortsOf, IsVocabularyOf}
-use Rattle.sort_table.specs.SignatureVocabularies.{text_under, vocabulary_of}
+use Rattle.sort_table.specs.Vocabularies.{Vocabulary, sort_in, sorts_in, HasSorts, IsFunction, EachPair, AreSortsOf, IsVocabularyOf}
+use Rattle.sort_table.specs.SignatureVocabularies.{text_under, action_under, vocabulary_of}
 use Rattle.sort_table.specs.Identifiers.{copied_identifiers}
 use Rattle.sort_table.proofs.AddedStructs.{all_contained}
 use Rattle.sort_table.proofs.Growing.{first_behind, paired, contains_behind, contains_after, in_either, stands_after, has_stood}
@@ -52,8 +54,8 @@ use Rattle.lps_printer.specs.GrownTexts.{mapping_declared}
 use Rattle.lps_printer.specs.SignatureNames.{text_names_under}
 use Rattle.lps_printer.specs.PrintedDeclarations.{IsEquation, WhatIsAddedIsDeclared, CanBeListed, process_declared, DeclaresMore, printed_declared, AreSoundOver, PrintedDeclarationsAreSound}
 use Rattle.lps_printer.proofs.TwoOfLists.{in_front, behind_one, in_nothing, in_mapped, all_from, all_weaker, all_mapped, all_unmapped, all_flat, two_both, two_at, two_weaker, two_unmapped, Within, within_flat, within_all, within_contains, within_two}
-use Rattle.lps_printer.proofs.TextItems.{fixed_by, vars_by, name_of, again_name, NotAgain, HasOtherVariables, AreOthers, ItemsDiffer, items_differ, fixed_stands, nothing_again}
-use Rattle.lps_printer.proofs.KeptDeclarations.{kept_within, kept_names, kept_kinds, kept_functions, kept_actions}
+use Rattle.lps_printer.proofs.TextItems.{fixed_by, vars_by, is_action, is_process, name_of, again_name, NotAgain, HasOtherVariables, AreOthers, ItemsDiffer, items_differ, fixed_stands, nothing_again}
+use Rattle.lps_printer.proofs.KeptDeclarations.{kept_within, kept_names, IsNoProcess, kept_without_processes, kept_kinds, kept_functions, kept_actions}
 use Rattle.lps_printer.proofs.AddedVocabularies.{flat_ones, HasSortsBelow, structs_below, constants_below, additions_have_vocabulary}
 use Rattle.lps_printer.proofs.ApartAdditions.{Other, Apart, ActionsApart, acts_in, structs_in, mappings_in, action_names, struct_names, constant_names, names_apart, actions_apart, structs_in_front}
 use Rattle.lps_printer.proofs.GrowingByConstants.{two_by}
@@ -211,6 +213,45 @@ items_stand ds v is x c =
     (λ a. (let k = paired (AreSortsOf v) (all_named a.0.0 (actions_in ds)) (all_named a.0.0 v.actions) a.0.1 (is.actions a.0.0) (named_among (actions_in ds) a.0 (in_flat actions_by ds r.0 a.0 r.1 a.1)) in
     subst Goal (sym a.2) (each_stands u v is.sorts a.0.1 k.0 k.1)))
     (λ e. subst Goal (sym e) ([], no_sorts)) rest) r.2
+
+-- ---- the actions of a text are in each of its vocabularies
+abbrev DeclaresAction : Declaration → Item → Type 0
+DeclaresAction d (an_action a es) = Contains (actions_by d) (a, es)
+DeclaresAction d (a_sort n) = Unit {0}
+DeclaresAction d (a_function f es) = Unit {0}
+DeclaresAction d (a_process p) = Unit {0}
+DeclaresAction d (a_variable k x) = Unit {0}
+
+functions_only : (d : Declaration) (fs : List Named) → AllByRecursion (DeclaresAction d) (map function_item fs)
+functions_only d fs = all_mapped (DeclaresAction d) function_item fs (all_from (λ f. Unit {0}) fs (λ f c. tt))
+
+action_by : (d : Declaration) → AllByRecursion (DeclaresAction d) (fixed_by d)
+action_by (sorts ns) = all_mapped (DeclaresAction (sorts ns)) a_sort ns (all_from (λ n. Unit {0}) ns (λ n c. tt))
+action_by (alias n e) = (tt, tt)
+action_by (struct n cs) = (tt, functions_only (struct n cs) (functions_by (struct n cs)))
+action_by (constructors fs es to) = functions_only (constructors fs es to) (functions_by (constructors fs es to))
+action_by (mappings fs es to) = functions_only (mappings fs es to) (functions_by (mappings fs es to))
+action_by (variables vs) = tt
+action_by (equation c l r) = tt
+action_by (actions as_ es) = all_mapped (DeclaresAction (actions as_ es)) (λ a. an_action a es) as_ (all_from (λ a. Contains (actions_by (actions as_ es)) (a, es)) as_ (λ a c. map_contains (λ b. (b, es)) as_ a c))
+action_by (process p vs body) = (tt, tt)
+action_by (initial body) = tt
+
+-- where something is paired with what has a name, something has the name
+one_is_named : {A B : Type 0} (Q : A → B → Type 0) (a : Name) (xs : List A) (rs : List (Name × B)) (x : A) → EachPair Q xs (all_named a rs) → Contains xs x → (y : B) × Contains rs (a, y)
+one_is_named Q a [] rs x pairs c = in_nothing x c
+one_is_named Q a (z ∷ xs) [] x pairs c = absurd pairs
+one_is_named {B = B} Q a (z ∷ xs) (r ∷ rs) x pairs c = by_test (bytes_eq r.0 a) refl (one_is_named Q a (z ∷ xs) rs x) pairs
+  where
+    by_test : (b : Bool) → bytes_eq r.0 a ≡ b → (EachPair Q (z ∷ xs) (all_named a rs) → Contains (z ∷ xs) x → (y : B) × Contains rs (a, y)) → EachPair Q (z ∷ xs) (cond b (r.1 ∷ all_named a rs) (all_named a rs))
+        → (y : B) × Contains (r ∷ rs) (a, y)
+    by_test true is later all = (r.1, subst (λ n. Contains (r ∷ rs) (n, r.1)) ((bytes_eq-Decides r.0 a).0 is) (in_front r rs))
+    by_test false is later all = let e = later all c in (e.0, behind_one r rs (a, e.0) e.1)
+
+action_stands : (ds : List Declaration) (v : Vocabulary) → IsVocabularyOf (under_names ds) v → (a : Name) (es : List SortExpression) → Contains (flat_map fixed_by ds) (an_action a es) → (ss : List Sort) × Contains v.actions (a, ss)
+action_stands ds v is a es c =
+    let r = has_sort DeclaresAction (λ d x k. all_contained (DeclaresAction d) (fixed_by d) x (action_by d) k) ds (an_action a es) c in
+    one_is_named (AreSortsOf v) a (all_named a (actions_in ds)) v.actions es (is.actions a) (named_among (actions_in ds) (a, es) (in_flat actions_by ds r.0 (a, es) r.1 r.2))
 
 map_flat : {A B C : Type 0} (f : B → C) (k : A → List B) (xs : List A) → map f (flat_map k xs) ≡ flat_map (λ x. map f (k x)) xs
 map_flat f k [] = refl
@@ -460,8 +501,11 @@ module _ (spec : PlainSpec) (g h : Sig) (added : List Section) (x : Name) (l : L
   abbrev mapping_items : List Item
   mapping_items = flat_map fixed_by M
 
+  abbrev other_items : List Item
+  other_items = struct_items ++ (mapping_items ++ (a_process x ∷ []))
+
   abbrev more_items : List Item
-  more_items = action_items ++ (struct_items ++ (mapping_items ++ (a_process x ∷ [])))
+  more_items = action_items ++ other_items
 
   its_items : flat_map fixed_by ds ≡ flat_map fixed_by C ++ more_items
   its_items = in_parts fixed_by (λ c f r. refl)
@@ -469,7 +513,7 @@ module _ (spec : PlainSpec) (g h : Sig) (added : List Section) (x : Name) (l : L
   apart : Apart g h (struct_names g m.stands h x m.grows) (constant_names g m.stands h x m.grows)
   apart = names_apart g m.stands h x m.grows (grown_itself h)
 
-  acts_apart : ActionsApart g h (action_names g m.stands h x m.grows)
+  acts_apart : ActionsApart g (action_names g m.stands h x m.grows)
   acts_apart = actions_apart g m.stands h x m.grows (grown_itself h)
 
   action_items_are : action_items ≡ map (λ (a : NameId). an_action (text_under h a) []) (added_actions m.grows)
@@ -486,8 +530,12 @@ module _ (spec : PlainSpec) (g h : Sig) (added : List Section) (x : Name) (l : L
       ap (map name_of) (flat_ones fixed_by (mapping_declared h n) (λ (c : NameId × SortId). a_function (text_under h c.0) []) (λ c. refl) (added_constants m.grows))
       ∙ sym (map_map (λ (c : NameId × SortId). a_function (text_under h c.0) []) name_of (added_constants m.grows))
 
-  new_actions : AllByRecursion (λ (y : Item). ¬ (IsTaken g (name_of y))) action_items
-  new_actions = all_unmapped (λ (t : Name). ¬ (IsTaken g t)) name_of action_items (subst (AllByRecursion (λ (t : Name). ¬ (IsTaken g t))) (sym action_items_named) acts_apart.new)
+  new_actions : AllByRecursion (λ (y : Item). IsNoAction g (name_of y)) action_items
+  new_actions = all_unmapped (IsNoAction g) name_of action_items (subst (AllByRecursion (IsNoAction g)) (sym action_items_named) acts_apart.new)
+
+  are_actions : AllByRecursion (λ (y : Item). is_action y ≡ true) action_items
+  are_actions = subst (AllByRecursion (λ (y : Item). is_action y ≡ true)) (sym action_items_are)
+      (all_mapped (λ (y : Item). is_action y ≡ true) (λ (a : NameId). an_action (text_under h a) []) (added_actions m.grows) (all_from (λ a. is_action (an_action (text_under h a) []) ≡ true) (added_actions m.grows) (λ a c. refl)))
 
   new_structs : AllByRecursion (λ (y : Item). ¬ (IsTaken g (name_of y))) struct_items
   new_structs = all_unmapped (λ (t : Name). ¬ (IsTaken g t)) name_of struct_items (subst (AllByRecursion (λ (t : Name). ¬ (IsTaken g t))) (sym struct_items_named) apart.structs_new)
@@ -495,11 +543,10 @@ module _ (spec : PlainSpec) (g h : Sig) (added : List Section) (x : Name) (l : L
   new_mappings : AllByRecursion (λ (y : Item). ¬ (IsTaken g (name_of y))) mapping_items
   new_mappings = all_unmapped (λ (t : Name). ¬ (IsTaken g t)) name_of mapping_items (subst (AllByRecursion (λ (t : Name). ¬ (IsTaken g t))) (sym mapping_items_named) apart.constants_new)
 
-  new_names : AllByRecursion (λ (y : Item). ¬ (IsTaken g (name_of y))) more_items
+  new_names : AllByRecursion (λ (y : Item). ¬ (IsTaken g (name_of y))) other_items
   new_names =
       let IsNew = λ (y : Item). ¬ (IsTaken g (name_of y)) in
-      all_both IsNew action_items (struct_items ++ (mapping_items ++ (a_process x ∷ []))) new_actions
-      (all_both IsNew struct_items (mapping_items ++ (a_process x ∷ [])) new_structs (all_both IsNew mapping_items (a_process x ∷ []) new_mappings (m.new_process, tt)))
+      all_both IsNew struct_items (mapping_items ++ (a_process x ∷ [])) new_structs (all_both IsNew mapping_items (a_process x ∷ []) new_mappings (m.new_process, tt))
 
   old_names : AllByRecursion (λ (y : Item). IsTaken g (name_of y)) (flat_map fixed_by C)
   old_names = kept_names (IsTaken g) spec.sections (all_from (IsTaken g) (copied_identifiers spec) m.taken)
@@ -512,6 +559,32 @@ module _ (spec : PlainSpec) (g h : Sig) (added : List Section) (x : Name) (l : L
   old_differ =
       two_by (NotAgain u) (NotAgain w) (flat_map fixed_by C) (λ y z c d no again. no (again_before u w kept y z (old_stand y c) (old_stand z d) again))
       (within_two (NotAgain u) (within_flat fixed_by declarations_within) (items_differ own m.sound.once).fixed)
+
+  -- an action that is copied is an action of the signature
+  is_an_action : (a : Name) (es : List SortExpression) → Contains (flat_map fixed_by C) (an_action a es) → ¬ (IsNoAction g a)
+  is_an_action a es c absent =
+      let r = action_stands O (vocabulary_of g) m.vocabulary a es (within_contains (an_action a es) (within_flat fixed_by declarations_within) c) in
+      let s = in_mapped (action_under g) g.actions (a, r.0) r.1 in
+      let name = s.0.name in
+      let low : name.0 < length g.texts = (All-contains (IsActionWithin (length g.texts) (length g.sorts)) g.actions s.0 m.stands.complete.within.actions s.1).named in
+      absent name s.0 (slice_get-get_or g.texts name.0 [] low ∙ ap (λ (e : Name × List Sort). Some e.0) s.2) s.1 refl
+
+  -- What is copied is no action that is added: only an action or a process could be, and no process is copied.
+  no_added_action : (y z : Item) → Contains (flat_map fixed_by C) y → is_process y ≡ false → is_action z ≡ true → IsNoAction g (name_of z) → IsAgain w y z → ⊥
+  no_added_action _ _ c other is absent (action_again a es fs s) = is_an_action a es c absent
+  no_added_action _ _ c other is absent (process_as_action n_ es) = cc
+  no_added_action _ _ c other is absent (sort_again n_) = cc
+  no_added_action _ _ c other is absent (function_again f es fs s) = cc
+  no_added_action _ _ c other is absent (process_again p) = cc
+  no_added_action _ _ c other is absent (action_as_process n_ es) = cc
+  no_added_action _ _ c other is absent (variable_again k y) = cc
+
+  copied_and_added : (y z : Item) → Contains (flat_map fixed_by C) y → Contains more_items z → NotAgain w y z
+  copied_and_added y z c d = ⊎_elim
+      (λ act. no_added_action y z c (all_contained IsNoProcess (flat_map fixed_by C) y (kept_without_processes spec.sections m.placed) c) (all_contained (λ (k : Item). is_action k ≡ true) action_items z are_actions act)
+      (all_contained (λ (k : Item). IsNoAction g (name_of k)) action_items z new_actions act))
+      (λ other again. all_contained (λ (k : Item). ¬ (IsTaken g (name_of k))) other_items z new_names other (subst (IsTaken g) (again_name y z again) (all_contained (λ (k : Item). IsTaken g (name_of k)) (flat_map fixed_by C) y old_names c)))
+      (in_either action_items other_items z d)
 
   -- two that have other names
   by_names : (xs : List Item) (names : List Name) → map name_of xs ≡ names → EachTwo Other names → EachTwo (NotAgain w) xs
@@ -553,7 +626,7 @@ module _ (spec : PlainSpec) (g h : Sig) (added : List Section) (x : Name) (l : L
   not_the_process y z c d again =
       all_contained (λ (k : Item). name_of k ≢ x) action_items y other_names c (again_name y z again ∙ all_contained (λ (k : Item). name_of k ≡ x) (a_process x ∷ []) z (refl, tt) d)
 
-  data_differ : EachTwo (NotAgain w) (struct_items ++ (mapping_items ++ (a_process x ∷ [])))
+  data_differ : EachTwo (NotAgain w) other_items
   data_differ =
       two_both (NotAgain w) struct_items (mapping_items ++ (a_process x ∷ [])) (by_names struct_items _ struct_items_named apart.structs_differ)
       (two_both (NotAgain w) mapping_items (a_process x ∷ []) (by_names mapping_items _ mapping_items_named apart.constants_differ) (tt, tt) (no_process mapping_items data_mappings))
@@ -564,7 +637,7 @@ module _ (spec : PlainSpec) (g h : Sig) (added : List Section) (x : Name) (l : L
 
   new_differ : EachTwo (NotAgain w) more_items
   new_differ =
-      two_both (NotAgain w) action_items (struct_items ++ (mapping_items ++ (a_process x ∷ []))) (by_names action_items _ action_items_named acts_apart.differ) data_differ
+      two_both (NotAgain w) action_items other_items (by_names action_items _ action_items_named acts_apart.differ) data_differ
       (λ y z c d. ⊎_elim (λ struct_. no_datum struct_items data_structs y z c struct_)
       (λ rest. ⊎_elim (λ mapping. no_datum mapping_items data_mappings y z c mapping) (λ process_. not_the_process y z c process_) (in_either mapping_items (a_process x ∷ []) z rest))
       (in_either struct_items (mapping_items ++ (a_process x ∷ [])) z d))
@@ -575,8 +648,7 @@ module _ (spec : PlainSpec) (g h : Sig) (added : List Section) (x : Name) (l : L
   its_differ : ItemsDiffer w ss
   its_differ = record {
     fixed = subst (EachTwo (NotAgain w)) (sym its_items)
-        (two_both (NotAgain w) (flat_map fixed_by C) more_items old_differ new_differ
-        (λ y z c d again. all_contained (λ (k : Item). ¬ (IsTaken g (name_of k))) more_items z new_names d (subst (IsTaken g) (again_name y z again) (all_contained (λ (k : Item). IsTaken g (name_of k)) (flat_map fixed_by C) y old_names c))));
+        (two_both (NotAgain w) (flat_map fixed_by C) more_items old_differ new_differ copied_and_added);
     variables = all_both HasOtherVariables (copied ++ added) _ (all_both HasOtherVariables copied added (within_all HasOtherVariables (kept_within spec.sections) (items_differ own m.sound.once).variables) added_variables) (tt, (tt, tt));
   }
     where
@@ -598,7 +670,10 @@ module _ (spec : PlainSpec) (g h : Sig) (added : List Section) (x : Name) (l : L
       (λ here. (let r = fixed_stands own (a_function f es) (within_contains (a_function f es) (within_flat fixed_by declarations_within) here) in
       let old = old_stand (a_function f es) here in
       m.sound.once (suc r.0) (suc r.0) (built_in r.0 r.1 f es rs r.2 r.3 (each_before u w kept es old.0 rs old.1 stand) is)))
-      (λ there. all_contained (λ (k : Item). ¬ (IsTaken g (name_of k))) more_items (a_function f es) new_names there (built_is_taken f rs is))
+      (λ there. ⊎_elim
+      (λ act. (let never : false ≡ true = all_contained (λ (k : Item). is_action k ≡ true) action_items (a_function f es) are_actions act in absurd cc))
+      (λ other. all_contained (λ (k : Item). ¬ (IsTaken g (name_of k))) other_items (a_function f es) new_names other (built_is_taken f rs is))
+      (in_either action_items other_items (a_function f es) there))
       (in_either (flat_map fixed_by C) more_items (a_function f es) (subst (λ xs. Contains xs (a_function f es)) its_items c))
 
   abbrev HasNoneTwice : Declaration → Type 0

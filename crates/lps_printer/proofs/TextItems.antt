@@ -67,6 +67,20 @@ is_function (a_sort n) = false
 is_function (an_action a es) = false
 is_function (a_process p) = false
 
+abbrev pub is_action : Item → Bool
+is_action (an_action a es) = true
+is_action (a_function f es) = false
+is_action (a_variable k x) = false
+is_action (a_sort n) = false
+is_action (a_process p) = false
+
+abbrev pub is_process : Item → Bool
+is_process (a_process p) = true
+is_process (an_action a es) = false
+is_process (a_function f es) = false
+is_process (a_variable k x) = false
+is_process (a_sort n) = false
+
 abbrev pub name_of : Item → Name
 name_of (a_variable k x) = x
 name_of (a_sort n) = n
