@@ -25,19 +25,21 @@ use Rattle.regular_encoder.proofs.PlainGrowth.{plain_linears_stay_plain}
 use Rattle.stack_encoder.specs.AddedStacks.{IsAddedStack}
 use Rattle.stack_encoder.proofs.Starting.{stack_grown}
 use Rattle.stack_encoder.proofs.WiderOrigins.{IsWider, linear_in_more}
-use Rattle.lin_driver.specs.PlainlyMade.{IsAddedParameter, a_control_number, an_ended_flag, a_first_flag, in_its_place, IsPlainFor}
+use Rattle.lin_driver.specs.PlainlyMade.{IsAddedParameter, a_control_number, an_ended_flag, a_first_flag, a_phase, in_its_place, IsPlainFor}
 
 -- ---- what was added
 pub added_on : (s g h : Sig) → IsGrown g h → (x : VarId) → IsAddedParameter s g x → IsAddedParameter s h x
 added_on s g h w _ (a_control_number {after = after} a c b) = a_control_number a c (growth_after_growth_is_growth after g h b w)
 added_on s g h w _ (an_ended_flag {after = after} a c b) = an_ended_flag a c (growth_after_growth_is_growth after g h b w)
 added_on s g h w _ (a_first_flag {after = after} a c b) = a_first_flag a c (growth_after_growth_is_growth after g h b w)
+added_on s g h w _ (a_phase {after = after} a c b) = a_phase a c (growth_after_growth_is_growth after g h b w)
 added_on s g h w _ (in_its_place {after = after} {x = x} a c b) = in_its_place (added_on s g h w x a) c (growth_after_growth_is_growth after g h b w)
 
 pub added_since : (r s h : Sig) → IsGrown r s → (x : VarId) → IsAddedParameter s h x → IsAddedParameter r h x
 added_since r s h w _ (a_control_number {before = before} a c b) = a_control_number (growth_after_growth_is_growth r s before w a) c b
 added_since r s h w _ (an_ended_flag {before = before} a c b) = an_ended_flag (growth_after_growth_is_growth r s before w a) c b
 added_since r s h w _ (a_first_flag {before = before} a c b) = a_first_flag (growth_after_growth_is_growth r s before w a) c b
+added_since r s h w _ (a_phase {before = before} a c b) = a_phase (growth_after_growth_is_growth r s before w a) c b
 added_since r s h w _ (in_its_place {x = x} a c b) = in_its_place (added_since r s h w x a) c b
 
 stack_on : (d e f : Data) → Grows e f → (k : StackSort) → IsAddedStack d e k → IsAddedStack d f k

@@ -1,6 +1,7 @@
 -- Linear processes that are plainly conditioned for what is written, with the stacks and the parameters that were added on the way.
 use Rattle.std.specs.Prelude.{◌≡◌, ℕ, true, List, [], map, Some}
 use Rattle.std.specs.List.{All, AllZip, Contains}
+use Rattle.data_theory.specs.declared.ids.ActId.{ActId}
 use Rattle.data_theory.specs.declared.ids.VarId.{VarId}
 use Rattle.data_theory.specs.Signature.{Sig}
 use Rattle.data_theory.specs.IdData.{data_meant}
@@ -12,6 +13,7 @@ use Rattle.process_terms.specs.SignatureEntries.{entries_of}
 use Rattle.lps_core.specs.Fitting.{Fits}
 use Rattle.lps_core.specs.MadeTerms.{Written, written_by, StackSort, IsPlain}
 use Rattle.lps_core.specs.PlainLinears.{PlainLinear}
+use Rattle.lps_core.specs.SealedTrees.{HasPhase}
 use Rattle.proc_unfold.specs.Networks.{PlainNetwork, PlainNetworks, leaf, side_by_side, left_merge, sync, under, no_networks, more_networks}
 use Rattle.greibach.specs.PlainComponents.{written_from}
 use Rattle.greibach.specs.PlainForms.{PlainForm}
@@ -22,12 +24,14 @@ use Rattle.summand_expander.specs.Renewals.{IsFlag, GivesWay, renewed_variable}
 use Rattle.summand_expander.specs.StartedProducts.{IsFirst}
 
 -- ---- what was added
--- A parameter that was added between two signatures: the number of an equation, whether a side of a product has ended, and whether the first step of
--- a product is still to come, each under a fresh name; or the parameter that stands for such a one where it gave way in a product.
+-- A parameter that was added between two signatures: the number of an equation, whether a side of a product has ended, whether the first step of
+-- a product is still to come, and the phase of a process that was sealed, each under a fresh name; or the parameter that stands for such a one where
+-- it gave way in a product.
 pub data IsAddedParameter (g h : Sig) : VarId → Type 0 where
   a_control_number : {before after : Sig} {equations : ℕ} {x : VarId} → IsGrown g before → IsControl before equations after (Some x) → IsGrown after h → IsAddedParameter g h x
   an_ended_flag : {before after : Sig} {x : VarId} → IsGrown g before → IsFlag before true after (Some x) → IsGrown after h → IsAddedParameter g h x
   a_first_flag : {before after : Sig} {x : VarId} → IsGrown g before → IsFirst before after x → IsGrown after h → IsAddedParameter g h x
+  a_phase : {before after : Sig} {act : ActId} {x : VarId} → IsGrown g before → HasPhase before after act x → IsGrown after h → IsAddedParameter g h x
   in_its_place : {before after : Sig} {l r : PlainLinear} {olds news : List VarId} {x : VarId} → IsAddedParameter g h x → GivesWay before l r after olds news → IsGrown after h → IsAddedParameter g h (renewed_variable olds news x)
 
 -- It fits. Between the signatures stacks were added, and some of its parameters, and with these it is plainly conditioned for what is
