@@ -10,3 +10,4 @@ pub mod DecidedTerms
 pub mod Sifting
 pub mod JudgedSummands
 pub mod Sets
+pub mod NeverEnding

@@ -6,3 +6,4 @@ pub mod Judging
 pub mod JudgingInCode
 pub mod Keeping
 pub mod HoldingLaws
+pub mod NeverEnding
