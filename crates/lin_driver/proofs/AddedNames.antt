@@ -64,6 +64,7 @@ use Rattle.lps_printer.proofs.KeptDeclarations.{kept_names, kept_functions}
 use Rattle.lps_printer.proofs.SectionsBehind.{eqs}
 use Rattle.lps_printer.proofs.TextItems.{fixed_by, name_of}
 use Rattle.lin_driver.specs.Headline.{IsAddition, names_of_constructor, names_of_addition, AddsOnly}
+use Rattle.lin_driver.specs.declared.ending.Ending.{Ending}
 use Rattle.lin_driver.proofs.AmongLists.{among_contains, among_front, among_back, among_either, among_flat, into_flat, all_among, each_among, pairs_left}
 use Rattle.lin_driver.proofs.NamedSignatures.{functions_named, of_sections, paired_row}
 use Rattle.lin_driver.proofs.MatchedNumbers.{below}
@@ -91,15 +92,15 @@ functions_of_data (d ∷ ds) = flat_append functions_by (data_by d) (flat_map da
 among_option : (o : Option Name) (f : Name) → o ≡ Some f → Among f (option_to_list o)
 among_option o f e = subst (λ (p : Option Name). Among f (option_to_list p)) (sym e) first_one
 
-named_in_addition : (ds : List Declaration) → AllByRecursion IsAddition ds → (y : Named) → HowDeclared ds y → Among y.0 (flat_map names_of_addition ds)
-named_in_addition ds all y (as_constructor {c = c} a b e t) = into_flat names_of_addition a (one_behind (into_flat names_of_constructor b (subst (λ (f : Name). Among f (names_of_constructor c)) (sym e) first_one)))
-named_in_addition ds all y (as_projection {c = c} {i = i} {p = p} a b e f t) =
+named_in_addition : (ending : Ending) (ds : List Declaration) → AllByRecursion (IsAddition ending) ds → (y : Named) → HowDeclared ds y → Among y.0 (flat_map names_of_addition ds)
+named_in_addition ending ds all y (as_constructor {c = c} a b e t) = into_flat names_of_addition a (one_behind (into_flat names_of_constructor b (subst (λ (f : Name). Among f (names_of_constructor c)) (sym e) first_one)))
+named_in_addition ending ds all y (as_projection {c = c} {i = i} {p = p} a b e f t) =
     into_flat names_of_addition a
     (one_behind (into_flat names_of_constructor b (one_behind (among_front (option_to_list c.recogniser) (into_flat (λ (q : Field). option_to_list q.name) (at_place p c.fields i e) (among_option p.name y.0 f))))))
-named_in_addition ds all y (as_recogniser {c = c} a b e t) =
+named_in_addition ending ds all y (as_recogniser {c = c} a b e t) =
     into_flat names_of_addition a (one_behind (into_flat names_of_constructor b (one_behind (among_back (flat_map (λ (q : Field). option_to_list q.name) c.fields) (among_option c.recogniser y.0 e)))))
-named_in_addition ds all y (as_declared a b t) = absurd (all_among IsAddition ds all a)
-named_in_addition ds all y (as_mapping a b t) = into_flat names_of_addition a b
+named_in_addition ending ds all y (as_declared a b t) = absurd (all_among (IsAddition ending) ds all a)
+named_in_addition ending ds all y (as_mapping a b t) = into_flat names_of_addition a b
 
 -- ---- tests of names
 abbrev is_among : List (Name × ℕ) → Name → Bool
@@ -237,7 +238,7 @@ function_is_item (process n xs p) a = absurd (among_none a)
 function_is_item (initial p) a = absurd (among_none a)
 
 -- ---- a text, and what is printed with more
-module _ (own printed : PlainSpec) (adds : AddsOnly own printed) (placed : IsPlaced own) (words : IsSpecOfWords printed) (v w : Vocabulary) (m : More) (grown : w ≡ with_more v m)
+module _ (ending : Ending) (own printed : PlainSpec) (adds : AddsOnly ending own printed) (placed : IsPlaced own) (words : IsSpecOfWords printed) (v w : Vocabulary) (m : More) (grown : w ≡ with_more v m)
     (iv : IsVocabularyOf (under_names (declarations_in (bare_sections own))) v) (iw : IsVocabularyOf (under_names (declarations_in (bare_sections printed))) w) where
   abbrev own_functions : List Named
   own_functions = functions_in (declarations_in (bare_sections own))
@@ -270,7 +271,7 @@ module _ (own printed : PlainSpec) (adds : AddsOnly own printed) (placed : IsPla
       let t = its_own (IsFunction (under_names (declarations_in (bare_sections printed))) w) (all_named f new_functions) (all_named f m.function_names) (pairs_behind f) k h in
       let y : Named = (f, t.0) in
       (all_among (λ (x : Name). ¬ (Contains first_names x) × ¬ (Contains (copied_identifiers own) x)) (flat_map names_of_addition adds.declarations) adds.new_names
-      (named_in_addition adds.declarations adds.each_declaration y (how_declared adds.declarations (among_rows f new_functions t.0 t.1)))).1
+      (named_in_addition ending adds.declarations adds.each_declaration y (how_declared adds.declarations (among_rows f new_functions t.0 t.1)))).1
 
   new_row : (r : Name × ℕ) → Among r m.function_names → ¬ (Contains (copied_identifiers own) r.0)
   new_row r a = new_name r.0 r.1 (among_named r.0 r.1 a)

@@ -6,7 +6,7 @@ use Rattle.lps_printer.proofs.SectionsBehind.{printed_data, printed_equations}
 use Rattle.lin_driver.specs.AddedParts.{WhatMayBeAddedAddsOnly}
 
 pub what_may_be_added_adds_only : WhatMayBeAddedAddsOnly
-what_may_be_added_adds_only own printed added n l ts placed same may = record {
+what_may_be_added_adds_only ending own printed added n l ts placed same may = record {
   declarations = data_in added;
   equations = equations_in added;
   all_declarations = ap data_in same ∙ printed_data own added n l ts placed;

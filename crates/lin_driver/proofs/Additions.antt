@@ -1,5 +1,5 @@
 -- Structs and constants that a text doesn't declare may be added to it.
-use Rattle.std.proofs.Common.{◌≡◌, ℕ, suc, List, [], ◌∷◌, ◌++◌, map, All, Option, Some, None, refl, sym, ap, ap₂, ◌∙◌, subst, append-nil}
+use Rattle.std.proofs.Common.{◌≡◌, inl, inr, ℕ, suc, List, [], ◌∷◌, ◌++◌, map, All, Option, Some, None, refl, sym, ap, ap₂, ◌∙◌, subst, append-nil}
 use Rattle.std.specs.Prelude.{option_to_list}
 use Rattle.std.specs.List.{AllByRecursion, Contains, flat_map}
 use Rattle.std.proofs.lemmas.List.Elements.{All-contains, All-head, All-tail, Contains-append_right}
@@ -21,7 +21,7 @@ use Rattle.sort_checker.specs.Systems.{equation_under, equations_in}
 use Rattle.lps_printer.specs.WrittenProcesses.{TextNames}
 use Rattle.lps_printer.specs.AddedDeclarations.{name_at, added_functions, constants_among, empty_list_declared, action_declared, added_declared}
 use Rattle.lps_printer.specs.DeclaredAdditions.{constructor_declared, declaration_of}
-use Rattle.lps_printer.specs.GrowingByAdditions.{Struct, added_structs, added_constants}
+use Rattle.lps_printer.specs.GrowingByAdditions.{Struct, added_structs, added_constants, added_actions}
 use Rattle.lps_printer.specs.CopiedParts.{data_by, data_in}
 use Rattle.lps_printer.specs.GrownTexts.{mapping_declared}
 use Rattle.lps_printer.specs.SignatureNames.{text_names_under}
@@ -33,7 +33,9 @@ use Rattle.lps_printer.proofs.TwoOfLists.{all_weaker, all_unmapped}
 use Rattle.lps_core.proofs.Members.{map_contains}
 use Rattle.term_pool.proofs.DeclaredConstants.{grown_itself}
 use Rattle.lin_driver.specs.Headline.{IsAddition, names_of_constructor, names_of_addition, IsOfAnEmptyList}
-use Rattle.lin_driver.specs.Additions.{AdditionsMayBeAdded}
+use Rattle.lin_driver.specs.Additions.{AreTerminate, AdditionsMayBeAdded}
+use Rattle.lin_driver.specs.declared.ending.Ending.{Ending}
+use Rattle.lin_driver.specs.declared.ending.Ending.TheVariants.{End, Terminate}
 
 abbrev Constant : Type 0
 Constant = NameId × SortId
@@ -134,13 +136,32 @@ module _ (h : Sig) (n : TextNames) where
       all_both P (names_of_addition d) (flat_map names_of_addition rest) (of_struct P (text_under h s.0) (map (constructor_declared h n) s.1) (all_front P (item_names d) (flat_map item_names rest) all))
       (struct_names_have P ss (all_back P (item_names d) (flat_map item_names rest) all))
 
-  structs_are_additions : (ss : List Struct) → AllByRecursion IsAddition (map (declaration_of h n) ss)
-  structs_are_additions [] = tt
-  structs_are_additions (s ∷ ss) = (tt, structs_are_additions ss)
+  structs_are_additions : (ending : Ending) (ss : List Struct) → AllByRecursion (IsAddition ending) (map (declaration_of h n) ss)
+  structs_are_additions ending [] = tt
+  structs_are_additions ending (s ∷ ss) = (tt, structs_are_additions ending ss)
 
-  mappings_are_additions : (cs : List Constant) → AllByRecursion IsAddition (map (mapping_declared h n) cs)
-  mappings_are_additions [] = tt
-  mappings_are_additions (c ∷ cs) = (tt, mappings_are_additions cs)
+  mappings_are_additions : (ending : Ending) (cs : List Constant) → AllByRecursion (IsAddition ending) (map (mapping_declared h n) cs)
+  mappings_are_additions ending [] = tt
+  mappings_are_additions ending (c ∷ cs) = (tt, mappings_are_additions ending cs)
+
+  -- the actions
+  acts_data : (ns : List NameId) → flat_map data_by (map (action_declared h) ns) ≡ map (action_declared h) ns
+  acts_data [] = refl
+  acts_data (a ∷ ns) = ap (λ (ds : List Declaration). action_declared h a ∷ ds) (acts_data ns)
+
+  acts_name_nothing : (ns : List NameId) → flat_map names_of_addition (map (action_declared h) ns) ≡ []
+  acts_name_nothing [] = refl
+  acts_name_nothing (a ∷ ns) = acts_name_nothing ns
+
+  acts_give : (names : List Name) (ns : List NameId) → AllByRecursion (GivesEmptyLists names) (map (action_declared h) ns)
+  acts_give names [] = tt
+  acts_give names (a ∷ ns) = ((λ xs. tt), acts_give names ns)
+
+  acts_are_additions : (ending : Ending) (ns : List NameId) → AreTerminate ending h ns → AllByRecursion (IsAddition ending) (map (action_declared h) ns)
+  acts_are_additions End ns none = subst (λ (as_ : List NameId). AllByRecursion (IsAddition End) (map (action_declared h) as_)) (sym none) tt
+  acts_are_additions Terminate ns (inl none) = subst (λ (as_ : List NameId). AllByRecursion (IsAddition Terminate) (map (action_declared h) as_)) (sym none) tt
+  acts_are_additions Terminate ns (inr (a, one, text)) =
+      subst (λ (as_ : List NameId). AllByRecursion (IsAddition Terminate) (map (action_declared h) as_)) (sym one) ((refl, ap (λ (t : List ℕ). t ∷ []) text), tt)
 
   structs_give : (names : List Name) (ss : List Struct) → AllByRecursion (GivesEmptyLists names) (map (declaration_of h n) ss)
   structs_give names [] = tt
@@ -157,10 +178,11 @@ module _ (h : Sig) (n : TextNames) where
       ((λ xs. (record { name = name_at h f; added = its_name; condition = refl; left = refl; right = refl }, tt)), empty_lists_give names added named fs (All-tail (Contains added) f fs among))
 
 pub additions_may_be_added : AdditionsMayBeAdded
-additions_may_be_added spec g h x empty_lists stands is taken w none among =
+additions_may_be_added ending spec g h x empty_lists stands is taken w are among =
     let n = text_names_under h x in
     let adds = what_is_added_is_printed spec g h stands is w in
     let added = added_declared spec h n empty_lists in
+    let acts = map (action_declared h) (added_actions w) in
     let structs = map (declaration_of h n) (added_structs w) in
     let mappings = map (mapping_declared h n) (added_constants w) in
     let equations = map (λ (f : FunId). empty_list_declared (name_at h f)) empty_lists in
@@ -168,21 +190,25 @@ additions_may_be_added spec g h x empty_lists stands is taken w none among =
     let apart = names_apart g stands h x w (grown_itself h) in
     let New = λ (t : Name). ¬ (Contains first_names t) × ¬ (Contains (copied_identifiers spec) t) in
     let new : (ts : List Name) → AllByRecursion (λ (t : Name). ¬ (IsTaken g t)) ts → AllByRecursion New ts = all_weaker (λ (t : Name). ¬ (IsTaken g t)) New (λ t free. (λ there. free (All-contains (IsTaken g) first_names t stands.words_taken there), λ there. free (taken t there))) in
-    let declared_ : declarations_in added ≡ structs ++ (mappings ++ equations)
-    = adds.declarations x empty_lists ∙ ap (λ (as_ : List NameId). map (action_declared h) as_ ++ (structs ++ (mappings ++ equations))) none in
-    let data_is : data_in added ≡ structs ++ mappings
-    = ap (flat_map data_by) declared_ ∙ flat_append data_by structs (mappings ++ equations)
-    ∙ ap₂ (λ (xs ys : List Declaration). xs ++ ys) (struct_data h n (added_structs w)) (flat_append data_by mappings equations ∙ ap₂ (λ (xs ys : List Declaration). xs ++ ys) (mapping_data h n (added_constants w)) (no_data h n empty_lists) ∙ append-nil mappings) in
-    let names_is : flat_map names_of_addition (data_in added) ≡ names = ap (flat_map names_of_addition) data_is ∙ flat_append names_of_addition structs mappings ∙ ap (λ xs. flat_map names_of_addition structs ++ xs) (mapping_names h n (added_constants w)) in
+    let declared_ : declarations_in added ≡ acts ++ (structs ++ (mappings ++ equations)) = adds.declarations x empty_lists in
+    let data_is : data_in added ≡ acts ++ (structs ++ mappings)
+    = ap (flat_map data_by) declared_ ∙ flat_append data_by acts (structs ++ (mappings ++ equations)) ∙ ap₂ (λ (xs ys : List Declaration). xs ++ ys) (acts_data h n (added_actions w)) (flat_append data_by structs (mappings ++ equations)
+    ∙ ap₂ (λ (xs ys : List Declaration). xs ++ ys) (struct_data h n (added_structs w)) (flat_append data_by mappings equations ∙ ap₂ (λ (xs ys : List Declaration). xs ++ ys) (mapping_data h n (added_constants w)) (no_data h n empty_lists) ∙ append-nil mappings)) in
+    let names_is : flat_map names_of_addition (data_in added) ≡ names
+    = ap (flat_map names_of_addition) data_is ∙ flat_append names_of_addition acts (structs ++ mappings) ∙ ap (λ (xs : List Name). xs ++ flat_map names_of_addition (structs ++ mappings)) (acts_name_nothing h n (added_actions w))
+    ∙ flat_append names_of_addition structs mappings ∙ ap (λ xs. flat_map names_of_addition structs ++ xs) (mapping_names h n (added_constants w)) in
     let constant_there : (f : FunId) → Contains (constants_among h (added_functions spec h)) f → Contains names (name_at h f)
     = λ f c. Contains-append_right (flat_map names_of_addition structs) (map (λ (k : Constant). text_under h k.0) (added_constants w)) (name_at h f)
     (subst (λ ts. Contains ts (name_at h f)) adds.constants (map_contains (name_at h) (constants_among h (added_functions spec h)) f c)) in
     let give : AllByRecursion (GivesEmptyLists names) (declarations_in added)
     = subst (AllByRecursion (GivesEmptyLists names)) (sym declared_)
+    (all_both (GivesEmptyLists names) acts (structs ++ (mappings ++ equations)) (acts_give h n names (added_actions w))
     (all_both (GivesEmptyLists names) structs (mappings ++ equations) (structs_give h n names (added_structs w))
-    (all_both (GivesEmptyLists names) mappings equations (mappings_give h n names (added_constants w)) (empty_lists_give h n names (constants_among h (added_functions spec h)) constant_there empty_lists among))) in
+    (all_both (GivesEmptyLists names) mappings equations (mappings_give h n names (added_constants w)) (empty_lists_give h n names (constants_among h (added_functions spec h)) constant_there empty_lists among)))) in
     record {
-      each_declaration = subst (AllByRecursion IsAddition) (sym data_is) (all_both IsAddition structs mappings (structs_are_additions h n (added_structs w)) (mappings_are_additions h n (added_constants w)));
+      each_declaration = subst (AllByRecursion (IsAddition ending)) (sym data_is)
+          (all_both (IsAddition ending) acts (structs ++ mappings) (acts_are_additions h n ending (added_actions w) are)
+          (all_both (IsAddition ending) structs mappings (structs_are_additions h n ending (added_structs w)) (mappings_are_additions h n ending (added_constants w))));
       new_names = subst (AllByRecursion New) (sym names_is)
           (all_both New (flat_map names_of_addition structs) (map (λ (c : Constant). text_under h c.0) (added_constants w)) (struct_names_have h n New (added_structs w) (new _ apart.structs_new)) (new _ apart.constants_new));
       each_equation = subst (λ (xs : List Name). AllByRecursion (IsOfAnEmptyList xs) (equations_in added)) (sym names_is) (of_sections names [] added give);

@@ -43,6 +43,7 @@ use Rattle.lps_printer.specs.FilledLinears.{empty_equation}
 use Rattle.lin_driver.specs.ConsistentTexts.{HasAcceptedEquations, TextsWithoutEquationsNeedNoPremise, AcceptedTextsNeedNoPremise, AcceptedModelsAreOfAcceptedTexts}
 use Rattle.lin_driver.specs.Headline.{Specifies, IsOfAnEmptyList, names_of_addition, AddsOnly, KeepsNumbers, StandsFor}
 use Rattle.lin_driver.specs.Renumberings.{Renumbering, back, new_sort, new_term, new_role, new_function, TakesData, TakesVocabulary}
+use Rattle.lin_driver.specs.declared.ending.Ending.{Ending}
 use Rattle.lin_driver.proofs.AddedNames.{added_number, equations_apart, equations_back}
 use Rattle.lin_driver.proofs.AmongLists.{among_contains, contains_among, all_among, pairs_back, AreSplit, pairs_split}
 use Rattle.lin_driver.proofs.EachReading.{consistent_under}
@@ -66,8 +67,8 @@ list_constant g f (recogniser c) s x a r = let never : named x.0 ∷ [] ≡ [] =
 list_constant g f mapping s x a r = refl
 
 -- ---- over a text and what is printed for it
-module _ (own printed : PlainSpec) (own_words : IsSpecOfWords own) (words : IsSpecOfWords printed) (placed : IsPlaced own) (adds : AddsOnly own printed) (x w v : FullVocabulary) (tx ti th : Theory) (px pi p : Process)
-    (own_system : IsSystem (bare_sections own) x tx px) (system : IsSystem (bare_sections printed) w ti pi) (numbers : KeepsNumbers x w) (other : IsSystem (bare_sections own) v th p) (accepted : AreAccepted th.declared th.equations) where
+module _ (ending : Ending) (own printed : PlainSpec) (own_words : IsSpecOfWords own) (words : IsSpecOfWords printed) (placed : IsPlaced own) (adds : AddsOnly ending own printed) (x w v : FullVocabulary) (tx ti th : Theory) (px pi p : Process)
+    (own_system : IsSystem (bare_sections own) x tx px) (system : IsSystem (bare_sections printed) w ti pi) (numbers : KeepsNumbers ending x w) (other : IsSystem (bare_sections own) v th p) (accepted : AreAccepted th.declared th.equations) where
   abbrev u : UnderNames
   u = under_names (declarations_in (bare_sections own))
 
@@ -132,7 +133,7 @@ module _ (own printed : PlainSpec) (own_words : IsSpecOfWords own) (words : IsSp
   copied : EachPair (ElaboratesEquation x) (equations_in (bare_sections own)) split.front
   copied =
       equations_back x w m numbers.1 (is_over_data (bare_sections own) own_system.well_typed.sound x.declared ix) (equations_in (bare_sections own)) split.front tx.equations
-      (equations_apart own printed adds placed words x.declared w.declared m numbers.1 ix iw) split.first own_system.equations
+      (equations_apart ending own printed adds placed words x.declared w.declared m numbers.1 ix iw) split.first own_system.equations
 
   into : (t : Term) (s : Sort) → HasSort G [] t s → HasSort H [] (new_term r t) (new_sort r s)
   into = new_has_sort r G H takes_data []
@@ -178,7 +179,7 @@ module _ (own printed : PlainSpec) (own_words : IsSpecOfWords own) (words : IsSp
   is_added_by q e elaborates is =
       let c = of_constant w e q names is elaborates in
       let new : ¬ (Contains (copied_identifiers own) is.name) = (all_among (λ (f : Name). ¬ (Contains first_names f) × ¬ (Contains (copied_identifiers own) f)) names adds.new_names (contains_among is.name names is.added)).1 in
-      let k = added_number own printed adds placed words x.declared w.declared m numbers.1 ix iw is.name c.number new c.named_so in
+      let k = added_number ending own printed adds placed words x.declared w.declared m numbers.1 ix iw is.name c.number new c.named_so in
       is_added_as q is.name c k.0 k.1 k.2
 
   is_added : (q : Equation) → Among q split.behind → IsAdded q
@@ -234,13 +235,13 @@ one_spec : (text : List ℕ) (spec other : PlainSpec) (ts us : List Token) → H
 one_spec text spec other ts us a b one two = spec_once (subst (λ (ts : List Token). SpellsSpec text spec ts) (tokens_once text ts us a.lexes b.lexes) one) two
 
 -- ---- the laws
-theory_is_consistent : (text printed : List ℕ) (one : StandsFor text printed) → HasAcceptedEquations text → IsConsistent one.theory
-theory_is_consistent text printed one has =
+theory_is_consistent : (ending : Ending) (text printed : List ℕ) (one : StandsFor ending text printed) → HasAcceptedEquations text → IsConsistent one.theory
+theory_is_consistent ending text printed one has =
     let a = one.specifies in
     let b = one.printed_specifies in
     let c = has.specifies in
     let same : c.spec ≡ a.spec = one_spec text c.spec a.spec c.tokens a.tokens c.cut a.cut c.spelled a.spelled in
-    printed_theory_is_consistent a.spec b.spec (specs_are_of_words text a.spec a.tokens a.cut a.spelled) (specs_are_of_words printed b.spec b.tokens b.cut b.spelled) (spelled_specs_are_placed text a.spec a.tokens a.spelled) one.adds_only
+    printed_theory_is_consistent ending a.spec b.spec (specs_are_of_words text a.spec a.tokens a.cut a.spelled) (specs_are_of_words printed b.spec b.tokens b.cut b.spelled) (spelled_specs_are_placed text a.spec a.tokens a.spelled) one.adds_only
     one.vocabulary one.printed_vocabulary has.vocabulary one.own_theory one.theory has.theory one.process one.linear has.process a.system b.system one.numbers
     (subst (λ (s : PlainSpec). IsSystem (bare_sections s) has.vocabulary has.theory has.process) same c.system) has.accepted
 
@@ -250,8 +251,8 @@ each_theory_is_consistent printed v w th ti p q one other consistent =
     consistent_under (back same.0) ti th (theory_back same.0 th ti same.1.theory) consistent
 
 pub accepted_texts_need_no_premise : AcceptedTextsNeedNoPremise
-accepted_texts_need_no_premise text printed one has =
-    let consistent = theory_is_consistent text printed one has in
+accepted_texts_need_no_premise ending text printed one has =
+    let consistent = theory_is_consistent ending text printed one has in
     record {
       consistent = consistent;
       bisimilar = one.bisimilar consistent;
@@ -268,11 +269,11 @@ none_are_accepted : (g : Data) → AreAccepted g []
 none_are_accepted g k q at rule broken = none-some q at
 
 pub texts_without_equations_need_no_premise : TextsWithoutEquationsNeedNoPremise
-texts_without_equations_need_no_premise text printed one has =
+texts_without_equations_need_no_premise ending text printed one has =
     let a = one.specifies in
     let same : has.spec ≡ a.spec = one_spec text has.spec a.spec has.tokens a.tokens has.cut a.cut has.spelled a.spelled in
     let none : one.own_theory.equations ≡ [] = no_pairs (ElaboratesEquation one.vocabulary) (equations_in (bare_sections a.spec)) one.own_theory.equations (subst (λ (s : PlainSpec). equations_in (bare_sections s) ≡ []) same has.none) a.system.equations in
-    accepted_texts_need_no_premise text printed one
+    accepted_texts_need_no_premise ending text printed one
     (record {
       vocabulary = one.vocabulary;
       theory = one.own_theory;

@@ -59,6 +59,14 @@ pub mod LeftTexts
 mod EliminatedTexts
 mod LeftInCode
 mod PlainlyConjoined
+mod NeverEnding
+pub mod EndedTexts
+mod SealedSummands
+mod SealedNames
+mod SealedConditions
+mod SealedPlainly
+mod UndeclaredActions
+mod SealedTexts
 mod NeededParts
 mod NeededTrees
 mod TidiedTrees

@@ -170,7 +170,7 @@ pub tidied_stand : TidiedPartsStandInTheCondition
 tidied_stand c p i = chain_stands c (needed_parts c) (true_stands c c the_whole) (needed_are (StandsIn c) (λ x y s. (on_the_left s, on_the_right s)) c the_whole) (needed_end c) p i
 
 -- ---- what has no needless `true` stays
-not_true_first : (c : Term) (cs : List Term) → (Contains (c ∷ cs) trueᵗ → ⊥) → is_true c ≡ false
+pub not_true_first : (c : Term) (cs : List Term) → (Contains (c ∷ cs) trueᵗ → ⊥) → is_true c ≡ false
 not_true_first c cs n = by_test (is_true c) refl
   where
     by_test : (b : Bool) → is_true c ≡ b → b ≡ false
@@ -186,15 +186,15 @@ all_needed (application conjunction (more x (more y none))) n =
     ap (in_front x (needed_parts x)) (all_needed y (λ i. n (contains_later x trueᵗ (parts y) i))) ∙ front_of_parts x (needed_parts x) y (not_true_first x (parts y) n)
 all_needed c n = ap (λ b. if b then [] else c ∷ []) (not_true_first c [] n)
 
-chain_in_front : (x y : Term) → conjunction_of (x ∷ parts y) ≡ x ∧ᵗ conjunction_of (parts y)
+pub chain_in_front : (x y : Term) → conjunction_of (x ∷ parts y) ≡ x ∧ᵗ conjunction_of (parts y)
 chain_in_front x (application conjunction (more u (more v none))) = refl
 chain_in_front x y = refl
 
-chain_of_parts : (c : Term) → conjunction_of (parts c) ≡ c
+pub chain_of_parts : (c : Term) → conjunction_of (parts c) ≡ c
 chain_of_parts (application conjunction (more x (more y none))) = chain_in_front x y ∙ ap (λ z. x ∧ᵗ z) (chain_of_parts y)
 chain_of_parts c = refl
 
-some_part : (c : Term) → 1 ≤ length (parts c)
+pub some_part : (c : Term) → 1 ≤ length (parts c)
 some_part (application conjunction (more x (more y none))) = omega arith
 some_part c = omega arith
 

@@ -1,10 +1,13 @@
 -- What is printed for a linear process reads back.
-use Rattle.std.proofs.Common.{◌≡◌, ◌≢◌, ◌++◌, Bool, true, cond, ℕ, zero, List, [], length, refl, sym, ap, ◌∙◌, subst, append-nil, Some, None, get_or}
+use Rattle.std.proofs.Common.{◌≡◌, ◌≢◌, ◌<◌, ◌++◌, Bool, true, cond, inl, inr, ℕ, zero, List, [], ◌∷◌, map, length, refl, sym, ap, ◌∙◌, subst, append-nil, Some, None, get_or, arith}
+use Rattle.std.proofs.lemmas.List.Elements.{All-contains, Contains-append_right}
 use Rattle.std.specs.List.{All, AllByRecursion, Contains}
 use Rattle.std.proofs.lemmas.Slice.Eq.{bytes_eq-Decides}
 use Rattle.mcrl2_syntax.specs.Declarations.{PlainSpec}
 use Rattle.data_theory.specs.declared.ids.FunId.{FunId}
 use Rattle.data_theory.specs.declared.ids.NameId.{NameId}
+use Rattle.data_theory.specs.Complete.{IsActionWithin}
+use Rattle.data_theory.specs.Keys.{Key, key}
 use Rattle.data_theory.specs.Declarations.{NoSortIsEmpty}
 use Rattle.data_theory.specs.IdData.{data_meant}
 use Rattle.data_theory.specs.IdTerms.{variable_sorts}
@@ -53,7 +56,7 @@ use Rattle.lps_printer.proofs.ConstantWording.{found_differ}
 use Rattle.lps_printer.proofs.FittingLinears.{fitting_linears_read}
 use Rattle.lps_printer.proofs.FoundConstants.{there_are_constants, constants_have_equations}
 use Rattle.lps_printer.proofs.DeclaredAdditions.{what_is_added_is_printed, empty_lists_are_added}
-use Rattle.lps_printer.proofs.GrowingByAdditions.{constants_are_additions}
+use Rattle.lps_printer.proofs.GrowingByAdditions.{actions_grow, constants_are_additions}
 use Rattle.lps_printer.proofs.GrowingByConstants.{on_added}
 use Rattle.lps_printer.proofs.GrownIdentifiers.{names_still}
 use Rattle.lps_printer.proofs.NamedAdditions.{what_is_added_is_named}
@@ -62,15 +65,18 @@ use Rattle.lps_printer.proofs.PrintedDeclarations.{printed_declarations_are_soun
 use Rattle.lps_printer.proofs.PrintedSystems.{printed_systems_are_linear}
 use Rattle.lps_printer.proofs.PrintedTheories.{printed_texts_have_theories}
 use Rattle.lps_printer.proofs.SpelledAdditions.{printed_texts_spell_back}
+use Rattle.lin_driver.specs.Additions.{AreTerminate}
 use Rattle.lin_driver.specs.EqualLinears.{AreEqualLinears}
 use Rattle.lin_driver.specs.FilledLinears.{Serves}
 use Rattle.lin_driver.specs.Linearised.{ReadsBack}
 use Rattle.lin_driver.specs.ReadingBack.{CanBePrinted, PrintedTextsReadBack}
+use Rattle.lin_driver.specs.declared.ending.Ending.{Ending}
+use Rattle.lin_driver.specs.declared.ending.Ending.TheVariants.{End, Terminate}
 use Rattle.lin_driver.proofs.Additions.{additions_may_be_added}
 use Rattle.lin_driver.proofs.AddedParts.{what_may_be_added_adds_only}
 use Rattle.lin_driver.proofs.FilledLinears.{filled_linears_serve}
 
-module _ (spec : PlainSpec) (g h : Sig) (ts : List Tree) (x : NameId) (l : PlainLinear) (printed : List ℕ) (can : CanBePrinted spec g ts x l) (after : IsSignature h) (is : IsPrinted spec g h ts x l printed) where
+module _ (ending : Ending) (spec : PlainSpec) (g h : Sig) (ts : List Tree) (x : NameId) (l : PlainLinear) (printed : List ℕ) (can : CanBePrinted ending spec g ts x l) (after : IsSignature h) (is : IsPrinted spec g h ts x l printed) where
   abbrev name : Name
   name = text_under h x
 
@@ -112,9 +118,29 @@ module _ (spec : PlainSpec) (g h : Sig) (ts : List Tree) (x : NameId) (l : Plain
   both : GrowsByAdditions can.own_signature h
   both = then_constants can.grown grows after
 
-  no_actions : added_actions both ≡ []
+  same_actions : added_actions both ≡ added_actions can.grown
   unfolding both
-  no_actions = can.no_actions
+  same_actions = refl
+
+  -- their names have the texts that they had
+  abbrev acts : List NameId
+  acts = added_actions can.grown
+
+  name_still : (a : NameId) → acts ≡ a ∷ [] → text_under h a ≡ text_under g a
+  name_still a one =
+      let among : Contains g.actions (key a []) =
+      subst (λ (ks : List Key). Contains ks (key a [])) (sym (actions_grow can.own_signature can.own.stands can.grown ∙ ap (λ (ns : List NameId). can.own_signature.actions ++ map (λ (n : NameId). key n []) ns) one))
+      (Contains-append_right can.own_signature.actions (key a [] ∷ []) (key a []) (0, omega arith, refl)) in
+      let inside : a.0 < length g.texts = (All-contains (IsActionWithin (length g.texts) (length g.sorts)) g.actions (key a []) can.stands.complete.within.actions among).named in
+      ap (λ (us : List Name). get_or us a.0 []) grows.grown.texts ∙ front_entry g.texts grows.grown.new_texts a.0 [] inside
+
+  still_terminate : (e : Ending) → AreTerminate e g acts → AreTerminate e h acts
+  still_terminate End none = none
+  still_terminate Terminate (inl none) = inl none
+  still_terminate Terminate (inr (a, one, text)) = inr (a, one, name_still a one ∙ text)
+
+  added_are : AreTerminate ending h (added_actions both)
+  added_are = subst (AreTerminate ending h) (sym same_actions) (still_terminate ending can.added)
 
   its_vocabulary : IsVocabularyOf (under_names (declarations_in (bare_sections spec))) (vocabulary_of can.own_signature)
   its_vocabulary = subst (IsVocabularyOf (under_names (declarations_in (bare_sections spec)))) can.own.declared can.own.system.well_typed.vocabulary.declared
@@ -152,6 +178,12 @@ module _ (spec : PlainSpec) (g h : Sig) (ts : List Tree) (x : NameId) (l : Plain
   spelled : SpellsSections printed ss
   spelled = subst (λ (t : List ℕ). SpellsSections t ss) (sym (is.written c constants_are)) whole.spelled
 
+  -- no action that was added has the name of the process
+  other_names : (e : Ending) (ns : List NameId) → AreTerminate e h ns → AllByRecursion (λ (a : NameId). text_under h a ≢ name) ns
+  other_names End ns none = subst (AllByRecursion (λ (a : NameId). text_under h a ≢ name)) (sym none) tt
+  other_names Terminate ns (inl none) = subst (AllByRecursion (λ (a : NameId). text_under h a ≢ name)) (sym none) tt
+  other_names Terminate ns (inr (a, one, text)) = subst (AllByRecursion (λ (b : NameId). text_under h b ≢ name)) (sym one) ((λ e. can.process_apart (same_name ∙ sym e ∙ text)), tt)
+
   sound : AreSoundOver ss h
   sound =
       printed_declarations_are_sound spec can.own_signature h added name M J
@@ -166,7 +198,7 @@ module _ (spec : PlainSpec) (g h : Sig) (ts : List Tree) (x : NameId) (l : Plain
         inhabited = inhabited_later;
         additions = what_is_added_is_declared spec can.own_signature h both (what_is_added_is_printed spec can.own_signature h can.own.stands its_vocabulary both) name fs;
         new_process = subst (λ (t : Name). ¬ (IsTaken can.own_signature t)) same_name can.process_new;
-        no_action = subst (AllByRecursion (λ (a : NameId). text_under h a ≢ name)) (sym no_actions) tt;
+        no_action = other_names ending (added_actions both) added_are;
         listed = variables_that_read_can_be_listed v n M J read.reads;
       })
 
@@ -197,7 +229,7 @@ module _ (spec : PlainSpec) (g h : Sig) (ts : List Tree) (x : NameId) (l : Plain
       filled_linears_serve th c n (variable_sorts h) L I (constants_have_equations th can.own.theory.equations (length g.declared) is.needed c refl constants_are) (what_fits_is_sorted h ts l after.table after.complete fits_later)
       fits_later.closed read.reads.of_sorts
 
-  pub reads_back : ReadsBack spec g ts l printed
+  pub reads_back : ReadsBack ending spec g ts l printed
   reads_back = record {
     signature = h;
     stands = after;
@@ -210,7 +242,7 @@ module _ (spec : PlainSpec) (g h : Sig) (ts : List Tree) (x : NameId) (l : Plain
     linear = M;
     initial = J;
     specifies = record { tokens = spelled.tokens; cut = spelled.cut; spec = spelled.spec; spelled = spelled.spells; system = subst (λ bs. IsSystem bs v th (state_of M J)) (sym spelled.is) system.0 };
-    adds_only = what_may_be_added_adds_only spec spelled.spec added n M J can.own.placed spelled.is (additions_may_be_added spec can.own_signature h name fs can.own.stands its_vocabulary can.own.taken both no_actions lists_added);
+    adds_only = what_may_be_added_adds_only ending spec spelled.spec added n M J can.own.placed spelled.is (additions_may_be_added ending spec can.own_signature h name fs can.own.stands its_vocabulary can.own.taken both added_are lists_added);
     is_linear_text = system.1;
     is_linear = read.linear;
     variable_sorts = variable_sorts h;
@@ -221,10 +253,10 @@ module _ (spec : PlainSpec) (g h : Sig) (ts : List Tree) (x : NameId) (l : Plain
   }
 
 pub printed_texts_read_back : PrintedTextsReadBack
-printed_texts_read_back spec g h ts x l printed can after is = reads_back spec g h ts x l printed can after is
+printed_texts_read_back ending spec g h ts x l printed can after is = reads_back ending spec g h ts x l printed can after is
 
 -- its equations are those of the text, and behind them those of empty lists
-pub printed_equations : (spec : PlainSpec) (g h : Sig) (ts : List Tree) (x : NameId) (l : PlainLinear) (printed : List ℕ) (can : CanBePrinted spec g ts x l) (after : IsSignature h) (is : IsPrinted spec g h ts x l printed)
-    → (printed_texts_read_back spec g h ts x l printed can after is).theory.equations ≡ can.own.theory.equations ++ empty_equations (length g.declared) is.needed
+pub printed_equations : (ending : Ending) (spec : PlainSpec) (g h : Sig) (ts : List Tree) (x : NameId) (l : PlainLinear) (printed : List ℕ) (can : CanBePrinted ending spec g ts x l) (after : IsSignature h) (is : IsPrinted spec g h ts x l printed)
+    → (printed_texts_read_back ending spec g h ts x l printed can after is).theory.equations ≡ can.own.theory.equations ++ empty_equations (length g.declared) is.needed
 unfolding printed_texts_read_back reads_back
-printed_equations spec g h ts x l printed can after is = refl
+printed_equations ending spec g h ts x l printed can after is = refl

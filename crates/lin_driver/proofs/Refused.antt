@@ -1,6 +1,6 @@
 -- Why a text is refused.
 use Rattle.std.proofs.Common.{◌≡◌, ◌≢◌, ℕ, List, refl, sym, subst, ◌∙◌, Result, Ok, Err}
-use Rattle.std.specs.Prelude.{IfErr, IfOk, IsErrAnd}
+use Rattle.std.specs.Prelude.{IfErr, IfOk, IsErrAnd, OnOk}
 use Rattle.mcrl2_lexer.specs.declared.token.LexFault.{LexFault}
 use Rattle.mcrl2_lexer.specs.declared.token.LexFault.TheVariants as lex
 use Rattle.mcrl2_lexer.specs.declared.token.Token.{Token}
@@ -24,9 +24,10 @@ use Rattle.lin_driver.specs.Faults.{fault_of_lex, fault_of_parse, fault_of_sort,
 use Rattle.lin_driver.specs.ModelLinears.{IsModelFaultOf}
 use Rattle.lin_driver.specs.Refusals.{IsParsedAs, IsModelFaultOver, IsSpecFault, IsRefusedWith}
 use Rattle.lin_driver.specs.declared.fault.LinFault.{LinFault}
-use Rattle.lin_driver.specs.declared.fault.LinFault.TheVariants.{Lex, Parse, Sort, «Type», Net, Guard, NotTail, NoMemory}
+use Rattle.lin_driver.specs.declared.fault.LinFault.TheVariants.{Lex, Parse, Sort, «Type», Net, Guard, NotTail, TerminateDeclared, NoMemory}
 use Rattle.lin_driver.specs.declared.fault.ModelFault.{ModelFault}
 use Rattle.lin_driver.specs.declared.fault.ModelFault.TheVariants as model
+use Rattle.lin_driver.specs.declared.ending.Ending.{Ending}
 use Rattle.lin_driver.specs.declared.methods.Method.{Method}
 
 abbrev IsRefused : {T : Type 0} → Result T LinFault → List ℕ → List (List ℕ) → Type 0
@@ -62,6 +63,7 @@ of_spec text spec texts parsed («Type» fault) has = record { spec = spec; pars
 of_spec text spec texts parsed (Net fault) has = record { spec = spec; parsed = parsed; has_fault = has }
 of_spec text spec texts parsed (Guard fault) has = record { spec = spec; parsed = parsed; has_fault = has }
 of_spec text spec texts parsed (NotTail component summand) has = record { spec = spec; parsed = parsed; has_fault = has }
+of_spec text spec texts parsed (TerminateDeclared number) has = absurd has
 of_spec text spec texts parsed NoMemory has = absurd has
 
 pub spec_refused : {T : Type 0} (r : Result T LinFault) (text : List ℕ) (spec : PlainSpec) (texts : List (List ℕ)) → IsParsedAs text spec → IfErr r (λ given. given ≢ NoMemory → IsSpecFault spec texts given) → IsRefused r text texts
@@ -102,14 +104,14 @@ module _ (spec : PlainSpec) (g : Sig) (p : PoolContents) (m : PlainModel) (is : 
   model_refused fault given has same some = subst (IsSpecFault spec texts) (sym same) (by_model fault has (λ e. some (same ∙ e)))
 
 -- ---- by which method
-model_by : (method : Method) (fault : ModelFault) → IsModelFaultBy method fault → IsFaultBy method (fault_of_model fault)
-model_by method (model.Net fault) by = tt
-model_by method (model.Guard fault) by = tt
-model_by method (model.NotTail component summand) by = by
-model_by method model.NoMemory by = tt
+model_by : (ending : Ending) (method : Method) (fault : ModelFault) → IsModelFaultBy method fault → IsFaultBy ending method (fault_of_model fault)
+model_by ending method (model.Net fault) by = tt
+model_by ending method (model.Guard fault) by = tt
+model_by ending method (model.NotTail component summand) by = by
+model_by ending method model.NoMemory by = tt
 
-pub model_fault_by : (method : Method) (fault : ModelFault) (given : LinFault) → IsModelFaultBy method fault → given ≡ fault_of_model fault → IsFaultBy method given
-model_fault_by method fault given by same = subst (IsFaultBy method) (sym same) (model_by method fault by)
+pub model_fault_by : (ending : Ending) (method : Method) (fault : ModelFault) (given : LinFault) → IsModelFaultBy method fault → given ≡ fault_of_model fault → IsFaultBy ending method given
+model_fault_by ending method fault given by same = subst (IsFaultBy ending method) (sym same) (model_by ending method fault by)
 
 -- ---- want of memory alone
 pub if_ok : {T E : Type 0} (r : Result T E) (P Q : T → Type 0) → ((x : T) → P x → Q x) → IfOk r P → IfOk r Q
@@ -125,6 +127,25 @@ is_told (Ok x) P h = absurd h
 is_told (Err e) P h = h
 
 -- want of memory is the fault of no method
-pub no_fault_by : {T : Type 0} (r : Result T LinFault) (method : Method) → IfErr r (λ fault. fault ≡ NoMemory) → IfErr r (IsFaultBy method)
-no_fault_by (Ok x) method none = tt
-no_fault_by (Err fault) method none = subst (IsFaultBy method) (sym none) tt
+pub no_fault_by : {T : Type 0} (r : Result T LinFault) (ending : Ending) (method : Method) → IfErr r (λ fault. fault ≡ NoMemory) → IfErr r (IsFaultBy ending method)
+no_fault_by (Ok x) ending method none = tt
+no_fault_by (Err fault) ending method none = subst (IsFaultBy ending method) (sym none) tt
+
+-- want of memory alone, whatever is parsed
+pub no_fault_parsed : {T : Type 0} (r : Result T LinFault) (spec : PlainSpec) → IfErr r (λ fault. fault ≡ NoMemory)
+    → IfErr r (λ fault. fault ≢ NoMemory → (text : List ℕ) (texts : List (List ℕ)) → IsParsedAs text spec → IsRefusedWith text texts fault)
+no_fault_parsed (Ok x) spec none = tt
+no_fault_parsed (Err fault) spec none = λ some. absurd (some none)
+
+pub no_fault_by_each : {T : Type 0} (r : Result T LinFault) (ending : Ending) → IfErr r (λ fault. fault ≡ NoMemory) → IfErr r (λ fault. (method : Method) → IsFaultBy ending method fault)
+no_fault_by_each (Ok x) ending none = tt
+no_fault_by_each (Err fault) ending none = λ method. subst (IsFaultBy ending method) (sym none) tt
+
+-- what holds of a fault that is given on
+pub given_on : {T : Type 0} (r : Result T LinFault) (P : LinFault → Type 0) (fault : LinFault) → P fault → IsErrAnd r (λ given. given ≡ fault) → IfErr r P
+given_on (Ok x) P fault holds same = absurd same
+given_on (Err given) P fault holds same = subst P (sym same) holds
+
+pub none_ok : {T E : Type 0} (r : Result T E) (P : Type 0) (Q : E → Type 0) → IsErrAnd r Q → OnOk r P
+none_ok (Ok x) P Q told = absurd told
+none_ok (Err e) P Q told = tt

@@ -1,9 +1,10 @@
 -- Terms can be rewritten by the written equations of what was made of a text.
-use Rattle.std.proofs.Common.{◌≡◌, ◌<◌, ℕ, List, [], ◌∷◌, ◌++◌, map, length, get_or, refl, sym, ap, ◌∙◌, subst, Option, Some, None}
+use Rattle.std.proofs.Common.{◌≡◌, ◌<◌, ℕ, List, [], ◌∷◌, ◌++◌, map, length, get_or, refl, sym, ap, ◌∙◌, subst, Option, Some, None, append_assoc}
 use Rattle.std.specs.List.{All, AllByRecursion, Contains, flat_map}
 use Rattle.std.proofs.lemmas.List.{length-map}
 use Rattle.std.proofs.lemmas.List.Elements.{All-nil, All-cons, All-head, All-tail, All-contains, Contains-append_left, Contains-append_right}
 use Rattle.data_theory.specs.declared.ids.TermId.{TermId}
+use Rattle.data_theory.specs.Complete.{BeginsWith}
 use Rattle.data_theory.specs.declared.ids.VarId.{VarId}
 use Rattle.data_theory.specs.declared.ids.NameId.{NameId}
 use Rattle.data_theory.specs.Declarations.{Data, HasSort}
@@ -18,17 +19,20 @@ use Rattle.data_theory.specs.IdTrees.{Tree}
 use Rattle.data_theory.specs.IdTrees as trees
 use Rattle.data_theory.proofs.GrowthLemmas.{growth_keeps_sorts}
 use Rattle.data_theory.proofs.IdDataLemmas.{growth_keeps_meant_data}
+use Rattle.data_theory.proofs.IdGrowthLemmas.{growth_after_growth_is_growth}
 use Rattle.mcrl2_syntax.specs.DataTrees.{PlainData}
 use Rattle.mcrl2_syntax.specs.Declarations as decls
 use Rattle.mcrl2_syntax.specs.Declarations.{PlainDecl, PlainSection, PlainSpec}
 use Rattle.mcrl2_syntax.specs.ProcessTrees as processes
+use Rattle.mcrl2_syntax.proofs.WordsOfTokens.{specs_are_of_words}
 use Rattle.mcrl2_syntax.specs.TreeWords.{IsDataOfWords, IsConditionOfWords, IsDeclarationOfWords, IsSectionOfWords, IsSpecOfWords}
 use Rattle.term_pool.specs.declared.terms.Equation.{Equation as Written}
 use Rattle.term_pool.specs.declared.terms.Theory.{Theory}
 use Rattle.term_pool.specs.HeadTrees.{no_tree, tree_at, IsIn}
+use Rattle.term_pool.specs.Pools.{PoolContents}
 use Rattle.process_terms.specs.Meanings.{Grows as EntriesGrow, HasEquation, HasTerm, HasModel, equation_of, term_at as entry_at, theory_of, process_of}
 use Rattle.process_terms.specs.PlainProcesses.{PlainEquation, PlainModel, plain_equation}
-use Rattle.process_terms.specs.SignatureEntries.{entries_of}
+use Rattle.process_terms.specs.SignatureEntries.{entries_of, BothGrow}
 use Rattle.process_terms.specs.Theories as theories
 use Rattle.process_terms.proofs.EntryLemmas.{signatures_add_entries}
 use Rattle.process_terms.proofs.MeaningLemmas.{models_are_settled}
@@ -49,12 +53,15 @@ use Rattle.sort_checker.specs.FittingBodies.{EachOption, IsOverSorts}
 use Rattle.sort_checker.specs.FullVocabularies.{FullVocabulary}
 use Rattle.sort_checker.specs.Parts.{ScopedDeclaration, scoped_behind, variables_by}
 use Rattle.sort_checker.specs.Systems.{equation_under, equations_in}
+use Rattle.sort_checker.specs.TextModels.{IsModelOf}
 use Rattle.sort_checker.proofs.EquationsHere.{over_its_own}
 use Rattle.sort_checker.proofs.FittingEquations.{equations_fit}
 use Rattle.sort_checker.proofs.SignatureSorts.{over_sorts}
 use Rattle.sort_checker.proofs.SmallNumerals.{small_starts}
 use Rattle.lin_driver.specs.Eliminations.{equations_at, CanRewrite}
-use Rattle.lin_driver.specs.Linearised.{IsMadeFor}
+use Rattle.lin_driver.specs.Linearised.{IsMadeOf}
+use Rattle.lin_driver.specs.declared.ending.Ending.{Ending}
+use Rattle.lin_driver.proofs.EndedTexts.{ended_as}
 
 -- ---- the numerals of written equations are small
 -- an expression of a text is the condition of some `init`
@@ -134,7 +141,39 @@ elaborated_is_well_formed v over e q small elaborates =
     }
 
 -- ---- what was made of a text
-module _ (spec : PlainSpec) (h : Sig) (us : List Tree) (equations : List PlainEquation) (x : NameId) (l : PlainLinear) (made : IsMadeFor spec h us equations x l) (words : IsSpecOfWords spec) where
+-- the specification has a model with these equations, over a signature and a pool from which these have grown
+pub record HasModelBelow (spec : PlainSpec) (h : Sig) (us : List Tree) (equations : List PlainEquation) : Type 0 where
+  pub signature : Sig
+  pub pool : PoolContents
+  pub model : PlainModel
+  pub stands : IsSignature signature
+  pub is_model : IsModelOf spec signature pool model
+  pub its_equations : model.equations ≡ equations
+  pub grow : BothGrow signature h pool.trees us
+  pub later : IsSignature h
+  pub words : IsSpecOfWords spec
+
+-- there is that of the text
+pub model_below : (ending : Ending) (text : List ℕ) (spec : PlainSpec) (h : Sig) (us : List Tree) (equations : List PlainEquation) (x : NameId) (l : PlainLinear) → IsMadeOf ending text spec h us equations x l → HasModelBelow spec h us equations
+model_below ending text spec h us equations x l made =
+    let m = made.made in
+    let ended = ended_as spec made.signature made.trees equations x made.linear m ending h us l made.ended in
+    record {
+      signature = m.signature;
+      pool = m.pool;
+      model = m.model;
+      stands = m.stands;
+      is_model = m.is_model;
+      its_equations = m.its_equations;
+      grow = record { signature = growth_after_growth_is_growth m.signature made.signature h m.grow.signature ended.grow.signature; pool = begins_then m.pool.trees made.trees us m.grow.pool ended.grow.pool };
+      later = ended.stands;
+      words = specs_are_of_words text spec made.tokens made.cut made.spelled;
+    }
+  where
+    begins_then : (xs ys zs : List Tree) → BeginsWith xs ys → BeginsWith ys zs → BeginsWith xs zs
+    begins_then xs ys zs (m, e) (n, f) = (m ++ n, f ∙ ap (λ (ts : List Tree). ts ++ n) e ∙ append_assoc xs m n)
+
+module _ (spec : PlainSpec) (h : Sig) (us : List Tree) (equations : List PlainEquation) (made : HasModelBelow spec h us equations) where
   abbrev g : Sig
   g = made.signature
 
@@ -145,7 +184,7 @@ module _ (spec : PlainSpec) (h : Sig) (us : List Tree) (equations : List PlainEq
   v = made.is_model.vocabulary
 
   new : IsSignature h
-  new = made.leads.stands
+  new = made.later
 
   grows : EntriesGrow (entries_of g ts) (entries_of h us)
   grows = signatures_add_entries g h ts us made.stands.table made.stands.complete made.is_model.trees made.grow
@@ -181,7 +220,7 @@ module _ (spec : PlainSpec) (h : Sig) (us : List Tree) (equations : List PlainEq
   are_well_formed : All (IsWellFormed (data_meant h)) (equations_at h us equations)
   are_well_formed =
       subst (All (IsWellFormed (data_meant h))) (sym equations_are)
-      (all_well_formed (equations_in (bare_sections spec)) (equations_at g ts made.model.equations) (small_equations spec words) made.is_model.system.equations)
+      (all_well_formed (equations_in (bare_sections spec)) (equations_at g ts made.model.equations) (small_equations spec made.words) made.is_model.system.equations)
 
   -- ---- they are rules
   within_later : All (IsTreeWithin h) ts
@@ -217,10 +256,16 @@ module _ (spec : PlainSpec) (h : Sig) (us : List Tree) (equations : List PlainEq
       let rest = are_rules qs (All-tail P (plain_equation q) (map plain_equation qs) there) (All-tail W (equation_of (entries_of h us) (plain_equation q)) (equations_at h us (map plain_equation qs)) well) in
       (All-cons (IsRule h us) (rule_of q) (map rule_of qs) first.0 rest.0, (first.1, rest.1))
 
-pub can_rewrite : (spec : PlainSpec) (h : Sig) (us : List Tree) (theory : Theory) (x : NameId) (l : PlainLinear) → IsMadeFor spec h us (map plain_equation theory.equations.items) x l → IsSpecOfWords spec → CanRewrite h us theory
-can_rewrite spec h us theory x l made words =
+pub can_rewrite : (spec : PlainSpec) (h : Sig) (us : List Tree) (theory : Theory) → HasModelBelow spec h us (map plain_equation theory.equations.items) → CanRewrite h us theory
+can_rewrite spec h us theory made =
     let equations = map plain_equation theory.equations.items in
-    let well = are_well_formed spec h us equations x l made words in
+    let well = are_well_formed spec h us equations made in
     let there = subst (All (HasEquation (entries_of made.signature made.pool.trees))) made.its_equations made.is_model.there.0 in
-    let both = are_rules spec h us equations x l made words theory.equations.items there well in
+    let both = are_rules spec h us equations made theory.equations.items there well in
     record { rules = both.0; equations = both.1; well_formed = λ q i. All-contains (IsWellFormed (data_meant h)) (equations_at h us equations) q well i }
+
+-- the equations of what was made of a text mean what they meant to it
+pub made_equations_are : (ending : Ending) (text : List ℕ) (spec : PlainSpec) (h : Sig) (us : List Tree) (equations : List PlainEquation) (x : NameId) (l : PlainLinear) (made : IsMadeOf ending text spec h us equations x l)
+    → equations_at h us equations ≡ equations_at made.made.signature made.made.pool.trees made.made.model.equations
+unfolding model_below
+made_equations_are ending text spec h us equations x l made = equations_are spec h us equations (model_below ending text spec h us equations x l made)

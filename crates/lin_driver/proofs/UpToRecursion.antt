@@ -16,9 +16,10 @@ use Rattle.guard_check.specs.declared.checking.GuardFault.TheVariants as guard
 use Rattle.lin_driver.specs.Accepted.{IsUpToRecursion, IsOfTheText}
 use Rattle.lin_driver.specs.Faults.{fault_of_net, fault_of_guard, fault_of_lex, fault_of_parse, fault_of_sort, fault_of_type, fault_of_model, IsFaultBy}
 use Rattle.lin_driver.specs.declared.fault.LinFault.{LinFault}
-use Rattle.lin_driver.specs.declared.fault.LinFault.TheVariants.{Lex, Parse, Sort, «Type», Net, Guard, NotTail, NoMemory}
+use Rattle.lin_driver.specs.declared.fault.LinFault.TheVariants.{Lex, Parse, Sort, «Type», Net, Guard, NotTail, TerminateDeclared, NoMemory}
 use Rattle.lin_driver.specs.declared.fault.ModelFault.{ModelFault}
 use Rattle.lin_driver.specs.declared.fault.ModelFault.TheVariants as model
+use Rattle.lin_driver.specs.declared.ending.Ending.{Ending}
 use Rattle.lin_driver.specs.declared.methods.Method.{Method}
 
 -- ---- of a specification
@@ -77,16 +78,17 @@ model_of_the_text model.NoMemory given up same some = absurd (some same)
 model_of_the_text _ given up same some = absurd up
 
 -- such a fault is one by each method
-one_by : (method : Method) (fault : LinFault) → (fault ≢ NoMemory → IsOfTheText fault) → IsFaultBy method fault
-one_by method (Lex fault) of = tt
-one_by method (Parse fault) of = tt
-one_by method (Sort fault) of = tt
-one_by method («Type» fault) of = tt
-one_by method (Net fault) of = tt
-one_by method (Guard fault) of = tt
-one_by method (NotTail component summand) of = absurd (of (λ e. cc))
-one_by method NoMemory of = tt
+one_by : (ending : Ending) (method : Method) (fault : LinFault) → (fault ≢ NoMemory → IsOfTheText fault) → IsFaultBy ending method fault
+one_by ending method (Lex fault) of = tt
+one_by ending method (Parse fault) of = tt
+one_by ending method (Sort fault) of = tt
+one_by ending method («Type» fault) of = tt
+one_by ending method (Net fault) of = tt
+one_by ending method (Guard fault) of = tt
+one_by ending method (NotTail component summand) of = absurd (of (λ e. cc))
+one_by ending method (TerminateDeclared number) of = absurd (of (λ e. cc))
+one_by ending method NoMemory of = tt
 
-pub by_each_method : {T : Type 0} (r : Result T LinFault) (method : Method) → IsTextFault r → IfErr r (IsFaultBy method)
-by_each_method (Ok x) method of = tt
-by_each_method (Err fault) method of = one_by method fault of
+pub by_each_method : {T : Type 0} (r : Result T LinFault) (ending : Ending) (method : Method) → IsTextFault r → IfErr r (IsFaultBy ending method)
+by_each_method (Ok x) ending method of = tt
+by_each_method (Err fault) ending method of = one_by ending method fault of

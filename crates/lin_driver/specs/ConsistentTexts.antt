@@ -18,7 +18,8 @@ use Rattle.process_terms.specs.SignatureEntries.{entries_of}
 use Rattle.process_terms.specs.Theories.{Theory, IsConsistent}
 use Rattle.bisim_laws.specs.Links.{IsGood}
 use Rattle.eqn_check.specs.Rules.{AreAccepted}
-use Rattle.lin_driver.specs.Headline.{Specifies, StandsFor}
+use Rattle.lin_driver.specs.Headline.{IsGoodBy, Specifies, StandsFor}
+use Rattle.lin_driver.specs.declared.ending.Ending.{Ending}
 
 -- the text spells a specification without written equations
 pub record HasNoEquations (text : List ℕ) : Type 0 where
@@ -37,19 +38,19 @@ pub record HasAcceptedEquations (text : List ℕ) : Type 0 where
   pub accepted : AreAccepted theory.declared theory.equations
 
 -- The theory of the printed text doesn't prove `true` equal to `false`, nor does it in any other reading of it; so the link is good.
-pub record HoldsOutright {text printed : List ℕ} (one : StandsFor text printed) : Type 0 where
+pub record HoldsOutright {ending : Ending} {text printed : List ℕ} (one : StandsFor ending text printed) : Type 0 where
   pub consistent : IsConsistent one.theory
-  pub bisimilar : IsGood one.theory one.link one.process one.linear
+  pub bisimilar : IsGoodBy ending one.theory one.link one.process one.linear
   pub in_each_reading : (w : FullVocabulary) (ti : Theory) (q : Process) → Specifies printed w ti q → IsConsistent ti
 
 -- ---- laws
 -- of a text without written equations what is said of its printed text holds without a premise
 abbrev pub TextsWithoutEquationsNeedNoPremise : Type 0
-TextsWithoutEquationsNeedNoPremise = (text printed : List ℕ) (one : StandsFor text printed) → HasNoEquations text → HoldsOutright one
+TextsWithoutEquationsNeedNoPremise = (ending : Ending) (text printed : List ℕ) (one : StandsFor ending text printed) → HasNoEquations text → HoldsOutright one
 
 -- and so it does of a text whose written equations are accepted
 abbrev pub AcceptedTextsNeedNoPremise : Type 0
-AcceptedTextsNeedNoPremise = (text printed : List ℕ) (one : StandsFor text printed) → HasAcceptedEquations text → HoldsOutright one
+AcceptedTextsNeedNoPremise = (ending : Ending) (text printed : List ℕ) (one : StandsFor ending text printed) → HasAcceptedEquations text → HoldsOutright one
 
 -- the equations of a text are accepted where those of its model are
 abbrev pub AcceptedModelsAreOfAcceptedTexts : Type 0

@@ -1,4 +1,4 @@
--- What is printed for a text stands for it in each reading of both texts.
+-- What is printed for a text, with its end as it is, stands for it in each reading of both texts.
 use Rattle.std.specs.Prelude.{◌≡◌, ℕ, List, ◌++◌, map, Some}
 use Rattle.data_theory.specs.Terms.{Sort}
 use Rattle.process_terms.specs.Theories.{Theory, IsConsistent}
@@ -12,6 +12,7 @@ use Rattle.sort_checker.specs.FullVocabularies.{FullVocabulary}
 use Rattle.lin_driver.specs.Headline.{Specifies, StandsFor}
 use Rattle.lin_driver.specs.Renumberings.{Renumbering, new_sort, new_process}
 use Rattle.lin_driver.specs.SameProcesses.{SameProcess}
+use Rattle.lin_driver.specs.declared.ending.Ending.TheVariants.{End}
 
 -- Each name of the first vocabulary has the same sort, functions and actions in the second one, under the new numbers; behind its functions there may be more.
 pub record FindsVocabulary (r : Renumbering) (v w : Vocabulary) : Type 0 where
@@ -25,7 +26,7 @@ pub data Under (r : Renumbering) (R : Process → Process → Type 0) : Process 
 
 -- The process of this reading of the text, under the numbers that its sorts and functions have in this reading of the printed one, and that one's process are
 -- paired by the link under new numbers, and so they are bisimilar.
-pub record StandsInEach {text printed : List ℕ} (one : StandsFor text printed) (v w : FullVocabulary) (ti : Theory) (p q : Process) : Type 0 where
+pub record StandsInEach {text printed : List ℕ} (one : StandsFor End text printed) (v w : FullVocabulary) (ti : Theory) (p q : Process) : Type 0 where
   pub numbers : Renumbering
   pub found : FindsVocabulary numbers v.declared w.declared
   pub link_numbers : Renumbering
@@ -34,4 +35,4 @@ pub record StandsInEach {text printed : List ℕ} (one : StandsFor text printed)
 
 abbrev pub WhatStandsForATextDoesSoInEachReading : Type 0
 WhatStandsForATextDoesSoInEachReading =
-    (text printed : List ℕ) (one : StandsFor text printed) (v w : FullVocabulary) (th ti : Theory) (p q : Process) → Specifies text v th p → Specifies printed w ti q → StandsInEach one v w ti p q
+    (text printed : List ℕ) (one : StandsFor End text printed) (v w : FullVocabulary) (th ti : Theory) (p q : Process) → Specifies text v th p → Specifies printed w ti q → StandsInEach one v w ti p q

@@ -12,6 +12,7 @@ use Rattle.lps_printer.specs.PrintedLinears.{IsPrinted}
 use Rattle.lin_driver.specs.Eliminations.{equations_at, IsLeft}
 use Rattle.lin_driver.specs.LinearOfTexts.{IsLinearOf}
 use Rattle.lin_driver.specs.declared.eliminations.Elimination.{Elimination}
+use Rattle.lin_driver.specs.declared.ending.Ending.{Ending}
 use Rattle.lin_driver.specs.declared.methods.Method.{Method}
 
 -- The bytes are the text of what the elimination leaves of a linear process, over the same equations. The pool has grown meanwhile.
@@ -23,8 +24,8 @@ pub record IsPrintedLeft (e : Elimination) (spec : PlainSpec) (g : Sig) (ts : Li
   pub stands : IsSignature signature
   pub is_printed : IsPrinted spec g signature trees x left printed
 
--- There is the linear process of the text by the method, and the bytes are the text of what the elimination leaves of it.
-pub record IsEliminated (method : Method) (e : Elimination) (text printed : List ℕ) : Type 0 where
+-- There is the linear process of the text by the ending and the method, and the bytes are the text of what the elimination leaves of it.
+pub record IsEliminated (ending : Ending) (method : Method) (e : Elimination) (text printed : List ℕ) : Type 0 where
   pub spec : PlainSpec
   pub signature : Sig
   pub pool : PoolContents
@@ -32,5 +33,5 @@ pub record IsEliminated (method : Method) (e : Elimination) (text printed : List
   pub name : NameId
   pub linear : PlainLinear
   pub components : ℕ
-  pub is_linear : IsLinearOf method text spec signature pool equations name linear components
+  pub is_linear : IsLinearOf ending method text spec signature pool equations name linear components
   pub is_left : IsPrintedLeft e spec signature pool.trees equations name linear printed

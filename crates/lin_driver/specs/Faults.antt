@@ -18,6 +18,8 @@ use Rattle.lin_driver.specs.declared.fault.ModelFault.{ModelFault}
 use Rattle.lin_driver.specs.declared.fault.ModelFault.TheVariants.{Net, Guard, NotTail, NoMemory}
 use Rattle.lin_driver.specs.declared.fault.LinFault.{LinFault}
 use Rattle.lin_driver.specs.declared.fault.LinFault.TheVariants as lin
+use Rattle.lin_driver.specs.declared.ending.Ending.{Ending}
+use Rattle.lin_driver.specs.declared.ending.Ending.TheVariants.{Terminate}
 use Rattle.lin_driver.specs.declared.methods.Method.{Method}
 use Rattle.lin_driver.specs.declared.methods.Method.TheVariants.{Regular}
 
@@ -71,19 +73,20 @@ fault_of_model (Guard fault) = lin.Guard fault
 fault_of_model (NotTail component summand) = lin.NotTail component summand
 fault_of_model NoMemory = lin.NoMemory
 
--- a summand of two calls is a fault by the method `Regular` alone
+-- a summand of two calls is a fault by the method `Regular` alone, and an action `Terminate` by the ending of this name
 abbrev pub IsModelFaultBy : Method → ModelFault → Type 0
 IsModelFaultBy method (Net fault) = Unit {0}
 IsModelFaultBy method (Guard fault) = Unit {0}
 IsModelFaultBy method (NotTail component summand) = method ≡ Regular
 IsModelFaultBy method NoMemory = Unit {0}
 
-abbrev pub IsFaultBy : Method → LinFault → Type 0
-IsFaultBy method (lin.Lex fault) = Unit {0}
-IsFaultBy method (lin.Parse fault) = Unit {0}
-IsFaultBy method (lin.Sort fault) = Unit {0}
-IsFaultBy method (lin.«Type» fault) = Unit {0}
-IsFaultBy method (lin.Net fault) = Unit {0}
-IsFaultBy method (lin.Guard fault) = Unit {0}
-IsFaultBy method (lin.NotTail component summand) = method ≡ Regular
-IsFaultBy method lin.NoMemory = Unit {0}
+abbrev pub IsFaultBy : Ending → Method → LinFault → Type 0
+IsFaultBy ending method (lin.Lex fault) = Unit {0}
+IsFaultBy ending method (lin.Parse fault) = Unit {0}
+IsFaultBy ending method (lin.Sort fault) = Unit {0}
+IsFaultBy ending method (lin.«Type» fault) = Unit {0}
+IsFaultBy ending method (lin.Net fault) = Unit {0}
+IsFaultBy ending method (lin.Guard fault) = Unit {0}
+IsFaultBy ending method (lin.NotTail component summand) = method ≡ Regular
+IsFaultBy ending method (lin.TerminateDeclared number) = ending ≡ Terminate
+IsFaultBy ending method lin.NoMemory = Unit {0}

@@ -40,3 +40,4 @@ pub mod OneReading
 pub mod EachReading
 pub mod JudgedTexts
 pub mod ConsistentTexts
+pub mod SealedLinears

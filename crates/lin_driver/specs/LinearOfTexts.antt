@@ -15,9 +15,11 @@ use Rattle.lps_core.specs.PlainLinears.{PlainLinear}
 use Rattle.lin_driver.specs.AddedSorts.{IsWithoutStacks}
 use Rattle.lin_driver.specs.KeptTexts.{KeepsModel}
 use Rattle.lin_driver.specs.Leaves.{HasLeaves}
-use Rattle.lin_driver.specs.Linearised.{IsMadeFor, IsMadeOf}
+use Rattle.lin_driver.specs.Headline.{LeavesTerminate}
+use Rattle.lin_driver.specs.Linearised.{IsMadeFor, IsEndedBy, IsMadeOf}
 use Rattle.lin_driver.specs.MadeFromLeaves.{IsMadeAlongNetwork}
 use Rattle.lin_driver.specs.PlainlyMade.{IsPlainFor, written_in_model}
+use Rattle.lin_driver.specs.declared.ending.Ending.{Ending}
 use Rattle.lin_driver.specs.declared.methods.Method.{Method}
 
 -- Of one model of the specification the linear process was made, and all this is said of that model. The linear process is plainly conditioned for what the
@@ -35,21 +37,40 @@ pub record IsMadeBy (method : Method) (spec : PlainSpec) (h : Sig) (q : PoolCont
   pub along : IsMadeAlongNetwork method made.model h q.trees l
   pub leaves : HasLeaves made.model components
 
--- The tokens of the text spell the specification of which that was made: so this is the linear process of the text by the method, with the name of its process and
--- the number of the text's components.
-pub record IsLinearOf (method : Method) (text : List ℕ) (spec : PlainSpec) (h : Sig) (q : PoolContents) (equations : List PlainEquation) (x : NameId) (l : PlainLinear) (components : ℕ) : Type 0 where
+-- The tokens of the text spell the specification of which that was made, and then it was ended: so this is the linear process of the text by the ending and the
+-- method, with the name of its process and the number of the text's components. It is plainly conditioned and canonical as the one was that may end.
+pub record IsLinearOf (ending : Ending) (method : Method) (text : List ℕ) (spec : PlainSpec) (h : Sig) (q : PoolContents) (equations : List PlainEquation) (x : NameId) (l : PlainLinear) (components : ℕ) : Type 0 where
   pub tokens : List Token
   pub cut : HasTokens text tokens
   pub spelled : SpellsSpec text spec tokens
-  pub by : IsMadeBy method spec h q equations x l components
+  pub leaves_terminate : LeavesTerminate ending spec
+  pub signature : Sig
+  pub pool : PoolContents
+  pub linear : PlainLinear
+  pub by : IsMadeBy method spec signature pool equations x linear components
+  pub ended : IsEndedBy signature pool.trees linear ending h q.trees l
+  pub plain : IsPlainFor by.made.signature h q (written_in_model (entries_of signature pool.trees) by.made.model) l
+  pub conditions : HaveNoNeedlessTrue h q.trees l
+  pub parameters : ParamsHaveOwnNames h l.params
+  pub sums : HaveOwnNames h l
 
 -- it was made of the text
-abbrev pub is_made : {method : Method} {text : List ℕ} {spec : PlainSpec} {h : Sig} {q : PoolContents} {equations : List PlainEquation} {x : NameId} {l : PlainLinear} {components : ℕ}
-    → IsLinearOf method text spec h q equations x l components → IsMadeOf text spec h q.trees equations x l
-is_made i = record { tokens = i.tokens; cut = i.cut; spelled = i.spelled; made = i.by.made }
+abbrev pub is_made : {ending : Ending} {method : Method} {text : List ℕ} {spec : PlainSpec} {h : Sig} {q : PoolContents} {equations : List PlainEquation} {x : NameId} {l : PlainLinear} {components : ℕ}
+    → IsLinearOf ending method text spec h q equations x l components → IsMadeOf ending text spec h q.trees equations x l
+is_made i = record {
+  tokens = i.tokens;
+  cut = i.cut;
+  spelled = i.spelled;
+  leaves_terminate = i.leaves_terminate;
+  signature = i.signature;
+  trees = i.pool.trees;
+  linear = i.linear;
+  made = i.by.made;
+  ended = i.ended;
+}
 
 -- there is one
-pub record HasLinear (method : Method) (text : List ℕ) : Type 0 where
+pub record HasLinear (ending : Ending) (method : Method) (text : List ℕ) : Type 0 where
   pub spec : PlainSpec
   pub signature : Sig
   pub pool : PoolContents
@@ -57,4 +78,4 @@ pub record HasLinear (method : Method) (text : List ℕ) : Type 0 where
   pub name : NameId
   pub linear : PlainLinear
   pub components : ℕ
-  pub is_linear : IsLinearOf method text spec signature pool equations name linear components
+  pub is_linear : IsLinearOf ending method text spec signature pool equations name linear components

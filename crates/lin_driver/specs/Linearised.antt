@@ -22,7 +22,7 @@ use Rattle.sort_table.specs.Growth.{More, with_more}
 use Rattle.sort_table.specs.SignatureVocabularies.{vocabulary_of}
 use Rattle.sort_checker.specs.FullVocabularies.{FullVocabulary}
 use Rattle.sort_checker.specs.TextModels.{IsSignatureOf, IsModelOf}
-use Rattle.process_terms.specs.Theories.{Theory, Equals, AreOfSorts}
+use Rattle.process_terms.specs.Theories.{Theory, IsConsistent, Equals, AreOfSorts}
 use Rattle.process_terms.specs.Processes.{Process}
 use Rattle.process_terms.specs.PlainProcesses.{PlainEquation, PlainModel}
 use Rattle.process_terms.specs.Meanings.{process_of}
@@ -30,12 +30,17 @@ use Rattle.process_terms.specs.SignatureEntries.{entries_of, BothGrow}
 use Rattle.bisim_laws.specs.LinearProcesses.{Linear, sorts, state_of, IsLinear, IsWellSorted, IsLinearText}
 use Rattle.bisim_laws.specs.Links.{Link}
 use Rattle.lps_core.specs.Fitting.{Fits}
-use Rattle.lps_core.specs.GoingOn.{IsGoodOver}
+use Rattle.lps_core.specs.GoingOn.{GoesOn}
 use Rattle.lps_core.specs.PlainLinears.{PlainLinear, linear_of, initial_of, linear_state}
+use Rattle.lps_core.specs.SealedTrees.{SealingIsGood}
+use Rattle.lps_core.specs.Sealing.{NeverEnds}
 use Rattle.proc_unfold.specs.FittingModels.{ModelFits}
 use Rattle.lin_driver.specs.ModelLinears.{IsProcessName, LeadsToLinear}
 use Rattle.lin_driver.specs.EqualLinears.{AreEqualLinears}
-use Rattle.lin_driver.specs.Headline.{Specifies, AddsOnly, StandsFor}
+use Rattle.lin_driver.specs.Headline.{IsGoodBy, EndsBy, LeavesTerminate, Specifies, AddsOnly, AreAddedActions, StandsFor}
+use Rattle.lin_driver.specs.SealedLinears.{SealsLinear}
+use Rattle.lin_driver.specs.declared.ending.Ending.{Ending}
+use Rattle.lin_driver.specs.declared.ending.Ending.TheVariants.{End, Terminate}
 
 -- ---- what it is made of
 -- A signature had what the specification declares. The names that were taken there are those that are taken from the start, and the identifiers that are copied
@@ -54,31 +59,47 @@ pub record IsMadeFor (spec : PlainSpec) (h : Sig) (us : List Tree) (equations : 
   pub leads : LeadsToLinear signature (process_of (entries_of h us) model) h us l
   pub name : IsProcessName signature h x
 
--- the tokens of the text spell the specification
-pub record IsMadeOf (text : List ℕ) (spec : PlainSpec) (h : Sig) (us : List Tree) (equations : List PlainEquation) (x : NameId) (l : PlainLinear) : Type 0 where
+-- What becomes of its end: by `End` it stays as it is, with signature and terms. By `Terminate` it is sealed, and never ends.
+pub data IsEndedBy (g : Sig) (ts : List Tree) (l : PlainLinear) : Ending → Sig → List Tree → PlainLinear → Type 0 where
+  it_stays : IsEndedBy g ts l End g ts l
+  it_is_sealed : {h : Sig} {us : List Tree} {k : PlainLinear} → SealsLinear g h ts us l k → NeverEnds (linear_of (entries_of h us) k) → SealingIsGood g ts l h us k → IsEndedBy g ts l Terminate h us k
+
+-- The tokens of the text spell the specification, and with `Terminate` it declares no action of this name. The linear process was made for it, and then ended.
+pub record IsMadeOf (ending : Ending) (text : List ℕ) (spec : PlainSpec) (h : Sig) (us : List Tree) (equations : List PlainEquation) (x : NameId) (l : PlainLinear) : Type 0 where
   pub tokens : List Token
   pub cut : HasTokens text tokens
   pub spelled : SpellsSpec text spec tokens
-  pub made : IsMadeFor spec h us equations x l
+  pub leaves_terminate : LeavesTerminate ending spec
+  pub signature : Sig
+  pub trees : List Tree
+  pub linear : PlainLinear
+  pub made : IsMadeFor spec signature trees equations x linear
+  pub ended : IsEndedBy signature trees linear ending h us l
 
 -- ---- what it is to the text
--- The text has this specification. The signature has its vocabulary and more behind it, but no actions, and a link leads from the text's process to
--- the linear process, over every theory that goes on from the signature.
-pub record IsLinearised (text : List ℕ) (spec : PlainSpec) (g : Sig) (ts : List Tree) (l : PlainLinear) : Type 0 where
+-- over every theory that goes on from the signature, the link is good in the form of the ending
+abbrev pub IsGoodOverBy : Ending → Sig → Link → Process → Process → Type 0
+IsGoodOverBy ending g k p q = (th : Theory) → GoesOn g th → IsConsistent th → IsGoodBy ending th k p q
+
+-- The text has this specification. The signature has its vocabulary and more behind it, and a link leads from the text's process to the linear process, over
+-- every theory that goes on from the signature.
+pub record IsLinearised (ending : Ending) (text : List ℕ) (spec : PlainSpec) (g : Sig) (ts : List Tree) (l : PlainLinear) : Type 0 where
   pub vocabulary : FullVocabulary
   pub theory : Theory
   pub process : Process
   pub specifies : Specifies text vocabulary theory process
   pub spec_is : specifies.spec ≡ spec
   pub stands : IsSignature g
-  pub numbers : (m : More) × (vocabulary_of g ≡ with_more vocabulary.declared m) × (m.actions ≡ [])
+  pub leaves_terminate : LeavesTerminate ending spec
+  pub numbers : (m : More) × (vocabulary_of g ≡ with_more vocabulary.declared m) × AreAddedActions ending m.actions
   pub fits : Fits g ts l
+  pub ends : EndsBy ending (linear_of (entries_of g ts) l)
   pub link : Link
-  pub bisimilar : IsGoodOver g link process (linear_state (entries_of g ts) l)
+  pub bisimilar : IsGoodOverBy ending g link process (linear_state (entries_of g ts) l)
 
 -- The bytes have a specification with the declarations of the given one and at most what may be added, over the vocabulary of a signature
 -- that has grown. It is a linear text, of a linear process that is provably equal to the one in code.
-pub record ReadsBack (spec : PlainSpec) (g : Sig) (ts : List Tree) (l : PlainLinear) (printed : List ℕ) : Type 0 where
+pub record ReadsBack (ending : Ending) (spec : PlainSpec) (g : Sig) (ts : List Tree) (l : PlainLinear) (printed : List ℕ) : Type 0 where
   pub signature : Sig
   pub stands : IsSignature signature
   pub grown : IsGrown g signature
@@ -90,7 +111,7 @@ pub record ReadsBack (spec : PlainSpec) (g : Sig) (ts : List Tree) (l : PlainLin
   pub linear : Linear
   pub initial : List Term
   pub specifies : Specifies printed vocabulary theory (state_of linear initial)
-  pub adds_only : AddsOnly spec specifies.spec
+  pub adds_only : AddsOnly ending spec specifies.spec
   pub is_linear_text : IsLinearText theory (state_of linear initial)
   pub is_linear : IsLinear linear
   pub variable_sorts : List Sort
@@ -103,15 +124,15 @@ pub record ReadsBack (spec : PlainSpec) (g : Sig) (ts : List Tree) (l : PlainLin
 -- what is made of a text stands for it
 abbrev pub WhatIsMadeStandsForTheText : Type 0
 WhatIsMadeStandsForTheText =
-    (text : List ℕ) (spec : PlainSpec) (h : Sig) (us : List Tree) (equations : List PlainEquation) (x : NameId) (l : PlainLinear) → IsMadeOf text spec h us equations x l → IsLinearised text spec h us l
+    (ending : Ending) (text : List ℕ) (spec : PlainSpec) (h : Sig) (us : List Tree) (equations : List PlainEquation) (x : NameId) (l : PlainLinear) → IsMadeOf ending text spec h us equations x l → IsLinearised ending text spec h us l
 
 -- the linear process to which the process of a text leads stands for the text
 abbrev pub WhatIsLedToStandsForTheText : Type 0
 WhatIsLedToStandsForTheText =
     (text : List ℕ) (v : FullVocabulary) (th : Theory) (g h : Sig) (ts us : List Tree) (m : PlainModel) (l : PlainLinear) → (s : Specifies text v th (process_of (entries_of g ts) m)) → v.declared ≡ vocabulary_of g
-    → IsSignature g → ModelFits g ts m → BothGrow g h ts us → LeadsToLinear g (process_of (entries_of h us) m) h us l → IsLinearised text s.spec h us l
+    → IsSignature g → ModelFits g ts m → BothGrow g h ts us → LeadsToLinear g (process_of (entries_of h us) m) h us l → IsLinearised End text s.spec h us l
 
 -- and what is printed for that one stands for the text, too
 abbrev pub WhatIsPrintedStandsForTheText : Type 0
 WhatIsPrintedStandsForTheText =
-    (text printed : List ℕ) (spec : PlainSpec) (g : Sig) (ts : List Tree) (l : PlainLinear) → IsLinearised text spec g ts l → ReadsBack spec g ts l printed → StandsFor text printed
+    (ending : Ending) (text printed : List ℕ) (spec : PlainSpec) (g : Sig) (ts : List Tree) (l : PlainLinear) → IsLinearised ending text spec g ts l → ReadsBack ending spec g ts l printed → StandsFor ending text printed

@@ -1,5 +1,5 @@
 -- Why a text is refused.
-use Rattle.std.specs.Prelude.{◌≡◌, ◌≢◌, ℕ, List, All, count_by}
+use Rattle.std.specs.Prelude.{◌≡◌, ◌≢◌, ◌++◌, ◌∷◌, ℕ, suc, List, All, count_by, length}
 use Rattle.mcrl2_lexer.specs.declared.token.Token.{Token}
 use Rattle.mcrl2_lexer.specs.Lexing as lexing
 use Rattle.mcrl2_lexer.specs.Lexing.{HasTokens}
@@ -13,16 +13,20 @@ use Rattle.data_theory.specs.Complete.{BeginsWith}
 use Rattle.data_theory.specs.Signature.{Sig}
 use Rattle.term_pool.specs.Pools.{PoolContents}
 use Rattle.process_terms.specs.PlainProcesses.{PlainModel}
+use Rattle.bisim_laws.specs.Terminations.{terminate_name}
+use Rattle.sort_table.specs.BareDeclarations.{Declaration, bare_sections, declarations_in}
+use Rattle.sort_table.specs.Expressions.{Name}
 use Rattle.sort_table.specs.Built.{IsFaultOf}
 use Rattle.sort_table.specs.declared.building.SortFault.TheVariants as sort
 use Rattle.sort_checker.specs.TextModels.{IsModelOf, IsTypeFaultOf}
 use Rattle.sort_checker.specs.declared.elaborating.TypeFault.{TypeFault}
 use Rattle.sort_checker.specs.declared.elaborating.TypeFault.TheVariants as type
+use Rattle.lin_driver.specs.Headline.{DeclaresAction, DeclareNoAction}
 use Rattle.lin_driver.specs.ModelLinears.{IsModelFaultOf}
 use Rattle.lin_driver.specs.declared.fault.ModelFault.{ModelFault}
 use Rattle.lin_driver.specs.declared.fault.ModelFault.TheVariants as model
 use Rattle.lin_driver.specs.declared.fault.LinFault.{LinFault}
-use Rattle.lin_driver.specs.declared.fault.LinFault.TheVariants.{Lex, Parse, Sort, «Type», Net, Guard, NotTail, NoMemory}
+use Rattle.lin_driver.specs.declared.fault.LinFault.TheVariants.{Lex, Parse, Sort, «Type», Net, Guard, NotTail, TerminateDeclared, NoMemory}
 
 -- the text has tokens, and their declarations have the fault
 pub record HasParseFault (text : List ℕ) (fault : ParseFault) : Type 0 where
@@ -55,7 +59,7 @@ pub record IsModelFaultOver (spec : PlainSpec) (texts : List (List ℕ)) (fault 
   pub has_fault : IsModelFaultOf model fault
 
 -- Want of memory is no fault of a specification, nor are those of its tokens and its
--- declarations.
+-- declarations. That it declares `Terminate` is none either, as long as its process may end.
 abbrev pub IsSpecFault : PlainSpec → List (List ℕ) → LinFault → Type 0
 IsSpecFault spec texts (Lex fault) = ⊥
 IsSpecFault spec texts (Parse fault) = ⊥
@@ -64,6 +68,7 @@ IsSpecFault spec texts («Type» fault) = IsTypeFaultOver spec texts fault × (f
 IsSpecFault spec texts (Net fault) = IsModelFaultOver spec texts (model.Net fault)
 IsSpecFault spec texts (Guard fault) = IsModelFaultOver spec texts (model.Guard fault)
 IsSpecFault spec texts (NotTail component summand) = IsModelFaultOver spec texts (model.NotTail component summand)
+IsSpecFault spec texts (TerminateDeclared number) = ⊥
 IsSpecFault spec texts NoMemory = ⊥
 
 -- ---- of a text
@@ -72,6 +77,22 @@ pub record HasSpecFault (text : List ℕ) (texts : List (List ℕ)) (fault : Lin
   pub spec : PlainSpec
   pub parsed : IsParsedAs text spec
   pub has_fault : IsSpecFault spec texts fault
+
+-- the declaration with this number is the first of an action of this name
+pub record IsFirstOfAction (a : Name) (ds : List Declaration) (number : ℕ) : Type 0 where
+  pub front : List Declaration
+  pub declaration : Declaration
+  pub behind : List Declaration
+  pub text : ds ≡ front ++ declaration ∷ behind
+  pub place : number ≡ suc (length front)
+  pub others : DeclareNoAction a front
+  pub declares : DeclaresAction a declaration
+
+-- it spells a specification of which that declaration is the first of an action `Terminate`
+pub record DeclaresTerminateAt (text : List ℕ) (number : ℕ) : Type 0 where
+  pub spec : PlainSpec
+  pub parsed : IsParsedAs text spec
+  pub first : IsFirstOfAction terminate_name (declarations_in (bare_sections spec)) number
 
 -- the fault is that of the text
 abbrev pub IsRefusedWith : List ℕ → List (List ℕ) → LinFault → Type 0
@@ -82,4 +103,5 @@ IsRefusedWith text texts («Type» fault) = HasSpecFault text texts («Type» fa
 IsRefusedWith text texts (Net fault) = HasSpecFault text texts (Net fault)
 IsRefusedWith text texts (Guard fault) = HasSpecFault text texts (Guard fault)
 IsRefusedWith text texts (NotTail component summand) = HasSpecFault text texts (NotTail component summand)
+IsRefusedWith text texts (TerminateDeclared number) = DeclaresTerminateAt text number
 IsRefusedWith text texts NoMemory = ⊥

@@ -11,10 +11,11 @@ use Rattle.sort_table.specs.SignatureVocabularies.{text_under}
 use Rattle.lps_printer.specs.CanonicalTexts.{IsCanonicalText}
 use Rattle.lps_printer.specs.PrintedLinears.{IsPrinted}
 use Rattle.lin_driver.specs.LinearOfTexts.{IsLinearOf}
+use Rattle.lin_driver.specs.declared.ending.Ending.{Ending}
 use Rattle.lin_driver.specs.declared.methods.Method.{Method}
 
--- There is the linear process of the text by the method, and the bytes are its printed text, which is canonical.
-pub record IsWrittenFor (method : Method) (text printed : List ℕ) : Type 0 where
+-- There is the linear process of the text by the ending and the method, and the bytes are its printed text, which is canonical.
+pub record IsWrittenFor (ending : Ending) (method : Method) (text printed : List ℕ) : Type 0 where
   pub spec : PlainSpec
   pub signature : Sig
   pub pool : PoolContents
@@ -22,7 +23,7 @@ pub record IsWrittenFor (method : Method) (text printed : List ℕ) : Type 0 whe
   pub name : NameId
   pub linear : PlainLinear
   pub components : ℕ
-  pub is_linear : IsLinearOf method text spec signature pool equations name linear components
+  pub is_linear : IsLinearOf ending method text spec signature pool equations name linear components
   pub printed_signature : Sig
   pub stands : IsSignature printed_signature
   pub is_printed : IsPrinted spec signature printed_signature pool.trees name linear printed

@@ -89,6 +89,9 @@ pub enum LinFault {
     /// The component with the first number is the first one whose form isn't tail, the summand with the second number is the first of
     /// that form with two calls, and the regular encoder alone was asked for. Both count from 1.
     NotTail(usize, usize),
+    /// The process was to say its end by an action `Terminate`, and the declaration with this number, from 1, is the first of an action of
+    /// this name.
+    TerminateDeclared(usize),
     /// No memory was left.
     NoMemory,
 }

@@ -12,11 +12,14 @@ ghost use Rattle.lin_driver.specs.Accepted.{CanBeLinearised, IsGuardedSystem};
 ghost use Rattle.lin_driver.specs.Faults.{IsFaultBy};
 ghost use Rattle.lin_driver.specs.JudgedTexts.{IsJudged, IsJudgedFor};
 ghost use Rattle.lin_driver.specs.Refusals.{IsRefusedWith, IsSpecFault};
+ghost use Rattle.lin_driver.specs.declared.ending.Ending.{Ending};
 
+use crate::ending::Ending;
 use crate::fault::LinFault;
 use crate::methods::Method;
 use crate::model_linearising::linear_of;
 use crate::reading::read_text;
+use crate::terminating::leave_terminate;
 use data_theory::{Names, Signature};
 use eqn_check::Answer;
 use mcrl2_syntax::Spec;
@@ -45,7 +48,7 @@ fn judge_spec(
     ensures accepted { OnOk result ((v : FullVocabulary) × IsGuardedSystem (bare_sections (spec_of spec.now)) v) }
     ensures judged { IfOk result (IsJudgedFor (spec_of spec.now)) }
     ensures refused { IfErr result (λ fault. fault ≢ LinFault.NoMemory → IsSpecFault (spec_of spec.now) sig.new.texts fault) }
-    ensures by { IfErr result (IsFaultBy method) }
+    ensures by { (ending : Ending) → IfErr result (IsFaultBy ending method) }
 {
     let model = elaborate(alloc, spec, sig, pool)?;
     let answer = eqn_check::check(alloc, sig, &model.theory, pool)?;
@@ -73,7 +76,7 @@ fn judge_built(
     ensures accepted { OnOk result ((v : FullVocabulary) × IsGuardedSystem (bare_sections (spec_of spec.now)) v) }
     ensures judged { IfOk result (IsJudgedFor (spec_of spec.now)) }
     ensures refused { IfErr result (λ fault. fault ≢ LinFault.NoMemory → IsSpecFault (spec_of spec.now) names.new fault) }
-    ensures by { IfErr result (IsFaultBy method) }
+    ensures by { (ending : Ending) → IfErr result (IsFaultBy ending method) }
 {
     let mut sig = sig;
     let _ = sig.next_sort();
@@ -92,18 +95,21 @@ fn judge_built(
 ///
 /// # Errors
 ///
-/// Those of [`linearise`](crate::linearise) with that method.
+/// Those of [`linearise_as`](crate::linearise_as) with that method and ending.
 pub fn judge_equations(
     alloc: Global,
     text: &[u8],
     names: &mut Names,
     method: Method,
+    ending: Ending,
 ) -> Result<Answer, LinFault>
     ensures accepted { OnOk result (CanBeLinearised text.now) }
     ensures judged { IfOk result (IsJudged text.now) }
     ensures refused { IfErr result (λ fault. fault ≢ LinFault.NoMemory → IsRefusedWith text.now names.new fault) }
-    ensures by { IfErr result (IsFaultBy method) }
+    ensures by { IfErr result (IsFaultBy ending method) }
 {
     let (spec, sig) = read_text(alloc, text, names)?;
-    judge_built(alloc, &spec, sig, names, method)
+    let answer = judge_built(alloc, &spec, sig, names, method)?;
+    leave_terminate(alloc, &spec, ending)?;
+    Ok(answer)
 }

@@ -138,3 +138,23 @@ pub fn consistent_texts_need_no_premise()
     ensures accepted { AcceptedTextsNeedNoPremise }
     ensures of_models { AcceptedModelsAreOfAcceptedTexts }
 {}
+
+ghost use Rattle.lin_driver.specs.SealedLinears.{EliminationsMakeNoEnd, EqualLinearsNeverEnd, SealedConditionsHaveNoNeedlessTrue, SealedLinearsArePlain, SealedParamsHaveOwnNames, SealedSumsHaveOwnNames, SealingAddsTerminate, SealingEmptiesNoSort, SealingKeepsIdentifiers, SomeSummandsNeverEnd};
+
+/// Sealing adds the action `Terminate` alone to what a text declares, and keeps what is said of the linear process.
+pub fn sealing_keeps()
+    ensures growth { SealingAddsTerminate }
+    ensures inhabited { SealingEmptiesNoSort }
+    ensures identifiers { SealingKeepsIdentifiers }
+    ensures params { SealedParamsHaveOwnNames }
+    ensures sums { SealedSumsHaveOwnNames }
+    ensures conditions { SealedConditionsHaveNoNeedlessTrue }
+    ensures plain { SealedLinearsArePlain }
+{}
+
+/// What never ends stays so, as it is made smaller and as its text is read.
+pub fn what_never_ends_stays_so()
+    ensures eliminations { EliminationsMakeNoEnd }
+    ensures equal { EqualLinearsNeverEnd }
+    ensures some { SomeSummandsNeverEnd }
+{}

@@ -12,9 +12,11 @@ ghost use Rattle.lin_driver.specs.Faults.{IsFaultBy};
 ghost use Rattle.lin_driver.specs.Headline.{StandsFor};
 ghost use Rattle.lin_driver.specs.Refusals.{IsRefusedWith};
 ghost use Rattle.lin_driver.specs.WrittenTexts.{IsWrittenFor};
+ghost use Rattle.lin_driver.specs.declared.ending.Ending.{Ending};
 
+use crate::ending::Ending;
 use crate::fault::LinFault;
-use crate::linearising::{Linearised, linearise};
+use crate::linearising::{Linearised, linearise_as};
 use crate::methods::Method;
 use data_theory::Names;
 use lps_core::signature_stands;
@@ -44,28 +46,30 @@ fn print_out(alloc: Global, made: &mut Linearised) -> Result<Vec<u8>, LinFault>
     Ok(text)
 }
 
-/// The text of the linear process of a text by a method.
+/// The text of the linear process of a text by a method, which ends as it is asked to.
 ///
 /// It stands for the given text: it has the same data and at most structs and constants behind them, and where these are consistent, both processes
-/// are bisimilar by a named link (Groote and Mousavi, strong bisimilarity). It is the printed text of a linear process that is plainly conditioned
+/// are bisimilar by a named link (Groote and Mousavi, strong bisimilarity). By the ending `Terminate` the linear process never ends, and the link pairs
+/// the end of the text's process with a last step `Terminate`. It is the printed text of a linear process that is plainly conditioned
 /// for what the text's specification writes, and is canonical. No sort is added where no component needs a stack, and a linear text keeps its
 /// process, unless the method is `Stack`.
 ///
 /// # Errors
 ///
-/// Those of [`linearise`](crate::linearise) with that method.
+/// Those of [`linearise_as`](crate::linearise_as) with that method and ending.
 pub fn linear_text(
     alloc: Global,
     text: &[u8],
     names: &mut Names,
     method: Method,
+    ending: Ending,
 ) -> Result<Vec<u8>, LinFault>
     ensures accepted { OnOk result (CanBeLinearised text.now) }
-    ensures stands_for { IfOk result (λ printed. StandsFor text.now printed.items) }
-    ensures written { IfOk result (λ printed. IsWrittenFor method text.now printed.items) }
+    ensures stands_for { IfOk result (λ printed. StandsFor ending text.now printed.items) }
+    ensures written { IfOk result (λ printed. IsWrittenFor ending method text.now printed.items) }
     ensures refused { IfErr result (λ fault. fault ≢ LinFault.NoMemory → IsRefusedWith text.now names.new fault) }
-    ensures by { IfErr result (IsFaultBy method) }
+    ensures by { IfErr result (IsFaultBy ending method) }
 {
-    let mut made = linearise(alloc, text, names, method)?;
+    let mut made = linearise_as(alloc, text, names, method, ending)?;
     print_out(alloc, &mut made)
 }

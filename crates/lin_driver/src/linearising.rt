@@ -1,6 +1,6 @@
 //! The linear process of a text.
 
-ghost use Rattle.std.specs.Prelude.{◌≡◌, ◌≢◌, [], IfErr, IfOk, OnOk, map};
+ghost use Rattle.std.specs.Prelude.{◌≡◌, ◌≢◌, ℕ, [], IfErr, IfOk, OnOk, map};
 ghost use Rattle.data_theory.specs.WholeSignatures.{IsSignature};
 ghost use Rattle.mcrl2_syntax.specs.Declarations.{spec_of};
 ghost use Rattle.mcrl2_syntax.specs.TreeWords.{IsSpecOfWords};
@@ -14,12 +14,16 @@ ghost use Rattle.lin_driver.specs.Accepted.{CanBeLinearised, IsGuardedSystem};
 ghost use Rattle.lin_driver.specs.Faults.{IsFaultBy};
 ghost use Rattle.lin_driver.specs.Linearised.{IsLinearised, IsMadeOf};
 ghost use Rattle.lin_driver.specs.LinearOfTexts.{IsLinearOf, IsMadeBy};
-ghost use Rattle.lin_driver.specs.Refusals.{IsRefusedWith, IsSpecFault};
+ghost use Rattle.lin_driver.specs.Refusals.{IsParsedAs, IsRefusedWith, IsSpecFault};
+ghost use Rattle.lin_driver.specs.declared.ending.Ending.{Ending};
+ghost use Rattle.lin_driver.specs.declared.ending.Ending.TheVariants.{End};
 
+use crate::ending::Ending;
 use crate::fault::LinFault;
 use crate::methods::Method;
 use crate::model_linearising::linear_of;
 use crate::reading::read_text;
+use crate::terminating::ended;
 use data_theory::{NameId, Names, Signature};
 use lps_core::Linear;
 use mcrl2_syntax::Spec;
@@ -83,7 +87,7 @@ fn linear_of_spec(
     ensures made { IfOk result (λ made. IsMadeBy method (spec_of spec.now) sig.new pool.new
         (map plain_equation made.0.equations.items) made.1 (plain_linear made.2) made.3) }
     ensures refused { IfErr result (λ fault. fault ≢ LinFault.NoMemory → IsSpecFault (spec_of spec.now) sig.new.texts fault) }
-    ensures by { IfErr result (IsFaultBy method) }
+    ensures by { (ending : Ending) → IfErr result (IsFaultBy ending method) }
 {
     let model = elaborate(alloc, spec, sig, pool)?;
     match linear_of(alloc, &model, method, sig, pool) {
@@ -112,7 +116,7 @@ fn linear_of_built(
     ensures made { IfOk result (λ made. IsMadeBy method (spec_of made.spec) made.sig made.pool
         (map plain_equation made.theory.equations.items) made.name (plain_linear made.lin) made.components) }
     ensures refused { IfErr result (λ fault. fault ≢ LinFault.NoMemory → IsSpecFault (spec_of spec) names.new fault) }
-    ensures by { IfErr result (IsFaultBy method) }
+    ensures by { (ending : Ending) → IfErr result (IsFaultBy ending method) }
 {
     let mut sig = sig;
     let _ = sig.next_sort();
@@ -134,7 +138,29 @@ fn linear_of_built(
     }
 }
 
-/// The linear process of a text by a method, with all that it was made of.
+/// The linear process of a text by a method, with its end as it is.
+///
+/// # Errors
+///
+/// Those of `linearise`.
+fn may_end(
+    alloc: Global,
+    text: &[u8],
+    names: &mut Names,
+    method: Method,
+) -> Result<Linearised, LinFault>
+    ensures accepted { OnOk result (CanBeLinearised text.now) }
+    ensures parsed { IfOk result (λ made. IsParsedAs text.now (spec_of made.spec)) }
+    ensures made { IfOk result (λ made. IsMadeBy method (spec_of made.spec) made.sig made.pool
+        (map plain_equation made.theory.equations.items) made.name (plain_linear made.lin) made.components) }
+    ensures refused { IfErr result (λ fault. fault ≢ LinFault.NoMemory → IsRefusedWith text.now names.new fault) }
+    ensures by { (ending : Ending) → IfErr result (IsFaultBy ending method) }
+{
+    let (spec, sig) = read_text(alloc, text, names)?;
+    linear_of_built(alloc, spec, sig, names, method)
+}
+
+/// The linear process of a text by a method, with all that it was made of, and with its end as it is.
 ///
 /// The process that the text specifies is bisimilar to the linear one, over every theory whose data go on from the signature and are
 /// consistent. Constants for sorts without constructors and structs of stacks may have been declared, and nothing else is new to the data; no
@@ -162,13 +188,42 @@ pub fn linearise(
     method: Method,
 ) -> Result<Linearised, LinFault>
     ensures accepted { OnOk result (CanBeLinearised text.now) }
-    ensures made { IfOk result (λ made. IsMadeOf text.now (spec_of made.spec) made.sig made.pool.trees (map plain_equation made.theory.equations.items) made.name (plain_linear made.lin)) }
-    ensures linear { IfOk result (λ made. IsLinearOf method text.now (spec_of made.spec) made.sig made.pool
+    ensures made { IfOk result (λ made. IsMadeOf End text.now (spec_of made.spec) made.sig made.pool.trees (map plain_equation made.theory.equations.items) made.name (plain_linear made.lin)) }
+    ensures linear { IfOk result (λ made. IsLinearOf End method text.now (spec_of made.spec) made.sig made.pool
         (map plain_equation made.theory.equations.items) made.name (plain_linear made.lin) made.components) }
-    ensures linearised { IfOk result (λ made. IsLinearised text.now (spec_of made.spec) made.sig made.pool.trees (plain_linear made.lin)) }
+    ensures linearised { IfOk result (λ made. IsLinearised End text.now (spec_of made.spec) made.sig made.pool.trees (plain_linear made.lin)) }
     ensures refused { IfErr result (λ fault. fault ≢ LinFault.NoMemory → IsRefusedWith text.now names.new fault) }
-    ensures by { IfErr result (IsFaultBy method) }
+    ensures by { IfErr result (IsFaultBy End method) }
 {
-    let (spec, sig) = read_text(alloc, text, names)?;
-    linear_of_built(alloc, spec, sig, names, method)
+    may_end(alloc, text, names, method)
+}
+
+/// The linear process of a text by a method, which ends as it is asked to. By the ending `End` it is that of [`linearise`].
+///
+/// By the ending `Terminate` it is that one, sealed: where it can end, an action `Terminate` comes behind the end, and a last parameter, the first of
+/// the names `phase`, `phase_1`, .. that is free, says how far the process is. So it never ends. A process that can't end stays. mCRL2's own
+/// tools say the end of a process so.
+///
+/// # Errors
+///
+/// Those of [`linearise`], and then by the ending `Terminate` `TerminateDeclared` where the text declares an action of this name, with arguments or
+/// without, with the number of the first such declaration.
+pub fn linearise_as(
+    alloc: Global,
+    text: &[u8],
+    names: &mut Names,
+    method: Method,
+    ending: Ending,
+) -> Result<Linearised, LinFault>
+    ensures accepted { OnOk result (CanBeLinearised text.now) }
+    ensures made { IfOk result (λ made. IsMadeOf ending text.now (spec_of made.spec) made.sig made.pool.trees (map plain_equation made.theory.equations.items) made.name (plain_linear made.lin)) }
+    ensures linear { IfOk result (λ made. IsLinearOf ending method text.now (spec_of made.spec) made.sig made.pool
+        (map plain_equation made.theory.equations.items) made.name (plain_linear made.lin) made.components) }
+    ensures linearised { IfOk result (λ made. IsLinearised ending text.now (spec_of made.spec) made.sig made.pool.trees (plain_linear made.lin)) }
+    ensures refused { IfErr result (λ fault. fault ≢ LinFault.NoMemory → IsRefusedWith text.now names.new fault) }
+    ensures by { IfErr result (IsFaultBy ending method) }
+    ensures in_turn { IfErr result (λ fault. (number : ℕ) → fault ≡ LinFault.TerminateDeclared number → CanBeLinearised text.now) }
+{
+    let made = may_end(alloc, text, names, method)?;
+    ended(alloc, made, ending)
 }

@@ -56,4 +56,4 @@ returns-clause-refused c =
     c.in-Err.fault c.of_model.result c.in-Err.ensures.refused c.of_model.ensures
 
 pub returns-clause-by : goal.returns-clause-by
-returns-clause-by c = model_fault_by c.args.method c.in-Err.fault c.of_model.result c.in-Err.ensures.by c.of_model.ensures
+returns-clause-by c = λ ending. model_fault_by ending c.args.method c.in-Err.fault c.of_model.result c.in-Err.ensures.by c.of_model.ensures

@@ -1,5 +1,4 @@
 use Rattle.std.proofs.Common.{map}
-use Rattle.std.proofs.lemmas.Option.{slice_get_within}
 use Rattle.data_theory.specs.Signature.{Sig}
 use Rattle.data_theory.specs.WholeSignatures.{IsSignature}
 use Rattle.mcrl2_syntax.specs.Declarations.{spec_of}
@@ -11,7 +10,7 @@ use Rattle.lin_driver.specs.Accepted.{CanBeLinearised}
 use Rattle.lin_driver.specs.Headline.{StandsFor}
 use Rattle.lin_driver.specs.LinearOfTexts.{is_made}
 use Rattle.lin_driver.specs.WrittenTexts.{IsWrittenFor}
-use Rattle.lin_driver.proofs.MadeTexts.{printed_for_stands_for}
+use Rattle.lin_driver.proofs.MadeTexts.{made_can_be_printed, printed_for_stands_for}
 use Rattle.lin_driver.proofs.ReadTexts.{on_ok_anyway}
 use Rattle.lin_driver.proofs.Refused.{if_ok, no_fault_refused, no_fault_by}
 use Rattle.lin_driver.proofs.linear_texts.linear_text.Goals as goal
@@ -20,7 +19,9 @@ pub print_out-requires-clause-fits : goal.print_out-requires-clause-fits
 print_out-requires-clause-fits c = c.in_ok-made.ensures.linearised.fits
 
 pub print_out-requires-clause-name : goal.print_out-requires-clause-name
-print_out-requires-clause-name c = let n = c.in_ok-made.ensures.linear.by.made.name in slice_get_within c.in_ok-made.made.sig.texts c.in_ok-made.made.name.0 n.text n.named
+print_out-requires-clause-name c =
+    let made = c.in_ok-made.made in
+    (made_can_be_printed c.args.ending c.args.text.now (spec_of made.spec) made.sig made.pool.trees (map plain_equation made.theory.equations.items) made.name (plain_linear made.lin) (is_made c.in_ok-made.ensures.linear)).process_there
 
 pub returns-clause-accepted : goal.returns-clause-accepted
 returns-clause-accepted c = on_ok_anyway c.print_out.result (CanBeLinearised c.args.text.now) c.in_ok-made.ensures.accepted
@@ -28,17 +29,17 @@ returns-clause-accepted c = on_ok_anyway c.print_out.result (CanBeLinearised c.a
 pub returns-clause-stands_for : goal.returns-clause-stands_for
 returns-clause-stands_for c =
     let made = c.in_ok-made.made in
-    if_ok c.print_out.result (λ text. (h : Sig) × IsSignature h × IsPrinted (spec_of made.spec) made.sig h made.pool.trees made.name (plain_linear made.lin) text.items) (λ printed. StandsFor c.args.text.now printed.items)
-    (λ printed w. printed_for_stands_for c.args.text.now printed.items (spec_of made.spec) made.sig w.0 made.pool.trees (map plain_equation made.theory.equations.items) made.name (plain_linear made.lin) (is_made c.in_ok-made.ensures.linear) w.1 w.2)
+    if_ok c.print_out.result (λ text. (h : Sig) × IsSignature h × IsPrinted (spec_of made.spec) made.sig h made.pool.trees made.name (plain_linear made.lin) text.items) (λ printed. StandsFor c.args.ending c.args.text.now printed.items)
+    (λ printed w. printed_for_stands_for c.args.ending c.args.text.now printed.items (spec_of made.spec) made.sig w.0 made.pool.trees (map plain_equation made.theory.equations.items) made.name (plain_linear made.lin) (is_made c.in_ok-made.ensures.linear) w.1 w.2)
     c.print_out.ensures.written
 
 pub returns-clause-refused : goal.returns-clause-refused
-returns-clause-refused c = no_fault_refused c.print_out.result c.args.text.now c.linearise.new.names c.print_out.ensures.no_fault
+returns-clause-refused c = no_fault_refused c.print_out.result c.args.text.now c.linearise_as.new.names c.print_out.ensures.no_fault
 
 pub returns-clause-written : goal.returns-clause-written
 returns-clause-written c =
     let made = c.in_ok-made.made in
-    if_ok c.print_out.result (λ text. (h : Sig) × IsSignature h × IsPrinted (spec_of made.spec) made.sig h made.pool.trees made.name (plain_linear made.lin) text.items) (λ printed. IsWrittenFor c.args.method c.args.text.now printed.items)
+    if_ok c.print_out.result (λ text. (h : Sig) × IsSignature h × IsPrinted (spec_of made.spec) made.sig h made.pool.trees made.name (plain_linear made.lin) text.items) (λ printed. IsWrittenFor c.args.ending c.args.method c.args.text.now printed.items)
     (λ printed w. record {
       spec = spec_of made.spec;
       signature = made.sig;
@@ -52,9 +53,9 @@ returns-clause-written c =
       stands = w.1;
       is_printed = w.2;
       canonical = printed_texts_are_canonical (spec_of made.spec) made.sig w.0 made.pool.trees made.name (plain_linear made.lin) printed.items c.in_ok-made.ensures.linearised.stands w.1 c.in_ok-made.ensures.linearised.fits
-          c.in_ok-made.ensures.linear.by.parameters c.in_ok-made.ensures.linear.by.sums c.in_ok-made.ensures.linear.by.conditions w.2;
+          c.in_ok-made.ensures.linear.parameters c.in_ok-made.ensures.linear.sums c.in_ok-made.ensures.linear.conditions w.2;
     })
     c.print_out.ensures.written
 
 pub returns-clause-by : goal.returns-clause-by
-returns-clause-by c = no_fault_by c.print_out.result c.args.method c.print_out.ensures.no_fault
+returns-clause-by c = no_fault_by c.print_out.result c.args.ending c.args.method c.print_out.ensures.no_fault

@@ -66,4 +66,4 @@ returns-in-Err-clause-refused c =
     c.in-Err.fault c.of_model.result c.in-Err.ensures.refused c.of_model.ensures
 
 pub returns-in-Err-clause-by : goal.returns-in-Err-clause-by
-returns-in-Err-clause-by c = model_fault_by c.args.method c.in-Err.fault c.of_model.result c.in-Err.ensures.by c.of_model.ensures
+returns-in-Err-clause-by c = λ ending. model_fault_by ending c.args.method c.in-Err.fault c.of_model.result c.in-Err.ensures.by c.of_model.ensures

@@ -1,28 +1,15 @@
-use Rattle.std.proofs.Common.{rules}
-use Rattle.mcrl2_syntax.specs.Declarations.{spec_of}
-use Rattle.lin_driver.proofs.ReadTexts.{accepted_text, linear_of_text, linearised_text, made_of_text}
-use Rattle.lin_driver.proofs.Refused.{spec_refused}
-use Rattle.lin_driver.proofs.UpToRecursion.{by_each_method}
+use Rattle.lin_driver.specs.declared.ending.Ending.TheVariants.{End}
+use Rattle.lin_driver.proofs.ReadTexts.{linear_text_that_may_end, linearised_text, made_of_text}
 use Rattle.lin_driver.proofs.linearising.linearise.Goals as goal
 
-pub returns-clause-accepted : goal.returns-clause-accepted
-returns-clause-accepted c = accepted_text c.linear_of_built.result c.args.text.now (spec_of c.in_ok-spec.spec) c.in_ok-spec.ensures.parsed c.linear_of_built.ensures.accepted
-
 pub returns-clause-linear : goal.returns-clause-linear
-returns-clause-linear c = linear_of_text c.args.method c.linear_of_built.result c.args.text.now (spec_of c.in_ok-spec.spec) c.in_ok-spec.ensures.parsed c.linear_of_built.ensures.spec c.linear_of_built.ensures.made
+returns-clause-linear c = linear_text_that_may_end c.may_end.result c.args.method c.args.text.now c.may_end.ensures.parsed c.may_end.ensures.made
 
 pub returns-clause-made : goal.returns-clause-made
-returns-clause-made c =
-    made_of_text c.args.method c.linear_of_built.result c.args.text.now
-    (linear_of_text c.args.method c.linear_of_built.result c.args.text.now (spec_of c.in_ok-spec.spec) c.in_ok-spec.ensures.parsed c.linear_of_built.ensures.spec c.linear_of_built.ensures.made)
+returns-clause-made c = made_of_text End c.args.method c.may_end.result c.args.text.now (linear_text_that_may_end c.may_end.result c.args.method c.args.text.now c.may_end.ensures.parsed c.may_end.ensures.made)
 
 pub returns-clause-linearised : goal.returns-clause-linearised
-returns-clause-linearised c =
-    linearised_text c.args.method c.linear_of_built.result c.args.text.now
-    (linear_of_text c.args.method c.linear_of_built.result c.args.text.now (spec_of c.in_ok-spec.spec) c.in_ok-spec.ensures.parsed c.linear_of_built.ensures.spec c.linear_of_built.ensures.made)
+returns-clause-linearised c = linearised_text End c.args.method c.may_end.result c.args.text.now (linear_text_that_may_end c.may_end.result c.args.method c.args.text.now c.may_end.ensures.parsed c.may_end.ensures.made)
 
-pub returns-clause-refused : goal.returns-clause-refused
-returns-clause-refused c = spec_refused c.linear_of_built.result c.args.text.now (spec_of c.in_ok-spec.spec) c.linear_of_built.new.names c.in_ok-spec.ensures.parsed c.linear_of_built.ensures.refused
-
-pub returns-in_err-spec-clause-by : goal.returns-in_err-spec-clause-by
-returns-in_err-spec-clause-by c = by_each_method c.from_residual.result c.args.method (search (rules, c.in_err-spec.ensures.of_the_text))
+pub returns-clause-by : goal.returns-clause-by
+returns-clause-by c = c.may_end.ensures.by End
