@@ -115,4 +115,5 @@ are_named text texts (lin.Guard (guard.Unguarded names)) refused =
     cycle_named texts has.signature e has.model Leads names.items (λ x y link. called e has.model.definitions BeforeActions x y link) (definitions_named has.signature texts has.names _ has.model.definitions has.is_model.named) has.has_fault.1
 are_named text texts (lin.Guard guard.NoMemory) refused = tt
 are_named text texts (lin.NotTail component summand) refused = tt
+are_named text texts (lin.TerminateDeclared declaration) refused = tt
 are_named text texts lin.NoMemory refused = tt

@@ -10,11 +10,12 @@ use Rattle.lps_core.specs.PlainLinears.{PlainLinear}
 use Rattle.chosen_moves.specs.ChosenMoves.{IsBadChoice}
 use Rattle.lin_driver.specs.Eliminations.{equations_at}
 use Rattle.lin_driver.specs.LinearOfTexts.{IsLinearOf}
+use Rattle.lin_driver.specs.declared.ending.Ending.{Ending}
 use Rattle.lin_driver.specs.declared.methods.Method.{Method}
 
--- There is the linear process of the text by the method. Over the text's equations the line of the choices with this number is the first that is neither blank nor the
+-- There is the linear process of the text by the method with the ending. Over the text's equations the line of the choices with this number is the first that is neither blank nor the
 -- number of a move of the state to which the lines before it lead from the initial one.
-pub record IsBadChoiceFor (method : Method) (fuel bound : ℕ) (text choices : List ℕ) (number : ℕ) : Type 0 where
+pub record IsBadChoiceFor (ending : Ending) (method : Method) (fuel bound : ℕ) (text choices : List ℕ) (number : ℕ) : Type 0 where
   pub spec : PlainSpec
   pub signature : Sig
   pub pool : PoolContents
@@ -22,20 +23,20 @@ pub record IsBadChoiceFor (method : Method) (fuel bound : ℕ) (text choices : L
   pub name : NameId
   pub linear : PlainLinear
   pub components : ℕ
-  pub is_linear : IsLinearOf method text spec signature pool equations name linear components
+  pub is_linear : IsLinearOf ending method text spec signature pool equations name linear components
   pub bad : IsBadChoice signature (equations_at signature pool.trees equations) fuel bound linear choices pool.trees (Some linear.init) number
 
 -- The same of the choices that were read, which are those that are told, where any are.
-pub record IsBadChoiceAsTold (method : Method) (fuel bound : ℕ) (text : List ℕ) (told : Option (List ℕ)) (number : ℕ) : Type 0 where
+pub record IsBadChoiceAsTold (ending : Ending) (method : Method) (fuel bound : ℕ) (text : List ℕ) (told : Option (List ℕ)) (number : ℕ) : Type 0 where
   pub choices : List ℕ
   pub is_told : IfSome told (λ t. choices ≡ t)
   pub short : length choices ≤ MAX_TEXT_LEN
-  pub bad : IsBadChoiceFor method fuel bound text choices number
+  pub bad : IsBadChoiceFor ending method fuel bound text choices number
 
 -- ---- choices without a fault
 -- choices that are told are neither too long nor bad
-pub record AreGoodChoices (method : Method) (fuel bound : ℕ) (text : List ℕ) (told : Option (List ℕ)) : Type 0 where
+pub record AreGoodChoices (ending : Ending) (method : Method) (fuel bound : ℕ) (text : List ℕ) (told : Option (List ℕ)) : Type 0 where
   pub choices : List ℕ
   pub is_told : told ≡ Some choices
   pub short : length choices ≤ MAX_TEXT_LEN
-  pub good : (number : ℕ) → ¬ (IsBadChoiceFor method fuel bound text choices number)
+  pub good : (number : ℕ) → ¬ (IsBadChoiceFor ending method fuel bound text choices number)

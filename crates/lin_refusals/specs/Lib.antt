@@ -1,4 +1,5 @@
 pub mod Lines
 pub mod BadTraces
 pub mod BadChoices
+pub mod BadTerms
 pub mod Stops

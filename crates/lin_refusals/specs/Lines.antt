@@ -92,11 +92,16 @@ refusal_line texts (lin.«Type» fault) = type_line texts fault
 refusal_line texts (lin.Net fault) = net_line texts fault
 refusal_line texts (lin.Guard fault) = guard_line texts fault
 refusal_line texts (lin.NotTail component summand) = codes "refused 21 NotTail" ++ spaced (decimal component) ++ spaced (decimal summand) ++ codes "\n"
+refusal_line texts (lin.TerminateDeclared declaration) = numbered (codes "refused 23 TerminateDeclared ") declaration
 refusal_line texts lin.NoMemory = no_memory_line
 
 -- the line that refuses a trace whose line with this number is no label
 abbrev pub bad_trace_line : ℕ → List ℕ
 bad_trace_line number = numbered (codes "refused 22 BadTrace ") number
+
+-- the line that refuses a text that is no condition over the parameters
+abbrev pub bad_term_line : List ℕ
+bad_term_line = codes "refused 24 BadTerm\n"
 
 -- the line that refuses a text of choices whose line with this number is no move
 abbrev pub bad_choice_line : ℕ → List ℕ
@@ -135,7 +140,7 @@ names_of_fault (lin.Guard fault) = names_of_guard_fault fault
 names_of_fault _ = []
 
 abbrev pub line_of : Stop → List ℕ
-line_of Words = codes "usage: mcrl2lin TASK FILE [--trace FILE] [--method M] [--fuel N] [--bound N] [--seed N] [--depth N] [--after FILE]\n"
+line_of Words = codes "usage: mcrl2lin TASK FILE [--trace FILE] [--method M] [--fuel N] [--bound N] [--seed N] [--depth N] [--ending E] [--invariant FILE] [--after FILE]\n"
 line_of ReadFault = codes "read fault\n"
 line_of TooLong = codes "refused 0 TooLong\n"
 line_of (Refused line) = line.items

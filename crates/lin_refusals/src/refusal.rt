@@ -2,7 +2,7 @@
 ghost use Rattle.std.specs.Prelude.{◌≡◌, ◌<◌, ◌++◌, codes, decimal, IfOk, OnOk, length, string_bytes};
 ghost use Rattle.std.specs.List.{flat_map};
 ghost use Rattle.data_theory.specs.declared.ids.NameId.{NameId};
-ghost use Rattle.lin_refusals.specs.Lines.{AreNamed, bad_choice_line, bad_trace_line, guard_line, lex_line, listed, named, names_of_fault, names_of_guard_fault, names_of_net_fault, names_of_sort_fault, names_of_type_fault, net_line, parse_line, refusal_line, sort_line, spaced, text_of, type_line};
+ghost use Rattle.lin_refusals.specs.Lines.{AreNamed, bad_choice_line, bad_term_line, bad_trace_line, guard_line, lex_line, listed, named, names_of_fault, names_of_guard_fault, names_of_net_fault, names_of_sort_fault, names_of_type_fault, net_line, parse_line, refusal_line, sort_line, spaced, text_of, type_line};
 
 use data_theory::{NameId, Names};
 use guard_check::GuardFault;
@@ -28,6 +28,9 @@ pub fn refusal(alloc: Global, names: &Names, fault: &LinFault) -> Result<Vec<u8>
         LinFault::Net(fault) => net_refusal(alloc, names, fault),
         LinFault::Guard(fault) => guard_refusal(alloc, names, fault),
         LinFault::NotTail(component, summand) => tail_refusal(alloc, *component, *summand),
+        LinFault::TerminateDeclared(number) => {
+            numbered(alloc, b"refused 23 TerminateDeclared ", *number)
+        }
         LinFault::NoMemory => Vec::from_slice(alloc, b"no memory\n"),
     }
 }
@@ -180,6 +183,13 @@ pub fn bad_trace(alloc: Global, number: usize) -> Result<Vec<u8>, AllocError>
     ensures { IfOk result (λ line. line.items ≡ bad_trace_line number) }
 {
     numbered(alloc, b"refused 22 BadTrace ", number)
+}
+
+/// The line that refuses a text that is no condition over the parameters.
+pub fn bad_term(alloc: Global) -> Result<Vec<u8>, AllocError>
+    ensures { IfOk result (λ line. line.items ≡ bad_term_line) }
+{
+    Vec::from_slice(alloc, b"refused 24 BadTerm\n")
 }
 
 /// The line that refuses a text of choices whose line with this number is no move.

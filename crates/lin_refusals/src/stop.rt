@@ -1,19 +1,22 @@
 //! Why the program writes no answer, and how it says so.
 ghost use Rattle.std.specs.Prelude.{◌≡◌, ◌≢◌, List, Option, ℕ};
+ghost use Rattle.lin_driver.specs.declared.ending.Ending.{Ending};
 ghost use Rattle.lin_driver.specs.declared.methods.Method.{Method};
+ghost use Rattle.lin_refusals.specs.BadTerms.{IsBadTermAsTold};
 ghost use Rattle.lin_refusals.specs.BadTraces.{IsBadAsTold};
 ghost use Rattle.lin_refusals.specs.BadChoices.{IsBadChoiceAsTold};
 ghost use Rattle.lin_refusals.specs.Lines.{AreNamed, line_of, names_of_fault};
-ghost use Rattle.lin_refusals.specs.Stops.{IsChoiceStop, IsStopFor, IsTraceStop, stop_of_load};
+ghost use Rattle.lin_refusals.specs.Stops.{IsChoiceStop, IsConditionStop, IsStopFor, IsTraceStop, stop_of_load};
 ghost use Rattle.trace_replay.specs.declared.replaying.ReplayFault.TheVariants.{BadTrace};
 ghost use Rattle.chosen_moves.specs.declared.following.ChoiceFault.TheVariants.{BadChoice};
-ghost use Rattle.lin_driver.specs.declared.methods.Method.{Method};
+ghost use Rattle.mcrl2_parser.specs.declared.term_text.TermFault.TheVariants.{NotATerm};
 ghost use Rattle.lin_refusals.specs.declared.stop.Stop.TheVariants as stop;
 
-use crate::refusal::{bad_choice, bad_trace, refusal};
+use crate::refusal::{bad_choice, bad_term, bad_trace, refusal};
 use chosen_moves::ChoiceFault;
 use data_theory::{Names, NoMemory};
 use lin_driver::LinFault;
+use mcrl2_parser::TermFault;
 use mcrl2_text::LoadFault;
 use std::alloc::Global;
 use trace_replay::ReplayFault;
@@ -70,8 +73,8 @@ impl Stop {
 
     /// The stop for a trace with that fault.
     pub fn for_trace(alloc: Global, fault: ReplayFault) -> Stop
-        ensures cause { (method : Method) (text : List ℕ) (told : Option (List ℕ))
-            → ((number : ℕ) → fault ≡ BadTrace number → IsBadAsTold method text told number) → IsTraceStop method text told result }
+        ensures cause { (ending : Ending) (method : Method) (text : List ℕ) (told : Option (List ℕ))
+            → ((number : ℕ) → fault ≡ BadTrace number → IsBadAsTold ending method text told number) → IsTraceStop ending method text told result }
         ensures no_read_fault { result ≢ stop.ReadFault }
     {
         let ReplayFault::BadTrace(number) = fault else {
@@ -83,9 +86,26 @@ impl Stop {
         }
     }
 
+    /// The stop for a text of a condition with that fault.
+    pub fn for_term(alloc: Global, fault: TermFault) -> Stop
+        ensures cause { (ending : Ending) (method : Method) (text : List ℕ) (told : Option (List ℕ))
+            → (fault ≡ NotATerm → IsBadTermAsTold ending method text told) → IsConditionStop ending method text told result }
+        ensures no_read_fault { result ≢ stop.ReadFault }
+    {
+        if matches!(fault, TermFault::NoMemory) {
+            return Stop::NoMemory;
+        }
+        match bad_term(alloc) {
+            Ok(line) => Stop::Refused(line),
+            Err(_) => Stop::NoMemory,
+        }
+    }
+
     /// The stop for a text of choices with that fault.
     pub fn for_choice(alloc: Global, fault: ChoiceFault) -> Stop
-        ensures cause { (method : Method) (fuel bound : ℕ) (text : List ℕ) (told : Option (List ℕ)) → ((number : ℕ) → fault ≡ BadChoice number → IsBadChoiceAsTold method fuel bound text told number) → IsChoiceStop method fuel bound text told result }
+        ensures cause { (ending : Ending) (method : Method) (fuel bound : ℕ) (text : List ℕ) (told : Option (List ℕ))
+            → ((number : ℕ) → fault ≡ BadChoice number → IsBadChoiceAsTold ending method fuel bound text told number)
+            → IsChoiceStop ending method fuel bound text told result }
         ensures no_read_fault { result ≢ stop.ReadFault }
     {
         let ChoiceFault::BadChoice(number) = fault else {
@@ -103,7 +123,7 @@ impl Stop {
     {
         match self {
             Stop::Words =>
-                b"usage: mcrl2lin TASK FILE [--trace FILE] [--method M] [--fuel N] [--bound N] [--seed N] [--depth N] [--after FILE]\n",
+                b"usage: mcrl2lin TASK FILE [--trace FILE] [--method M] [--fuel N] [--bound N] [--seed N] [--depth N] [--ending E] [--invariant FILE] [--after FILE]\n",
             Stop::ReadFault => b"read fault\n",
             Stop::TooLong => b"refused 0 TooLong\n",
             Stop::Refused(line) => line,

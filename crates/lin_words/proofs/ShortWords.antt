@@ -12,6 +12,7 @@ use Rattle.lin_words.specs.CommandLine.{command_line}
 use Rattle.lin_words.specs.Commands.{asked_by, asked_in, asked_with}
 use Rattle.lin_words.specs.Options.{all_options, method_named}
 use Rattle.lin_words.specs.WordLaws.{asked_by_method, begins_with_dash, default_options, MethodIsAsked, TwoWordsAsk}
+use Rattle.lin_driver.specs.declared.ending.Ending.TheVariants.{End}
 use Rattle.lin_driver.specs.declared.methods.Method.{Method}
 use Rattle.lin_words.proofs.TakenWords.{asked_by-is}
 
@@ -139,7 +140,7 @@ alone : (task file : Text) → fault_behind (between (second_held task file) idl
 unfolding command_line clap_on_literals
 alone task file = refl
 
-asked_alone : (task file : Text) → asked_in (finished top.rules (second_held task file)) ≡ asked_with (Some task) (Some file) None None (Some default_options)
+asked_alone : (task file : Text) → asked_in (finished top.rules (second_held task file)) ≡ asked_with (Some task) (Some file) None None None (Some default_options)
 unfolding command_line clap_on_literals
 asked_alone task file = refl
 
@@ -178,13 +179,13 @@ value_end : (task file name : Text) → fault_behind (value_walk task file name)
 unfolding command_line clap_on_literals
 value_end task file name = refl
 
-by_default : (method : Option Method) → all_options method (Some 100000) (Some 16) (Some 1) (Some 10) ≡ option_map (λ m. record default_options { method = m }) method
+by_default : (method : Option Method) → all_options method (Some 100000) (Some 16) (Some 1) (Some 10) (Some End) ≡ option_map (λ m. record default_options { method = m }) method
 by_default None = refl
 by_default (Some m) = refl
 
 asked_value : (task file name : Text) → asked_in (finished top.rules (value_walk task file name).held) ≡ asked_by_method task file name
 unfolding command_line clap_on_literals
-asked_value task file name = ap (asked_with (Some task) (Some file) None None) (by_default (method_named name))
+asked_value task file name = ap (asked_with (Some task) (Some file) None None None) (by_default (method_named name))
 
 -- behind a word with both
 abbrev joined_walk : Text → Text → Text → Walk
@@ -200,7 +201,7 @@ joined_end task file name = refl
 
 asked_joined : (task file name : Text) → asked_in (finished top.rules (joined_walk task file name).held) ≡ asked_by_method task file name
 unfolding command_line clap_on_literals
-asked_joined task file name = ap (asked_with (Some task) (Some file) None None) (by_default (method_named name))
+asked_joined task file name = ap (asked_with (Some task) (Some file) None None None) (by_default (method_named name))
 
 module _ (task file name : Text) (first : begins_with_dash task ≡ false) (second : begins_with_dash file ≡ false) where
   there : Walk

@@ -19,13 +19,19 @@ bare_command_line = on_top (λ s. record s { disable_help_flag = true; disable_v
 abbrev pub with_positionals : App → App
 with_positionals a = with_rule (with_rule a (positional (codes "task"))) (positional (codes "file"))
 
--- a command line with its seven options
+-- a command line with its options from `--trace` to `--depth`
+abbrev pub with_trace_to_depth : App → App
+with_trace_to_depth a =
+    with_rule (with_rule (with_rule (with_rule (with_rule (with_rule a
+    (option (codes "trace"))) (option (codes "method"))) (option (codes "fuel")))
+    (option (codes "bound"))) (option (codes "seed"))) (option (codes "depth"))
+
+-- a command line with its nine options
 abbrev pub with_options : App → App
 with_options a =
-    with_rule (with_rule (with_rule (with_rule (with_rule (with_rule (with_rule a
-    (option (codes "trace"))) (option (codes "method"))) (option (codes "fuel")))
-    (option (codes "bound"))) (option (codes "seed"))) (option (codes "depth"))) (option (codes "after"))
+    with_rule (with_rule (with_rule (with_trace_to_depth a)
+    (option (codes "ending"))) (option (codes "invariant"))) (option (codes "after"))
 
--- `mcrl2lin TASK FILE [--trace FILE] [--method M] [--fuel N] [--bound N] [--seed N] [--depth N] [--after FILE]`
+-- `mcrl2lin TASK FILE [--trace FILE] [--method M] [--fuel N] [--bound N] [--seed N] [--depth N] [--ending E] [--invariant FILE] [--after FILE]`
 unfoldable pub command_line : App
 command_line = with_options (with_positionals bare_command_line)

@@ -6,6 +6,8 @@ use Rattle.std.specs.Str.{bytes_eq}
 use Rattle.std.specs.Str.Parse.{digits_value}
 use Rattle.clap.specs.Words.{Row, Text, first_of}
 use Rattle.clap.specs.Walk.{is_empty}
+use Rattle.lin_driver.specs.declared.ending.Ending.{Ending}
+use Rattle.lin_driver.specs.declared.ending.Ending.TheVariants.{End, Terminate}
 use Rattle.lin_driver.specs.declared.methods.Method.{Method}
 use Rattle.lin_driver.specs.declared.methods.Method.TheVariants.{Auto, Regular, Stack}
 use Rattle.lin_words.specs.declared.options.Options.{Options}
@@ -32,10 +34,18 @@ abbrev pub method_or_auto : Option Text → Option Method
 method_or_auto None = Some Auto
 method_or_auto (Some word) = method_named word
 
+abbrev pub ending_named : Text → Option Ending
+ending_named word = cond (bytes_eq word (codes "end")) (Some End) (cond (bytes_eq word (codes "terminate")) (Some Terminate) None)
+
+-- the ending that `--ending` names, by default `end`
+abbrev pub ending_or_end : Option Text → Option Ending
+ending_or_end None = Some End
+ending_or_end (Some word) = ending_named word
+
 -- options all of which have a value
-abbrev pub all_options : Option Method → (fuel bound seed depth : Option ℕ) → Option Options
-all_options (Some method) (Some fuel) (Some bound) (Some seed) (Some depth) = Some (record { method = method; fuel = fuel; bound = bound; seed = seed; depth = depth })
-all_options method fuel bound seed depth = None
+abbrev pub all_options : Option Method → (fuel bound seed depth : Option ℕ) → Option Ending → Option Options
+all_options (Some method) (Some fuel) (Some bound) (Some seed) (Some depth) (Some ending) = Some (record { method = method; fuel = fuel; bound = bound; seed = seed; depth = depth; ending = ending })
+all_options method fuel bound seed depth ending = None
 
 -- the options in the matches, where each has a value
 abbrev pub options_in : List Row → Option Options
@@ -44,3 +54,4 @@ options_in rows = all_options (method_or_auto (first_of (codes "method") rows))
     (number_or 16 65536 (first_of (codes "bound") rows))
     (number_or 1 18446744073709551615 (first_of (codes "seed") rows))
     (number_or 10 1000000 (first_of (codes "depth") rows))
+    (ending_or_end (first_of (codes "ending") rows))

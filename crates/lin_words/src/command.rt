@@ -9,7 +9,7 @@ use clap::ArgMatches;
 use clap::error::ErrorKind;
 use data_theory::NoMemory;
 use lin_answers::Plan;
-use lin_driver::Method;
+use lin_driver::{Ending, Method};
 use std::alloc::Global;
 
 /// What the program does with a text.
@@ -73,17 +73,28 @@ pub enum Task {
         /// The values that are tried of a sum.
         bound: u64,
     },
+    /// Write its linear process without the summands that an invariant contradicts, by rewriting with this much fuel; or where the
+    /// invariant wasn't proved.
+    Invariant {
+        /// How the components are encoded.
+        method: Method,
+        /// The uses of equations that a rewriting has.
+        fuel: u64,
+    },
 }
 
-/// A task, and the files that it is to be done with.
+/// A task, the files that it is to be done with, and whether the end of a process is a step.
 #[derive(Clone, Copy, Debug)]
 pub struct Command<'a> {
     /// The task.
     pub task: Task,
     /// The name of the file.
     pub file: &'a str,
-    /// The name of the further file that the task reads: of the trace of [`Task::Replay`], or of the choices of [`Task::StepsAfter`].
+    /// The name of the further file that the task reads: of the trace of [`Task::Replay`], of the invariant of [`Task::Invariant`], or
+    /// of the choices of [`Task::StepsAfter`].
     pub further: Option<&'a str>,
+    /// Whether the end of a process is a step.
+    pub ending: Ending,
 }
 
 /// The command that the words give, where they give one: where `clap` takes them, and each of their values is one.
@@ -118,20 +129,22 @@ fn command_in<'a>(matches: &ArgMatches<'a>) -> Option<Command<'a>>
         value_of(matches, "task"),
         value_of(matches, "file"),
         value_of(matches, "trace"),
+        value_of(matches, "invariant"),
         value_of(matches, "after"),
         options_of(matches),
     )
 }
 
-/// The command of a task's name, a file, a trace, a file of choices and the options.
+/// The command of a task's name, a file, a trace, an invariant, a file of choices and the options.
 fn command_with<'a>(
     word: Option<&str>,
     file: Option<&'a str>,
     trace: Option<&'a str>,
+    invariant: Option<&'a str>,
     after: Option<&'a str>,
     options: Option<Options>,
 ) -> Option<Command<'a>>
-    ensures asked { option_map asked result ≡ asked_with (option_map (λ s. s.now) word.entry) (option_map (λ s. s.now) file.entry) (option_map (λ s. s.now) trace.entry) (option_map (λ s. s.now) after.entry) options }
+    ensures asked { option_map asked result ≡ asked_with (option_map (λ s. s.now) word.entry) (option_map (λ s. s.now) file.entry) (option_map (λ s. s.now) trace.entry) (option_map (λ s. s.now) invariant.entry) (option_map (λ s. s.now) after.entry) options }
     ensures sized { IfSome result (λ c. IsSized c.task) }
     ensures further { IfSome result (λ c. NeedsFurther c.task → IsSome c.further) }
     ensures needs { IfSome result (λ c. IsSome c.further → NeedsFurther c.task) }
@@ -140,7 +153,7 @@ fn command_with<'a>(
         return None;
     };
     let task = task_of(word, file, after, options)?;
-    let further = further_of(task, trace, after);
+    let further = further_of(task, trace, invariant, after);
     if !has_its_further(task, further) {
         return None;
     }
@@ -148,16 +161,23 @@ fn command_with<'a>(
         task,
         file,
         further,
+        ending: options.ending,
     })
 }
 
-/// The further file that a task reads: the trace, or the choices.
-fn further_of<'a>(task: Task, trace: Option<&'a str>, after: Option<&'a str>) -> Option<&'a str>
-    ensures named { option_map (λ s. s.now) result ≡ further_named task (option_map (λ s. s.now) trace.entry) (option_map (λ s. s.now) after.entry) }
+/// The further file that a task reads: the trace, the invariant, or the choices.
+fn further_of<'a>(
+    task: Task,
+    trace: Option<&'a str>,
+    invariant: Option<&'a str>,
+    after: Option<&'a str>,
+) -> Option<&'a str>
+    ensures named { option_map (λ s. s.now) result ≡ further_named task (option_map (λ s. s.now) trace.entry) (option_map (λ s. s.now) invariant.entry) (option_map (λ s. s.now) after.entry) }
     ensures needs { IsSome result → NeedsFurther task }
 {
     match task {
         Task::Replay { .. } => trace,
+        Task::Invariant { .. } => invariant,
         Task::StepsAfter { .. } => after,
         _ => None,
     }
@@ -170,6 +190,7 @@ fn has_its_further(task: Task, further: Option<&str>) -> bool
 {
     match task {
         Task::Replay { .. } => further.is_some(),
+        Task::Invariant { .. } => further.is_some(),
         Task::StepsAfter { .. } => further.is_some(),
         _ => true,
     }
@@ -229,6 +250,7 @@ fn task_of(word: &str, file: &str, after: Option<&str>, options: Options) -> Opt
             fuel,
             bound,
         }),
+        "invariant" => Some(Task::Invariant { method, fuel }),
         _ => None,
     }
 }
@@ -255,6 +277,7 @@ fn plan_of(options: Options) -> Plan
         bound,
         seed,
         depth,
+        ending: _,
     } = options;
     Plan {
         fuel,

@@ -1,12 +1,12 @@
 //! The command line, as `clap` is told of it, and the values that it finds.
 ghost use Rattle.std.specs.Prelude.{◌≡◌, IfOk, option_map};
 ghost use Rattle.clap.specs.Words.{app_of, first_of, found_of, rows_of, with_rule};
-ghost use Rattle.lin_words.specs.CommandLine.{bare_command_line, command_line, option, positional, with_options, with_positionals};
+ghost use Rattle.lin_words.specs.CommandLine.{bare_command_line, command_line, option, positional, with_options, with_positionals, with_trace_to_depth};
 
 use clap::{Arg, ArgMatches, Command};
 use std::alloc::{AllocError, Global};
 
-/// The command of the program: a task and a file, and seven options of one value each. It has no flags.
+/// The command of the program: a task and a file, and nine options of one value each. It has no flags.
 pub fn program<'a>(alloc: Global) -> Result<Command<'a>, AllocError>
     ensures { IfOk result (λ c. app_of c ≡ command_line) }
 {
@@ -32,13 +32,21 @@ fn add_positionals<'a>(alloc: Global, command: Command<'a>) -> Result<Command<'a
 fn add_options<'a>(alloc: Global, command: Command<'a>) -> Result<Command<'a>, AllocError>
     ensures { IfOk result (λ c. app_of c ≡ with_options (app_of command.entry)) }
 {
+    let command = add_trace_to_depth(alloc, command)?;
+    let command = add_option(alloc, command, "ending")?;
+    let command = add_option(alloc, command, "invariant")?;
+    add_option(alloc, command, "after")
+}
+
+fn add_trace_to_depth<'a>(alloc: Global, command: Command<'a>) -> Result<Command<'a>, AllocError>
+    ensures { IfOk result (λ c. app_of c ≡ with_trace_to_depth (app_of command.entry)) }
+{
     let command = add_option(alloc, command, "trace")?;
     let command = add_option(alloc, command, "method")?;
     let command = add_option(alloc, command, "fuel")?;
     let command = add_option(alloc, command, "bound")?;
     let command = add_option(alloc, command, "seed")?;
-    let command = add_option(alloc, command, "depth")?;
-    add_option(alloc, command, "after")
+    add_option(alloc, command, "depth")
 }
 
 fn add_positional<'a>(

@@ -3,11 +3,11 @@ ghost use Rattle.std.specs.Prelude.{◌≡◌, ◌≤◌, IfSome, option_map};
 ghost use Rattle.std.specs.Char.{is_ascii_digit};
 ghost use Rattle.std.specs.List.{list_all};
 ghost use Rattle.clap.specs.Words.{found_of, rows_of};
-ghost use Rattle.lin_words.specs.Options.{all_options, is_number, method_named, method_or_auto, number_of, number_or, options_in};
+ghost use Rattle.lin_words.specs.Options.{all_options, ending_named, ending_or_end, is_number, method_named, method_or_auto, number_of, number_or, options_in};
 
 use crate::command_line::value_of;
 use clap::ArgMatches;
-use lin_driver::Method;
+use lin_driver::{Ending, Method};
 
 /// What the options give, each by its value or by its default.
 #[derive(Clone, Copy, Debug, PartialEq, Eq)]
@@ -22,6 +22,8 @@ pub struct Options {
     pub seed: u64,
     /// The steps of a walk.
     pub depth: u64,
+    /// Whether the end of a process is a step.
+    pub ending: Ending,
 }
 
 /// The options in the matches, where each is one.
@@ -33,7 +35,8 @@ pub fn options_of(matches: &ArgMatches<'_>) -> Option<Options>
     let bound = number_given(value_of(matches, "bound"), 16, 65_536);
     let seed = number_given(value_of(matches, "seed"), 1, u64::MAX);
     let depth = number_given(value_of(matches, "depth"), 10, 1_000_000);
-    all(method, fuel, bound, seed, depth)
+    let ending = ending_given(value_of(matches, "ending"));
+    all(method, fuel, bound, seed, depth, ending)
 }
 
 fn all(
@@ -42,8 +45,9 @@ fn all(
     bound: Option<u64>,
     seed: Option<u64>,
     depth: Option<u64>,
+    ending: Option<Ending>,
 ) -> Option<Options>
-    ensures { result ≡ all_options method fuel bound seed depth }
+    ensures { result ≡ all_options method fuel bound seed depth ending }
 {
     Some(Options {
         method: method?,
@@ -51,6 +55,7 @@ fn all(
         bound: bound?,
         seed: seed?,
         depth: depth?,
+        ending: ending?,
     })
 }
 
@@ -70,6 +75,25 @@ fn method_of(word: &str) -> Option<Method>
         "auto" => Some(Method::Auto),
         "regular" => Some(Method::Regular),
         "stack" => Some(Method::Stack),
+        _ => None,
+    }
+}
+
+fn ending_given(word: Option<&str>) -> Option<Ending>
+    ensures { result ≡ ending_or_end (option_map (λ s. s.now) word.entry) }
+{
+    match word {
+        Some(word) => ending_of(word),
+        None => Some(Ending::End),
+    }
+}
+
+fn ending_of(word: &str) -> Option<Ending>
+    ensures { result ≡ ending_named word.now }
+{
+    match word {
+        "end" => Some(Ending::End),
+        "terminate" => Some(Ending::Terminate),
         _ => None,
     }
 }
