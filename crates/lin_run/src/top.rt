@@ -8,12 +8,13 @@ ghost use Rattle.lin_words.specs.Commands.{asked_by, question, NeedsFurther, Rea
 ghost use Rattle.lin_run.specs.Causes.{HasCause, IsFaultFor, status_of_stop};
 ghost use Rattle.lin_run.specs.Ends.{EndsWell, EndsWithLine, HasGoodFurther, IsAnswer, IsAnswered, IsTaken, MayStayOpen, MaySayNo};
 
+use crate::holding::judge_condition;
 use crate::leading::steps_after;
 use crate::replaying::replay;
 use crate::text_in_hand::text_for;
 use data_theory::Names;
 use lin_answers::{Answer, Status};
-use lin_driver::{Elimination, LinFault, check_text, eliminated_text, linear_text};
+use lin_driver::{Elimination, Ending, LinFault, check_text, eliminated_text, linear_text};
 use lin_refusals::Stop;
 use lin_tasks::{counts, equations, steps, walk};
 use lin_words::{Task, command_of};
@@ -39,10 +40,10 @@ pub fn run<H: Shelf, O: Sink, E: Sink>(
 
     // What the output gets: the whole answer, a prefix of it after a fault of its own, or nothing.
     ensures done { IsAnswered result → IfSome (question (H.text_of shelf.old) (map string_bytes words.now.items))
-        (λ q. (length q.text ≤ MAX_TEXT_LEN) × (answer : List ℕ) × IsAnswer q.task q.text q.further result answer
+        (λ q. (length q.text ≤ MAX_TEXT_LEN) × (answer : List ℕ) × IsAnswer q.ending q.task q.text q.further result answer
         × IfSome (O.taken out.old) (λ before. O.taken out.new ≡ Some (before ++ answer))) }
     ensures cut_off { result ≡ Status.WriteFault → IfSome (question (H.text_of shelf.old) (map string_bytes words.now.items))
-        (λ q. (length q.text ≤ MAX_TEXT_LEN) × (status : Status) × (answer : List ℕ) × IsAnswer q.task q.text q.further status answer
+        (λ q. (length q.text ≤ MAX_TEXT_LEN) × (status : Status) × (answer : List ℕ) × IsAnswer q.ending q.task q.text q.further status answer
         × IfSome (O.taken out.old) (λ before. TakesPrefix before (O.taken out.new) answer)) }
     ensures out_kept { ¬ (IsAnswered result) → result ≢ Status.WriteFault → out.new ≡ out.old }
 
@@ -54,13 +55,13 @@ pub fn run<H: Shelf, O: Sink, E: Sink>(
     ensures shelf_kept { ¬ (ReadsAFile (asked_by (map string_bytes words.now.items))) → shelf.new ≡ shelf.old }
 
     // For each text that the task takes it is done: what is written stands for the text, that of an elimination has its effect, and that of `steps`, `walk` and `replay` speaks of
-    // its steps. A trace has to be good, and so do choices.
-    ensures headline { IfSome (question (H.text_of shelf.old) (map string_bytes words.now.items)) (λ q. IsTaken q.task q.text → HasGoodFurther q.task q.text q.further
+    // its steps. That of `invariant` stands for the text where the condition holds. A trace has to be good, and so do choices and a condition.
+    ensures headline { IfSome (question (H.text_of shelf.old) (map string_bytes words.now.items)) (λ q. IsTaken q.ending q.task q.text → HasGoodFurther q.ending q.task q.text q.further
         → length q.text ≤ MAX_TEXT_LEN → ¬ (Rose (H.faults shelf.old) (H.faults shelf.new)) → ¬ (Rose (O.faults out.old) (O.faults out.new))
         → EndsWell result q (O.taken out.old) (O.taken out.new)) }
 
     // And so it is for each text without a fault for which the task refuses it.
-    ensures complete { IfSome (question (H.text_of shelf.old) (map string_bytes words.now.items)) (λ q. ((texts : List (List ℕ)) (fault : LinFault) → IsFaultFor q.task fault → ¬ (IsRefusedWith q.text texts fault)) → HasGoodFurther q.task q.text q.further
+    ensures complete { IfSome (question (H.text_of shelf.old) (map string_bytes words.now.items)) (λ q. ((texts : List (List ℕ)) (fault : LinFault) → IsFaultFor q.ending q.task fault → ¬ (IsRefusedWith q.text texts fault)) → HasGoodFurther q.ending q.task q.text q.further
         → length q.text ≤ MAX_TEXT_LEN → ¬ (Rose (H.faults shelf.old) (H.faults shelf.new)) → ¬ (Rose (O.faults out.old) (O.faults out.new))
         → EndsWell result q (O.taken out.old) (O.taken out.new)) }
 {
@@ -86,7 +87,7 @@ fn answer<H: Shelf>(alloc: Global, words: &[String], shelf: &mut H) -> Result<An
     ensures read_fault { IsErrOf result Stop.ReadFault → Rose (H.faults shelf.old) (H.faults shelf.new) }
     ensures refused { IfErr result (λ stop. HasCause stop (question (H.text_of shelf.old) (map string_bytes words.now))) }
     ensures answered { IfOk result (λ answer. IsAnswered answer.status × IfSome (question (H.text_of shelf.old) (map string_bytes words.now))
-        (λ q. (length q.text ≤ MAX_TEXT_LEN) × IsAnswer q.task q.text q.further answer.status answer.text.items)) }
+        (λ q. (length q.text ≤ MAX_TEXT_LEN) × IsAnswer q.ending q.task q.text q.further answer.status answer.text.items)) }
     ensures stays_open { IfOk result (λ answer. answer.status ≡ Status.Undecided → IfSome (asked_by (map string_bytes words.now)) (λ a. MayStayOpen a.task)) }
     ensures says_no { IfOk result (λ answer. answer.status ≡ Status.No → IfSome (asked_by (map string_bytes words.now)) (λ a. MaySayNo a.task)) }
     ensures shelf_kept { ¬ (ReadsAFile (asked_by (map string_bytes words.now))) → shelf.new ≡ shelf.old }
@@ -94,10 +95,10 @@ fn answer<H: Shelf>(alloc: Global, words: &[String], shelf: &mut H) -> Result<An
     let command = command_of(alloc, words)?.ok_or(Stop::Words)?;
     let text = text_for(alloc, command, shelf)?;
     if let Some(further) = command.further {
-        return answer_with(alloc, command.task, &text, shelf, further);
+        return answer_with(alloc, command.task, command.ending, &text, shelf, further);
     }
     let mut names = Names::new(alloc);
-    match answer_to(alloc, command.task, &text, &mut names) {
+    match answer_to(alloc, command.task, command.ending, &text, &mut names) {
         Ok(answer) => Ok(answer),
         Err(fault) => Err(Stop::for_fault(alloc, &names, &fault)),
     }
@@ -107,14 +108,15 @@ fn answer<H: Shelf>(alloc: Global, words: &[String], shelf: &mut H) -> Result<An
 fn answer_with<H: Shelf>(
     alloc: Global,
     task: Task,
+    ending: Ending,
     text: &[u8],
     shelf: &mut H,
     name: &str,
 ) -> Result<Answer, Stop>
     requires needs { NeedsFurther task }
     requires short { length text.now ≤ MAX_TEXT_LEN }
-    ensures answered { IfOk result (λ answer. IsAnswer task text.now (H.text_of shelf.old name.now) answer.status answer.text.items) }
-    ensures cause { IfErr result (λ stop. (stop ≢ Stop.Words) × HasCause stop (Some (record { task = task; text = text.now; further = H.text_of shelf.old name.now }))) }
+    ensures answered { IfOk result (λ answer. IsAnswer ending task text.now (H.text_of shelf.old name.now) answer.status answer.text.items) }
+    ensures cause { IfErr result (λ stop. (stop ≢ Stop.Words) × HasCause stop (Some (record { task = task; text = text.now; further = H.text_of shelf.old name.now; ending = ending }))) }
     ensures read_fault { IsErrOf result Stop.ReadFault → Rose (H.faults shelf.old) (H.faults shelf.new) }
 {
     match task {
@@ -122,31 +124,43 @@ fn answer_with<H: Shelf>(
             method,
             fuel,
             bound,
-        } => replay(alloc, text, shelf, name, method, fuel, bound),
+        } => replay(alloc, text, shelf, name, method, ending, fuel, bound),
         Task::StepsAfter {
             method,
             fuel,
             bound,
-        } => steps_after(alloc, text, shelf, name, method, fuel, bound),
+        } => steps_after(alloc, text, shelf, name, method, ending, fuel, bound),
+        Task::Invariant { method, fuel } => {
+            judge_condition(alloc, text, shelf, name, method, ending, fuel)
+        }
         _ => unreachable!(),
     }
 }
 
 /// The answer of a task that needs no further file on a text.
-fn answer_to(alloc: Global, task: Task, text: &[u8], names: &mut Names) -> Result<Answer, LinFault>
+fn answer_to(
+    alloc: Global,
+    task: Task,
+    ending: Ending,
+    text: &[u8],
+    names: &mut Names,
+) -> Result<Answer, LinFault>
     requires { ¬ (NeedsFurther task) }
-    ensures answered { IfOk result (λ answer. IsAnswer task text.now None answer.status answer.text.items) }
-    ensures of_the_task { IfErr result (λ fault. fault ≢ LinFault.NoMemory → IsFaultFor task fault) }
+    ensures answered { IfOk result (λ answer. IsAnswer ending task text.now None answer.status answer.text.items) }
+    ensures of_the_task { IfErr result (λ fault. fault ≢ LinFault.NoMemory → IsFaultFor ending task fault) }
     ensures refused { IfErr result (λ fault. fault ≢ LinFault.NoMemory → IsRefusedWith text.now names.new fault) }
 {
     match task {
         Task::Check => Ok(Answer::done(checked(alloc, text, names)?)),
-        Task::Linearise(method) => Ok(Answer::done(linear_text(alloc, text, names, method)?)),
+        Task::Linearise(method) => Ok(Answer::done(linear_text(
+            alloc, text, names, method, ending,
+        )?)),
         Task::Constelm { method, fuel } => Ok(Answer::done(eliminated_text(
             alloc,
             text,
             names,
             method,
+            ending,
             Elimination::Constants(fuel),
         )?)),
         Task::Parelm(method) => Ok(Answer::done(eliminated_text(
@@ -154,6 +168,7 @@ fn answer_to(alloc: Global, task: Task, text: &[u8], names: &mut Names) -> Resul
             text,
             names,
             method,
+            ending,
             Elimination::Parameters,
         )?)),
         Task::Sumelm { method, fuel } => Ok(Answer::done(eliminated_text(
@@ -161,18 +176,20 @@ fn answer_to(alloc: Global, task: Task, text: &[u8], names: &mut Names) -> Resul
             text,
             names,
             method,
+            ending,
             Elimination::Sums(fuel),
         )?)),
         Task::Steps {
             method,
             fuel,
             bound,
-        } => steps(alloc, text, names, method, fuel, bound),
-        Task::Walk { method, plan } => walk(alloc, text, names, method, plan),
-        Task::Equations(method) => equations(alloc, text, names, method),
+        } => steps(alloc, text, names, method, ending, fuel, bound),
+        Task::Walk { method, plan } => walk(alloc, text, names, method, ending, plan),
+        Task::Equations(method) => equations(alloc, text, names, method, ending),
         Task::Generate(_) => Ok(Answer::done(counts(alloc, text, names)?)),
         Task::StepsAfter { .. } => unreachable!(),
         Task::Replay { .. } => unreachable!(),
+        Task::Invariant { .. } => unreachable!(),
     }
 }
 

@@ -7,11 +7,12 @@ use Rattle.eqn_check.specs.declared.answers.Answer.TheVariants.{Consistent}
 use Rattle.lin_driver.specs.ConsistentTexts.{HoldsOutright}
 use Rattle.lin_driver.specs.Headline.{StandsFor}
 use Rattle.lin_driver.specs.JudgedTexts.{equations_of_model, IsJudged}
+use Rattle.lin_driver.specs.declared.ending.Ending.{Ending}
 use Rattle.lin_driver.proofs.ConsistentTexts.{accepted_models_are_of_accepted_texts, accepted_texts_need_no_premise}
 
-pub judged_outright : (text : List ℕ) (answer : Answer) → IsJudged text answer → answer ≡ Consistent → (printed : List ℕ) (one : StandsFor text printed) → HoldsOutright one
-judged_outright text answer is same printed one =
+pub judged_outright : (text : List ℕ) (answer : Answer) → IsJudged text answer → answer ≡ Consistent → (ending : Ending) (printed : List ℕ) (one : StandsFor ending text printed) → HoldsOutright one
+judged_outright text answer is same ending printed one =
     let j = is.judged in
     let g = j.signature in
-    accepted_texts_need_no_premise text printed one
+    accepted_texts_need_no_premise ending text printed one
     (accepted_models_are_of_accepted_texts text is.tokens is.spec g j.pool j.model is.cut is.spelled j.is_model (subst (IsAnswer (data_meant g) (equations_of_model g j.pool j.model)) same j.is_answer))

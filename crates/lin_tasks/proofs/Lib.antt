@@ -14,3 +14,5 @@ mod StateTexts
 mod ShownAfter
 mod StepsAfter
 mod JudgedTexts
+mod HeldConditions
+mod JudgedAnswers

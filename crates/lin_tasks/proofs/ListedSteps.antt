@@ -16,12 +16,11 @@ use Rattle.data_theory.specs.Terms.{Term, put}
 use Rattle.data_theory.proofs.IdDataLemmas.{meant_data_are_data}
 use Rattle.process_terms.specs.Labels.{Label, put_label, AgreeInOrder}
 use Rattle.process_terms.specs.Meanings.{bound_at}
-use Rattle.process_terms.specs.Processes.{Process, Bound}
+use Rattle.process_terms.specs.Processes.{Bound}
 use Rattle.process_terms.specs.SignatureEntries.{entries_of}
 use Rattle.process_terms.specs.Steps.{Outcome, Step}
 use Rattle.process_terms.specs.Theories.{Theory, IsFalse}
 use Rattle.process_terms.proofs.AgreeingLabels.{agree_sym, agree_trans}
-use Rattle.bisim_laws.specs.Bisimulations.{Bisimulation}
 use Rattle.bisim_laws.specs.LinearProcesses.{Linear, Summand, variables, sorts, state_of, reading, IsSummand, Does}
 use Rattle.bisim_laws.proofs.Firing.{fired, reading_agrees, does_along}
 use Rattle.lps_core.specs.PlainLinears.{PlainSummand, PlainLinear, summand_of, linear_of}
@@ -36,6 +35,7 @@ use Rattle.lps_simulator.proofs.FittingSummands.{fitting_shape, fitting_sorted, 
 use Rattle.lps_simulator.proofs.OptionLaws.{nothing_is_missed}
 use Rattle.lps_simulator.proofs.RewrittenClosed.{label_agrees}
 use Rattle.lin_tasks.specs.FirstSteps.{IsTheoryFor, IsListed, HasNoSums}
+use Rattle.lin_tasks.proofs.Performing.{HasStep}
 
 -- where an element stands
 in_at : {A : Type 0} (xs : List A) {x : A} → In x xs → (i : ℕ) × (slice_get xs i ≡ Some x)
@@ -96,8 +96,7 @@ module _ (g : Sig) (own : List Equation) (fuel bound : ℕ) (ts us : List Tree) 
       (subst (λ (z : Summand). Does th z fires.environment label f.0) s.2 fires.does)
 
   -- and so is what another process does that is paired with it
-  pub step_is_listed : (R : Process → Process → Type 0) → Bisimulation th R → (p : Process) → R p (state_of lin terms) → HasNoSums l → (label : Label) (r : Outcome) → Step th p label r → IsListed th moves label
-  step_is_listed R bisimulation p paired no_sums label r step =
-      let a = bisimulation.forth p (state_of lin terms) label r paired step in
-      let found_there = fired_is_listed no_sums a.label a.outcome a.step in
-      record { move = found_there.move; among = found_there.among; agrees = agree_trans found_there.agrees (agree_sym a.agree) }
+  pub step_is_listed : HasNoSums l → (label : Label) → HasStep th (state_of lin terms) label → IsListed th moves label
+  step_is_listed no_sums label has_step =
+      let found_there = fired_is_listed no_sums has_step.label has_step.outcome has_step.step in
+      record { move = found_there.move; among = found_there.among; agrees = agree_trans found_there.agrees (agree_sym has_step.agrees) }

@@ -27,6 +27,7 @@ use Rattle.chosen_moves.specs.declared.following.ChoiceFault.TheVariants.{BadCho
 use Rattle.chosen_moves.specs.ChosenMoves.{FollowsText, IsChoiceFault}
 use Rattle.lin_driver.specs.Eliminations.{equations_at}
 use Rattle.lin_driver.specs.LinearOfTexts.{IsLinearOf}
+use Rattle.lin_driver.specs.declared.ending.Ending.{Ending}
 use Rattle.lin_driver.specs.declared.methods.Method.{Method}
 use Rattle.lin_refusals.specs.BadChoices.{IsBadChoiceAsTold}
 use Rattle.lin_tasks.specs.Shown.{state_line, ShowsOptionsIn}
@@ -80,12 +81,12 @@ with_state g own fuel bound ts vs x l choices last status answer line shown b is
 }
 
 -- ---- of a text, and of choices that were read
-module _ (method : Method) (text : List ℕ) (spec : PlainSpec) (g : Sig) (q : PoolContents) (equations : List PlainEquation) (x : NameId) (l : PlainLinear) (components : ℕ) (is_linear : IsLinearOf method text spec g q equations x l components)
+module _ (ending : Ending) (method : Method) (text : List ℕ) (spec : PlainSpec) (g : Sig) (q : PoolContents) (equations : List PlainEquation) (x : NameId) (l : PlainLinear) (components : ℕ) (is_linear : IsLinearOf ending method text spec g q equations x l components)
     (told : Option (List ℕ)) (choices : List ℕ) (is : IfSome told (λ t. choices ≡ t)) (short : length choices ≤ MAX_TEXT_LEN) (fuel bound : ℕ) where
-  pub shown_as_told : (status : Status) (shown : List ℕ) → ShowsStepsAfter g (equations_at g q.trees equations) fuel bound q.trees x l choices status shown → AreShownAsTold method fuel bound text told status shown
-  shown_as_told status shown s = record { choices = choices; is_told = is; short = short; steps = made_after method text spec g q equations x l components is_linear fuel bound choices status shown s }
+  pub shown_as_told : (status : Status) (shown : List ℕ) → ShowsStepsAfter g (equations_at g q.trees equations) fuel bound q.trees x l choices status shown → AreShownAsTold ending method fuel bound text told status shown
+  shown_as_told status shown s = record { choices = choices; is_told = is; short = short; steps = made_after ending method text spec g q equations x l components is_linear fuel bound choices status shown s }
 
-  pub bad_as_told : (fault : ChoiceFault) → IsChoiceFault g (equations_at g q.trees equations) fuel bound l choices q.trees (Some l.init) fault → (number : ℕ) → fault ≡ BadChoice number → IsBadChoiceAsTold method fuel bound text told number
+  pub bad_as_told : (fault : ChoiceFault) → IsChoiceFault g (equations_at g q.trees equations) fuel bound l choices q.trees (Some l.init) fault → (number : ℕ) → fault ≡ BadChoice number → IsBadChoiceAsTold ending method fuel bound text told number
   bad_as_told fault bad number same = record {
     choices = choices;
     is_told = is;

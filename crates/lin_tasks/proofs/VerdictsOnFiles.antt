@@ -16,6 +16,7 @@ use Rattle.trace_replay.specs.declared.replaying.ReplayFault.{ReplayFault}
 use Rattle.trace_replay.specs.declared.replaying.ReplayFault.TheVariants.{BadTrace}
 use Rattle.lin_driver.specs.Eliminations.{equations_at}
 use Rattle.lin_driver.specs.LinearOfTexts.{IsLinearOf}
+use Rattle.lin_driver.specs.declared.ending.Ending.{Ending}
 use Rattle.lin_driver.specs.declared.methods.Method.{Method}
 use Rattle.lin_answers.specs.declared.status.Status.{Status}
 use Rattle.lin_refusals.specs.BadTraces.{IsBadAsTold, IsLongAsTold}
@@ -26,14 +27,14 @@ use Rattle.lin_tasks.specs.ShownVerdicts.{IsReplayedAsTold, ShowsVerdict}
 use Rattle.lin_tasks.proofs.ReplayedTexts.{made_replay}
 
 -- ---- the trace that was read
-module _ (method : Method) (text : List ℕ) (spec : PlainSpec) (g : Sig) (q : PoolContents) (equations : List PlainEquation) (x : NameId) (l : PlainLinear) (components : ℕ) (is_linear : IsLinearOf method text spec g q equations x l components) where
+module _ (ending : Ending) (method : Method) (text : List ℕ) (spec : PlainSpec) (g : Sig) (q : PoolContents) (equations : List PlainEquation) (x : NameId) (l : PlainLinear) (components : ℕ) (is_linear : IsLinearOf ending method text spec g q equations x l components) where
   pub replayed_as_told : AreWellFormed g (equations_at g q.trees equations) → (told : Option (List ℕ)) (trace : List ℕ) → IfSome told (λ t. trace ≡ t) → length trace ≤ MAX_TEXT_LEN → (fuel bound : ℕ) (status : Status) (shown : List ℕ)
-      → ShowsVerdict g (equations_at g q.trees equations) fuel bound q.trees l trace status shown → IsReplayedAsTold method fuel bound text told status shown
+      → ShowsVerdict g (equations_at g q.trees equations) fuel bound q.trees l trace status shown → IsReplayedAsTold ending method fuel bound text told status shown
   replayed_as_told fine told trace is short fuel bound status shown v =
-      record { trace = trace; is_told = is; short = short; replayed = made_replay method text spec g q equations x l components is_linear fine fuel bound trace status shown v }
+      record { trace = trace; is_told = is; short = short; replayed = made_replay ending method text spec g q equations x l components is_linear fine fuel bound trace status shown v }
 
   pub bad_as_told : (told : Option (List ℕ)) (trace : List ℕ) → IfSome told (λ t. trace ≡ t) → length trace ≤ MAX_TEXT_LEN → (fault : ReplayFault) → IsTraceFault g trace fault → (number : ℕ) → fault ≡ BadTrace number
-      → IsBadAsTold method text told number
+      → IsBadAsTold ending method text told number
   bad_as_told told trace is short fault bad number same = record {
     trace = trace;
     is_told = is;

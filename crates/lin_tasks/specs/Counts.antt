@@ -12,6 +12,7 @@ use Rattle.lps_simulator.specs.OptionLaws.{HasOptions}
 use Rattle.lps_simulator.specs.OptionsInCode.{PlainOptions}
 use Rattle.lin_driver.specs.Eliminations.{equations_at}
 use Rattle.lin_driver.specs.LinearOfTexts.{IsLinearOf}
+use Rattle.lin_driver.specs.declared.ending.Ending.TheVariants.{End}
 use Rattle.lin_driver.specs.declared.methods.Method.TheVariants.{Auto}
 
 -- In its initial state the linear process has so many moves, by 100,000 uses of equations for each term, and the first 16 values of each sum.
@@ -35,7 +36,7 @@ pub record ShowsCounts (g : Sig) (own : List Equation) (ts : List Tree) (l : Pla
   pub moves : HasFirstMoves g own ts l steps
   pub shows : shown ≡ counts_text components (length l.params) (length l.summands) steps
 
--- There is the linear process of the text by the method `Auto`, and the bytes tell how large it is, over the text's equations.
+-- There is the linear process of the text by the method `Auto`, with its end as it is, and the bytes tell how large it is, over the text's equations.
 pub record AreCounts (text shown : List ℕ) : Type 0 where
   pub spec : PlainSpec
   pub signature : Sig
@@ -44,5 +45,5 @@ pub record AreCounts (text shown : List ℕ) : Type 0 where
   pub name : NameId
   pub linear : PlainLinear
   pub components : ℕ
-  pub is_linear : IsLinearOf Auto text spec signature pool equations name linear components
+  pub is_linear : IsLinearOf End Auto text spec signature pool equations name linear components
   pub counts : ShowsCounts signature (equations_at signature pool.trees equations) pool.trees linear components shown

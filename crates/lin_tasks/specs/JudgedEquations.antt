@@ -7,6 +7,7 @@ use Rattle.eqn_check.specs.declared.answers.Reason.TheVariants.{Shape, Repeat, O
 use Rattle.lin_driver.specs.ConsistentTexts.{HoldsOutright}
 use Rattle.lin_driver.specs.Headline.{StandsFor}
 use Rattle.lin_driver.specs.JudgedTexts.{IsJudged}
+use Rattle.lin_driver.specs.declared.ending.Ending.{Ending}
 use Rattle.lin_answers.specs.declared.status.Status.{Status}
 use Rattle.lin_answers.specs.declared.status.Status.TheVariants as statuses
 
@@ -29,10 +30,10 @@ status_of_judged Consistent = statuses.Done
 status_of_judged (Unproved number reason) = statuses.Undecided
 
 -- The bytes show whether the text's equations keep all rules, or the first one that breaks a rule, with the first rule that it breaks. `Undecided` is the status exactly
--- where one breaks a rule. Where none does, whatever printed text stands for the text does so outright: its equations don't prove `true` equal to `false`.
+-- where one breaks a rule. Where none does, whatever printed text stands for the text, with either ending, does so outright: its equations don't prove `true` equal to `false`.
 pub record AreJudgedEquations (text : List ℕ) (status : Status) (shown : List ℕ) : Type 0 where
   pub answer : Answer
   pub judged : IsJudged text answer
   pub shows : shown ≡ judged_line answer
   pub status_is : status ≡ status_of_judged answer
-  pub outright : answer ≡ Consistent → (printed : List ℕ) (one : StandsFor text printed) → HoldsOutright one
+  pub outright : answer ≡ Consistent → (ending : Ending) (printed : List ℕ) (one : StandsFor ending text printed) → HoldsOutright one

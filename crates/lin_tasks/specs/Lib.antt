@@ -7,3 +7,5 @@ pub mod ShownAfter
 pub mod ShownVerdicts
 pub mod Counts
 pub mod JudgedEquations
+pub mod JudgedConditions
+pub mod ShownInvariants

@@ -18,7 +18,9 @@ use Rattle.process_terms.specs.Steps.{Outcome, goes_on, Step}
 use Rattle.process_terms.specs.Theories.{Theory}
 use Rattle.bisim_laws.specs.Bisimulations.{Lands}
 use Rattle.bisim_laws.specs.LinearProcesses.{Linear, outcome_of, state_of}
-use Rattle.bisim_laws.specs.Links.{Link, Pairs, Same, Then}
+use Rattle.bisim_laws.specs.Links.{Link, Pairs, PairsEnd, Same, Then}
+use Rattle.bisim_laws.specs.Terminations.{terminate_label}
+use Rattle.bisim_laws.specs.TerminatingRuns.{ComesFrom}
 use Rattle.lps_core.specs.PlainLinears.{PlainLinear, linear_of}
 use Rattle.lps_simulator.specs.declared.options.Open.{Open}
 use Rattle.lps_simulator.specs.OptionLaws.{HasCause}
@@ -28,8 +30,10 @@ use Rattle.sort_table.specs.SignatureVocabularies.{text_under}
 use Rattle.chosen_moves.specs.ChosenMoves.{FollowsText}
 use Rattle.lin_driver.specs.Linearised.{IsLinearised}
 use Rattle.lin_driver.specs.LinearOfTexts.{IsLinearOf}
+use Rattle.lin_driver.specs.declared.ending.Ending.{Ending}
+use Rattle.lin_driver.specs.declared.ending.Ending.TheVariants.{End, Terminate}
 use Rattle.lin_driver.specs.declared.methods.Method.{Method}
-use Rattle.lin_tasks.specs.FirstSteps.{CanPerform, HasNoSums, IsListed, IsTheoryFor, Performs}
+use Rattle.lin_tasks.specs.FirstSteps.{CanPerformBy, HasNoSums, IsListed, IsTheoryFor, Performs}
 use Rattle.lin_tasks.specs.Shown.{shown_moves, state_line, ShowsOptionsIn}
 use Rattle.lin_answers.specs.declared.status.Status.{Status}
 
@@ -48,18 +52,29 @@ pub record ShowsStepsAfter (g : Sig) (own : List Equation) (fuel bound : ℕ) (t
 abbrev pub IsPairedWith : Theory → Link → Linear → Process → List Term → Type 0
 IsPairedWith th k l p ts = Pairs th (Then k Same) p (state_of l ts)
 
+-- with `Terminate` a state may be paired with the end of a process
+abbrev pub IsPairedWithEnd : Ending → Theory → Link → Linear → List Term → Type 0
+IsPairedWithEnd End th k l ts = ⊥
+IsPairedWithEnd Terminate th k l ts = PairsEnd th (Then k Same) (state_of l ts)
+
 -- some run of a process does labels that agree with these, and leads to a process that is paired with this state, or to the end where there is none
 pub record LeadsToPaired (th : Theory) (k : Link) (l : Linear) (p : Process) (labels : List Label) (state : Option (List Term)) : Type 0 where
   pub outcome : Outcome
   pub run : Performs th (goes_on p) labels outcome
   pub lands : Lands (Pairs th (Then k Same)) outcome (outcome_of l state)
 
+-- With `Terminate` the run may also lead to the end, where that is paired with this state; or this label is the last one, the run in front of it led to the end, and this state has no steps.
+abbrev pub LeadsToPairedBy : Ending → Theory → Link → Linear → Process → List Label → Option (List Term) → Type 0
+LeadsToPairedBy End th k l p labels state = LeadsToPaired th k l p labels state
+LeadsToPairedBy Terminate th k l p labels state = ComesFrom th (Pairs th (Then k Same)) (PairsEnd th (Then k Same)) p labels (outcome_of l state)
+
 -- ---- of a text
--- There is the linear process of the text by the method, which stands for it, and over the text's equations the bytes show the state to which the choices lead, and its options. Each summand
+-- There is the linear process of the text by the ending and the method, which stands for it, and over the text's equations the bytes show the state to which the choices lead, and its options. Each summand
 -- that is listed as undecided has its cause in that state.
 -- Over consistent data the text's process has a run with the labels of the chosen moves, to a process that the link pairs with the shown state, and for each shown label a run that goes on
--- by it. Where nothing is undecided and no summand has a sum, each step of a process that is paired with the shown state has a label that is shown.
-pub record AreShownStepsAfter (method : Method) (fuel bound : ℕ) (text choices : List ℕ) (status : Status) (shown : List ℕ) : Type 0 where
+-- by it; with `Terminate` this label may follow behind the end of such a run. Where nothing is undecided and no summand has a sum, each step of a process that is paired with the shown state has
+-- a label that is shown, and where the end is paired with that state, `Terminate` is shown.
+pub record AreShownStepsAfter (ending : Ending) (method : Method) (fuel bound : ℕ) (text choices : List ℕ) (status : Status) (shown : List ℕ) : Type 0 where
   pub spec : PlainSpec
   pub signature : Sig
   pub pool : PoolContents
@@ -67,23 +82,25 @@ pub record AreShownStepsAfter (method : Method) (fuel bound : ℕ) (text choices
   pub name : NameId
   pub linear : PlainLinear
   pub components : ℕ
-  pub is_linear : IsLinearOf method text spec signature pool equations name linear components
-  pub linearised : IsLinearised text spec signature pool.trees linear
+  pub is_linear : IsLinearOf ending method text spec signature pool equations name linear components
+  pub linearised : IsLinearised ending text spec signature pool.trees linear
   pub shows : ShowsStepsAfter signature linearised.theory.equations fuel bound pool.trees name linear choices status shown
   pub causes : (state : List TermId) → shows.last ≡ Some state → (o : Open) → Contains shows.options.found.undecided o → HasCause signature linearised.theory.equations fuel bound shows.trees linear state o
   pub run : (th : Theory) → IsTheoryFor signature linearised.theory.equations th
-      → LeadsToPaired th linearised.link (linear_of (entries_of signature shows.trees) linear) linearised.process shows.follows.labels (option_map (terms_at signature shows.trees) shows.last)
-  pub steps : (th : Theory) → IsTheoryFor signature linearised.theory.equations th → (m : TermMove) → Contains (shown_moves shows.options) m → CanPerform th linearised.process (shows.follows.labels ++ m.label ∷ [])
+      → LeadsToPairedBy ending th linearised.link (linear_of (entries_of signature shows.trees) linear) linearised.process shows.follows.labels (option_map (terms_at signature shows.trees) shows.last)
+  pub steps : (th : Theory) → IsTheoryFor signature linearised.theory.equations th → (m : TermMove) → Contains (shown_moves shows.options) m → CanPerformBy ending th linearised.process (shows.follows.labels ++ m.label ∷ [])
   pub whole : (state : List TermId) → shows.last ≡ Some state → shows.options.found.undecided ≡ [] → HasNoSums linear → (th : Theory) → IsTheoryFor signature linearised.theory.equations th
       → (p : Process) → IsPairedWith th linearised.link (linear_of (entries_of signature shows.trees) linear) p (terms_at signature shows.trees state) → (label : Label) (r : Outcome) → Step th p label r
       → IsListed th (shown_moves shows.options) label
+  pub whole_at_the_end : (state : List TermId) → shows.last ≡ Some state → shows.options.found.undecided ≡ [] → HasNoSums linear → (th : Theory) → IsTheoryFor signature linearised.theory.equations th
+      → IsPairedWithEnd ending th linearised.link (linear_of (entries_of signature shows.trees) linear) (terms_at signature shows.trees state) → IsListed th (shown_moves shows.options) terminate_label
 
 -- The same of the choices that were read, which are those that are told, where any are.
-pub record AreShownAsTold (method : Method) (fuel bound : ℕ) (text : List ℕ) (told : Option (List ℕ)) (status : Status) (shown : List ℕ) : Type 0 where
+pub record AreShownAsTold (ending : Ending) (method : Method) (fuel bound : ℕ) (text : List ℕ) (told : Option (List ℕ)) (status : Status) (shown : List ℕ) : Type 0 where
   pub choices : List ℕ
   pub is_told : IfSome told (λ t. choices ≡ t)
   pub short : length choices ≤ MAX_TEXT_LEN
-  pub steps : AreShownStepsAfter method fuel bound text choices status shown
+  pub steps : AreShownStepsAfter ending method fuel bound text choices status shown
 
 -- ---- in code
 -- the choices lead from a state to the last one, and the bytes show the options there

@@ -10,7 +10,7 @@ use data_theory::{Names, NoMemory};
 use eqn_check as eqn;
 use eqn_check::Reason;
 use lin_answers::{Answer, Status};
-use lin_driver::{LinFault, Method, judge_equations};
+use lin_driver::{Ending, LinFault, Method, judge_equations};
 use std::alloc::Global;
 
 /// Puts the word of a rule behind a line.
@@ -59,7 +59,7 @@ fn status_of_judged(answer: eqn::Answer) -> Status
 }
 
 /// Whether the written equations of a text keep four rules (shape, repeat, overlap, recursion) under which they are consistent; or the first one
-/// that breaks a rule, and the first rule that it breaks. The text is made linear by the method, too.
+/// that breaks a rule, and the first rule that it breaks. The text is made linear by the method and with the ending, too.
 ///
 /// # Errors
 ///
@@ -69,13 +69,14 @@ pub fn equations(
     text: &[u8],
     names: &mut Names,
     method: Method,
+    ending: Ending,
 ) -> Result<Answer, LinFault>
     ensures accepted { OnOk result (CanBeLinearised text.now) }
     ensures judged { IfOk result (λ answer. AreJudgedEquations text.now answer.status answer.text.items) }
     ensures refused { IfErr result (λ fault. fault ≢ LinFault.NoMemory → IsRefusedWith text.now names.new fault) }
-    ensures by { IfErr result (IsFaultBy method) }
+    ensures by { IfErr result (IsFaultBy ending method) }
 {
-    let answer = judge_equations(alloc, text, names, method)?;
+    let answer = judge_equations(alloc, text, names, method, ending)?;
     let line = judged_line(alloc, answer)?;
     Ok(Answer {
         text: line,

@@ -9,6 +9,7 @@ ghost use Rattle.lin_driver.specs.Eliminations.{equations_at, equations_in, CanR
 ghost use Rattle.lin_driver.specs.Faults.{IsFaultBy};
 ghost use Rattle.lin_driver.specs.Linearised.{IsMadeOf};
 ghost use Rattle.lin_driver.specs.Refusals.{IsRefusedWith};
+ghost use Rattle.lin_driver.specs.declared.ending.Ending.TheVariants.{End};
 ghost use Rattle.lin_driver.specs.declared.methods.Method.TheVariants.{Auto};
 ghost use Rattle.lin_tasks.specs.Counts.{count_line, counts_text, AreCounts, HasFirstMoves, ShowsCounts};
 
@@ -94,7 +95,7 @@ fn shown_counts(
 
 /// How large the linear process is that was made of a text, as it is shown.
 fn counts_of(alloc: Global, made: Linearised) -> Result<Vec<u8>, NoMemory>
-    requires { (text : List ℕ) × IsMadeOf text (spec_of made.spec) made.sig made.pool.trees (map plain_equation made.theory.equations.items) made.name (plain_linear made.lin) }
+    requires { (text : List ℕ) × IsMadeOf End text (spec_of made.spec) made.sig made.pool.trees (map plain_equation made.theory.equations.items) made.name (plain_linear made.lin) }
     ensures { IfOk result (λ shown. ShowsCounts made.sig (equations_at made.sig made.pool.trees (map plain_equation made.theory.equations.items)) made.pool.trees (plain_linear made.lin) made.components shown.items) }
 {
     let Linearised {
@@ -120,7 +121,7 @@ pub fn counts(alloc: Global, text: &[u8], names: &mut Names) -> Result<Vec<u8>, 
     ensures accepted { OnOk result (CanBeLinearised text.now) }
     ensures counted { IfOk result (λ shown. AreCounts text.now shown.items) }
     ensures refused { IfErr result (λ fault. fault ≢ LinFault.NoMemory → IsRefusedWith text.now names.new fault) }
-    ensures by { IfErr result (IsFaultBy Auto) }
+    ensures by { IfErr result (IsFaultBy End Auto) }
 {
     let made = linearise(alloc, text, names, Method::Auto)?;
     let shown = counts_of(alloc, made)?;

@@ -15,6 +15,7 @@ ghost use Rattle.lin_driver.specs.Eliminations.{equations_at, equations_in, CanR
 ghost use Rattle.lin_driver.specs.Faults.{IsFaultBy};
 ghost use Rattle.lin_driver.specs.Linearised.{IsMadeOf};
 ghost use Rattle.lin_driver.specs.Refusals.{IsRefusedWith};
+ghost use Rattle.lin_driver.specs.declared.ending.Ending.{Ending};
 ghost use Rattle.lin_tasks.specs.Shown.{ShowsOptions, ShowsOptionsIn};
 ghost use Rattle.lin_tasks.specs.ShownTexts.{AreShownSteps};
 
@@ -22,7 +23,7 @@ use crate::option_texts::options_text;
 use data_rewriter::Rewriter;
 use data_theory::{Names, NoMemory, Num, Signature};
 use lin_answers::{Answer, status_with};
-use lin_driver::{LinFault, Linearised, Method, linearise};
+use lin_driver::{Ending, LinFault, Linearised, Method, linearise_as};
 use lps_core::{Linear, signature_stands};
 use lps_simulator::Session;
 use number_rules::operations::exact;
@@ -78,7 +79,7 @@ fn shown_options(
 
 /// What the linear process that was made of a text can do first, as it is shown.
 fn steps_of(alloc: Global, made: Linearised, fuel: u64, bound: u64) -> Result<Answer, NoMemory>
-    requires { (text : List ℕ) × IsMadeOf text (spec_of made.spec) made.sig made.pool.trees (map plain_equation made.theory.equations.items) made.name (plain_linear made.lin) }
+    requires { (ending : Ending) × (text : List ℕ) × IsMadeOf ending text (spec_of made.spec) made.sig made.pool.trees (map plain_equation made.theory.equations.items) made.name (plain_linear made.lin) }
     ensures { IfOk result (λ answer. ShowsOptions made.sig (equations_at made.sig made.pool.trees (map plain_equation made.theory.equations.items)) fuel bound made.pool.trees (plain_linear made.lin) answer.status answer.text.items) }
 {
     let Linearised {
@@ -94,26 +95,27 @@ fn steps_of(alloc: Global, made: Linearised, fuel: u64, bound: u64) -> Result<An
     shown_options(alloc, &sig, &mut pool, &theory, lin, fuel, bound)
 }
 
-/// What the linear process of a text, which is made by a method, can do in its initial state: its moves, for the first `bound` values of
-/// each sum, the summands that aren't decided with this fuel, and those with a sum of more values.
+/// What the linear process of a text, which is made by a method and ends as it is asked to, can do in its initial state: its moves, for the
+/// first `bound` values of each sum, the summands that aren't decided with this fuel, and those with a sum of more values.
 ///
 /// # Errors
 ///
-/// Those of [`linearise`] with that method.
+/// Those of [`linearise_as`] with that method and ending.
 pub fn steps(
     alloc: Global,
     text: &[u8],
     names: &mut Names,
     method: Method,
+    ending: Ending,
     fuel: u64,
     bound: u64,
 ) -> Result<Answer, LinFault>
     ensures accepted { OnOk result (CanBeLinearised text.now) }
-    ensures shown { IfOk result (λ answer. AreShownSteps method fuel bound text.now answer.status answer.text.items) }
+    ensures shown { IfOk result (λ answer. AreShownSteps ending method fuel bound text.now answer.status answer.text.items) }
     ensures refused { IfErr result (λ fault. fault ≢ LinFault.NoMemory → IsRefusedWith text.now names.new fault) }
-    ensures by { IfErr result (IsFaultBy method) }
+    ensures by { IfErr result (IsFaultBy ending method) }
 {
-    let made = linearise(alloc, text, names, method)?;
+    let made = linearise_as(alloc, text, names, method, ending)?;
     let answer = steps_of(alloc, made, fuel, bound)?;
     Ok(answer)
 }

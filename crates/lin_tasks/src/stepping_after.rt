@@ -15,6 +15,7 @@ ghost use Rattle.chosen_moves.specs.ChosenMoves.{IsChoiceFault};
 ghost use Rattle.lin_driver.specs.Eliminations.{equations_at, equations_in, CanRewrite};
 ghost use Rattle.lin_driver.specs.Linearised.{IsMadeOf};
 ghost use Rattle.lin_driver.specs.LinearOfTexts.{IsLinearOf};
+ghost use Rattle.lin_driver.specs.declared.ending.Ending.{Ending};
 ghost use Rattle.lin_driver.specs.declared.methods.Method.{Method};
 ghost use Rattle.lin_refusals.specs.Stops.{IsChoiceStop};
 ghost use Rattle.lin_tasks.specs.ProcessNames.{IsNewProcess};
@@ -145,7 +146,7 @@ fn steps_after_of(
     fuel: u64,
     bound: u64,
 ) -> Result<Answer, ChoiceFault>
-    requires { (text : List ℕ) × IsMadeOf text (spec_of made.spec) made.sig made.pool.trees (map plain_equation made.theory.equations.items) made.name (plain_linear made.lin) }
+    requires { (ending : Ending) × (text : List ℕ) × IsMadeOf ending text (spec_of made.spec) made.sig made.pool.trees (map plain_equation made.theory.equations.items) made.name (plain_linear made.lin) }
     ensures shown { IfOk result (λ answer. ShowsStepsAfter made.sig (equations_at made.sig made.pool.trees (map plain_equation made.theory.equations.items)) fuel bound made.pool.trees made.name (plain_linear made.lin) choices.now answer.status answer.text.items) }
     ensures fault { IfErr result (IsChoiceFault made.sig (equations_at made.sig made.pool.trees (map plain_equation made.theory.equations.items)) fuel bound (plain_linear made.lin) choices.now made.pool.trees (Some (plain_linear made.lin).init)) }
 {
@@ -174,13 +175,13 @@ pub fn steps_after_file<H: Shelf>(
     fuel: u64,
     bound: u64,
 ) -> Result<Answer, Stop>
-    requires { (text : List ℕ) × IsMadeOf text (spec_of made.spec) made.sig made.pool.trees (map plain_equation made.theory.equations.items) made.name (plain_linear made.lin) }
-    ensures shown { IfOk result (λ answer. (method : Method) (text : List ℕ)
-        → IsLinearOf method text (spec_of made.spec) made.sig made.pool (map plain_equation made.theory.equations.items) made.name (plain_linear made.lin) made.components
-        → AreShownAsTold method fuel bound text (H.text_of shelf.old name.now) answer.status answer.text.items) }
-    ensures stopped { IfErr result (λ stop. (method : Method) (text : List ℕ)
-        → IsLinearOf method text (spec_of made.spec) made.sig made.pool (map plain_equation made.theory.equations.items) made.name (plain_linear made.lin) made.components
-        → IsChoiceStop method fuel bound text (H.text_of shelf.old name.now) stop) }
+    requires { (ending : Ending) × (text : List ℕ) × IsMadeOf ending text (spec_of made.spec) made.sig made.pool.trees (map plain_equation made.theory.equations.items) made.name (plain_linear made.lin) }
+    ensures shown { IfOk result (λ answer. (ending : Ending) (method : Method) (text : List ℕ)
+        → IsLinearOf ending method text (spec_of made.spec) made.sig made.pool (map plain_equation made.theory.equations.items) made.name (plain_linear made.lin) made.components
+        → AreShownAsTold ending method fuel bound text (H.text_of shelf.old name.now) answer.status answer.text.items) }
+    ensures stopped { IfErr result (λ stop. (ending : Ending) (method : Method) (text : List ℕ)
+        → IsLinearOf ending method text (spec_of made.spec) made.sig made.pool (map plain_equation made.theory.equations.items) made.name (plain_linear made.lin) made.components
+        → IsChoiceStop ending method fuel bound text (H.text_of shelf.old name.now) stop) }
     ensures read_fault { IsErrOf result Stop.ReadFault → Rose (H.faults shelf.old) (H.faults shelf.new) }
 {
     let choices = load(alloc, shelf, name)?;

@@ -9,6 +9,7 @@ ghost use Rattle.trace_replay.specs.ReadingFaults.{IsTraceFault};
 ghost use Rattle.lin_driver.specs.Eliminations.{equations_at, equations_in, CanRewrite};
 ghost use Rattle.lin_driver.specs.Linearised.{IsMadeOf};
 ghost use Rattle.lin_driver.specs.LinearOfTexts.{IsLinearOf};
+ghost use Rattle.lin_driver.specs.declared.ending.Ending.{Ending};
 ghost use Rattle.lin_driver.specs.declared.methods.Method.{Method};
 ghost use Rattle.lin_refusals.specs.Stops.{IsTraceStop};
 ghost use Rattle.lin_tasks.specs.ShownVerdicts.{status_of_verdict, verdict_line, IsReplayedAsTold, ShowsVerdict};
@@ -82,7 +83,7 @@ fn verdict_of(
     fuel: u64,
     bound: u64,
 ) -> Result<Answer, ReplayFault>
-    requires { (text : List ℕ) × IsMadeOf text (spec_of made.spec) made.sig made.pool.trees (map plain_equation made.theory.equations.items) made.name (plain_linear made.lin) }
+    requires { (ending : Ending) × (text : List ℕ) × IsMadeOf ending text (spec_of made.spec) made.sig made.pool.trees (map plain_equation made.theory.equations.items) made.name (plain_linear made.lin) }
     ensures shown { IfOk result (λ answer. ShowsVerdict made.sig (equations_at made.sig made.pool.trees (map plain_equation made.theory.equations.items)) fuel bound made.pool.trees (plain_linear made.lin) trace.now answer.status answer.text.items) }
     ensures bad_trace { IfErr result (IsTraceFault made.sig trace.now) }
 {
@@ -108,13 +109,13 @@ pub fn verdict_on_file<H: Shelf>(
     fuel: u64,
     bound: u64,
 ) -> Result<Answer, Stop>
-    requires { (text : List ℕ) × IsMadeOf text (spec_of made.spec) made.sig made.pool.trees (map plain_equation made.theory.equations.items) made.name (plain_linear made.lin) }
-    ensures replayed { IfOk result (λ answer. (method : Method) (text : List ℕ)
-        → IsLinearOf method text (spec_of made.spec) made.sig made.pool (map plain_equation made.theory.equations.items) made.name (plain_linear made.lin) made.components
-        → IsReplayedAsTold method fuel bound text (H.text_of shelf.old name.now) answer.status answer.text.items) }
-    ensures stopped { IfErr result (λ stop. (method : Method) (text : List ℕ)
-        → IsLinearOf method text (spec_of made.spec) made.sig made.pool (map plain_equation made.theory.equations.items) made.name (plain_linear made.lin) made.components
-        → IsTraceStop method text (H.text_of shelf.old name.now) stop) }
+    requires { (ending : Ending) × (text : List ℕ) × IsMadeOf ending text (spec_of made.spec) made.sig made.pool.trees (map plain_equation made.theory.equations.items) made.name (plain_linear made.lin) }
+    ensures replayed { IfOk result (λ answer. (ending : Ending) (method : Method) (text : List ℕ)
+        → IsLinearOf ending method text (spec_of made.spec) made.sig made.pool (map plain_equation made.theory.equations.items) made.name (plain_linear made.lin) made.components
+        → IsReplayedAsTold ending method fuel bound text (H.text_of shelf.old name.now) answer.status answer.text.items) }
+    ensures stopped { IfErr result (λ stop. (ending : Ending) (method : Method) (text : List ℕ)
+        → IsLinearOf ending method text (spec_of made.spec) made.sig made.pool (map plain_equation made.theory.equations.items) made.name (plain_linear made.lin) made.components
+        → IsTraceStop ending method text (H.text_of shelf.old name.now) stop) }
     ensures read_fault { IsErrOf result Stop.ReadFault → Rose (H.faults shelf.old) (H.faults shelf.new) }
 {
     let trace = load(alloc, shelf, name)?;

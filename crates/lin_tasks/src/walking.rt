@@ -16,6 +16,7 @@ ghost use Rattle.lin_driver.specs.Eliminations.{equations_at, equations_in, CanR
 ghost use Rattle.lin_driver.specs.Faults.{IsFaultBy};
 ghost use Rattle.lin_driver.specs.Linearised.{IsMadeOf};
 ghost use Rattle.lin_driver.specs.Refusals.{IsRefusedWith};
+ghost use Rattle.lin_driver.specs.declared.ending.Ending.{Ending};
 ghost use Rattle.lin_tasks.specs.ShownTexts.{IsShownWalk};
 ghost use Rattle.lin_tasks.specs.Walks.{place_picked, HasWalked, PicksByWords, ShowsWalk, TakesOne};
 
@@ -24,7 +25,7 @@ use crate::option_texts::push_label;
 use data_rewriter::Rewriter;
 use data_theory::{Names, NoMemory, Num, Signature};
 use lin_answers::{Answer, Plan, Status, status_with};
-use lin_driver::{LinFault, Linearised, Method, linearise};
+use lin_driver::{Ending, LinFault, Linearised, Method, linearise_as};
 use lps_core::{Linear, signature_stands};
 use lps_simulator::{Session, Walk};
 use number_rules::operations::exact;
@@ -151,7 +152,7 @@ fn shown_walk(
 
 /// A walk of the linear process that was made of a text, as it is shown.
 fn walk_of(alloc: Global, made: Linearised, plan: Plan) -> Result<Answer, NoMemory>
-    requires { (text : List ℕ) × IsMadeOf text (spec_of made.spec) made.sig made.pool.trees (map plain_equation made.theory.equations.items) made.name (plain_linear made.lin) }
+    requires { (ending : Ending) × (text : List ℕ) × IsMadeOf ending text (spec_of made.spec) made.sig made.pool.trees (map plain_equation made.theory.equations.items) made.name (plain_linear made.lin) }
     ensures { IfOk result (λ answer. ShowsWalk made.sig (equations_at made.sig made.pool.trees (map plain_equation made.theory.equations.items)) plan made.pool.trees (plain_linear made.lin) answer.status answer.text.items) }
 {
     let Linearised {
@@ -167,25 +168,26 @@ fn walk_of(alloc: Global, made: Linearised, plan: Plan) -> Result<Answer, NoMemo
     shown_walk(alloc, &sig, &mut pool, &theory, lin, plan)
 }
 
-/// A walk of the linear process of a text, which is made by a method: the labels of the moves that are taken, each picked by the next word
+/// A walk of the linear process of a text, which is made by a method and ends as it is asked to: the labels of the moves that are taken, each picked by the next word
 /// of a sequence, and their number.
 ///
 /// # Errors
 ///
-/// Those of [`linearise`] with that method.
+/// Those of [`linearise_as`] with that method and ending.
 pub fn walk(
     alloc: Global,
     text: &[u8],
     names: &mut Names,
     method: Method,
+    ending: Ending,
     plan: Plan,
 ) -> Result<Answer, LinFault>
     ensures accepted { OnOk result (CanBeLinearised text.now) }
-    ensures shown { IfOk result (λ answer. IsShownWalk method plan text.now answer.status answer.text.items) }
+    ensures shown { IfOk result (λ answer. IsShownWalk ending method plan text.now answer.status answer.text.items) }
     ensures refused { IfErr result (λ fault. fault ≢ LinFault.NoMemory → IsRefusedWith text.now names.new fault) }
-    ensures by { IfErr result (IsFaultBy method) }
+    ensures by { IfErr result (IsFaultBy ending method) }
 {
-    let made = linearise(alloc, text, names, method)?;
+    let made = linearise_as(alloc, text, names, method, ending)?;
     let answer = walk_of(alloc, made, plan)?;
     Ok(answer)
 }

@@ -3,6 +3,7 @@ use Rattle.mcrl2_syntax.specs.Declarations.{spec_of}
 use Rattle.process_terms.specs.PlainProcesses.{plain_equation}
 use Rattle.lps_core.specs.PlainLinears.{plain_linear}
 use Rattle.lin_driver.specs.LinearOfTexts.{IsLinearOf}
+use Rattle.lin_driver.specs.declared.ending.Ending.{Ending}
 use Rattle.lin_driver.specs.declared.methods.Method.{Method}
 use Rattle.lin_refusals.proofs.FaultNames.{are_named}
 use Rattle.lin_refusals.specs.Stops.{IsChoiceStop}
@@ -12,26 +13,26 @@ use Rattle.lin_run.proofs.FurtherAnswers.{answered_for, choices_stop, stopped_fo
 use Rattle.lin_run.proofs.leading.steps_after.Goals as goal
 
 pub steps_after_file-requires : goal.steps_after_file-requires
-steps_after_file-requires g c = (c.args.text.now, c.in-Ok.ensures.made)
+steps_after_file-requires g c = (c.args.ending, c.args.text.now, c.in-Ok.ensures.made)
 
 pub for_fault-requires : goal.for_fault-requires
-for_fault-requires g c = are_named c.args.text.now c.linearise.new.names c.in-Err.fault c.in-Err.ensures.refused
+for_fault-requires g c = are_named c.args.text.now c.linearise_as.new.names c.in-Err.fault c.in-Err.ensures.refused
 
 pub returns-in-Ok-clause-answered : goal.returns-in-Ok-clause-answered
 returns-in-Ok-clause-answered g c =
     let made = c.in-Ok.made in
-    answered_for (λ (method : Method) (text : List ℕ). IsLinearOf method text (spec_of made.spec) made.sig made.pool (map plain_equation made.theory.equations.items) made.name (plain_linear made.lin) made.components)
-    (λ method text s x. AreShownAsTold method c.args.fuel c.args.bound text (g.H.Shelf.text_of c.args.shelf.now c.args.name.now) s x) c.steps_after_file.result c.args.method c.args.text.now c.in-Ok.ensures.accepted c.in-Ok.ensures.linear c.steps_after_file.ensures.shown
+    answered_for (λ (ending : Ending) (method : Method) (text : List ℕ). IsLinearOf ending method text (spec_of made.spec) made.sig made.pool (map plain_equation made.theory.equations.items) made.name (plain_linear made.lin) made.components)
+    (λ ending method text s x. AreShownAsTold ending method c.args.fuel c.args.bound text (g.H.Shelf.text_of c.args.shelf.now c.args.name.now) s x) c.steps_after_file.result c.args.ending c.args.method c.args.text.now c.in-Ok.ensures.accepted c.in-Ok.ensures.linear c.steps_after_file.ensures.shown
 
 pub returns-in-Ok-clause-cause : goal.returns-in-Ok-clause-cause
 returns-in-Ok-clause-cause g c =
     let made = c.in-Ok.made in
     let told = g.H.Shelf.text_of c.args.shelf.now c.args.name.now in
-    choices_stop c.args.text.now told c.args.method c.args.fuel c.args.bound c.requires c.in-Ok.ensures.accepted (record { spec = spec_of made.spec; signature = made.sig; pool = made.pool; equations = map plain_equation made.theory.equations.items; name = made.name; linear = plain_linear made.lin; components = made.components; is_linear = c.in-Ok.ensures.linear })
+    choices_stop c.args.text.now told c.args.ending c.args.method c.args.fuel c.args.bound c.requires c.in-Ok.ensures.accepted (record { spec = spec_of made.spec; signature = made.sig; pool = made.pool; equations = map plain_equation made.theory.equations.items; name = made.name; linear = plain_linear made.lin; components = made.components; is_linear = c.in-Ok.ensures.linear })
     c.steps_after_file.result
-    (stopped_for (λ (method : Method) (text : List ℕ). IsLinearOf method text (spec_of made.spec) made.sig made.pool (map plain_equation made.theory.equations.items) made.name (plain_linear made.lin) made.components) (λ method text stop. IsChoiceStop method c.args.fuel c.args.bound text told stop)
-    c.steps_after_file.result c.args.method c.args.text.now c.in-Ok.ensures.linear c.steps_after_file.ensures.stopped)
+    (stopped_for (λ (ending : Ending) (method : Method) (text : List ℕ). IsLinearOf ending method text (spec_of made.spec) made.sig made.pool (map plain_equation made.theory.equations.items) made.name (plain_linear made.lin) made.components) (λ ending method text stop. IsChoiceStop ending method c.args.fuel c.args.bound text told stop)
+    c.steps_after_file.result c.args.ending c.args.method c.args.text.now c.in-Ok.ensures.linear c.steps_after_file.ensures.stopped)
 
 pub returns-clause-cause : goal.returns-clause-cause
 returns-clause-cause g c =
-    text_stops (StepsAfter c.args.method c.args.fuel c.args.bound) c.args.text.now (g.H.Shelf.text_of c.args.shelf.now c.args.name.now) c.linearise.new.names c.in-Err.fault c.for_fault.result c.requires c.in-Err.ensures.by c.in-Err.ensures.refused c.for_fault.ensures
+    text_stops c.args.ending (StepsAfter c.args.method c.args.fuel c.args.bound) c.args.text.now (g.H.Shelf.text_of c.args.shelf.now c.args.name.now) c.linearise_as.new.names c.in-Err.fault c.for_fault.result c.requires c.in-Err.ensures.by c.in-Err.ensures.refused c.for_fault.ensures

@@ -7,3 +7,6 @@ unreachable-requires c = c.requires (subst NeedsFurther (sym c.in-StepsAfter.is)
 
 pub unreachable-requires-in-Replay : goal.unreachable-requires-in-Replay
 unreachable-requires-in-Replay c = c.requires (subst NeedsFurther (sym c.in-Replay.is) tt)
+
+pub unreachable-requires-in-Invariant : goal.unreachable-requires-in-Invariant
+unreachable-requires-in-Invariant c = c.requires (subst NeedsFurther (sym c.in-Invariant.is) tt)

@@ -11,7 +11,7 @@ returns-in_err-line-clause-refused c =
 
 pub returns-in_err-line-clause-by : goal.returns-in_err-line-clause-by
 returns-in_err-line-clause-by c =
-    no_fault_by c.from_residual-in_err-line.result c.args.method (is_told c.from_residual-in_err-line.result (λ fault. fault ≡ NoMemory) c.from_residual-in_err-line.ensures.1)
+    no_fault_by c.from_residual-in_err-line.result c.args.ending c.args.method (is_told c.from_residual-in_err-line.result (λ fault. fault ≡ NoMemory) c.from_residual-in_err-line.ensures.1)
 
 pub returns-clause-judged : goal.returns-clause-judged
 returns-clause-judged c = record {

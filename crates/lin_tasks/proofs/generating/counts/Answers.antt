@@ -4,6 +4,7 @@ use Rattle.process_terms.specs.PlainProcesses.{plain_equation}
 use Rattle.lps_core.specs.PlainLinears.{plain_linear}
 use Rattle.lin_driver.specs.LinearOfTexts.{is_made}
 use Rattle.lin_driver.specs.declared.fault.LinFault.TheVariants.{NoMemory}
+use Rattle.lin_driver.specs.declared.ending.Ending.TheVariants.{End}
 use Rattle.lin_driver.specs.declared.methods.Method.TheVariants.{Auto}
 use Rattle.lin_driver.proofs.Refused.{is_told, no_fault_refused}
 use Rattle.lin_tasks.proofs.ShownTexts.{no_fault_by}
@@ -18,7 +19,7 @@ returns-in_err-shown-clause-refused c =
 
 pub returns-in_err-shown-clause-by : goal.returns-in_err-shown-clause-by
 returns-in_err-shown-clause-by c =
-    no_fault_by c.from_residual-in_err-shown.result Auto (is_told c.from_residual-in_err-shown.result (λ fault. fault ≡ NoMemory) c.from_residual-in_err-shown.ensures.1)
+    no_fault_by c.from_residual-in_err-shown.result End Auto (is_told c.from_residual-in_err-shown.result (λ fault. fault ≡ NoMemory) c.from_residual-in_err-shown.ensures.1)
 
 pub returns-clause-counted : goal.returns-clause-counted
 returns-clause-counted c =

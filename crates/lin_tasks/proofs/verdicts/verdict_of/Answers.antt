@@ -1,13 +1,16 @@
+use Rattle.std.proofs.Common.{map}
 use Rattle.mcrl2_syntax.specs.Declarations.{spec_of}
-use Rattle.mcrl2_syntax.proofs.WordsOfTokens.{specs_are_of_words}
+use Rattle.process_terms.specs.PlainProcesses.{plain_equation}
 use Rattle.lps_core.specs.PlainLinears.{plain_linear}
-use Rattle.lin_driver.proofs.RewritableEquations.{can_rewrite}
+use Rattle.lin_tasks.proofs.ShownTexts.{made_fits, made_rewrites}
 use Rattle.lin_tasks.proofs.verdicts.verdict_of.Goals as goal
 
 pub shown_verdict-requires-clause-fits : goal.shown_verdict-requires-clause-fits
-shown_verdict-requires-clause-fits c = c.requires.1.made.leads.fits
+shown_verdict-requires-clause-fits c =
+    let m = c.args.made in
+    made_fits c.requires.0 c.requires.1 (spec_of m.spec) m.sig m.pool.trees (map plain_equation m.theory.equations.items) m.name (plain_linear m.lin) c.requires.2
 
 pub shown_verdict-requires-clause-equations : goal.shown_verdict-requires-clause-equations
 shown_verdict-requires-clause-equations c =
-    let made = c.requires.1 in
-    can_rewrite (spec_of c.args.made.spec) c.args.made.sig c.args.made.pool.trees c.args.made.theory c.args.made.name (plain_linear c.args.made.lin) made.made (specs_are_of_words c.requires.0 (spec_of c.args.made.spec) made.tokens made.cut made.spelled)
+    let m = c.args.made in
+    made_rewrites c.requires.0 c.requires.1 (spec_of m.spec) m.sig m.pool.trees m.theory m.name (plain_linear m.lin) c.requires.2

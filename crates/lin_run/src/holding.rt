@@ -1,0 +1,43 @@
+//! The task `invariant`: whether a condition holds in all states of the linear process of a text, and what is left of the process then.
+ghost use Rattle.std.specs.Prelude.{◌≡◌, ◌≢◌, ◌≤◌, Some, IfErr, IfOk, IsErrOf, length};
+ghost use Rattle.mcrl2_text.specs.Faults.{Rose};
+ghost use Rattle.lin_words.specs.declared.command.Task.TheVariants.{Invariant};
+ghost use Rattle.lin_run.specs.Causes.{HasCause};
+ghost use Rattle.lin_run.specs.Ends.{IsAnswer};
+
+use data_theory::Names;
+use lin_answers::Answer;
+use lin_driver::{Ending, Method, linearise_as};
+use lin_refusals::Stop;
+use lin_tasks::judgement_of_file;
+use mcrl2_text::{MAX_TEXT_LEN, Shelf};
+use std::alloc::Global;
+
+/// Whether the condition that a shelf has under a name holds in all states of the linear process of a text, which is made by a method and ends as it is asked to:
+/// the process without the summands that never fire then, or the first place at which the condition isn't proved. The condition is read once the text is made
+/// linear.
+///
+/// # Errors
+///
+/// Those of [`linearise_as`] with that method and ending, then those of [`mcrl2_text::load`], and then `Refused` where the file spells no term of sort Bool over
+/// the parameters.
+pub fn judge_condition<H: Shelf>(
+    alloc: Global,
+    text: &[u8],
+    shelf: &mut H,
+    name: &str,
+    method: Method,
+    ending: Ending,
+    fuel: u64,
+) -> Result<Answer, Stop>
+    requires { length text.now ≤ MAX_TEXT_LEN }
+    ensures answered { IfOk result (λ answer. IsAnswer ending (Invariant method fuel) text.now (H.text_of shelf.old name.now) answer.status answer.text.items) }
+    ensures cause { IfErr result (λ stop. (stop ≢ Stop.Words) × HasCause stop (Some (record { task = Invariant method fuel; text = text.now; further = H.text_of shelf.old name.now; ending = ending }))) }
+    ensures read_fault { IsErrOf result Stop.ReadFault → Rose (H.faults shelf.old) (H.faults shelf.new) }
+{
+    let mut names = Names::new(alloc);
+    match linearise_as(alloc, text, &mut names, method, ending) {
+        Ok(made) => judgement_of_file(alloc, made, shelf, name, fuel),
+        Err(fault) => Err(Stop::for_fault(alloc, &names, &fault)),
+    }
+}
