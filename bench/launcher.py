@@ -27,8 +27,8 @@ TOP = pathlib.Path(__file__).resolve().parent.parent
 CRATES = ["low", "high", "mcrl2lin"]
 LISTED = "# The crates.\nmcrl2lin: high, itoa\nhigh staticlib: low # and no more\nlow:\napart: low"
 # The program that it makes. RT_SAYS is the line by which it refuses everything. A text may have the lines `% refused ..`, by which it is refused,
-# `% after CHOICES: LINE/LINE ..`, for what can be seen after these choices, and `% at STATE: LINE/LINE ..`, for the moves of a state, with @
-# for the name of what marks a summand.
+# `% unproved ..`, for the answer of `invariant`, `% after CHOICES: LINE/LINE ..`, for what can be seen after these choices, and
+# `% at STATE: LINE/LINE ..`, for the moves of a state, with @ for the name of what marks a summand.
 PROGRAM = """#!/bin/bash
 refuse() {
     [[ ! $1 ]] || { echo "$1" >&2; exit 1; }
@@ -57,6 +57,7 @@ case "$1 ${2-}" in
 'steps '?*) [[ ${3---} != --* ]] || { steps "$@"; exit; } ;;&
 'linearise /dev/'*) [[ ! -f $2 ]] || refuse "$(sed -n 's/^% refused/refused/p' "$2")" ;;&
 'check '*) cat < "$2" ;;
+'invariant '*) sed -n 's/^% unproved/unproved/p' "$2" 2> /dev/null | grep . && exit 6; cat 2> /dev/null < "$2" || { echo 'read fault' >&2; exit 3; } ;;
 'linearise '*) cat 2> /dev/null < "$2" || { echo 'read fault' >&2; exit 3; } ;;
 'replay '*) cat -- "$2" "${4:-${3#*=}}" 2> /dev/null || { echo 'read fault' >&2; exit 3; } ;;
 'stack '*) ulimit -S -s; ulimit -H -s ;;
@@ -67,8 +68,8 @@ case "$1 ${2-}" in
 'long '*) yes | head -n 100000 ;;
 'wait '*) echo "$$"; exec sleep 60 ;;
 'break '*) echo half; echo '==1==ERROR: a fault' >&2; kill -ABRT $$ ;;
-'--fuel 3') shift 2; exec "$0" "$@" ;;
-'--fuel=3 '* | '-- '*) shift; exec "$0" "$@" ;;
+'--fuel 3' | '--invariant '*) shift 2; exec "$0" "$@" ;;
+'--fuel=3 '* | '--invariant='* | '-- '*) shift; exec "$0" "$@" ;;
 *) printf '%s\\n' usage "$#" "$@" >&2; exit 2 ;;
 esac
 """
@@ -1191,6 +1192,109 @@ def refused_examples(place):
         assert re.fullmatch(re.escape(str(text)) + r":1:\d+: \S+ .* \(docs/REFUSALS.md, \d+\)", rows[1]), rows
 
 
+# A linear process for an answer of `invariant` in front of it.
+JUDGED = """\
+% unproved {0}
+act a;
+  proc_1: Nat;
+proc P(n: Nat, b: Bool) = a . P()
+  + sum m: Nat . (n == m) -> proc_1(m) . P(n = m);
+init P(x_init + 1, true);
+"""
+# Answers of `invariant` for it: the place and the part, the condition, and the line, the column and the text that are told of the part, if it has any.
+PARTS = [
+    ("2 1", "b", "1:1", "b"),
+    ("1 2", "b&&b && n>1", "1:4", "b"),
+    ("0 3", "b && b && n<=1 % && b\n", "1:11", "n<=1"),
+    ("2 2", "% b\n(b) && % && b\n\t((n ==\n 2 % )\n))", "3:4", "n == 2"),
+    ("2 3", "((b && (n < 1 && n > 2)) && !(b && b))", "1:18", "n > 2"),
+    ("2 4", "((b && (n < 1 && n > 2)) && !(b && b))", "1:29", "!(b && b)"),
+    ("2 1", "b && b || b", "1:1", "b && b || b"),
+    ("2 1", "(b => b && b)", "1:2", "b => b && b"),
+    ("2 2", "(b || b) && f(b && b)", "1:13", "f(b && b)"),
+    ("2 2", "[b && b] == [] && (b && b) == b", "1:19", "(b && b) == b"),
+    ("1 1001", "(" * 1000 + "n" + " && b)" * 1000, "1:7000", "b"),
+    ("1 2", "b", "", ""),
+    ("1 1001", "b && (" * 1000 + "n" + ")" * 1000, "1:6001", "n"),
+    ("1 1", "b == \xe9\x1b" + "b" * 1000, "1:1", "b == \ufffd\\x1b" + "b" * 993 + " .."),
+]
+# What is told of its places.
+PLACED = [
+    "the process that `linearise` prints starts with `P(x_init + 1, true)`",
+    "summand 1 of what `linearise` prints is `a . P()`",
+    "summand 2 of what `linearise` prints is `sum m: Nat . (n == m) -> proc_1(m) . P(n = m)`",
+]
+
+
+def unproved_parts(place):
+    """The parts and the summands that are told where an invariant isn't proved."""
+    place.prove()
+    for answer, condition, where, part in PARTS:
+        at, number = answer.split()
+        (place.folder / "text").write_text(JUDGED.format(answer))
+        (place.folder / "part").write_bytes(condition.encode("latin-1"))
+        ran = place.run("invariant", "text", "--invariant", "part", "--explain", cwd=place.folder)
+        same((answer, ran.returncode, ran.stdout), (answer, 6, f"unproved {answer}\n"))
+        first, second = ran.stderr.splitlines()
+        named = f"part:{where}: part {number}, `{part}`," if where else f"part: part {number}"
+        assert first.startswith(f"{named} isn't proved ") and first.endswith(" (docs/invariants.md)"), (named, first)
+        same((f"after summand {at}:" in first, second), (at != "0", f"text: {PLACED[int(at)]}"))
+
+
+def unproved_invariants(place):
+    """On a terminal, or with `--explain`, they are told, by a proved program and without one; elsewhere there is the answer alone."""
+    (place.folder / "a text").write_text(JUDGED.format("2 1"))
+    (place.folder / "part").write_text("b")
+    words, how = ["invariant", "a text", "--invariant=part"], {"cwd": place.folder}
+    place.example()
+    for is_proved in (False, True):
+        if is_proved:
+            place.prove()
+        lines = [] if is_proved else [UNPROVED]
+        ran = place.run(*words, **how)
+        same((ran.returncode, ran.stdout, ran.stderr.splitlines()), (6, "unproved 2 1\n", lines))
+        ran = place.run(*words, "--explain", **how)
+        said = ran.stderr.splitlines()
+        same((ran.returncode, ran.stdout, said[:-2]), (6, "unproved 2 1\n", lines))
+        same([it.partition(": ")[0] for it in said[-2:]], ["part:1:1", "a text"])
+        same(on_terminal(place, 80, *words, env={}, status=6, **how), "\r\n".join([*lines, "unproved 2 1", *said[-2:], ""]))
+        # Files that are none any more.
+        ran = told_of_pipes(place, '"$1" invariant <(cat "a text") --explain --invariant part')
+        same(ran.stderr.splitlines(), said[:-1])
+        ran = told_of_pipes(place, '"$1" invariant "a text" --explain --invariant <(cat part)')
+        assert re.fullmatch(r"/dev/fd/\d+: part 1 isn't proved to hold after summand 2: .*", ran.stderr.splitlines()[-2]), ran.stderr
+        same(ran.stderr.splitlines()[-1], said[-1])
+    ran = place.run(*words, "--explain", env={"PATH": without_python(place)}, **how)
+    same((ran.returncode, ran.stdout, ran.stderr), (6, "unproved 2 1\n", ""))
+
+
+def explained_invariants(place):
+    """With `--explain` the answers of `invariant` are what they are without it, whatever becomes of the output."""
+    (place.folder / "holds").write_text("init P;\n" * 30_000 + "\n")
+    (place.folder / "text").write_text(JUDGED.format("2 1"))
+    place.example()
+    for is_proved in (False, True):
+        if is_proved:
+            place.prove()
+        lines = [] if is_proved else [UNPROVED]
+        ran = place.run("invariant", "holds", "--explain", cwd=place.folder)
+        same((ran.returncode, ran.stdout, ran.stderr.splitlines()), (0, "init P;\n" * 30_000 + "\n", lines))
+        ran = place.run("invariant", "none", "--explain", cwd=place.folder)
+        same((ran.returncode, ran.stdout, ran.stderr.splitlines()[-1]), (3, "", "mcrl2lin: can't read none"))
+        for file in ("holds", "text"):
+            reader, writer = os.pipe()
+            os.close(reader)
+            for output, status, said in ((os.open("/dev/full", os.O_WRONLY), 4, ["write fault"]), (writer, -signal.SIGPIPE, [])):
+                ran = place.run("invariant", file, "--explain", cwd=place.folder, capture_output=False, stdout=output, stderr=subprocess.PIPE)
+                os.close(output)
+                same((file, ran.returncode, ran.stderr.splitlines()), (file, status, [*lines, *said]))
+
+
+def told_of_pipes(place, command):
+    """What a start says that bash gives its files."""
+    return subprocess.run(["bash", "-c", command, "", place.launcher], env=place.env, cwd=place.folder, capture_output=True, text=True, check=False)
+
+
 # A linear process, with what the program of these tries shows of it.
 LED = """\
 % after : state P(1, [d1, d2], f(a, [b]))/1 read(d1)/2 a|b(1, 2)/3 b/undecided 3 stuck/undecided 1 spent/cut 2/cut 3/moves 3, undecided 2, cut 2
@@ -1570,6 +1674,9 @@ TRIES = [
     refused,
     places,
     refused_examples,
+    unproved_parts,
+    unproved_invariants,
+    explained_invariants,
     led,
     led_to_file,
     led_to_its_end,

@@ -65,6 +65,7 @@ CASES = [
     ("after", ["steps", "TEXT", "--after", "FURTHER"], COUNTER, "1\n1\n"),
     ("walk", ["walk", "TEXT", "--depth", "3"], COUNTER, ""),
     ("replay", ["replay", "TEXT", "--trace", "FURTHER"], COUNTER, "up(0)\nup(1)\n"),
+    ("invariant", ["invariant", "TEXT", "--invariant", "FURTHER"], COUNTER, "n <= 2"),
     ("equations", ["equations", "TEXT"], "map f: Nat -> Nat; var n: Nat; eqn f(0) = 0; n > 0 -> f(n) = f(Int2Nat(n - 1)); init delta;", ""),
     ("generate", ["generate", "2"], "", ""),
     ("refused", ["linearise", "TEXT"], "act a; proc X = X + a; init X;", ""),
