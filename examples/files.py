@@ -13,7 +13,7 @@ import subprocess
 import sys
 import tempfile
 
-USAGE = b"usage: mcrl2lin TASK FILE [--trace FILE] [--method M] [--fuel N] [--bound N] [--seed N] [--depth N] [--after FILE]\n"
+USAGE = b"usage: mcrl2lin TASK FILE [--trace FILE] [--method M] [--fuel N] [--bound N] [--seed N] [--depth N] [--ending E] [--invariant FILE] [--after FILE]\n"
 
 TEXT = b"act a, b; proc X = a . Y; Y = b . X; init X;"
 
