@@ -65,7 +65,7 @@ mod SealedSummands
 mod SealedNames
 mod SealedConditions
 mod SealedPlainly
-mod UndeclaredActions
+pub mod UndeclaredActions
 mod SealedTexts
 mod NeededParts
 mod NeededTrees

@@ -1,21 +1,18 @@
 -- The name of the linear process of a text is a new one.
-use Rattle.std.proofs.Common.{◌≡◌, ◌≢◌, ◌<◌, ◌==◌, ℕ, zero, suc, Bool, true, false, cond, List, [], ◌∷◌, ◌++◌, map, length, get_or, arith, Option, Some, ◌⊎◌, inl, inr, refl, sym, ap, ◌∙◌, subst}
-use Rattle.std.specs.Prelude.{Contains, bytes_eq, codes, decimal, slice_get}
+use Rattle.std.proofs.Common.{◌≡◌, ◌≢◌, ◌<◌, ℕ, zero, suc, true, List, [], ◌∷◌, map, length, get_or, arith, Some, ◌⊎◌, inl, inr, refl, sym, ap, ◌∙◌, subst}
+use Rattle.std.specs.Prelude.{Contains, codes, slice_get}
 use Rattle.std.specs.List.{All, AllByRecursion, flat_map}
 use Rattle.std.proofs.lemmas.List.Elements.{All-contains, Contains-append_cases}
 use Rattle.std.proofs.lemmas.Option.{get_or_from_slice_get, slice_get-get_or}
-use Rattle.std.proofs.lemmas.Slice.Eq.{bytes_eq-Decides}
 use Rattle.data_theory.specs.declared.ids.NameId.{NameId}
-use Rattle.data_theory.specs.declared.ids.SortId.{SortId}
 use Rattle.data_theory.specs.IdTrees.{Tree}
 use Rattle.data_theory.specs.Keys.{Key, key}
 use Rattle.data_theory.specs.Complete.{IsActionWithin}
-use Rattle.data_theory.specs.Fresh.{candidate, IsFresh}
+use Rattle.data_theory.specs.Fresh.{candidate}
 use Rattle.data_theory.specs.Signature.{Sig, IsTaken}
 use Rattle.data_theory.specs.WholeSignatures.{IsSignature}
 use Rattle.data_theory.specs.Table.{comparison_rows, extreme_rows, first_rows, language_table, list_rows, quotient_rows, sort_rows, step_rows, sum_rows, truth_rows}
-use Rattle.data_theory.specs.Terms.{Sort}
-use Rattle.data_theory.specs.IdTerms.{IsGrown, sort_under}
+use Rattle.data_theory.specs.IdTerms.{IsGrown}
 use Rattle.data_theory.proofs.IdGrowthLemmas.{growth_after_growth_is_growth}
 use Rattle.term_pool.proofs.DeclaredConstants.{still_read}
 use Rattle.mcrl2_syntax.specs.Declarations.{PlainSpec}
@@ -26,17 +23,16 @@ use Rattle.sort_table.specs.BareSorts.{SortExpression}
 use Rattle.sort_table.specs.BareDeclarations.{Declaration, sorts, alias, struct, constructors, mappings, variables, equation, actions, process, initial, bare_section, bare_sections, declarations_in}
 use Rattle.sort_table.specs.Duplicates.{Item, an_action}
 use Rattle.sort_table.specs.Identifiers.{copied_identifiers}
-use Rattle.sort_table.specs.NamedLists.{all_named}
 use Rattle.sort_table.specs.PlacedSections.{IsPlaced}
-use Rattle.sort_table.specs.SignatureVocabularies.{action_under, text_under, vocabulary_of}
+use Rattle.sort_table.specs.SignatureVocabularies.{text_under, vocabulary_of}
 use Rattle.sort_table.specs.SortMeanings.{actions_by, actions_in, under_names}
-use Rattle.sort_table.specs.Vocabularies.{AreSortsOf, EachPair, IsVocabularyOf}
+use Rattle.sort_table.specs.Vocabularies.{IsVocabularyOf}
+use Rattle.sort_table.proofs.AddedStructs.{all_contained}
 use Rattle.sort_table.proofs.SpelledPlaces.{spelled_specs_are_placed}
-use Rattle.sort_checker.specs.TextModels.{IsSignatureOf}
 use Rattle.bisim_laws.specs.Terminations.{terminate_name}
-use Rattle.bisim_laws.proofs.Firing.{contains_cases, contains_first, contains_later, contains_none}
+use Rattle.bisim_laws.proofs.Firing.{contains_cases, contains_none}
 use Rattle.lps_core.specs.PlainLinears.{PlainLinear}
-use Rattle.lps_core.proofs.Members.{all_from, map_contains}
+use Rattle.lps_core.proofs.Members.{all_from}
 use Rattle.lps_printer.specs.CopiedSections.{kept_sections}
 use Rattle.lps_printer.specs.GrowingByAdditions.{added_actions}
 use Rattle.lps_printer.specs.SignatureNames.{is_free}
@@ -50,41 +46,8 @@ use Rattle.lin_driver.specs.ModelLinears.{IsProcessName}
 use Rattle.lin_driver.specs.declared.ending.Ending.{Ending}
 use Rattle.lin_driver.specs.declared.ending.Ending.TheVariants.{End, Terminate}
 use Rattle.lin_driver.proofs.EndedTexts.{ended_as, Ended}
+use Rattle.lin_driver.proofs.UndeclaredActions.{declared_under}
 use Rattle.lin_tasks.specs.ProcessNames.{IsNewProcess}
-
--- ---- what a text declares under a name
--- what stands under a name in a list
-module _ {A : Type 0} where
-  named_there : (n : Name) (rs : List (Name × A)) (x : A) → Contains rs (n, x) → Contains (all_named n rs) x
-  named_there n [] x c = absurd (contains_none (n, x) c)
-  named_there n (r ∷ rs) x c = elim (contains_cases r (n, x) rs c) [
-    | inl here ↦
-        let same : bytes_eq r.0 n ≡ true = (bytes_eq-Decides r.0 n).1 (ap (λ (q : Name × A). q.0) here) in
-        subst (λ (b : Bool). Contains (cond b (r.1 ∷ all_named n rs) (all_named n rs)) x) (sym same) (subst (λ y. Contains (r.1 ∷ all_named n rs) y) (ap (λ (q : Name × A). q.1) here) (contains_first r.1 (all_named n rs)))
-    | inr there ↦ further (bytes_eq r.0 n) (named_there n rs x there)
-  ]
-    where
-      further : (b : Bool) → Contains (all_named n rs) x → Contains (cond b (r.1 ∷ all_named n rs) (all_named n rs)) x
-      further true c = contains_later r.1 x (all_named n rs) c
-      further false c = c
-
-  -- the list has one of these under the name
-  named_back : (n : Name) (rs : List (Name × A)) (y : A) (ys : List A) → all_named n rs ≡ y ∷ ys → Contains rs (n, y)
-  named_back n [] y ys is = let never : [] ≡ y ∷ ys = is in absurd cc
-  named_back n (r ∷ rs) y ys is = by_test (λ there. named_back n rs y ys there) (bytes_eq r.0 n) refl is
-    where
-      by_test : (all_named n rs ≡ y ∷ ys → Contains rs (n, y)) → (b : Bool) → bytes_eq r.0 n ≡ b → cond b (r.1 ∷ all_named n rs) (all_named n rs) ≡ y ∷ ys → Contains (r ∷ rs) (n, y)
-      by_test further true same is =
-          let name : r.0 ≡ n = (bytes_eq-Decides r.0 n).0 same in
-          let value : r.1 ≡ y = cc in
-          subst (λ (q : Name × A). Contains (r ∷ rs) q) (λ i. (name i, value i)) (contains_first r rs)
-      by_test further false same is = contains_later r (n, y) rs (further is)
-
--- two lists that go together have both an element, or none
-first_of_both : {A B : Type 0} (Q : A → B → Type 0) (xs : List A) (ys : List B) (y : B) → EachPair Q xs ys → Contains ys y → (x : A) × (zs : List A) × (xs ≡ x ∷ zs)
-first_of_both Q [] [] y both c = absurd (contains_none y c)
-first_of_both Q [] (z ∷ ys) y both c = absurd both
-first_of_both Q (x ∷ xs) ys y both c = (x, xs, refl)
 
 -- ---- the names of actions
 module _ (P : Name → Type 0) where
@@ -116,14 +79,9 @@ module _ (spec : PlainSpec) (g : Sig) (placed : IsPlaced spec) (vocabulary : IsV
 
   action_is_taken : (a : Key) → Contains g.actions a → IsTaken g (text_under g a.name)
   action_is_taken a among =
-      let n = text_under g a.name in
-      let there : Contains (all_named n (vocabulary_of g).actions) (map (sort_under g) a.sorts) = named_there n (vocabulary_of g).actions (map (sort_under g) a.sorts) (map_contains (action_under g) g.actions a among) in
-      let first = first_of_both (AreSortsOf (vocabulary_of g)) (all_named n (actions_in (declarations_in (bare_sections spec)))) (all_named n (vocabulary_of g).actions) (map (sort_under g) a.sorts) (vocabulary.actions n) there in
-      all_contained (λ (b : Name × List SortExpression). IsTaken g b.0) (actions_in (declarations_in (bare_sections spec))) (n, first.0) declared_are_taken (named_back n (actions_in (declarations_in (bare_sections spec))) first.0 first.1 first.2)
-    where
-      all_contained : {A : Type 0} (Q : A → Type 0) (xs : List A) (x : A) → AllByRecursion Q xs → Contains xs x → Q x
-      all_contained Q [] x all c = absurd (contains_none x c)
-      all_contained Q (y ∷ xs) x all c = elim (contains_cases y x xs c) [ inl here ↦ subst Q here all.0 | inr there ↦ all_contained Q xs x all.1 there ]
+      let ds = declarations_in (bare_sections spec) in
+      let declared = declared_under ds g vocabulary a among in
+      all_contained (λ (b : Name × List SortExpression). IsTaken g b.0) (actions_in ds) (text_under g a.name, declared.0) declared_are_taken declared.1
 
 -- ---- fresh names
 -- none of these is the name of a built-in function
